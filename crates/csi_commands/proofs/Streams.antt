@@ -26,11 +26,13 @@ use Rattle.csi_commands.specs.Streaming.{StreamsAs, StreamEndsAs, WasCut, TellsD
 grows-all : (bytes : List ℕ) → Grows [] bytes
 grows-all bytes = record { more = bytes; appended = refl }
 
+-- all bytes begin with themselves
 grows-none : (bytes : List ℕ) → Grows bytes bytes
 grows-none bytes = record { more = []; appended = sym (append-nil bytes) }
 
 -- what is said of the frames of some bytes is said of them whoever reads them
 module _ (bytes rest : List ℕ) (frames : List Frame) (of : FramesOf bytes frames rest) where
+  -- what is so of one splitting of the bytes is so of every one
   for_all : (P : List Frame → List ℕ → Type 0) → P frames rest → (fs : List Frame) (more : List ℕ) → FramesOf bytes fs more → P fs more
   for_all P here fs more of' =
       let same = one_stream bytes frames fs rest more of of' in
@@ -70,6 +72,7 @@ module _ (bytes rest : List ℕ) (frames : List Frame) (of : FramesOf bytes fram
 pub answers_so : (left now had has : Option (List ℕ)) (result : Result ℕ StreamFault) → Streams AreReplies left now had has result → StreamsAs Answer left now had has (ending_of_stream result)
 answers_so left now had has result s = record { bytes = s.read; consumed = s.consumed; out = s.out; written = s.written; ends = answer_ends s.read s.rest s.frames s.stream (IsAtEnd now) s.out result s.ends }
 
+-- the same where they were shown
 pub shows_so : (left now had has : Option (List ℕ)) (result : Result ℕ StreamFault) → Streams AreLines left now had has result → StreamsAs Show left now had has (ending_of_stream result)
 shows_so left now had has result s = record { bytes = s.read; consumed = s.consumed; out = s.out; written = s.written; ends = show_ends s.read s.rest s.frames s.stream (IsAtEnd now) s.out result s.ends }
 
@@ -149,10 +152,12 @@ unread_told left now before after writer old new endings.Usage unread = absurd u
 unread_told left now before after writer old new endings.StoreNotOpened unread = absurd unread
 unread_told left now before after writer old new endings.Endless unread = absurd unread
 
+-- the ending of a schedule that is refused tells no failure of a device
 pub refused_told : (bytes : List ℕ) (before after writer : ℕ) (ending : Ending) → IsRefused bytes ending → after ≡ before → TellsDevice before after writer writer ending
 refused_told bytes before after writer endings.Device refused same = absurd refused
 refused_told bytes before after writer ending refused same = (same, refl)
 
+-- the ending of what was written, or wasn't, tells whether the writer failed
 pub written_told : (reader_before reader_after writer_before writer_after : ℕ) (result : Result (Unit {0}) WriteFailed) → reader_after ≡ reader_before → OnErr result (HasRisen writer_before writer_after) → OnOk result (writer_after ≡ writer_before)
     → TellsDevice reader_before reader_after writer_before writer_after (ending_of_written result)
 written_told reader_before reader_after writer_before writer_after (Ok done) same risen quiet = (same, quiet)

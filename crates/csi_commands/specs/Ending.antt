@@ -10,6 +10,7 @@ use Rattle.csi_endings.specs.declared.command.FileCommand.TheVariants.{Answer, S
 use Rattle.csi_streams.specs.Replay.{answered, Fails, IsFaultOf, Grows}
 use Rattle.csi_commands.specs.Running.{Plays, IsRefused}
 
+-- how it ends by what the frames stopped at
 abbrev pub ending_of : AnswerFault → Ending
 ending_of (faults.Frame kind place) = FrameFault kind place
 ending_of faults.NoMemory = Memory

@@ -68,6 +68,7 @@ pub record StreamsAs (command : FileCommand) (left_before left_after written_bef
   pub written : Appends written_before written_after out
   pub ends : StreamEndsAs command (IsAtEnd left_after) bytes out ending
 
+-- how it ends by what the stream came to
 abbrev pub ending_of_stream : Result ℕ StreamFault → Ending
 ending_of_stream (Ok count) = endings.Done
 ending_of_stream (Err (stops.Frame kind place)) = endings.FrameFault kind place
@@ -76,6 +77,7 @@ ending_of_stream (Err stops.Input) = endings.Device
 ending_of_stream (Err stops.Output) = endings.Device
 ending_of_stream (Err stops.Endless) = endings.Endless
 
+-- how it ends by whether it was written
 abbrev pub ending_of_written : Result (Unit {0}) WriteFailed → Ending
 ending_of_written (Ok done) = endings.Done
 ending_of_written (Err failed) = endings.Device

@@ -60,6 +60,7 @@ same_id number kind outcome row Stale = refl
 same_id number kind outcome row Repeated = refl
 same_id number kind outcome row Fresh = refl
 
+-- whatever a row answers, its name stays
 pub same_name : (number : Number) (kind : Kind) (outcome : RowOutcome) (row : ControllerRow) (verdict : Verdict) → (row_after number kind outcome row verdict).volume.name ≡ row.name
 same_name number kind outcome row Stale = refl
 same_name number kind outcome row Repeated = refl
@@ -75,6 +76,7 @@ sound-gives p n rows place row new frame number kind outcome sound at is party g
     (ap (λ (v : Volume). v.name) gives.volume ∙ same_name number kind outcome row verdict)
     (sound-after n row new frame number kind outcome (sound-at p n rows place row sound at is) party good.id outcome.change refl good.fit verdict gives)
 
+-- the rules hold where the row only says the same again
 pub sound-refused : (p : ControllerRow → Bool) (n : ℕ) (rows : List ControllerRow) (place : ℕ) (row new : ControllerRow) → IsSound n rows → Some place ≡ position p rows → row ≡ get_or rows place row → IsSameRow row new → IsSound n (set rows place new)
 sound-refused p n rows place row new sound at is same =
     sound-set n rows place row new sound (FirstAt-is_at p rows place row (at-place p rows place row at is))

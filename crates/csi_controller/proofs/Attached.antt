@@ -18,6 +18,7 @@ use Rattle.csi_controller.specs.Views.{attached, IsHeldBefore, HasHoldingsOf}
 use Rattle.csi_controller.proofs.Sound.{rising-one}
 use Rattle.csi_controller.specs.State.{ControllerState}
 
+-- a list with nothing behind it is that list
 append-none : {X : Type 0} (xs : List X) → xs ++ [] ≡ xs
 append-none [] = refl
 append-none (x ∷ xs) = ap (λ ys. x ∷ ys) (append-none xs)

@@ -20,6 +20,7 @@ use Rattle.csi_controller.specs.Views.{IsCopyOf}
 pub session-now : (session : ℕ) (number : Number) → number.session ≡ session → session_after session number ≡ session
 session-now session number same = let never = le-ltb session number.session (omega (arith, same)) in rw never refl
 
+-- in the present session all rows stay
 pub staying-now : (session : ℕ) (number : Number) (rows : List ControllerRow) → number.session ≡ session → staying session number rows ≡ rows
 staying-now session number rows same = let never = le-ltb session number.session (omega (arith, same)) in rw never refl
 
@@ -27,6 +28,7 @@ staying-now session number rows same = let never = le-ltb session number.session
 pub session-late : (session : ℕ) (number : Number) → number.session < session → session_after session number ≡ session
 session-late session number before = let never = le-ltb session number.session (omega (arith, before)) in rw never refl
 
+-- so they do where the call is of an earlier one
 pub staying-late : (session : ℕ) (number : Number) (rows : List ControllerRow) → number.session < session → staying session number rows ≡ rows
 staying-late session number rows before = let never = le-ltb session number.session (omega (arith, before)) in rw never refl
 
@@ -34,6 +36,7 @@ staying-late session number rows before = let never = le-ltb session number.sess
 pub session-first : (session : ℕ) (number : Number) → session < number.session → session_after session number ≡ number.session
 session-first session number after = let later = lt-ltb session number.session after in rw later refl
 
+-- where a later session begins, the rows of live volumes stay
 pub staying-first : (session : ℕ) (number : Number) (rows : List ControllerRow) → session < number.session → staying session number rows ≡ live_rows rows
 staying-first session number rows after = let later = lt-ltb session number.session after in rw later refl
 
@@ -44,6 +47,7 @@ same-copy : (o : Option ControllerRow) → IsCopyOf o o
 same-copy None = tt
 same-copy (Some row) = record { volume = refl; items = refl }
 
+-- rows say at any id what they say
 same-at : (id : ℕ) (rows : List ControllerRow) → IsSameAt id rows rows
 same-at id rows = same-copy (row_by_id id rows)
 

@@ -67,21 +67,25 @@ length-same [] (c ∷ cs) same = absurd same
 length-same (r ∷ rs) [] same = absurd same
 length-same (r ∷ rs) (c ∷ cs) same = ap suc (length-same rs cs (same.1))
 
+-- no more than 4096 rows have no more than 4096 copies
 limit-same : (rows copies : List ControllerRow) → AreSameRows rows copies → length rows ≤ 4096 → length copies ≤ 4096
 limit-same rows copies same limit = let long = length-same rows copies same in omega (arith, limit, long)
 
+-- copies of sound rows are sound, one by one
 each-same : (n : ℕ) (rows copies : List ControllerRow) → AreSameRows rows copies → AllByRecursion (IsSoundRow n) rows → AllByRecursion (IsSoundRow n) copies
 each-same n [] [] same all = tt
 each-same n [] (c ∷ cs) same all = absurd same
 each-same n (r ∷ rs) [] same all = absurd same
 each-same n (r ∷ rs) (c ∷ cs) same all = (sound-same n r c (all.0) (same.0).volume (same.0).items, each-same n rs cs (same.1) (all.1))
 
+-- ids above an id stay above it
 above-same : (id : ℕ) (rows copies : List ControllerRow) → AreSameRows rows copies → AllByRecursion (λ (later : ControllerRow). id < later.id) rows → AllByRecursion (λ (later : ControllerRow). id < later.id) copies
 above-same id [] [] same all = tt
 above-same id [] (c ∷ cs) same all = absurd same
 above-same id (r ∷ rs) [] same all = absurd same
 above-same id (r ∷ rs) (c ∷ cs) same all = (subst (λ k. id < k) (sym (ap (λ (v : Volume). v.id) (same.0).volume)) (all.0), above-same id rs cs (same.1) (all.1))
 
+-- ids that rise do so in the copies
 rising-same : (rows copies : List ControllerRow) → AreSameRows rows copies → IsRising rows → IsRising copies
 rising-same [] [] same rising = tt
 rising-same [] (c ∷ cs) same rising = absurd same
@@ -89,6 +93,7 @@ rising-same (r ∷ rs) [] same rising = absurd same
 rising-same (r ∷ rs) (c ∷ cs) same rising =
     (above-same c.id rs cs (same.1) (subst (λ k. AllByRecursion (λ (later : ControllerRow). k < later.id) rs) (sym (ap (λ (v : Volume). v.id) (same.0).volume)) (rising.0)), rising-same rs cs (same.1) (rising.1))
 
+-- a name that no row has no copy has
 none-same : (name : List ℕ) (rows copies : List ControllerRow) → AreSameRows rows copies → find (λ (r : ControllerRow). same_text r.name name) rows ≡ None → find (λ (r : ControllerRow). same_text r.name name) copies ≡ None
 none-same name [] [] same none = refl
 none-same name [] (c ∷ cs) same none = absurd same
@@ -106,6 +111,7 @@ none-same name (r ∷ rs) (c ∷ cs) same none =
     by true f h = absurd (some_is_none r h)
     by false f h = f h
 
+-- a name that one row at most has one copy at most has
 names-same : (name : List ℕ) (rows copies : List ControllerRow) → AreSameRows rows copies → AtMostOne (λ (r : ControllerRow). same_text r.name name) rows → AtMostOne (λ (r : ControllerRow). same_text r.name name) copies
 names-same name [] [] same one = tt
 names-same name [] (c ∷ cs) same one = absurd same

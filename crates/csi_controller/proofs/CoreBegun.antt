@@ -59,6 +59,7 @@ begun_with core session rows = record { config = core.config; next_id = core.nex
 pub sound-live : (core : Core) → IsSoundCore core → IsSound core.next_id (live_rows (rows_of core.catalog))
 sound-live core kept = sound-filter core.next_id (λ (row : ControllerRow). row.live) (rows_of core.catalog) kept.sound
 
+-- the rows of live volumes are current in a later session
 pub current-begun : (core : Core) (session : ℕ) → IsSoundCore core → core.session < session → IsCurrent session (live_rows (rows_of core.catalog))
 current-begun core session kept later = current-live core.session session (rows_of core.catalog) (omega (arith, later)) kept.current
 
@@ -264,6 +265,7 @@ pub put-indexed : (core : Core) (place : ℕ) (row new : ControllerRow) (counts 
     → IsIndexed (recounted_core core place new counts).catalog
 put-indexed core place row new counts kept stands put = indexed-set core.catalog (recounted_core core place new counts).catalog place row new kept.indexed stands put.id put.name refl refl
 
+-- ids rise with that row in its place
 pub put-rising : (core : Core) (place : ℕ) (row new : ControllerRow) (counts : List ℕ) → IsPut core place row new counts → IsRising (rows_of (recounted_core core place new counts).catalog)
 put-rising core place row new counts put = subst IsRising (sym (rows-set core.catalog.rows place new)) put.sound.rising
 

@@ -33,6 +33,7 @@ use Rattle.csi_controller.specs.Counts.{is_held, count_held, place_of, AreCounte
 
 -- ---- where a node is configured
 
+-- a node without a name and without slots, for a place where there is none
 some_node : NodeSlots
 some_node = record { id = []; slots = 0 }
 
@@ -205,10 +206,12 @@ one_more p (first ∷ later) held b e = by (p first) (one_more p later held b e)
     by true rest = refl
     by false rest = rest
 
+-- a test or one that fails is the test
 or_false : (b : Bool) → (b || false) ≡ b
 or_false true = refl
 or_false false = refl
 
+-- a test or one that holds holds
 or_true : (b : Bool) → (b || true) ≡ true
 or_true true = refl
 or_true false = refl

@@ -259,6 +259,7 @@ module _ (config : Config) (state : ControllerState) (number : Number) (call : C
   orderly_now : IsOrderly now
   orderly_now = in_its_session IsOrderly config state number orderly (λ later. begun_orderly number.session state orderly)
 
+  -- the state in which the call is judged is safe
   safe_now : IsExclusive now
   safe_now = in_its_session IsExclusive config state number safe (λ later. begun_keeps number.session state safe)
 

@@ -180,6 +180,7 @@ same-test n rows place last has row so inside =
     let count : length (take place rows) ≡ place = length-take-le place rows (omega arith) in
     ap (λ k. may_follow n k (last_id 0 (take place rows)) row) count ∙ ap (λ k. may_follow n place k row) (sym so.is_last)
 
+-- two tests in the other order, with one that fails between, come to the same
 or-turned : (a b : Bool) → (a || b) ≡ (b || (a || false))
 or-turned true true = refl
 or-turned true false = refl

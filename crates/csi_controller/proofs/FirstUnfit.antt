@@ -26,6 +26,7 @@ test-row session row passes =
       gone = λ dead. eqb-true row.last.session session (ap (λ (b : Bool). b || (row.last.session == session)) (sym dead) ∙ parts.1);
     }
 
+-- a row that is of this session passes the test
 row-test : (session : ℕ) (row : ControllerRow) → IsCurrentRow session row → is_current_row session row ≡ true
 row-test session row current = and_from (nat_le row.last.session session) (stays_in session row) (le-leb row.last.session session current.before) (by row.live refl)
   where
@@ -71,6 +72,7 @@ Both P Q rows = P rows × Q rows
 first-before : (P Q : List ControllerRow → Type 0) (rows : List ControllerRow) (place : ℕ) → IsFirstRefused P rows place → Q (take (place - 1) rows) → IsFirstRefused (Both P Q) rows place
 first-before P Q rows place first other = record { from = first.from; to = first.to; before = (first.before, other); refused = λ both. first.refused both.0 }
 
+-- the two rules in the other order refuse the same row first
 turned : (P Q : List ControllerRow → Type 0) (rows : List ControllerRow) (place : ℕ) → IsFirstRefused (Both Q P) rows place → IsFirstRefused (Both P Q) rows place
 turned P Q rows place first = record { from = first.from; to = first.to; before = (first.before.1, first.before.0); refused = λ both. first.refused (both.1, both.0) }
 
@@ -78,6 +80,7 @@ turned P Q rows place first = record { from = first.from; to = first.to; before 
 pub first-one : (P Q : List ControllerRow → Type 0) (rows : List ControllerRow) (place : ℕ) → IsOfFronts Q → IsFirstRefused P rows place → Q rows → IsFirstRefused (Both P Q) rows place
 first-one P Q rows place fronts first other = first-before P Q rows place first (fronts rows (place - 1) other)
 
+-- the first that the second rule refuses, where all keep the first rule
 pub first-other : (P Q : List ControllerRow → Type 0) (rows : List ControllerRow) (place : ℕ) → IsOfFronts P → P rows → IsFirstRefused Q rows place → IsFirstRefused (Both P Q) rows place
 first-other P Q rows place fronts other first = turned P Q rows place (first-one Q P rows place fronts first other)
 
@@ -86,11 +89,13 @@ earlier : (P Q : List ControllerRow → Type 0) (rows : List ControllerRow) (a b
 earlier P Q rows a b fronts one two less =
     first-before P Q rows a one (subst Q (take-take (a - 1) (b - 1) rows (omega (arith, less))) (fronts (take (b - 1) rows) (a - 1) two.before))
 
+-- of two that are refused, one by each rule, the earlier one, as the places compare
 first-of_two : (P Q : List ControllerRow → Type 0) (rows : List ControllerRow) (a b : ℕ) → IsOfFronts P → IsOfFronts Q → IsFirstRefused P rows a → IsFirstRefused Q rows b
     → (t : Bool) → nat_le a b ≡ t → IsFirstRefused (Both P Q) rows (cond t a b)
 first-of_two P Q rows a b fronts_p fronts_q one two true e = earlier P Q rows a b fronts_q one two (leb-true a b e)
 first-of_two P Q rows a b fronts_p fronts_q one two false e = let more = leb-false a b e in turned P Q rows b (earlier Q P rows b a fronts_p two one (omega (arith, more)))
 
+-- of what each rule refuses, if anything, both together refuse the earlier one
 pub first-of_both : (P Q : List ControllerRow → Type 0) (rows : List ControllerRow) (a b : Option ℕ) → IsOfFronts P → IsOfFronts Q → MatchOption a (P rows) (IsFirstRefused P rows) → MatchOption b (Q rows) (IsFirstRefused Q rows)
     → MatchOption (earlier_of a b) (Both P Q rows) (IsFirstRefused (Both P Q) rows)
 first-of_both P Q rows None None fronts_p fronts_q one two = (one, two)

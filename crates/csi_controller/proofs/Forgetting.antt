@@ -133,6 +133,7 @@ pub record StandsLive (p : ControllerRow → Bool) (session : ℕ) (rows : List 
   pub first : FirstAt p (live_rows rows) among row
   pub same : filter (stays_in session) (set rows place new) ≡ set (live_rows rows) among new
 
+-- the row of a live volume stands so where a later session begins
 pub stands-live : (p : ControllerRow → Bool) (before session : ℕ) (rows : List ControllerRow) (place : ℕ) (row new : ControllerRow) → before < session → IsCurrent before rows → FirstAt p rows place row
     → row.live ≡ true → stays_in session new ≡ true → StandsLive p session rows place row new
 stands-live p before session [] place row new later current first alive own = absurd first

@@ -26,6 +26,7 @@ pub live_named-begun : (session : ℕ) (state : ControllerState) (name : List �
 live_named-begun session state name =
     find-filter (λ (v : Volume). same_text v.name name && v.is_live) (λ (v : Volume). v.is_live) state.volumes (λ v both. (and_parts (same_text v.name name) v.is_live both).1)
 
+-- live volumes are found by id as before
 pub live_volume-begun : (session : ℕ) (state : ControllerState) (id : ℕ) → live_volume id (begun session state) ≡ live_volume id state
 live_volume-begun session state id =
     find-filter (λ (v : Volume). (v.id == id) && v.is_live) (λ (v : Volume). v.is_live) state.volumes (λ v both. (and_parts (v.id == id) v.is_live both).1)

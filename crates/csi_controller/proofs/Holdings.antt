@@ -28,6 +28,7 @@ held_after id (RowDetaches node) all = filter (λ holding. not (is_held_at id no
 is_of : ℕ → Holding → Bool
 is_of id holding = holding.volume == id
 
+-- an id is equal to itself
 self : (id : ℕ) → (id == id) ≡ true
 self id = eq-eqb id id refl
 
@@ -47,6 +48,7 @@ own_list-after id RowEnds all = refl
 own_list-after id (RowAttaches held) all = filter-append_passes (λ h. h.volume == id) all (held_by id held) (self id)
 own_list-after id (RowDetaches node) all = filter-swap (λ h. h.volume == id) (λ holding. not (is_held_at id node holding)) all
 
+-- what is equal to an id isn't equal to what differs from that id
 other_id : (a b c : ℕ) → (a == b) ≡ true → (c == b) ≡ false → (a == c) ≡ false
 other_id a b c e f = by (a == c) refl
   where

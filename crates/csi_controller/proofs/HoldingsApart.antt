@@ -8,6 +8,7 @@ use Rattle.csi_types.specs.Holding.{same_holding, is_compatible, is_second_write
 use Rattle.csi_types.specs.Same.{same_text}
 use Rattle.csi_types.specs.Sharing.{is_single_node, is_multi_node, is_single_writer, writes}
 
+-- a test whose opposite holds fails
 not_zero : (b : Bool) → not b ≡ true → b ≡ false
 not_zero true h = cc
 not_zero false h = refl

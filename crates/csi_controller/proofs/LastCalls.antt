@@ -74,6 +74,7 @@ IsTest p = (f : Volume → Volume) → LeavesNames f → (v : Volume) → p (f v
 by_name : (name : List ℕ) → IsTest (λ v. same_text v.name name)
 by_name name f leaves v = ap (λ n. same_text n name) (leaves.names v)
 
+-- the test of an id is such a test
 by_id : (id : ℕ) → IsTest (λ v. v.id == id)
 by_id id f leaves v = ap (λ n. n == id) (leaves.ids v)
 

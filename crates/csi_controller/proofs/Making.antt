@@ -137,6 +137,7 @@ IsRising-append [] row rising below = (tt, tt)
 IsRising-append (r ∷ rs) row rising below =
     (each-append_one (λ (later : ControllerRow). r.id < later.id) rs row (rising.0) (below.0), IsRising-append rs row (rising.1) (below.1))
 
+-- a choice between a value and itself is that value
 same_either_way : {X : Type 0} (b : Bool) (x : X) → x ≡ cond b x x
 same_either_way true x = refl
 same_either_way false x = refl

@@ -59,21 +59,27 @@ by_if config state call false x y f g = g refl
 invalid : InvalidArgument ≡ Ok → ⊥
 invalid h = cc
 
+-- the status NotFound isn't OK
 unfound : NotFound ≡ Ok → ⊥
 unfound h = cc
 
+-- the status AlreadyExists isn't OK
 exists : AlreadyExists ≡ Ok → ⊥
 exists h = cc
 
+-- the status ResourceExhausted isn't OK
 exhausted : ResourceExhausted ≡ Ok → ⊥
 exhausted h = cc
 
+-- the status FailedPrecondition isn't OK
 failed : FailedPrecondition ≡ Ok → ⊥
 failed h = cc
 
+-- the status OutOfRange isn't OK
 out_of_range : OutOfRange ≡ Ok → ⊥
 out_of_range h = cc
 
+-- the status Unimplemented isn't OK
 unimplemented : Unimplemented ≡ Ok → ⊥
 unimplemented h = cc
 
@@ -94,6 +100,7 @@ create_named_moves config state name required limit first others (Some volume) r
     (λ serving. was_found name required limit first others volume range is (not-false volume.is_live live) serving)
     (λ _. was_refused call AlreadyExists (codes "name") exists))
 
+-- CreateVolume gets one of these answers
 create_moves : (config : Config) (state : ControllerState) (name : List ℕ) (required limit : ℕ) (capabilities : List Capability)
     → Move config state (calls.CreateVolume name required limit capabilities) (create config state name required limit capabilities)
 create_moves config state name required limit [] = was_refused (calls.CreateVolume name required limit []) InvalidArgument (codes "capabilities") invalid
@@ -104,15 +111,18 @@ create_moves config state name required limit (first ∷ others) =
     (λ _. was_refused call OutOfRange (codes "range") out_of_range)
     (λ not_empty. create_named_moves config state name required limit first others (volume_named name state) (record { ordered = ordered; not_empty = not_empty }) refl))
 
+-- so does DeleteVolume of a live volume, by what is held of it
 delete_live_moves : (config : Config) (state : ControllerState) (id : ℕ) (volume : Volume) (held : List Holding) → live_volume id state ≡ Some volume → holdings_of id state ≡ held
     → Move config state (calls.DeleteVolume id) (delete_live id held)
 delete_live_moves config state id volume [] live is = was_ended id volume live is
 delete_live_moves config state id volume (holding ∷ others) live is = was_refused (calls.DeleteVolume id) FailedPrecondition holding.node failed
 
+-- so does DeleteVolume
 delete_moves : (config : Config) (state : ControllerState) (id : ℕ) (o : Option Volume) → live_volume id state ≡ o → Move config state (calls.DeleteVolume id) (delete state id o)
 delete_moves config state id None is = was_ended_before id is
 delete_moves config state id (Some volume) is = delete_live_moves config state id volume (holdings_of id state) is refl
 
+-- so does ControllerPublishVolume where the node doesn't hold the volume, by the first holding that can't be beside it
 attach_moves : (config : Config) (state : ControllerState) (holding : Holding) (volume : Volume) (o : Option Holding) → CanAttach config state holding volume
     → holding_at holding.volume holding.node state ≡ None → find (λ other. not (is_compatible holding other)) (holdings_of holding.volume state) ≡ o
     → Move config state (publish_call holding) (attach config state holding o)
@@ -122,6 +132,7 @@ attach_moves config state holding volume None can free is =
     (λ _. was_refused (publish_call holding) ResourceExhausted (codes "slots") exhausted)
     (λ _. was_attached holding volume can free is)
 
+-- so does ControllerPublishVolume of a volume that can be attached, by what the node holds of it
 publish_held_moves : (config : Config) (state : ControllerState) (holding : Holding) (volume : Volume) (o : Option Holding) → CanAttach config state holding volume
     → holding_at holding.volume holding.node state ≡ o → Move config state (publish_call holding) (publish_held config state holding o)
 publish_held_moves config state holding volume None can is =
@@ -131,6 +142,7 @@ publish_held_moves config state holding volume (Some held) can is =
     (λ same. was_attached_before holding volume can (is ∙ ap Some ((same_holding-tells held holding).0 same)))
     (λ _. was_refused (publish_call holding) AlreadyExists (codes "held otherwise") exists)
 
+-- so does ControllerPublishVolume
 publish_moves : (config : Config) (state : ControllerState) (holding : Holding) (o : Option Volume) → live_volume holding.volume state ≡ o
     → Move config state (publish_call holding) (publish config state holding o)
 publish_moves config state holding None is = was_refused (publish_call holding) NotFound (codes "volume") unfound
@@ -142,6 +154,7 @@ publish_moves config state holding (Some volume) is =
     (λ capable. publish_held_moves config state holding volume (holding_at holding.volume holding.node state)
     (record { live = is; node = not-false (has_node holding.node config.nodes) node; capable = not-false (has_capability volume.capabilities holding.capability) capable }) refl))
 
+-- so does ControllerUnpublishVolume
 unpublish_moves : (config : Config) (state : ControllerState) (id : ℕ) (node : List ℕ) (o : Option Holding) → holding_at id node state ≡ o
     → Move config state (calls.ControllerUnpublishVolume id node) (unpublish id node o)
 unpublish_moves config state id node None is = was_detached_before id node is

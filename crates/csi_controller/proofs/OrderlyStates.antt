@@ -139,6 +139,7 @@ pub keep_leaves : (call : Call) (kept : Kept) → LeavesNames (kept_in call kept
 keep_leaves call kept =
     record { ids = λ v. ap (λ (v : Volume). v.id) (kept_same call kept kept v); names = λ v. ap (λ (v : Volume). v.name) (kept_same call kept kept v) }
 
+-- a deletion leaves ids and names
 pub end_leaves : (id : ℕ) → LeavesNames (ended id)
 end_leaves id = record { ids = λ v. same_id v (v.id == id); names = λ v. same_name v (v.id == id) }
   where

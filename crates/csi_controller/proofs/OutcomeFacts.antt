@@ -117,6 +117,7 @@ or_right : (a b : Bool) → b ≡ true → (a || b) ≡ true
 or_right true b h = refl
 or_right false b h = h
 
+-- an `or` passes where its first one does
 or_left : (a b : Bool) → a ≡ true → (a || b) ≡ true
 or_left true b h = refl
 or_left false b h = cc
@@ -189,6 +190,7 @@ publish_ready config state holding volume live node capable held =
 itself_at : (holding : Holding) → is_held_at holding.volume holding.node holding ≡ true
 itself_at holding = and_from _ _ (eq-eqb holding.volume holding.volume refl) ((same_text-tells holding.node holding.node).1 refl)
 
+-- an id isn't another one than itself
 not_another : (id : ℕ) → not (id == id) ≡ false
 not_another id = let self : (id == id) ≡ true = eq-eqb id id refl in rw self refl
 
@@ -206,6 +208,7 @@ attached_facts config state holding volume can none =
 unpublish_ready : (config : Config) (state : ControllerState) (id : ℕ) (node : List ℕ) → holding_at id node state ≡ None → IsReady config state (calls.ControllerUnpublishVolume id node) ok_reply
 unpublish_ready config state id node none = record { is_done = none; again = ap (unpublish id node) none }
 
+-- where the first of two tests doesn't hold, both together don't
 not_both : (a b : Bool) → not a ≡ true → not (a && b) ≡ true
 not_both true b h = cc
 not_both false b h = refl

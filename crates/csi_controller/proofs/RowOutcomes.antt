@@ -33,6 +33,7 @@ either : {X : Type 0} (P : X → Type 0) (b : Bool) (x y : X) → (b ≡ true �
 either P true x y f g = f refl
 either P false x y f g = g refl
 
+-- a test whose opposite fails holds
 not_false : (b : Bool) → not b ≡ false → b ≡ true
 not_false true e = refl
 not_false false e = sym e
@@ -49,9 +50,11 @@ Ends kind change = change ≡ RowEnds → kind ≡ DeleteVolume
 stays_not : (kind : Kind) → Ends kind RowStays
 stays_not kind e = absurd (let clash : RowStays ≡ RowEnds = e in cc)
 
+-- attaching ends no volume
 attaches_not : (kind : Kind) (held : NodeHolding) → Ends kind (RowAttaches held)
 attaches_not kind held e = absurd (let clash : RowAttaches held ≡ RowEnds = e in cc)
 
+-- nor does detaching
 detaches_not : (kind : Kind) (node : List ℕ) → Ends kind (RowDetaches node)
 detaches_not kind node e = absurd (let clash : RowDetaches node ≡ RowEnds = e in cc)
 
@@ -72,6 +75,7 @@ again-good row required limit wished =
     either (IsGood CreateVolume row) (not row.live) _ _ (λ _. refused-good CreateVolume row _ refl refl)
     (λ _. either (IsGood CreateVolume row) (serves (volume_of_row row) required limit wished) _ _ (λ _. refused-good CreateVolume row _ refl refl) (λ _. refused-good CreateVolume row _ refl refl))
 
+-- of the line that answers CreateVolume
 create-good : (row : ControllerRow) (required limit : ℕ) (wished : List Capability) → IsGood CreateVolume row (create_line row required limit wished)
 create-good row required limit [] = refused-good CreateVolume row _ refl refl
 create-good row required limit (capability ∷ others) =
@@ -83,18 +87,22 @@ create-good row required limit (capability ∷ others) =
     by false true h = refused-good CreateVolume row _ refl refl
     by false false h = h
 
+-- of the line that answers DeleteVolume of a live volume, by what the row holds
 delete_held-good : (row : ControllerRow) (items : List NodeHolding) → row.holdings.items ≡ items → IsGood DeleteVolume row (delete_held items)
 delete_held-good row [] e = record { id = refl; fit = e; count = tt; ends = λ ends. refl }
 delete_held-good row (held ∷ others) e = refused-good DeleteVolume row _ refl refl
 
+-- of the line that answers DeleteVolume
 delete-good : (row : ControllerRow) → IsGood DeleteVolume row (delete_line row)
 delete-good row =
     either (IsGood DeleteVolume row) row.live _ _ (λ _. delete_held-good row row.holdings.items refl) (λ _. refused-good DeleteVolume row _ refl refl)
 
+-- of the line that answers ControllerUnpublishVolume
 unpublish-good : (row : ControllerRow) (node : List ℕ) → IsGood ControllerUnpublishVolume row (unpublish_line row node)
 unpublish-good row node =
     either (IsGood ControllerUnpublishVolume row) (list_any (λ (held : NodeHolding). same_text held.node node) row.holdings.items) _ _ (λ held. record { id = refl; fit = tt; count = held; ends = detaches_not ControllerUnpublishVolume node }) (λ _. refused-good ControllerUnpublishVolume row _ refl refl)
 
+-- of the line that answers ControllerPublishVolume of a live volume that the node doesn't hold
 attach-good : (row : ControllerRow) (wanted : NodeHolding) (full : Bool) (o : Option NodeHolding) → row.live ≡ true → find (λ (other : NodeHolding). same_text other.node wanted.node) row.holdings.items ≡ None
     → find (λ (other : NodeHolding). not (is_compatible (held_by row.id wanted) (held_by row.id other))) row.holdings.items ≡ o
     → has_capability row.capabilities wanted.capability ≡ true → (full ≡ false → length row.holdings.items < 64) → IsGood ControllerPublishVolume row (attach_line wanted full o)
@@ -102,6 +110,7 @@ attach-good row wanted full (Some other) live none e listed room = refused-good 
 attach-good row wanted full None live none e listed room =
     either (IsGood ControllerPublishVolume row) full _ _ (λ _. refused-good ControllerPublishVolume row _ refl refl) (λ spare. record { id = refl; fit = (live, none, e, listed, room spare); count = any-find (λ (other : NodeHolding). same_text other.node wanted.node) row.holdings.items ∙ ap is_some none; ends = attaches_not ControllerPublishVolume wanted })
 
+-- of the line that answers ControllerPublishVolume of a live volume, by what the node holds of it
 held-good : (row : ControllerRow) (wanted : NodeHolding) (full : Bool) (o : Option NodeHolding) → row.live ≡ true → find (λ (other : NodeHolding). same_text other.node wanted.node) row.holdings.items ≡ o
     → has_capability row.capabilities wanted.capability ≡ true → (full ≡ false → length row.holdings.items < 64) → IsGood ControllerPublishVolume row (held_line row wanted full o)
 held-good row wanted full (Some held) live e listed room =

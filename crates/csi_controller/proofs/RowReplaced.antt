@@ -75,6 +75,7 @@ pub record IsPut (core : Core) (place : ℕ) (row new : ControllerRow) (counts :
   pub sound : IsSound core.next_id (set (rows_of core.catalog) place new)
   pub counted : AreCounted core.config.nodes (set (rows_of core.catalog) place new) counts
 
+-- so it does with what a row answers to a call
 pub answered-put : (core : Core) (place : ℕ) (row new : ControllerRow) (counts : List ℕ) (number : Number) (call : Call) (verdict : Verdict) (frame : Frame)
     → IsSoundCore core → Some place ≡ position (λ (r : ControllerRow). is_row_for call (volume_of_row r)) (rows_of core.catalog) → slice_get (rows_of core.catalog) place ≡ Some row → IsTrue (is_party_of (kind_of call) Controller)
     → RowAnswers core.config.nodes row new core.counts counts number call verdict frame → IsPut core place row new counts

@@ -36,6 +36,7 @@ pub record SeesRow (state : ControllerState) (row : ControllerRow) : Type 0 wher
   pub live : live_volume row.id state ≡ cond row.live (Some (volume_of_row row)) None
   pub held : holdings_of row.id state ≡ map (held_by row.id) row.holdings.items
 
+-- rows that are seen as something else are as many
 pub length-view : {R X : Type 0} (view : R → X) (rs : List R) → length (map view rs) ≡ length rs
 length-view view [] = refl
 length-view view (r ∷ rs) = ap suc (length-view view rs)

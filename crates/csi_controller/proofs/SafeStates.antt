@@ -35,6 +35,7 @@ Keeps state change = (kept : Kept) → IsExclusive state → IsExclusive (change
 stays : (state : ControllerState) → Keeps state Stays
 stays state kept safe = safe
 
+-- it is kept where a volume is made
 makes_keeps : (state : ControllerState) (name : List ℕ) (capacity : ℕ) (capabilities : List Capability) → Keeps state (Makes name capacity capabilities)
 makes_keeps state name capacity capabilities kept safe =
     let volume : Volume = record { id = state.next_id; name = name; capacity = capacity; capabilities = capabilities; is_live = true; kept = kept } in
@@ -157,6 +158,7 @@ exclusive_kept config =
       carries = λ state number call goes. carried_keeps config state number call;
     }
 
+-- so does any list of frames
 pub frames_keep : (config : Config) (state : ControllerState) (frames : List Frame) → IsExclusive state → IsExclusive (after_frames config state frames)
 frames_keep config state frames safe = each.frames_keep (controller_with config) IsExclusive (exclusive_kept config) state frames safe
 

@@ -67,6 +67,7 @@ through-now config state number call same answered =
     let there : in_session config number state ≡ state = ap (λ (b : Bool). cond b (begun number.session state) state) begins in
     (subst (λ (s : ControllerState). IsFresh (last_of (kept_for call s)) number) there answered.0.fresh, subst (λ (s : ControllerState). (controller_row config s call).reply.status ≡ Ok) there answered.1)
 
+-- the same of a call that begins a session: the table answers it with OK once that has begun
 pub through-first : (config : Config) (state : ControllerState) (number : Number) (call : Call) → state.session < number.session → IsAnsweredOk config state number call
     → (controller_row config (begun number.session state) call).reply.status ≡ Ok
 through-first config state number call after answered =

@@ -53,12 +53,14 @@ session-after state kept id RowEnds = refl
 session-after state kept id (RowAttaches held) = refl
 session-after state kept id (RowDetaches node) = refl
 
+-- what it makes of the list of holdings
 list-after : (state : ControllerState) (kept : Kept) (id : ℕ) (change : RowChange) → (changed state kept (change_of id change)).holdings ≡ held_after id change state.holdings
 list-after state kept id RowStays = refl
 list-after state kept id RowEnds = refl
 list-after state kept id (RowAttaches held) = refl
 list-after state kept id (RowDetaches node) = refl
 
+-- what it makes of the volumes
 made-after : (state : ControllerState) (kept : Kept) (id : ℕ) (change : RowChange) → (changed state kept (change_of id change)).volumes ≡ volumes_after id change state.volumes
 made-after state kept id RowStays = refl
 made-after state kept id RowEnds = refl

@@ -31,6 +31,7 @@ use Rattle.csi_controller.specs.Core.{IsRising, AreCompatible, IsSoundRow, IsSou
 use Rattle.csi_controller.specs.OneRow.{IsFit, RowChange, RowStays, RowEnds, RowAttaches, RowDetaches, RowOutcome, live_after, items_after}
 use Rattle.csi_controller.specs.AtRow.{RowGives, row_after}
 
+-- a test that fails doesn't hold
 false_is_true : false ≡ true → ⊥
 false_is_true h = cc
 
@@ -49,6 +50,7 @@ AreCompatible-append [] wanted all each = (tt, tt)
 AreCompatible-append (held ∷ later) wanted all each =
     (each-append_one (λ (other : NodeHolding). is_compatible (held_by 1 other) (held_by 1 held) ≡ true) later wanted (all.0) (each.0), AreCompatible-append later wanted (all.1) (each.1))
 
+-- an id is equal to itself
 self : (id : ℕ) → (id == id) ≡ true
 self id = eq-eqb id id refl
 

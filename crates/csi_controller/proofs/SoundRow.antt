@@ -25,6 +25,7 @@ use Rattle.csi_controller.proofs.Exclusive.{other_nodes}
 each-from_test : {X : Type 0} (p : X → Bool) (xs : List X) → list_all p xs ≡ true → AllByRecursion (λ (x : X). p x ≡ true) xs
 each-from_test p xs h = all_of (λ x. p x ≡ true) xs (all-then p xs h)
 
+-- where each one passes, the test of all does
 test-from_each : {X : Type 0} (p : X → Bool) (xs : List X) → AllByRecursion (λ (x : X). p x ≡ true) xs → list_all p xs ≡ true
 test-from_each p xs all = then-all p xs (λ x among. each_of (λ y. p y ≡ true) xs x all among)
 

@@ -46,6 +46,7 @@ volume_named-keep : (call : Call) (kept : Kept) (state : ControllerState) (name 
 volume_named-keep call kept state name =
     find-map (λ (v : Volume). same_text v.name name) (kept_in call kept) state.volumes (λ v. ap (λ (w : Volume). same_text w.name name) (kept_same call kept kept v))
 
+-- what is live by id is what was live, but for what is kept
 live_volume-keep : (call : Call) (kept : Kept) (state : ControllerState) (id : ℕ) → live_volume id (keep call kept state) ≡ option_map (kept_in call kept) (live_volume id state)
 live_volume-keep call kept state id =
     find-map (λ (v : Volume). (v.id == id) && v.is_live) (kept_in call kept) state.volumes (λ v. ap (λ (w : Volume). (w.id == id) && w.is_live) (kept_same call kept kept v))
@@ -61,15 +62,18 @@ create_named-keep config call kept state name required limit capabilities None =
     (record { reply = ok_reply_with state.next_id; change = Makes name (wanted required limit) capabilities })))
     (length-map (kept_in call kept) state.volumes)
 
+-- DeleteVolume is answered the same, whatever is kept
 delete-keep : (call : Call) (kept : Kept) (state : ControllerState) (id : ℕ) (o : Option Volume) → delete (keep call kept state) id (option_map (kept_in call kept) o) ≡ delete state id o
 delete-keep call kept state id None = refl
 delete-keep call kept state id (Some v) = refl
 
+-- so is ControllerPublishVolume
 publish-keep : (config : Config) (call : Call) (kept : Kept) (state : ControllerState) (holding : Holding) (o : Option Volume)
     → publish config (keep call kept state) holding (option_map (kept_in call kept) o) ≡ publish config state holding o
 publish-keep config call kept state holding None = refl
 publish-keep config call kept state holding (Some v) = ap (λ (w : Volume). publish config state holding (Some w)) (kept_same call kept kept v)
 
+-- and so is every call, by the whole table
 row-keep : (config : Config) (by : Call) (kept : Kept) (state : ControllerState) (call : Call) → controller_row config (keep by kept state) call ≡ controller_row config state call
 row-keep config by kept state (calls.CreateVolume name required limit []) = refl
 row-keep config by kept state (calls.CreateVolume name required limit (first ∷ others)) =

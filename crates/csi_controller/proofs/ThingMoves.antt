@@ -41,6 +41,7 @@ same_things key call reply state done = record { done = done; refused = λ h. re
 live_with_name : (state : ControllerState) (name : List ℕ) (volume : Volume) → volume_named name state ≡ Some volume → volume.is_live ≡ true → live_named name state ≡ Some volume
 live_with_name state name volume is live = find-and (λ (v : Volume). same_text v.name name) (λ (v : Volume). v.is_live) state.volumes volume is live
 
+-- where the second of two tests fails if the first holds, they don't hold together
 second_fails : (a b : Bool) → (a ≡ true → b ≡ false) → (a && b) ≡ false
 second_fails true b f = f refl
 second_fails false b f = refl

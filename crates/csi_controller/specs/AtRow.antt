@@ -25,6 +25,7 @@ pub record RowAfter : Type 0 where
   pub volume : Volume
   pub items : List NodeHolding
 
+-- the reply that the fence makes of it, and the row then
 abbrev pub row_after : Number → Kind → RowOutcome → ControllerRow → Verdict → RowAfter
 row_after number kind outcome row Stale =
     record { frame = reply_frame number Controller kind stale_reply; volume = volume_of_row row; items = row.holdings.items }

@@ -4,6 +4,7 @@ use Rattle.csi_controller.specs.Catalog.{rows_of, IsIndexed}
 use Rattle.csi_controller.specs.Counts.{AreCounted}
 use Rattle.csi_controller.specs.Core.{Parts, IsSound, IsCurrent}
 
+-- what is shown of it
 abbrev pub parts_of : Core → Parts
 parts_of core = record { config = core.config; next_id = core.next_id; session = core.session; rows = rows_of core.catalog }
 

@@ -38,6 +38,7 @@ is_node_full nodes counts node = list_any (λ (entry : NodeSlots). same_text ent
 abbrev pub count_after : Bool → ℕ → ℕ
 count_after is count = if is then (count + 1) % 2 ^ 64 else (count + 18446744073709551615) % 2 ^ 64
 
+-- the counts after that, where the place is known
 abbrev pub counted_at : Option ℕ → Bool → List ℕ → List ℕ
 counted_at None is counts = counts
 counted_at (Some place) is counts = slice_set counts place (count_after is (slice_index counts place))

@@ -35,21 +35,26 @@ change_of id RowEnds = Ends id
 change_of id (RowAttaches held) = Attaches (held_by id held)
 change_of id (RowDetaches node) = Detaches id node
 
+-- an outcome of the volume of this id
 abbrev pub outcome_of : ℕ → RowOutcome → Outcome
 outcome_of id outcome = record { reply = outcome.reply; change = change_of id outcome.change }
 
+-- a refusal, which changes nothing
 abbrev pub row_refused : Status → List ℕ → RowOutcome
 row_refused status detail = record { reply = plain_reply status detail; change = RowStays }
 
+-- an OK, with this change
 abbrev pub row_done : RowChange → RowOutcome
 row_done change = record { reply = ok_reply; change = change }
 
+-- whether the volume is live after the change
 abbrev pub live_after : RowChange → Bool → Bool
 live_after RowStays live = live
 live_after RowEnds live = false
 live_after (RowAttaches held) live = live
 live_after (RowDetaches node) live = live
 
+-- where it is held after the change
 abbrev pub items_after : RowChange → List NodeHolding → List NodeHolding
 items_after RowStays items = items
 items_after RowEnds items = items

@@ -30,6 +30,7 @@ abbrev pub delete_held : List NodeHolding → RowOutcome
 delete_held [] = row_done RowEnds
 delete_held (held ∷ others) = row_refused FailedPrecondition held.node
 
+-- by whether the volume is live
 abbrev pub delete_line : ControllerRow → RowOutcome
 delete_line row = if row.live then delete_held row.holdings.items else row_done RowStays
 
@@ -53,6 +54,7 @@ abbrev pub by_fault : Option Reply → RowOutcome → RowOutcome
 by_fault (Some reply) outcome = record { reply = reply; change = RowStays }
 by_fault None outcome = outcome
 
+-- CreateVolume of a name that has a row, by its arguments
 abbrev pub create_line : ControllerRow → ℕ → ℕ → List Capability → RowOutcome
 create_line row required limit capabilities = by_fault (argument_fault required limit capabilities) (again_line row required limit capabilities)
 
@@ -67,12 +69,14 @@ attach_line wanted is_full (Some other) = row_refused FailedPrecondition other.n
 attach_line wanted is_full None =
     if is_full then row_refused ResourceExhausted (codes "slots") else row_done (RowAttaches wanted)
 
+-- by what the node holds of the volume
 abbrev pub held_line : ControllerRow → NodeHolding → Bool → Option NodeHolding → RowOutcome
 held_line row wanted is_full (Some held) =
     if same_holding (held_by row.id held) (held_by row.id wanted) then row_done RowStays else row_refused AlreadyExists (codes "held otherwise")
 held_line row wanted is_full None =
     attach_line wanted is_full (find (λ (other : NodeHolding). not (is_compatible (held_by row.id wanted) (held_by row.id other))) row.holdings.items)
 
+-- by whether the volume is live, and has the capability
 abbrev pub publish_line : ControllerRow → NodeHolding → Bool → Bool → RowOutcome
 publish_line row wanted is_configured is_full =
     if not row.live then row_refused NotFound (codes "volume")

@@ -86,6 +86,7 @@ pub record BothModesRow : Type 0 where
 abbrev pub single_writer : Capability
 single_writer = block MultiNodeSingleWriter
 
+-- so it is among four nodes
 pub record SingleWriterRow : Type 0 where
   pub second_writer : replies four_nodes (call_at 1 (create_v (single_writer ∷ [])) ∷ call_at 2 (publish_at (codes "n1") single_writer true) ∷ call_at 3 (publish_at (codes "n2") single_writer true)
       ∷ call_at 4 (publish_at (codes "n3") single_writer false) ∷ call_at 5 (publish_at (codes "n4") single_writer false) ∷ [])

@@ -29,9 +29,11 @@ pub empty-failed : (old new : Option Embedded) (bytes : List ℕ) (room number :
 empty-failed old new bytes room number empty none is =
     subst (λ (o : Option Embedded). HasFailed o bytes room new number) empty (subst (λ (n : Option Embedded). HasFailed None bytes room n number) (sym none) (record { ending = Empty; is = is; why = refl; remains = tt }))
 
+-- an empty handle tells nothing
 pub empty-told : (old : Option Embedded) (place key room count : ℕ) (bytes : List ℕ) (number : ℕ) → None ≡ old → number ≡ 2 → HasTold old place key room count bytes number
 empty-told old place key room count bytes number empty is = subst (λ (o : Option Embedded). HasTold o place key room count bytes number) empty (record { ending = Empty; is = is; tells = refl })
 
+-- an empty handle has no record
 pub empty-record : (old : Option Embedded) (room count : ℕ) (bytes : List ℕ) (number : ℕ) → None ≡ old → number ≡ 2 → HasRecord old room count bytes number
 empty-record old room count bytes number empty is = subst (λ (o : Option Embedded). HasRecord o room count bytes number) empty (record { ending = Empty; is = is; tells = refl })
 

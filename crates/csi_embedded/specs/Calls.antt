@@ -23,6 +23,7 @@ front bytes = take 1284 bytes
 
 -- ---- what the store has to be given
 
+-- the changes, or those of these parts where there are some
 abbrev pub told_or : List Change → Option (Vec Part) → List Change
 told_or changes None = changes
 told_or changes (Some parts) = map change_of parts.items
@@ -53,6 +54,7 @@ pub record AnswersFront (old : Plugin) (bytes : List ℕ) (new : Plugin) (rest :
   pub replied : Bool
   pub answers : AppendsReply Answers old frame new before after replied
 
+-- the bytes begin with a frame that was answered, or they don't
 abbrev pub AnswersNext : Plugin → List ℕ → Plugin → List ℕ → List ℕ → List ℕ → Result (Unit {0}) Ending → Type 0
 AnswersNext old bytes new rest before after (Ok done) = AnswersFront old bytes new rest before after
 AnswersNext old bytes new rest before after (Err ending) = IsNoFrame bytes ending
@@ -73,12 +75,14 @@ pub record Remains (old new : Embedded) : Type 0 where
 
 -- ---- the same of handles
 
+-- so it is of a handle, whether it has a plugin or not
 abbrev pub HasRemained : Option Embedded → Option Embedded → Type 0
 HasRemained (Some old) (Some new) = Remains old new
 HasRemained None None = Unit {0}
 HasRemained (Some old) None = ⊥
 HasRemained None (Some new) = ⊥
 
+-- a handle's plugin answered so
 abbrev pub HasAnswered : Option Embedded → List ℕ → ℕ → Option Embedded → List ℕ → Type 0
 HasAnswered (Some old) bytes used (Some new) reply = Answered old bytes used new reply
 HasAnswered (Some old) bytes used None reply = ⊥
@@ -110,10 +114,12 @@ abbrev pub TellsOne : Option Change → ℕ → ℕ → ℕ → List ℕ → End
 TellsOne None key room count bytes ending = ending ≡ NoMore
 TellsOne (Some change) key room count bytes ending = TellsChange change key room count bytes ending
 
+-- what a handle tells of it: nothing where it is empty, and memory may be wanted
 abbrev pub TellsAt : Option Embedded → ℕ → ℕ → ℕ → ℕ → List ℕ → Ending → Type 0
 TellsAt None place key room count bytes ending = ending ≡ Empty
 TellsAt (Some embedded) place key room count bytes ending = (ending ≡ NoMemory) ⊎ TellsOne (slice_get (told embedded) place) key room count bytes ending
 
+-- what was answered of the change at a place
 pub record HasTold (old : Option Embedded) (place key room count : ℕ) (bytes : List ℕ) (number : ℕ) : Type 0 where
   pub ending : Ending
   pub is : number ≡ ending_number ending
@@ -121,6 +127,7 @@ pub record HasTold (old : Option Embedded) (place key room count : ℕ) (bytes :
 
 -- ---- the record
 
+-- the record in these bytes, the room that it needs, or that there is none
 abbrev pub TellsRecord : Option Embedded → ℕ → ℕ → List ℕ → Ending → Type 0
 TellsRecord (Some embedded) room count bytes Done = IsRecordOf embedded.plugin bytes × (count ≡ length bytes)
 TellsRecord (Some embedded) room count bytes NoRoom = (whole : List ℕ) × IsRecordOf embedded.plugin whole × (count ≡ length whole) × (room < count)
@@ -128,6 +135,7 @@ TellsRecord (Some embedded) room count bytes NoMemory = Unit {0}
 TellsRecord (Some embedded) room count bytes _ = ⊥
 TellsRecord None room count bytes ending = ending ≡ Empty
 
+-- what was answered of the record
 pub record HasRecord (old : Option Embedded) (room count : ℕ) (bytes : List ℕ) (number : ℕ) : Type 0 where
   pub ending : Ending
   pub is : number ≡ ending_number ending

@@ -3,6 +3,7 @@ use Rattle.std.specs.Prelude.{ℕ}
 use Rattle.csi_embedded.specs.declared.ending.Ending.{Ending}
 use Rattle.csi_embedded.specs.declared.ending.Ending.TheVariants.{Done, NoMemory, Empty, Full, BadName, BadRecord, Short, BadFrame, NoRoom, Renewed, TakenOut, NoMore}
 
+-- an ending's number
 abbrev pub ending_number : Ending → ℕ
 ending_number Done = 0
 ending_number NoMemory = 1

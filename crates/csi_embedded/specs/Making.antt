@@ -108,6 +108,7 @@ IsNoReadNode id bytes _ = ⊥
 
 -- ---- the same of handles
 
+-- it is done
 abbrev pub IsDone : Ending → Type 0
 IsDone ending = ending ≡ Done
 
@@ -130,11 +131,13 @@ abbrev pub IsUnmade : (Ending → Type 0) → Option Embedded → Ending → Typ
 IsUnmade Why (Some old) ending = ending ≡ Full
 IsUnmade Why None ending = Why ending
 
+-- nothing was put into the handle, and this is why
 pub record PutsNone (Why : Ending → Type 0) (old new : Option Embedded) (number : ℕ) : Type 0 where
   pub same : new ≡ old
   pub ending : Ending
   pub is : number ≡ ending_number ending
   pub why : IsUnmade Why old ending
 
+-- a plugin was put into the handle, or none
 abbrev pub Makes : (Embedded → Ending → Type 0) → (Ending → Type 0) → Option Embedded → Option Embedded → ℕ → Type 0
 Makes Is Why old new number = Puts Is old new number ⊎ PutsNone Why old new number

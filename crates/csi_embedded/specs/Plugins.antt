@@ -15,10 +15,12 @@ use Rattle.csi_service.specs.NodeServices.{node_service_changes, NodeServiceAnsw
 use Rattle.csi_embedded.specs.declared.plugin.Plugin.{Plugin}
 use Rattle.csi_embedded.specs.declared.plugin.Plugin.TheVariants.{Controller, Node}
 
+-- the parts of its record
 abbrev pub plugin_parts : Plugin → List StoredPart
 plugin_parts (Controller service) = controller_service_parts service
 plugin_parts (Node service) = node_service_parts service
 
+-- what its last call changed
 abbrev pub plugin_changes : Plugin → List Change
 plugin_changes (Controller service) = controller_service_changes service
 plugin_changes (Node service) = node_service_changes service
@@ -32,12 +34,14 @@ Answers (Node old) frame reply (Controller new) = ⊥
 
 -- ---- what a refusal leaves
 
+-- a controller is as it was to its callers
 pub record IsSameController (old new : ControllerService) : Type 0 where
   pub config : new.controller.config ≡ old.controller.config
   pub shows : (state : ControllerState) → Shows old.controller state → Shows new.controller state
   pub parts : controller_service_parts new ≡ controller_service_parts old
   pub changes : controller_service_changes new ≡ controller_service_changes old
 
+-- a node is as it was to its callers
 pub record IsSameNode (old new : NodeService) : Type 0 where
   pub shows : (state : NodeState) → NodeShows old.node state → NodeShows new.node state
   pub parts : node_service_parts new ≡ node_service_parts old

@@ -58,6 +58,7 @@ same_session a b h k = grind (arith, nat_tests)
 pub over-from : (session : ℕ) (number : Number) → number.session < session → is_over session number ≡ true
 over-from session number h = lt-ltb number.session session h
 
+-- a call that is over is of a session before this one
 pub over-to : (session : ℕ) (number : Number) → is_over session number ≡ true → number.session < session
 over-to session number h = ltb-true number.session session h
 

@@ -26,6 +26,7 @@ pub record Plugin (State : Type 0) : Type 1 where
 abbrev pub answer_to : {State : Type 0} → Plugin State → State → Number → Call → Option Frame
 answer_to plugin state number call = (fenced plugin.machine state (call_frame number plugin.machine.party call)).reply
 
+-- the state after a call
 abbrev pub after_call : {State : Type 0} → Plugin State → State → Number → Call → State
 after_call plugin state number call = (fenced plugin.machine state (call_frame number plugin.machine.party call)).state
 
@@ -43,6 +44,7 @@ pub record IsLawfulIn {State : Type 0} (plugin : Plugin State) (begun after : St
   pub again : (plugin.reply_at begun call).status ≡ Ok → IsIdempotent plugin after (plugin.reply_at begun call) number call
   pub others : plugin.leaves_others begun after call
 
+-- the same in the session of the call
 abbrev pub IsLawful : {State : Type 0} → Plugin State → State → Number → Call → Type 0
 IsLawful plugin state number call = IsLawfulIn plugin (in_session plugin.machine number state) (after_call plugin state number call) number call
 

@@ -41,6 +41,7 @@ pub use Rattle.csi_frames.proofs.Versions.{has_every_mode}
 abbrev version_byte : Version → List ℕ
 version_byte version = version_number version ∷ []
 
+-- the kind as a byte
 abbrev kind_byte : BodyKind → List ℕ
 kind_byte kind = body_kind_number kind ∷ []
 
@@ -49,6 +50,7 @@ version_agrees : (next : Version → Grammar) → Agrees version_at (Spelled Alw
 unfolding version_at
 version_agrees next = code_agrees Always is_version BadVersion version_of version_number next version_code
 
+-- the reader of the kind agrees with the grammar
 kind_agrees : (version : Version) (next : BodyKind → Grammar) → Agrees (kind_at version) (Spelled (HasKind version) kind_byte) (Byte (is_body_kind version) BadKind (λ b. next (body_kind_of b))) next
 unfolding kind_at
 kind_agrees version next = code_agrees (HasKind version) (is_body_kind version) BadKind body_kind_of body_kind_number next (body_kind_code version)
@@ -131,6 +133,7 @@ party-number : (kind : Kind) (node : Bool) → is_node_kind kind ≡ node → (c
 party-number kind true e = rw e refl
 party-number kind false e = rw e refl
 
+-- a test whose opposite holds fails
 is_false : (b : Bool) → not b ≡ true → b ≡ false
 is_false true e = absurd cc
 is_false false e = refl
@@ -195,16 +198,19 @@ call-there version kind value bytes s =
     subst (λ (v : Body). SaysFields version (body_kinds.Call kind) v bytes) (sym s.second.same)
     (record { fits = record { of_kind = s.first.of_kind; fits = s.first.fits; of_version = s.first.of_version }; are = s.parts ∙ ap (λ (t : List ℕ). s.front ++ t) s.second.none ∙ append-nil s.front ∙ s.first.are })
 
+-- a body of a call's kind that is spelled so is that call, spelled so
 call-back : (version : Version) (kind : Kind) (value : Body) (bytes : List ℕ) → SaysFields version (body_kinds.Call kind) value bytes → Then (SaysCall version kind) (λ call. Given (bodies.Call call)) value bytes
 call-back version kind (bodies.Call call) bytes s =
     record { before = call; front = bytes; back = []; parts = sym (append-nil bytes); first = record { of_kind = s.fits.of_kind; fits = s.fits.fits; of_version = s.fits.of_version; are = s.are }; second = record { same = refl; none = refl } }
 call-back version kind (bodies.Reply k reply) bytes s = absurd s.fits.of_kind
 
+-- the reply that was read is a body of its kind, and is spelled so
 reply-there : (version : Version) (kind : Kind) (value : Body) (bytes : List ℕ) → Then (SaysReply kind) (λ reply. Given (bodies.Reply kind reply)) value bytes → SaysFields version (body_kinds.Reply kind) value bytes
 reply-there version kind value bytes s =
     subst (λ (v : Body). SaysFields version (body_kinds.Reply kind) v bytes) (sym s.second.same)
     (record { fits = record { of_kind = (refl, s.first.rule); fits = s.first.fits; of_version = tt }; are = s.parts ∙ ap (λ (t : List ℕ). s.front ++ t) s.second.none ∙ append-nil s.front ∙ s.first.are })
 
+-- a body of a reply's kind that is spelled so is that reply, spelled so
 reply-back : (version : Version) (kind : Kind) (value : Body) (bytes : List ℕ) → SaysFields version (body_kinds.Reply kind) value bytes → Then (SaysReply kind) (λ reply. Given (bodies.Reply kind reply)) value bytes
 reply-back version kind (bodies.Reply k reply) bytes s =
     record {

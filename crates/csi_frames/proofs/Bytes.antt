@@ -12,6 +12,7 @@ use Rattle.byteorder.specs.Numbers.{big_number-reads_back, big_from-lt, big_from
 pub AreBytes-drop : (n : ℕ) (bytes : List ℕ) → AreBytes bytes → AreBytes (drop n bytes)
 AreBytes-drop n bytes h i = rw get_or-drop (h (n + i))
 
+-- the front of a list of bytes has bytes only
 pub AreBytes-take : (n : ℕ) (bytes : List ℕ) → AreBytes bytes → AreBytes (take n bytes)
 AreBytes-take n bytes h i =
     elim (cases_lt i n) [
@@ -19,9 +20,11 @@ AreBytes-take n bytes h i =
       | inr le ↦ rw (get_or_past (take n bytes) i 0 (omega (arith, length-take n bytes))) (omega arith)
     ]
 
+-- so has what is behind the first one
 pub AreBytes-rest : (b : ℕ) (bytes : List ℕ) → AreBytes (b ∷ bytes) → AreBytes bytes
 AreBytes-rest b bytes h i = h (suc i)
 
+-- so has the second of two parts
 pub AreBytes-back : (front back : List ℕ) → AreBytes (front ++ back) → AreBytes back
 AreBytes-back front back h = subst AreBytes (drop_at front back (length front) refl) (AreBytes-drop (length front) (front ++ back) h)
 

@@ -32,6 +32,7 @@ both true true e = (refl, refl)
 both true false e = absurd cc
 both false b e = absurd cc
 
+-- two tests that hold hold together
 both_true : {a b : Bool} → a ≡ true → b ≡ true → (a && b) ≡ true
 both_true first second = rw (first, second) refl
 
@@ -41,9 +42,11 @@ both_true first second = rw (first, second) refl
 pub join2 : (x a b r : List ℕ) → x ≡ a ++ r → r ≡ b → x ≡ a ++ b
 join2 x a b r e f = e ∙ ap (λ (t : List ℕ). a ++ t) f
 
+-- the same of three parts
 pub join3 : (x a b c r q : List ℕ) → x ≡ a ++ r → r ≡ b ++ q → q ≡ c → x ≡ a ++ b ++ c
 join3 x a b c r q e f g = e ∙ ap (λ (t : List ℕ). a ++ t) (join2 r b c q f g) ∙ sym (append_assoc a b c)
 
+-- the same of four parts
 pub join4 : (x a b c d r q p : List ℕ) → x ≡ a ++ r → r ≡ b ++ q → q ≡ c ++ p → p ≡ d → x ≡ a ++ b ++ c ++ d
 join4 x a b c d r q p e f g h =
     join3 x a b (c ++ d) r q e f (join2 q c d p g h) ∙ sym (append_assoc (a ++ b) c d)
@@ -52,6 +55,7 @@ join4 x a b c d r q p e f g h =
 pub cut3 : (x a b c : List ℕ) → x ≡ a ++ b ++ c → x ≡ a ++ (b ++ c)
 cut3 x a b c e = e ∙ append_assoc a b c
 
+-- the same of four parts
 pub cut4 : (x a b c d : List ℕ) → x ≡ a ++ b ++ c ++ d → x ≡ a ++ (b ++ (c ++ d))
 cut4 x a b c d e = e ∙ append_assoc (a ++ b) c d ∙ append_assoc a b (c ++ d)
 
@@ -157,13 +161,16 @@ create_agrees version =
 delete-there : (version : Version) (value : Call) (bytes : List ℕ) → Made IsVolumeId spelling.word (λ id. calls.DeleteVolume id) value bytes → SaysCall version kinds.DeleteVolume value bytes
 delete-there version value bytes s = subst (λ (v : Call). SaysCall version kinds.DeleteVolume v bytes) (sym s.same) (record { of_kind = refl; fits = s.fits; of_version = tt; are = s.are })
 
+-- and back
 delete-back : (version : Version) (value : Call) (bytes : List ℕ) → SaysCall version kinds.DeleteVolume value bytes → Made IsVolumeId spelling.word (λ id. calls.DeleteVolume id) value bytes
 delete-back version (calls.DeleteVolume id) bytes s = record { before = id; fits = s.fits; same = refl; are = s.are }
 delete-back version _ bytes s = absurd (cc s.of_kind)
 
+-- what was read as a NodeUnstageVolume is such a call, and is spelled so
 unstage-there : (version : Version) (value : Call) (bytes : List ℕ) → Made IsVolumeId spelling.word (λ id. calls.NodeUnstageVolume id) value bytes → SaysCall version kinds.NodeUnstageVolume value bytes
 unstage-there version value bytes s = subst (λ (v : Call). SaysCall version kinds.NodeUnstageVolume v bytes) (sym s.same) (record { of_kind = refl; fits = s.fits; of_version = tt; are = s.are })
 
+-- and back
 unstage-back : (version : Version) (value : Call) (bytes : List ℕ) → SaysCall version kinds.NodeUnstageVolume value bytes → Made IsVolumeId spelling.word (λ id. calls.NodeUnstageVolume id) value bytes
 unstage-back version (calls.NodeUnstageVolume id) bytes s = record { before = id; fits = s.fits; same = refl; are = s.are }
 unstage-back version _ bytes s = absurd (cc s.of_kind)
@@ -174,21 +181,25 @@ unstage-back version _ bytes s = absurd (cc s.of_kind)
 abbrev SaysIdText : (ℕ → List ℕ → Call) → Call → List ℕ → Type 0
 SaysIdText make = After IsVolumeId spelling.word (λ id. Made (IsText 1 255) spelling.text (make id))
 
+-- what was read as a ControllerUnpublishVolume is such a call, and is spelled so
 unpublish-there : (version : Version) (value : Call) (bytes : List ℕ) → SaysIdText (λ id node. calls.ControllerUnpublishVolume id node) value bytes → SaysCall version kinds.ControllerUnpublishVolume value bytes
 unpublish-there version value bytes s =
     subst (λ (v : Call). SaysCall version kinds.ControllerUnpublishVolume v bytes) (sym s.second.same)
     (record { of_kind = refl; fits = (s.fits, s.second.fits); of_version = tt; are = join2 bytes (spelling.word s.before) (spelling.text s.second.before) s.back s.parts s.second.are })
 
+-- and back
 unpublish-back : (version : Version) (value : Call) (bytes : List ℕ) → SaysCall version kinds.ControllerUnpublishVolume value bytes → SaysIdText (λ id node. calls.ControllerUnpublishVolume id node) value bytes
 unpublish-back version (calls.ControllerUnpublishVolume id node) bytes s =
     record { before = id; fits = s.fits.0; back = spelling.text node; parts = s.are; second = record { before = node; fits = s.fits.1; same = refl; are = refl } }
 unpublish-back version _ bytes s = absurd (cc s.of_kind)
 
+-- what was read as a NodeUnpublishVolume is such a call, and is spelled so
 node_unpublish-there : (version : Version) (value : Call) (bytes : List ℕ) → SaysIdText (λ id target. calls.NodeUnpublishVolume id target) value bytes → SaysCall version kinds.NodeUnpublishVolume value bytes
 node_unpublish-there version value bytes s =
     subst (λ (v : Call). SaysCall version kinds.NodeUnpublishVolume v bytes) (sym s.second.same)
     (record { of_kind = refl; fits = (s.fits, s.second.fits); of_version = tt; are = join2 bytes (spelling.word s.before) (spelling.text s.second.before) s.back s.parts s.second.are })
 
+-- and back
 node_unpublish-back : (version : Version) (value : Call) (bytes : List ℕ) → SaysCall version kinds.NodeUnpublishVolume value bytes → SaysIdText (λ id target. calls.NodeUnpublishVolume id target) value bytes
 node_unpublish-back version (calls.NodeUnpublishVolume id target) bytes s =
     record { before = id; fits = s.fits.0; back = spelling.text target; parts = s.are; second = record { before = target; fits = s.fits.1; same = refl; are = refl } }
@@ -200,11 +211,13 @@ node_unpublish-back version _ bytes s = absurd (cc s.of_kind)
 abbrev SaysStage : Version → Call → List ℕ → Type 0
 SaysStage version = After IsVolumeId spelling.word (λ id. Made (IsCapabilityIn version (owes_new_mode version)) spelling.capability (λ c. calls.NodeStageVolume id c))
 
+-- what was read as a NodeStageVolume is such a call, and is spelled so
 stage-there : (version : Version) (value : Call) (bytes : List ℕ) → SaysStage version value bytes → SaysCall version kinds.NodeStageVolume value bytes
 stage-there version value bytes s =
     subst (λ (v : Call). SaysCall version kinds.NodeStageVolume v bytes) (sym s.second.same)
     (record { of_kind = refl; fits = (s.fits, s.second.fits.fits); of_version = s.second.fits.in_mode; are = join2 bytes (spelling.word s.before) (spelling.capability s.second.before) s.back s.parts s.second.are })
 
+-- and back
 stage-back : (version : Version) (value : Call) (bytes : List ℕ) → SaysCall version kinds.NodeStageVolume value bytes → SaysStage version value bytes
 stage-back version (calls.NodeStageVolume id c) bytes s =
     record { before = id; fits = s.fits.0; back = spelling.capability c; parts = s.are; second = record { before = c; fits = record { fits = s.fits.1; in_mode = s.of_version }; same = refl; are = refl } }
@@ -216,12 +229,14 @@ stage-back version _ bytes s = absurd (cc s.of_kind)
 abbrev SaysPublish : Version → (ℕ → List ℕ → Capability → Bool → Call) → Call → List ℕ → Type 0
 SaysPublish version make = After IsVolumeId spelling.word (λ id. After (IsText 1 255) spelling.text (λ place. After (IsCapabilityIn version (owes_new_mode version)) spelling.capability (λ c. Made Always spelling.flag (make id place c))))
 
+-- what was read as a ControllerPublishVolume is such a call, and is spelled so
 publish-there : (version : Version) (value : Call) (bytes : List ℕ) → SaysPublish version (λ id node c readonly. calls.ControllerPublishVolume id node c readonly) value bytes → SaysCall version kinds.ControllerPublishVolume value bytes
 publish-there version value bytes s =
     let s1 = s.second in let s2 = s1.second in let s3 = s2.second in
     subst (λ (v : Call). SaysCall version kinds.ControllerPublishVolume v bytes) (sym s3.same)
     (record { of_kind = refl; fits = (s.fits, s1.fits, s2.fits.fits); of_version = s2.fits.in_mode; are = join4 bytes (spelling.word s.before) (spelling.text s1.before) (spelling.capability s2.before) (spelling.flag s3.before) s.back s1.back s2.back s.parts s1.parts s2.parts s3.are })
 
+-- and back
 publish-back : (version : Version) (value : Call) (bytes : List ℕ) → SaysCall version kinds.ControllerPublishVolume value bytes → SaysPublish version (λ id node c readonly. calls.ControllerPublishVolume id node c readonly) value bytes
 publish-back version (calls.ControllerPublishVolume id node c readonly) bytes s =
     record {
@@ -239,12 +254,14 @@ publish-back version (calls.ControllerPublishVolume id node c readonly) bytes s 
     }
 publish-back version _ bytes s = absurd (cc s.of_kind)
 
+-- what was read as a NodePublishVolume is such a call, and is spelled so
 node_publish-there : (version : Version) (value : Call) (bytes : List ℕ) → SaysPublish version (λ id target c readonly. calls.NodePublishVolume id target c readonly) value bytes → SaysCall version kinds.NodePublishVolume value bytes
 node_publish-there version value bytes s =
     let s1 = s.second in let s2 = s1.second in let s3 = s2.second in
     subst (λ (v : Call). SaysCall version kinds.NodePublishVolume v bytes) (sym s3.same)
     (record { of_kind = refl; fits = (s.fits, s1.fits, s2.fits.fits); of_version = s2.fits.in_mode; are = join4 bytes (spelling.word s.before) (spelling.text s1.before) (spelling.capability s2.before) (spelling.flag s3.before) s.back s1.back s2.back s.parts s1.parts s2.parts s3.are })
 
+-- and back
 node_publish-back : (version : Version) (value : Call) (bytes : List ℕ) → SaysCall version kinds.NodePublishVolume value bytes → SaysPublish version (λ id target c readonly. calls.NodePublishVolume id target c readonly) value bytes
 node_publish-back version (calls.NodePublishVolume id target c readonly) bytes s =
     record {

@@ -31,6 +31,7 @@ pub any_word_agrees : (next : ℕ → Grammar) → Agrees (word_at any) (Spelled
 any_word_agrees next =
     in_words (Spelled IsWord spelling.word) (λ n bytes s. record { fits = s.fits; are = s.eight }) (λ n bytes s. record { fits = s.fits; is_allowed = refl; eight = s.are }) (word_agrees any next)
 
+-- the reader of an id agrees with the grammar
 pub id_agrees : (next : ℕ → Grammar) → Agrees id_at (Spelled IsVolumeId spelling.word) (Word (nat_lt 0) next) next
 unfolding id_at
 id_agrees next =
@@ -39,14 +40,17 @@ id_agrees next =
     (λ n bytes s. record { fits = s.fits.in_range; is_allowed = lt-ltb _ _ s.fits.from_one; eight = s.are })
     (word_agrees (nat_lt 0) next)
 
+-- so does that of a text between two limits
 pub any_text_agrees : (least most : ℕ) (next : List ℕ → Grammar) → Agrees (text_at least most) (Spelled (IsText least most) spelling.text) (Text least most next) next
 any_text_agrees least most next =
     in_words (Spelled (IsText least most) spelling.text) (λ t bytes s. record { fits = s.fits; are = s.counted }) (λ t bytes s. record { fits = s.fits; counted = s.are }) (text_agrees least most next)
 
+-- so does that of a flag
 pub flag_agrees : (next : Bool → Grammar) → Agrees flag_at (Spelled Always spelling.flag) (Byte (at_most 1) BadFlag (λ b. next (b == 1))) next
 unfolding flag_at
 flag_agrees next = code_agrees Always (at_most 1) BadFlag (λ b. b == 1) flag_number next flag_code
 
+-- so does that of a mode, where a new one is owed and where none is
 pub mode_agrees : (version : Version) (owed : Bool) (next : Mode → Grammar) → Agrees (mode_at version owed) (Spelled (TakesMode version owed) (λ mode. mode_number mode ∷ [])) (mode_grammar version owed next) next
 unfolding mode_at
 mode_agrees version owed next = code_agrees (TakesMode version owed) (is_mode version owed) BadMode mode_of mode_number next (mode_code version owed)
@@ -121,6 +125,7 @@ owed_capability_agrees version owed next =
     in_words (Spelled (IsCapabilityIn version owed) spelling.capability) (capability-there version owed) (capability-back version owed)
     (after (access_agrees (mode_grammar version owed next)) (λ access. makes (λ mode. record { access = access; mode = mode }) (λ c. next c.mode) (mode_agrees version owed next)))
 
+-- the reader of a capability agrees with the grammar, where no new mode is owed
 pub capability_agrees : (version : Version) (next : Grammar) → Agrees (capability_at version) (Spelled (IsCapabilityOf version) spelling.capability) (capability_grammar version false (λ _. next)) (λ _. next)
 unfolding capability_at
 capability_agrees version next = owed_capability_agrees version false (λ _. next)

@@ -28,25 +28,30 @@ kept-passes : {A : Type 0} (t : Bool) (x : A) → is_some (cond t (Some x) None)
 kept-passes true x e = refl
 kept-passes false x e = absurd cc
 
+-- a value that a test left was there, and passes the test
 only-passes : {A : Type 0} (test : A → Bool) (o : Option A) (other : A) → is_some (only test o) ≡ true → (is_some o ≡ true) × (test (unwrap_or o other) ≡ true)
 only-passes test None other e = absurd cc
 only-passes test (Some x) other e = (refl, kept-passes (test x) x e)
 
+-- a value that is there and passes a test is left by it
 passes-only : {A : Type 0} (test : A → Bool) (o : Option A) (x : A) → o ≡ Some x → test x ≡ true → is_some (only test o) ≡ true
 passes-only test o x there passes = rw (there, passes) refl
 
 -- ---- versions
 
+-- an allowed byte is the number of its version
 version-back : (b : ℕ) → is_version b ≡ true → version_number (version_of b) ≡ b
 version-back zero e = absurd cc
 version-back (suc zero) e = refl
 version-back (suc (suc zero)) e = refl
 version-back (suc (suc (suc n))) e = absurd cc
 
+-- a version's number is allowed
 version-allowed : (version : Version) → Always version → is_version (version_number version) ≡ true
 version-allowed One fits = refl
 version-allowed Two fits = refl
 
+-- a version's number stands for the version
 version-again : (version : Version) → version_of (version_number version) ≡ version
 version-again One = refl
 version-again Two = refl
@@ -77,6 +82,7 @@ mode-back (suc (suc (suc (suc (suc (suc zero)))))) e = refl
 mode-back (suc (suc (suc (suc (suc (suc (suc zero))))))) e = refl
 mode-back (suc (suc (suc (suc (suc (suc (suc (suc n)))))))) e = absurd cc
 
+-- a mode is found at its number
 mode-found : (mode : Mode) → mode_from_number (mode_number mode) ≡ Some mode
 mode-found SingleNodeWriter = refl
 mode-found SingleNodeReaderOnly = refl
@@ -86,9 +92,11 @@ mode-found MultiNodeMultiWriter = refl
 mode-found SingleNodeSingleWriter = refl
 mode-found SingleNodeMultiWriter = refl
 
+-- a mode's number stands for the mode
 mode-again : (mode : Mode) → mode_of (mode_number mode) ≡ mode
 mode-again mode = ap (λ (o : Option Mode). unwrap_or o SingleNodeWriter) (mode-found mode)
 
+-- the modes that a version takes have such bytes
 pub mode_code : (version : Version) (owed : Bool) → IsCode (TakesMode version owed) (is_mode version owed) mode_of mode_number
 mode_code version owed = record {
   back = λ b e. mode-back b (only-passes (takes_mode version owed) (mode_from_number b) SingleNodeWriter e).0;
@@ -120,6 +128,7 @@ status-back (suc (suc (suc (suc (suc (suc (suc (suc (suc (suc (suc (suc (suc (su
 status-back (suc (suc (suc (suc (suc (suc (suc (suc (suc (suc (suc (suc (suc (suc (suc (suc zero)))))))))))))))) e = refl
 status-back (suc (suc (suc (suc (suc (suc (suc (suc (suc (suc (suc (suc (suc (suc (suc (suc (suc n))))))))))))))))) e = absurd cc
 
+-- a status's code is allowed
 status-allowed : (status : Status) → Always status → is_status (status_code status) ≡ true
 status-allowed statuses.Ok fits = refl
 status-allowed statuses.Cancelled fits = refl
@@ -139,6 +148,7 @@ status-allowed statuses.Unavailable fits = refl
 status-allowed statuses.DataLoss fits = refl
 status-allowed statuses.Unauthenticated fits = refl
 
+-- a status's code stands for the status
 status-again : (status : Status) → status_of (status_code status) ≡ status
 status-again statuses.Ok = refl
 status-again statuses.Cancelled = refl
@@ -158,11 +168,13 @@ status-again statuses.Unavailable = refl
 status-again statuses.DataLoss = refl
 status-again statuses.Unauthenticated = refl
 
+-- statuses have such bytes
 pub status_codes : IsCode Always is_status status_of status_code
 status_codes = record { back = status-back; fits = λ b e. tt; is_allowed = status-allowed; again = status-again }
 
 -- ---- kinds
 
+-- two kinds that are both there are equal where what is there is
 some_is : (a b : Kind) → Some b ≡ Some a → a ≡ b
 some_is a b e = cc
 
@@ -204,6 +216,7 @@ either-back n false high yes_it = reply-back n (kind_from_number (n - 128)) (ltb
 body_kind-back : (n : ℕ) → is_some (body_kind_from_number n) ≡ true → body_kind_number (body_kind_of n) ≡ n
 body_kind-back n yes_it = either-back n (ltb n 128) refl yes_it
 
+-- a kind of body is found at its number
 body_kind-found : (kind : BodyKind) → body_kind_from_number (body_kind_number kind) ≡ Some kind
 body_kind-found (Call kinds.CreateVolume) = refl
 body_kind-found (Call kinds.DeleteVolume) = refl
@@ -222,6 +235,7 @@ body_kind-found (Reply kinds.NodeUnstageVolume) = refl
 body_kind-found (Reply kinds.NodePublishVolume) = refl
 body_kind-found (Reply kinds.NodeUnpublishVolume) = refl
 
+-- a kind of body's number stands for it
 body_kind-again : (kind : BodyKind) → body_kind_of (body_kind_number kind) ≡ kind
 body_kind-again kind = ap (λ (o : Option BodyKind). unwrap_or o (Call kinds.CreateVolume)) (body_kind-found kind)
 
@@ -229,6 +243,7 @@ body_kind-again kind = ap (λ (o : Option BodyKind). unwrap_or o (Call kinds.Cre
 abbrev pub HasKind : Version → BodyKind → Type 0
 HasKind version kind = has_kind version kind ≡ true
 
+-- the kinds of bodies that a version has have such bytes
 pub body_kind_code : (version : Version) → IsCode (HasKind version) (is_body_kind version) body_kind_of body_kind_number
 body_kind_code version = record {
   back = λ b e. body_kind-back b (only-passes (has_kind version) (body_kind_from_number b) (Call kinds.CreateVolume) e).0;
@@ -249,13 +264,16 @@ flag-back (suc (suc n)) e = absurd (omega (arith, leb-true (suc (suc n)) 1 e))
 abbrev pub flag_number : Bool → ℕ
 flag_number b = if b then 1 else 0
 
+-- a flag's number is allowed
 flag-allowed : (b : Bool) → Always b → at_most 1 (flag_number b) ≡ true
 flag-allowed true fits = refl
 flag-allowed false fits = refl
 
+-- a flag's number stands for the flag
 flag-again : (b : Bool) → (flag_number b == 1) ≡ b
 flag-again true = refl
 flag-again false = refl
 
+-- flags have such bytes
 pub flag_code : IsCode Always (at_most 1) (λ b. b == 1) flag_number
 flag_code = record { back = flag-back; fits = λ b e. tt; is_allowed = flag-allowed; again = flag-again }

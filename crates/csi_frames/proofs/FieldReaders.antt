@@ -43,11 +43,13 @@ unfolding byte_at
 byte_at-takes allowed fault next [] x e = absurd cc
 byte_at-takes allowed fault next (b ∷ bytes) x e = byte-takes allowed fault next b bytes (allowed b) x refl e
 
+-- where the reader of a byte stops, the grammar refuses with the same fault
 byte_at-stops : (allowed : ℕ → Bool) (fault : FaultKind) (next : ℕ → Grammar) (bytes : List ℕ) (stop : Stop) → byte_at allowed fault bytes ≡ Err stop → Refuses (Byte allowed fault next) bytes stop
 unfolding byte_at
 byte_at-stops allowed fault next [] stop e = refuses_here {A = ℕ × List ℕ} (Byte allowed fault next) [] LengthDiffers stop refl e
 byte_at-stops allowed fault next (b ∷ bytes) stop e = byte-stops allowed fault next b bytes (allowed b) stop refl e
 
+-- an allowed byte is read again, whatever comes behind it
 byte_at-again : (allowed : ℕ → Bool) (fault : FaultKind) (n : ℕ) (front rest : List ℕ) → IsByte allowed n front → byte_at allowed fault (front ++ rest) ≡ Ok (n, rest)
 unfolding byte_at
 byte_at-again allowed fault n front rest s = ap (λ (t : List ℕ). byte_at allowed fault (t ++ rest)) s.one ∙ rw (s.is_allowed) refl
@@ -100,10 +102,12 @@ word_at-takes : (allowed : ℕ → Bool) (next : ℕ → Grammar) (bytes : List 
 unfolding word_at
 word_at-takes allowed next bytes x fits e = word-takes allowed next bytes (ltb (length bytes) 8) (allowed (big_number 8 bytes)) x fits refl refl e
 
+-- where the reader of a number stops, the grammar refuses with the same fault
 word_at-stops : (allowed : ℕ → Bool) (next : ℕ → Grammar) (bytes : List ℕ) (stop : Stop) → word_at allowed bytes ≡ Err stop → Refuses (Word allowed next) bytes stop
 unfolding word_at
 word_at-stops allowed next bytes stop e = word-stops allowed next bytes (ltb (length bytes) 8) (allowed (big_number 8 bytes)) stop refl refl e
 
+-- an allowed number in eight bytes is read again, whatever comes behind it
 word_at-eight : (allowed : ℕ → Bool) (n : ℕ) (rest : List ℕ) → IsWord n → allowed n ≡ true → word_at allowed (big_bytes 8 n ++ rest) ≡ Ok (n, rest)
 unfolding word_at
 word_at-eight allowed n rest fits is_so =
@@ -178,11 +182,13 @@ unfolding text_at
 text_at-takes least most next [] x e = absurd cc
 text_at-takes least most next (n ∷ bytes) x e = text-takes least most next n bytes _ _ _ x refl refl refl e
 
+-- where the reader of a text stops, the grammar refuses with the same fault
 text_at-stops : (least most : ℕ) (next : List ℕ → Grammar) (bytes : List ℕ) (stop : Stop) → text_at least most bytes ≡ Err stop → Refuses (Text least most next) bytes stop
 unfolding text_at
 text_at-stops least most next [] stop e = refuses_here {A = List ℕ × List ℕ} (Text least most next) [] LengthDiffers stop refl e
 text_at-stops least most next (n ∷ bytes) stop e = text-stops least most next n bytes _ _ _ stop refl refl refl e
 
+-- a text within its limits is read again, whatever comes behind it
 text_at-again : (least most : ℕ) (value rest : List ℕ) → IsText least most value → text_at least most (length value ∷ value ++ rest) ≡ Ok (value, rest)
 unfolding text_at
 text_at-again least most value rest fits =

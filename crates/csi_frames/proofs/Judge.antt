@@ -66,12 +66,14 @@ refused-byte : (allowed : ℕ → Bool) (fault : FaultKind) (next : ℕ → Gram
 refused-byte allowed fault next b bytes kind true is_so e = absurd cc
 refused-byte allowed fault next b bytes kind false is_so e = kind_is kind fault (b ∷ bytes) e
 
+-- a number that is refused with this fault is judged so
 refused-word : (n : ℕ) (rest bytes : List ℕ) (kind : FaultKind) (short t : Bool) → cond short (Some LengthDiffers) (cond t None (Some BadId)) ≡ Some kind
     → cond short (stopped LengthDiffers bytes) (cond t (done n rest) (stopped BadId bytes)) ≡ stopped kind bytes
 refused-word n rest bytes kind true t e = kind_is kind LengthDiffers bytes e
 refused-word n rest bytes kind false true e = absurd cc
 refused-word n rest bytes kind false false e = kind_is kind BadId bytes e
 
+-- a text that is refused with this fault is judged so
 refused-text : (value rest bytes : List ℕ) (kind : FaultKind) (out short utf8 : Bool) → cond out (Some BadText) (cond short (Some LengthDiffers) (cond utf8 None (Some BadText))) ≡ Some kind
     → cond out (stopped BadText bytes) (cond short (stopped LengthDiffers bytes) (cond utf8 (done value rest) (stopped BadText bytes))) ≡ stopped kind bytes
 refused-text value rest bytes kind true short utf8 e = kind_is kind BadText bytes e

@@ -44,6 +44,7 @@ chosen_second true b r s x ok = absurd cc
 chosen_second false false r s x ok = absurd cc
 chosen_second false true r s x ok = (refl, refl)
 
+-- where a value is there that is given only if a test fails, the test failed
 enough : {A : Type 0} (a : Bool) (r : Stop) (x : A) → is_ok (cond a (Err r) (Ok x)) ≡ true → a ≡ false
 enough true r x ok = absurd cc
 enough false r x ok = refl
@@ -53,6 +54,7 @@ pub record KnownWord (bytes : List ℕ) : Type 0 where
   pub long : 8 ≤ length bytes
   pub read : word_at any bytes ≡ Ok (big_number 8 bytes, drop 8 bytes)
 
+-- where a number was read, eight bytes were there, and it is theirs
 pub known_word : (bytes : List ℕ) → is_ok (word_at any bytes) ≡ true → KnownWord bytes
 unfolding word_at
 known_word bytes ok =
@@ -66,6 +68,7 @@ id_ok bytes ok =
     let so = chosen_second (nat_lt (length bytes) 8) (nat_lt 0 (big_number 8 bytes)) _ _ (big_number 8 bytes, drop 8 bytes) ok in
     rw so.0 refl
 
+-- where an id was read, it is what was read as a number
 pub id_is : (bytes : List ℕ) (x : ℕ × List ℕ) → is_ok (id_at bytes) ≡ true → word_at any bytes ≡ Ok x → id_at bytes ≡ Ok x
 unfolding id_at word_at
 id_is bytes x ok read =
@@ -89,12 +92,14 @@ pub record KnownText (least most : ℕ) (bytes : List ℕ) (count : ℕ) (behind
   pub utf8 : IsUtf8 (take count behind)
   pub read : text_at least most bytes ≡ Ok (take count behind, drop count behind)
 
+-- where a text was read, it is as long as its first byte says, and UTF-8
 known_behind : (least most n : ℕ) (rest : List ℕ) → is_ok (text_at least most (n ∷ rest)) ≡ true → KnownText least most (n ∷ rest) n rest
 unfolding text_at
 known_behind least most n rest ok =
     let so = chosen (not (nat_le least n && nat_le n most)) (nat_lt (length rest) n) (is_utf8 (take n rest)) _ _ _ (take n rest, drop n rest) ok in
     record { is_there = omega arith; long = ltb-false (length rest) n so.0; utf8 = IsUtf8-from_is_utf8 (take n rest) so.1; read = so.2 }
 
+-- the same, with the first byte and what is behind it as they are read from the bytes
 pub known : (least most : ℕ) (bytes : List ℕ) → is_ok (text_at least most bytes) ≡ true → KnownText least most bytes (slice_index_or bytes 0 0) (take (length bytes - 1) (drop 1 bytes))
 unfolding text_at
 known least most [] ok = absurd cc
@@ -104,19 +109,23 @@ known least most (n ∷ rest) ok =
 
 -- ---- what was read where a new mode was owed is read where none is
 
+-- what two tests let through the first one lets through
 taken_again : (has new : Bool) (x : Mode) → is_some (cond (has && new) (Some x) None) ≡ true → is_some (cond has (Some x) None) ≡ true
 taken_again true new x e = refl
 taken_again false new x e = absurd cc
 
+-- a mode that is taken where a new one is owed is taken where none is
 found_again : (version : Version) (found : Option Mode) → is_some (only (takes_mode version true) found) ≡ true → is_some (only (takes_mode version false) found) ≡ true
 found_again version None e = absurd cc
 found_again version (Some mode) e = taken_again (has_mode version mode) (is_new_mode mode) mode e
 
+-- where a byte was read as a mode by one test, and another allows what that one does, the other reads the same
 byte_again : (a b : Bool) (n : ℕ) (bytes : List ℕ) → (a ≡ true → b ≡ true) → is_ok (go_on (cond a (done n bytes) (stopped BadMode (n ∷ bytes))) (λ n. give (mode_of n))) ≡ true
     → go_on (cond b (done n bytes) (stopped BadMode (n ∷ bytes))) (λ n. give (mode_of n)) ≡ go_on (cond a (done n bytes) (stopped BadMode (n ∷ bytes))) (λ n. give (mode_of n))
 byte_again true b n bytes too ok = rw (too refl) refl
 byte_again false b n bytes too ok = absurd cc
 
+-- a mode that was read where a new one is owed is read where none is
 mode_again : (version : Version) (bytes : List ℕ) → is_ok (mode_at version true bytes) ≡ true → mode_at version false bytes ≡ mode_at version true bytes
 unfolding mode_at byte_at
 mode_again version [] ok = absurd cc
@@ -127,6 +136,7 @@ then_again : {A B : Type 0} (read : Result (A × List ℕ) Stop) (one other : A 
 then_again (Ok x) one other same ok = same x ok
 then_again (Err stop) one other same ok = absurd cc
 
+-- so is a capability
 one_again : (version : Version) (owed : Bool) (bytes : List ℕ) → is_ok (owed_capability_at version owed bytes) ≡ true → owed_capability_at version false bytes ≡ owed_capability_at version owed bytes
 unfolding owed_capability_at
 one_again version false bytes ok = refl
@@ -135,6 +145,7 @@ one_again version true bytes ok =
     (λ x read. ap (λ (r : Result (Mode × List ℕ) Stop). go_on r (λ mode. give (record { access = x.0; mode = mode }))) (mode_again version x.1 (first_ok (mode_at version true x.1) (λ mode. give (record { access = x.0; mode = mode })) read)))
     ok
 
+-- so are capabilities
 pub list_again : (version : Version) (owed : Bool) (n : ℕ) (bytes : List ℕ) → is_ok (capabilities_at version owed n bytes) ≡ true → capabilities_at version false n bytes ≡ capabilities_at version owed n bytes
 unfolding capabilities_at
 list_again version owed zero bytes ok = refl

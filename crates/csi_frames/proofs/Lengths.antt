@@ -24,18 +24,22 @@ length-access : (a : Access) → IsAccess a → length (spelling.access a) ≤ 1
 length-access Block fits = omega arith
 length-access (Mount fs_type) fits = omega (arith, fits.no_longer)
 
+-- a capability has at most 131 bytes
 length-capability : (c : Capability) → IsCapability c → length (spelling.capability c) ≤ 131
 length-capability c fits = omega (arith, length-append (spelling.access c.access) (mode_number c.mode ∷ []), length-access c.access fits)
 
+-- capabilities have at most 131 bytes each
 length-capabilities : (cs : List Capability) → AllByRecursion IsCapability cs → length (flat_map spelling.capability cs) ≤ 131 * length cs
 length-capabilities [] fits = omega arith
 length-capabilities (c ∷ cs) fits =
     omega (arith, ap length (flat_map-cons spelling.capability c cs), length-append (spelling.capability c) (flat_map spelling.capability cs), length-capability c fits.0, length-capabilities cs fits.1)
 
+-- a reply's id has eight bytes, and so has that of a reply without one
 length-reply_id : (id : Option ℕ) → length (spelling.reply_id id) ≡ 8
 length-reply_id None = refl
 length-reply_id (Some n) = refl
 
+-- a party has at most 257 bytes
 length-party : (p : Party) → IsParty p → length (spelling.party p) ≤ 257
 length-party Controller fits = omega arith
 length-party (Node id) fits = omega (arith, fits.no_longer)
@@ -55,9 +59,11 @@ length-call (calls.NodePublishVolume id target c readonly) fits =
     omega (arith, length-append (spelling.word id ++ spelling.text target ++ spelling.capability c) (spelling.flag readonly), length-append (spelling.word id ++ spelling.text target) (spelling.capability c), fits.1.no_longer, length-capability c fits.2)
 length-call (calls.NodeUnpublishVolume id target) fits = omega (arith, fits.1.no_longer)
 
+-- a reply's fields have at most 265 bytes
 length-reply : (reply : Reply) → IsReply reply → length (spelling.reply_fields reply) ≤ 265
 length-reply reply fits = omega (arith, length-append (spelling.reply_id reply.id) (spelling.text reply.detail), length-reply_id reply.id, fits.detail_fits.no_longer)
 
+-- a body's fields have at most 1194 bytes
 length-body : (body : Body) → IsBody body → length (spelling.body_fields body) ≤ 1194
 length-body (bodies.Call call) fits = length-call call fits
 length-body (bodies.Reply kind reply) fits = omega (arith, length-reply reply fits)

@@ -33,18 +33,22 @@ choice false g h first second = second
 mode : (version : Version) (owed : Bool) (next : Mode → Grammar) → ((m : Mode) → NeverShort (next m)) → NeverShort (mode_grammar version owed next)
 mode version owed next never = (λ e. cc, λ b. never (mode_of b))
 
+-- the grammar of a capability has no Short, where that of what follows has none
 capability : (version : Version) (owed : Bool) (next : Mode → Grammar) → ((m : Mode) → NeverShort (next m)) → NeverShort (capability_grammar version owed next)
 capability version owed next never =
     (λ e. cc, λ access. choice (access == 0) (mode_grammar version owed next) (Text 0 128 (λ _. mode_grammar version owed next)) (mode version owed next never) (λ fs. mode version owed next never))
 
+-- nor has that of so many capabilities
 capabilities : (version : Version) (owed : Bool) (n : ℕ) → NeverShort (capabilities_grammar version owed n)
 capabilities version owed zero = tt
 capabilities version owed (suc n) =
     capability version (owed && (n == 0)) (λ m. capabilities_grammar version (owed && not (is_new_mode m)) n) (λ m. capabilities version (owed && not (is_new_mode m)) n)
 
+-- nor has that of a flag
 flag : NeverShort flag_grammar
 flag = (λ e. cc, λ b. tt)
 
+-- nor has that of a call of any kind
 call : (version : Version) (kind : Kind) → NeverShort (call_grammar version kind)
 unfolding call_grammar
 call version kinds.CreateVolume = λ name required limit. (λ e. cc, capabilities version (owes_new_mode version))
@@ -56,18 +60,22 @@ call version kinds.NodeUnstageVolume = λ id. tt
 call version kinds.NodePublishVolume = λ id target. capability version (owes_new_mode version) (λ _. flag_grammar) (λ _. flag)
 call version kinds.NodeUnpublishVolume = λ id target. tt
 
+-- nor has that of a reply
 reply : (kind : Kind) → NeverShort (reply_grammar kind)
 unfolding reply_grammar
 reply kind = (λ e. cc, λ status id detail. tt)
 
+-- nor has that of a body's fields
 fields : (version : Version) (kind : BodyKind) → NeverShort (fields_grammar version kind)
 fields version (Call kind) = call version kind
 fields version (Reply kind) = reply kind
 
+-- nor has that of a party and what follows it
 party : (version : Version) (kind : BodyKind) → NeverShort (party_grammar version kind)
 party version kind =
     (λ e. cc, λ n. choice (n == 0) (fields_grammar version kind) (Text 1 255 (λ _. fields_grammar version kind)) (fields version kind) (λ id. fields version kind))
 
+-- nor has that of a whole body
 body : NeverShort body_grammar
 unfolding body_grammar
 body = (λ e. cc, λ version. (λ e. cc, λ kind session number. party (version_of version) (body_kind_of kind)))
@@ -89,9 +97,11 @@ told fault kind never e s = let same : fault ≡ kind = cc in never (same ∙ s)
 differs : LengthDiffers ≢ Short
 differs e = cc
 
+-- the fault BadId isn't Short
 bad_id : BadId ≢ Short
 bad_id e = cc
 
+-- the fault BadText isn't Short
 bad_text : BadText ≢ Short
 bad_text e = cc
 
@@ -100,11 +110,13 @@ told-byte : (t : Bool) (fault kind : FaultKind) → fault ≢ Short → cond t N
 told-byte true fault kind never e = absurd cc
 told-byte false fault kind never e = told fault kind never e
 
+-- a number that its tests refuse isn't refused with Short
 told-word : (few t : Bool) (kind : FaultKind) → cond few (Some LengthDiffers) (cond t None (Some BadId)) ≡ Some kind → kind ≢ Short
 told-word true t kind e = told LengthDiffers kind differs e
 told-word false true kind e = absurd cc
 told-word false false kind e = told BadId kind bad_id e
 
+-- nor is a text
 told-text : (out few utf8 : Bool) (kind : FaultKind) → cond out (Some BadText) (cond few (Some LengthDiffers) (cond utf8 None (Some BadText))) ≡ Some kind → kind ≢ Short
 told-text true few utf8 kind e = told BadText kind bad_text e
 told-text false true utf8 kind e = told LengthDiffers kind differs e

@@ -26,18 +26,22 @@ after : {A : Type 0} (read : Result (A × List ℕ) Stop) (next : A → Reader C
 after (Ok read) next none = none read.0 read.1
 after (Err stop) next none = refl
 
+-- a call of an id alone has no capabilities, where what is made of the id has none
 alone : (make : ℕ → Call) (bytes : List ℕ) → ((id : ℕ) → capabilities_in (make id) ≡ []) → of_read (id_alone_at make bytes) ≡ []
 unfolding id_alone_at
 alone make bytes none = after (id_at bytes) _ (λ id _. none id)
 
+-- nor has one of an id and a text
 with_text : (make : ℕ → List ℕ → Call) (bytes : List ℕ) → ((id : ℕ) (text : List ℕ) → capabilities_in (make id text) ≡ []) → of_read (id_and_text_at make bytes) ≡ []
 unfolding id_and_text_at
 with_text make bytes none = after (id_at bytes) _ (λ id b. after (text_at 1 255 b) _ (λ text _. none id text))
 
+-- nor has a NodeStageVolume
 staged : (version : Version) (bytes : List ℕ) → of_read (stage_at version bytes) ≡ []
 unfolding stage_at
 staged version bytes = after (id_at bytes) _ (λ id b. after (owed_capability_at version (owes_new_mode version) b) _ (λ c _. refl))
 
+-- nor has one of an id, a text, a capability and a flag
 published : (version : Version) (make : ℕ → List ℕ → Capability → Bool → Call) (bytes : List ℕ) → ((id : ℕ) (text : List ℕ) (c : Capability) (readonly : Bool) → capabilities_in (make id text c readonly) ≡ []) → of_read (publish_at version make bytes) ≡ []
 unfolding publish_at
 published version make bytes none =
@@ -48,10 +52,12 @@ of_call : (read : Result (Call × List ℕ) Stop) → of_read read ≡ [] → ca
 of_call (Ok read) none = none
 of_call (Err stop) none = refl
 
+-- the body of a reply has no capabilities
 of_reply : (read : Result (Reply × List ℕ) Stop) (kind : Kind) → capabilities_in_body (body_in (go_on read (λ reply. give (bodies.Reply kind reply)))) ≡ []
 of_reply (Ok read) kind = refl
 of_reply (Err stop) kind = refl
 
+-- of bodies only a CreateVolume has capabilities
 pub none-read : (version : Version) (kind : BodyKind) (bytes : List ℕ) → is_create_call kind ≡ false → capabilities_in_body (body_in (fields_at version kind bytes)) ≡ []
 unfolding fields_at call_at
 none-read version (body_kinds.Call kinds.CreateVolume) bytes other = absurd cc

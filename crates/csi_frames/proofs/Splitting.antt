@@ -28,6 +28,7 @@ is-Short : (kind : FaultKind) → is_short kind ≡ true → kind ≡ Short
 is-Short Short e = refl
 is-Short _ e = absurd cc
 
+-- a fault that isn't Short fails the test
 not-Short : (kind : FaultKind) → kind ≢ Short → is_short kind ≡ false
 not-Short Short other = absurd (other refl)
 not-Short _ other = refl
@@ -95,9 +96,11 @@ behind start buffer read e = ap first_frame (sym (take_all (length buffer - star
 pub behind-frame : (start : ℕ) (buffer : List ℕ) (frame : Frame) (n : ℕ) → AreBytes buffer → first_frame (take (length buffer - start) (drop start buffer)) ≡ Ok (frame, n) → IsFound (drop start buffer) (Ok (Some frame)) × (n ≡ length (spelling frame))
 behind-frame start buffer frame n fits e = IsFound-frame (drop start buffer) frame n (AreBytes-drop start buffer fits) (behind start buffer (Ok (frame, n)) e)
 
+-- where the bytes behind a place are read as Short, there is no frame yet, and they are at most 1283
 pub behind-none : (start : ℕ) (buffer : List ℕ) (fault : FrameFault) → AreBytes buffer → first_frame (take (length buffer - start) (drop start buffer)) ≡ Err fault → is_short fault.kind ≡ true → IsFound (drop start buffer) (Ok None) × (length (drop start buffer) ≤ 1283)
 behind-none start buffer fault fits e t = IsFound-none (drop start buffer) fault (AreBytes-drop start buffer fits) (behind start buffer (Err fault) e) t
 
+-- where they are read as another fault, that one is found
 pub behind-fault : (start : ℕ) (buffer : List ℕ) (fault : FrameFault) → AreBytes buffer → first_frame (take (length buffer - start) (drop start buffer)) ≡ Err fault → is_short fault.kind ≡ false → IsFound (drop start buffer) (Err fault)
 behind-fault start buffer fault fits e t = IsFound-fault (drop start buffer) fault (AreBytes-drop start buffer fits) (behind start buffer (Err fault) e) t
 

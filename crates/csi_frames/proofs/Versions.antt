@@ -28,10 +28,12 @@ neither : (a b : Bool) → (a || b) ≡ false → (a ≡ false) × (b ≡ false)
 neither true b e = absurd cc
 neither false b e = (refl, e)
 
+-- one of two tests holds where the second does if the first fails
 one_or : (a b : Bool) → (a ≡ false → b ≡ true) → (a || b) ≡ true
 one_or true b other = refl
 one_or false b other = other refl
 
+-- a test whose opposite fails holds
 turned : (b : Bool) → not b ≡ false → b ≡ true
 turned true e = refl
 turned false e = absurd cc
@@ -43,6 +45,7 @@ none_new : (cs : List Capability) → AreInModes One false cs → has_new_mode c
 none_new [] in_modes = refl
 none_new (c ∷ cs) in_modes = rw (in_modes.0, none_new cs in_modes.1) refl
 
+-- capabilities of which none is in a new mode are of the first version
 old_modes : (cs : List Capability) → has_new_mode cs ≡ false → AreInModes One false cs
 old_modes [] none = tt
 old_modes (c ∷ cs) none =
@@ -55,10 +58,12 @@ one_new c [] in_modes = rw in_modes.0 refl
 one_new c (d ∷ ds) in_modes =
     one_or (is_new_mode c.mode) (has_new_mode (d ∷ ds)) (λ old. one_new d ds (subst (λ (b : Bool). AreInModes Two (true && not b) (d ∷ ds)) old in_modes.1))
 
+-- all capabilities are of the second version, where no new mode is owed
 any_modes : (cs : List Capability) → AreInModes Two false cs
 any_modes [] = tt
 any_modes (c ∷ cs) = (refl, any_modes cs)
 
+-- the second version takes a new mode, where one is owed and where none is
 new_is_taken : (owed : Bool) (mode : Mode) → is_new_mode mode ≡ true → TakesMode Two owed mode
 new_is_taken true mode e = e
 new_is_taken false mode e = refl
@@ -73,6 +78,7 @@ new_first true c cs e some others = (new_is_taken (true && (length cs == 0)) c.m
 new_first false c [] e some others = absurd cc
 new_first false c (d ∷ ds) e some others = (before_last (length ds) c.mode, subst (λ (b : Bool). AreInModes Two (true && not b) (d ∷ ds)) (sym e) (others some))
 
+-- capabilities of which one is in a new mode are of the second version, where one is owed
 new_modes : (cs : List Capability) → has_new_mode cs ≡ true → AreInModes Two true cs
 new_modes [] some = tt
 new_modes (c ∷ cs) some = new_first (is_new_mode c.mode) c cs refl some (λ later. new_modes cs later)
@@ -107,6 +113,7 @@ kept_kind : (b : Bool) (kind : Kind) → HasKind Two (body_kinds.Call kind) → 
 kept_kind true kind has = has
 kept_kind false kind has = refl
 
+-- the version in which a call is spelled has the kind of the call
 pub has_its_kind : (call : Call) → HasKind (version_with (has_new_mode (call_capabilities call))) (body_kinds.Call (kind_of call))
 has_its_kind (calls.CreateVolume name required limit cs) = kept_kind (has_new_mode cs) kinds.CreateVolume refl
 has_its_kind (calls.DeleteVolume id) = refl
@@ -123,10 +130,12 @@ list_in false cs e = (omega arith, old_modes cs e)
 list_in true [] e = absurd (cc e)
 list_in true (c ∷ cs) e = (omega arith, new_modes (c ∷ cs) e)
 
+-- a capability is of the version in which it is spelled alone
 one_in : (b : Bool) (c : Capability) → has_new_mode (c ∷ []) ≡ b → TakesMode (version_with b) (owes_new_mode (version_with b)) c.mode
 one_in false c e = (old_modes (c ∷ []) e).0
 one_in true c e = (new_modes (c ∷ []) e).0
 
+-- a call is of the version in which it is spelled
 pub in_its_version : (call : Call) → IsCallOf (version_with (has_new_mode (call_capabilities call))) call
 in_its_version (calls.CreateVolume name required limit cs) = list_in (has_new_mode cs) cs refl
 in_its_version (calls.DeleteVolume id) = tt

@@ -61,6 +61,7 @@ judged_ok : (body : List ℕ) → AreBytes body → (r : Result (Frame × List �
 judged_ok body fits (Ok x) frame e all = whole-ok body fits x frame e all
 judged_ok body fits (Err stop) frame e all = absurd cc
 
+-- bytes whose reading ends in a fault, with something left or not, are a body at fault
 judged_err : (body : List ℕ) → AreBytes body → (r : Result (Frame × List ℕ) Stop) (stop : Stop) → frame_at body ≡ r → all_of r ≡ Err stop → IsStopped body stop
 judged_err body fits (Ok x) stop e all = whole-err body fits x stop e all
 judged_err body fits (Err d) stop e all =

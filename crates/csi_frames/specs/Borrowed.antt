@@ -28,13 +28,16 @@ abbrev pub list_in : Result (List Capability × List ℕ) Stop → List Capabili
 list_in (Ok read) = read.0
 list_in (Err stop) = []
 
+-- the capabilities that are read from the bytes of borrowed ones
 abbrev pub owned_capabilities : CapabilitiesRef → List Capability
 owned_capabilities cs = list_in (capabilities_at cs.version false cs.count cs.bytes.now)
 
+-- the party that a borrowed one stands for
 abbrev pub owned_party : PartyRef → Party
 owned_party Controller = parties.Controller
 owned_party (Node id) = parties.Node id.now
 
+-- the call that a borrowed one stands for
 abbrev pub owned_call : BorrowedCall → Call
 owned_call (CreateVolume name required limit capabilities) = calls.CreateVolume name.now required limit (owned_capabilities capabilities)
 owned_call (DeleteVolume id) = calls.DeleteVolume id
@@ -45,9 +48,11 @@ owned_call (NodeUnstageVolume id) = calls.NodeUnstageVolume id
 owned_call (NodePublishVolume id target c readonly) = calls.NodePublishVolume id target.now (lent_capability c) readonly
 owned_call (NodeUnpublishVolume id target) = calls.NodeUnpublishVolume id target.now
 
+-- the reply that a borrowed one stands for
 abbrev pub owned_reply : ReplyRef → Reply
 owned_reply reply = record { status = reply.status; id = reply.id; detail = reply.detail.now }
 
+-- the body that a borrowed one stands for
 abbrev pub owned_body : BodyRef → Body
 owned_body (refs.Call call) = bodies.Call (owned_call call)
 owned_body (refs.Reply kind reply) = bodies.Reply kind (owned_reply reply)
@@ -57,8 +62,10 @@ abbrev pub body_in : Result (Body × List ℕ) Stop → Body
 body_in (Ok read) = read.0
 body_in (Err stop) = bodies.Call (calls.DeleteVolume 0)
 
+-- the body that fields which are kept as bytes stand for
 abbrev pub owned_fields : FieldsRef → Body
 owned_fields fields = body_in (fields_at fields.version fields.kind fields.bytes.now)
 
+-- the frame that a borrowed one stands for
 abbrev pub owned : BorrowedFrame → Frame
 owned frame = record { number = frame.number; party = owned_party frame.party; body = owned_fields frame.fields }

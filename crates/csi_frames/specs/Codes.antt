@@ -20,18 +20,23 @@ use Rattle.csi_frames.specs.Version.{version_from_number, mode_in, kind_in_versi
 abbrev pub is_version : ℕ → Bool
 is_version n = is_some (version_from_number n)
 
+-- the version that a byte stands for
 abbrev pub version_of : ℕ → Version
 version_of n = unwrap_or (version_from_number n) One
 
+-- the version has a mode of this byte, where a new one is owed or isn't
 abbrev pub is_mode : Version → Bool → ℕ → Bool
 is_mode version owed n = is_some (mode_in version owed n)
 
+-- the mode that a byte stands for
 abbrev pub mode_of : ℕ → Mode
 mode_of n = unwrap_or (mode_from_number n) SingleNodeWriter
 
+-- a status has this code
 abbrev pub is_status : ℕ → Bool
 is_status n = is_some (status_from_code n)
 
+-- the status that a byte stands for
 abbrev pub status_of : ℕ → Status
 status_of n = unwrap_or (status_from_code n) statuses.Ok
 
@@ -40,12 +45,15 @@ abbrev pub kind_in : BodyKind → Kind
 kind_in (Call kind) = kind
 kind_in (Reply kind) = kind
 
+-- a body is a call to create a volume
 abbrev pub is_create_call : BodyKind → Bool
 is_create_call (Call kind) = is_create kind
 is_create_call (Reply kind) = false
 
+-- the version has a kind of body of this number
 abbrev pub is_body_kind : Version → ℕ → Bool
 is_body_kind version n = is_some (kind_in_version version n)
 
+-- the kind of body that a byte stands for
 abbrev pub body_kind_of : ℕ → BodyKind
 body_kind_of n = unwrap_or (body_kind_from_number n) (Call kinds.CreateVolume)

@@ -7,6 +7,7 @@ use Rattle.csi_frames.specs.Spelling.{BeginsWith}
 use Rattle.csi_frames.specs.Fault.{IsFaulty}
 use Rattle.csi_frames.specs.declared.fault.FaultKind.{FaultKind}
 
+-- want of memory, told as a fault at the front
 abbrev pub no_memory : FrameFault
 no_memory = record { kind = NoMemory; place = 0 }
 

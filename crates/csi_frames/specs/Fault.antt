@@ -20,6 +20,7 @@ pub record IsStuck (grammar : Grammar) (bytes : List ℕ) (kind : FaultKind) (pl
 abbrev pub length_of : List ℕ → ℕ
 length_of bytes = big_number 4 bytes
 
+-- the first fault of these bytes is of this kind, at this place
 pub data IsFaulty (bytes : List ℕ) : FaultKind → ℕ → Type 0 where
   -- the length itself isn't there
   no_length : length bytes < 4 → IsFaulty bytes Short (length bytes)

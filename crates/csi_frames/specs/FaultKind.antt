@@ -3,6 +3,7 @@ use Rattle.std.specs.Prelude.{ℕ}
 use Rattle.csi_frames.specs.declared.fault.FaultKind.{FaultKind}
 use Rattle.csi_frames.specs.declared.fault.FaultKind.TheVariants.{Short, TooLong, BadVersion, BadKind, BadParty, BadText, BadMode, BadAccess, BadFlag, BadStatus, BadId, BadCount, LengthDiffers, NoMemory}
 
+-- a fault's number
 abbrev pub fault_number : FaultKind → ℕ
 fault_number Short = 1
 fault_number TooLong = 2

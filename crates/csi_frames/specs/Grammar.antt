@@ -26,20 +26,25 @@ pub data Grammar : Type 0 where
   Word : (allowed : ℕ → Bool) (next : ℕ → Grammar) → Grammar
   Text : (least most : ℕ) (next : List ℕ → Grammar) → Grammar
 
+-- any number is allowed
 abbrev pub any : ℕ → Bool
 any n = true
 
+-- those up to so many are
 abbrev pub at_most : ℕ → ℕ → Bool
 at_most most n = nat_le n most
 
+-- those from one number to another are
 abbrev pub from_to : ℕ → ℕ → ℕ → Bool
 from_to least most n = nat_le least n && nat_le n most
 
 -- ---- capabilities: 0 for block, or 1 for mount and the fs type; and the mode, a new one where it is owed
 
+-- a mode that the version has, where a new one is owed or isn't
 abbrev pub mode_grammar : Version → Bool → (Mode → Grammar) → Grammar
 mode_grammar version owed next = Byte (is_mode version owed) BadMode (λ b. next (mode_of b))
 
+-- a capability: its access, with a file system where it is mounted, and its mode
 abbrev pub capability_grammar : Version → Bool → (Mode → Grammar) → Grammar
 capability_grammar version owed next =
     Byte (at_most 1) BadAccess (λ access. if access == 0 then mode_grammar version owed next else Text 0 128 (λ _. mode_grammar version owed next))
@@ -56,6 +61,7 @@ capabilities_grammar version owed (suc n) =
 abbrev pub id_grammar : Grammar → Grammar
 id_grammar next = Word (nat_lt 0) (λ _. next)
 
+-- a flag
 abbrev pub flag_grammar : Grammar
 flag_grammar = Byte (at_most 1) BadFlag (λ _. End)
 
@@ -63,6 +69,7 @@ flag_grammar = Byte (at_most 1) BadFlag (λ _. End)
 abbrev pub is_count : Version → ℕ → Bool
 is_count version n = from_to (least_count version) 8 n
 
+-- the fields of a call of this kind
 unfoldable pub call_grammar : Version → Kind → Grammar
 call_grammar version kinds.CreateVolume =
     Text 1 128 (λ _. Word any (λ _. Word any (λ _. Byte (is_count version) BadCount (capabilities_grammar version (owes_new_mode version)))))
@@ -78,34 +85,42 @@ call_grammar version kinds.NodeUnpublishVolume = id_grammar (Text 1 255 (λ _. E
 abbrev pub is_reply_id : Kind → Status → ℕ → Bool
 is_reply_id kind status id = if is_create kind && is_ok_status status then nat_lt 0 id else id == 0
 
+-- the fields of a reply to a call of this kind
 unfoldable pub reply_grammar : Kind → Grammar
 reply_grammar kind =
     Byte is_status BadStatus (λ status. Word (is_reply_id kind (status_of status)) (λ _. Text 0 255 (λ _. End)))
 
+-- the fields of a body of this kind
 abbrev pub fields_grammar : Version → BodyKind → Grammar
 fields_grammar version (Call kind) = call_grammar version kind
 fields_grammar version (Reply kind) = reply_grammar kind
 
 -- ---- the party: 0 for the controller's kinds, and 1 and the node's id for a node's
 
+-- the byte of the party that a kind's calls are for
 abbrev pub party_number : Kind → ℕ
 party_number kind = if is_node_kind kind then 1 else 0
 
+-- the byte is that of the body's kind
 abbrev pub is_party_number : BodyKind → ℕ → Bool
 is_party_number kind n = n == party_number (kind_in kind)
 
+-- the party, with the node's id where it is a node, and the fields
 abbrev pub party_grammar : Version → BodyKind → Grammar
 party_grammar version kind =
     Byte (is_party_number kind) BadParty (λ n. if n == 0 then fields_grammar version kind else Text 1 255 (λ _. fields_grammar version kind))
 
 -- ---- a body: the version, the kind, the session and the call, the party, and the kind's fields
 
+-- the call's number, in two of 64 bits, and what follows
 abbrev pub numbered_grammar : Version → BodyKind → Grammar
 numbered_grammar version kind = Word any (λ _. Word any (λ _. party_grammar version kind))
 
+-- the kind of the body, and what follows
 abbrev pub kind_grammar : Version → Grammar
 kind_grammar version = Byte (is_body_kind version) BadKind (λ kind. numbered_grammar version (body_kind_of kind))
 
+-- a whole body, the version first
 unfoldable pub body_grammar : Grammar
 body_grammar = Byte is_version BadVersion (λ version. kind_grammar (version_of version))
 

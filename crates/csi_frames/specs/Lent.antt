@@ -12,6 +12,7 @@ use Rattle.csi_frames.specs.declared.fault.FrameFault.{FrameFault}
 use Rattle.csi_frames.specs.declared.frame_ref.FrameRef.{FrameRef}
 use Rattle.csi_frames.specs.Borrowed.{owned}
 
+-- the frame that a lent one stands for
 abbrev pub lent : FrameRef → Frame
 lent frame = owned frame.frame
 
@@ -21,6 +22,7 @@ lent_in (Ok (Some frame)) = Ok (Some (lent frame))
 lent_in (Ok None) = Ok None
 lent_in (Err fault) = Err fault
 
+-- the call, if the body is one
 abbrev pub call_in : Body → Option Call
 call_in (bodies.Call call) = Some call
 call_in (bodies.Reply kind reply) = None
@@ -39,10 +41,12 @@ abbrev pub with_capabilities : List Capability → Call → Call
 with_capabilities given (calls.CreateVolume name required limit capabilities) = calls.CreateVolume name required limit given
 with_capabilities given call = call
 
+-- the capabilities of a CreateVolume; other bodies have none here
 abbrev pub capabilities_in_body : Body → List Capability
 capabilities_in_body (bodies.Call call) = capabilities_in call
 capabilities_in_body (bodies.Reply kind reply) = []
 
+-- those of a frame's body
 abbrev pub capabilities_of : Frame → List Capability
 capabilities_of frame = capabilities_in_body frame.body
 

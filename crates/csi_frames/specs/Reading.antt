@@ -34,14 +34,17 @@ use Rattle.csi_frames.specs.Grammar.{any, at_most, is_count, is_reply_id, is_par
 abbrev pub Reader : Type 0 → Type 0
 Reader A = List ℕ → Result (A × List ℕ) Stop
 
+-- where a value was read, reading goes on with the next reader
 abbrev pub go_on : {A B : Type 0} → Result (A × List ℕ) Stop → (A → Reader B) → Result (B × List ℕ) Stop
 go_on (Ok read) next = next read.0 read.1
 go_on (Err stop) next = Err stop
 
 infixl 10 ◌>>=◌
+-- one reader, and then the one for its value
 abbrev pub ◌>>=◌ : {A B : Type 0} → Reader A → (A → Reader B) → Reader B
 (reader >>= next) bytes = go_on (reader bytes) next
 
+-- a reader that takes no bytes and gives this value
 abbrev pub give : {A : Type 0} → A → Reader A
 give value bytes = Ok (value, bytes)
 
@@ -51,16 +54,19 @@ stopped kind bytes = Err (record { kind = kind; left = length bytes })
 
 -- ---- fields
 
+-- an allowed byte
 unfoldable pub byte_at : (ℕ → Bool) → FaultKind → Reader ℕ
 byte_at allowed fault [] = stopped LengthDiffers []
 byte_at allowed fault (b ∷ bytes) = if allowed b then Ok (b, bytes) else stopped fault (b ∷ bytes)
 
+-- an allowed number in eight bytes
 unfoldable pub word_at : (ℕ → Bool) → Reader ℕ
 word_at allowed bytes =
     if nat_lt (length bytes) 8 then stopped LengthDiffers bytes
     else if allowed (big_number 8 bytes) then Ok (big_number 8 bytes, drop 8 bytes)
     else stopped BadId bytes
 
+-- a text of no fewer and no more bytes than so many, behind its length in one byte
 unfoldable pub text_at : ℕ → ℕ → Reader (List ℕ)
 text_at least most [] = stopped LengthDiffers []
 text_at least most (n ∷ bytes) =
@@ -69,14 +75,17 @@ text_at least most (n ∷ bytes) =
     else if is_utf8 (take n bytes) then Ok (take n bytes, drop n bytes)
     else stopped BadText (n ∷ bytes)
 
+-- a volume's id
 unfoldable pub id_at : Reader ℕ
 id_at = word_at (nat_lt 0)
 
+-- a flag
 unfoldable pub flag_at : Reader Bool
 flag_at = do
   b ← byte_at (at_most 1) BadFlag
   give (b == 1)
 
+-- an access, with a file system where it is mounted
 unfoldable pub access_at : Reader Access
 access_at = do
   b ← byte_at (at_most 1) BadAccess
@@ -90,6 +99,7 @@ mode_at version owed = do
   b ← byte_at (is_mode version owed) BadMode
   give (mode_of b)
 
+-- a capability, in a new mode where one is owed
 unfoldable pub owed_capability_at : Version → Bool → Reader Capability
 owed_capability_at version owed = do
   access ← access_at
@@ -110,6 +120,7 @@ capabilities_at version owed (suc n) = do
 
 -- ---- calls and replies
 
+-- a CreateVolume
 unfoldable pub create_at : Version → Reader Call
 create_at version = do
   name ← text_at 1 128
@@ -126,18 +137,21 @@ id_alone_at make = do
   id ← id_at
   give (make id)
 
+-- a call of an id and a text
 unfoldable pub id_and_text_at : (ℕ → List ℕ → Call) → Reader Call
 id_and_text_at make = do
   id ← id_at
   text ← text_at 1 255
   give (make id text)
 
+-- a NodeStageVolume
 unfoldable pub stage_at : Version → Reader Call
 stage_at version = do
   id ← id_at
   capability ← owed_capability_at version (owes_new_mode version)
   give (calls.NodeStageVolume id capability)
 
+-- a call of an id, a text, a capability and a flag
 unfoldable pub publish_at : Version → (ℕ → List ℕ → Capability → Bool → Call) → Reader Call
 publish_at version make = do
   id ← id_at
@@ -146,6 +160,7 @@ publish_at version make = do
   readonly ← flag_at
   give (make id text capability readonly)
 
+-- a call of this kind
 unfoldable pub call_at : Version → Kind → Reader Call
 call_at version kinds.CreateVolume = create_at version
 call_at version kinds.DeleteVolume = id_alone_at (λ id. calls.DeleteVolume id)
@@ -160,16 +175,19 @@ call_at version kinds.NodeUnpublishVolume = id_and_text_at (λ id target. calls.
 abbrev pub reply_id_of : ℕ → Option ℕ
 reply_id_of n = if n == 0 then None else Some n
 
+-- a status
 unfoldable pub status_at : Reader Status
 status_at = do
   b ← byte_at is_status BadStatus
   give (status_of b)
 
+-- the id of a reply, which is there exactly where kind and status say so
 unfoldable pub reply_id_at : Kind → Status → Reader (Option ℕ)
 reply_id_at kind status = do
   n ← word_at (is_reply_id kind status)
   give (reply_id_of n)
 
+-- a reply to a call of this kind
 unfoldable pub reply_at : Kind → Reader Reply
 reply_at kind = do
   status ← status_at
@@ -177,6 +195,7 @@ reply_at kind = do
   detail ← text_at 0 255
   give (record { status = status; id = id; detail = detail })
 
+-- a body of this kind
 unfoldable pub fields_at : Version → BodyKind → Reader Body
 fields_at version (body_kinds.Call kind) = do
   call ← call_at version kind
@@ -187,6 +206,7 @@ fields_at version (body_kinds.Reply kind) = do
 
 -- ---- a body
 
+-- the party of a body of this kind
 unfoldable pub party_at : BodyKind → Reader Party
 party_at kind = do
   b ← byte_at (is_party_number kind) BadParty
@@ -194,22 +214,26 @@ party_at kind = do
     id ← text_at 1 255
     give (Node id)
 
+-- a call's number
 unfoldable pub number_at : Reader Number
 number_at = do
   session ← word_at any
   call ← word_at any
   give (record { session = session; call = call })
 
+-- the version
 unfoldable pub version_at : Reader Version
 version_at = do
   b ← byte_at is_version BadVersion
   give (version_of b)
 
+-- a kind of body that the version has
 unfoldable pub kind_at : Version → Reader BodyKind
 kind_at version = do
   b ← byte_at (is_body_kind version) BadKind
   give (body_kind_of b)
 
+-- a frame's body
 unfoldable pub frame_at : Reader Frame
 frame_at = do
   version ← version_at
@@ -227,13 +251,16 @@ all_of (Err stop) = Err stop
 
 -- ---- a frame at the front of bytes, with the count of its bytes, or the first fault
 
+-- this fault, at this place
 abbrev pub fault : {A : Type 0} → FaultKind → ℕ → Result A FrameFault
 fault kind place = Err (record { kind = kind; place = place })
 
+-- a frame with the count of its bytes, or the fault with its place counted from the front
 abbrev pub placed : ℕ → Result Frame Stop → Result (Frame × ℕ) FrameFault
 placed size (Ok frame) = Ok (frame, size)
 placed size (Err stop) = fault stop.kind (size - stop.left)
 
+-- the frame at the front of these bytes with the count of its bytes, or the fault there
 unfoldable pub first_frame : List ℕ → Result (Frame × ℕ) FrameFault
 first_frame bytes =
     if nat_lt (length bytes) 4 then fault Short (length bytes)

@@ -36,13 +36,16 @@ text bytes = length bytes ∷ bytes
 abbrev pub flag : Bool → List ℕ
 flag readonly = (if readonly then 1 else 0) ∷ []
 
+-- a byte for the access, and the file system where it is mounted
 abbrev pub access : Access → List ℕ
 access Block = 0 ∷ []
 access (Mount fs_type) = 1 ∷ text fs_type
 
+-- its access and its mode
 abbrev pub capability : Capability → List ℕ
 capability c = access c.access ++ mode_number c.mode ∷ []
 
+-- a byte for the party, and the node's id
 abbrev pub party : Party → List ℕ
 party Controller = 0 ∷ []
 party (Node id) = 1 ∷ text id
@@ -57,6 +60,7 @@ abbrev pub body_kind : Body → ℕ
 body_kind (bodies.Call call) = kind_number (kind_of call)
 body_kind (bodies.Reply kind reply) = 128 + kind_number kind
 
+-- the fields of a call
 abbrev pub call_fields : Call → List ℕ
 call_fields (calls.CreateVolume name required limit capabilities) = text name ++ word required ++ word limit ++ length capabilities ∷ flat_map capability capabilities
 call_fields (calls.DeleteVolume id) = word id
@@ -67,9 +71,11 @@ call_fields (calls.NodeUnstageVolume id) = word id
 call_fields (calls.NodePublishVolume id target c readonly) = word id ++ text target ++ capability c ++ flag readonly
 call_fields (calls.NodeUnpublishVolume id target) = word id ++ text target
 
+-- a status, an id and a detail
 abbrev pub reply_fields : Reply → List ℕ
 reply_fields reply = status_code reply.status ∷ reply_id reply.id ++ text reply.detail
 
+-- those of a call or of a reply
 abbrev pub body_fields : Body → List ℕ
 body_fields (bodies.Call call) = call_fields call
 body_fields (bodies.Reply kind reply) = reply_fields reply
@@ -102,6 +108,7 @@ head size version kind number = big_bytes 4 size ++ version_number version ∷ k
 unfoldable pub frame_body : Frame → List ℕ
 frame_body frame = version_number (body_version frame.body) ∷ body_kind frame.body ∷ word frame.number.session ++ word frame.number.call ++ party frame.party ++ body_fields frame.body
 
+-- a frame: the length of its body, and the body
 unfoldable pub spelling : Frame → List ℕ
 spelling frame = big_bytes 4 (length (frame_body frame)) ++ frame_body frame
 

@@ -13,6 +13,7 @@ pub record Splitting : Type 0 where
   pub taken : ℕ
   pub fault : Option FrameFault
 
+-- a splitter that was given nothing
 abbrev pub new_splitting : Splitting
 new_splitting = record { kept = []; taken = 0; fault = None }
 
@@ -35,6 +36,7 @@ abbrev pub kept_after : Option FrameFault → List ℕ → List ℕ → List ℕ
 kept_after None kept piece = kept ++ piece
 kept_after (Some fault) kept piece = kept
 
+-- a piece of the stream is given
 abbrev pub after_feed : Splitting → List ℕ → Splitting
 after_feed s piece = record { kept = kept_after s.fault s.kept piece; taken = s.taken; fault = s.fault }
 

@@ -15,6 +15,7 @@ abbrev pub version_number : Version → ℕ
 version_number One = 1
 version_number Two = 2
 
+-- the version of a number, if it has one
 abbrev pub version_from_number : ℕ → Option Version
 version_from_number zero = None
 version_from_number (suc zero) = Some One
@@ -75,8 +76,10 @@ only test None = None
 abbrev pub takes_mode : Version → Bool → Mode → Bool
 takes_mode version owed mode = if owed then has_mode version mode && is_new_mode mode else has_mode version mode
 
+-- the mode of a number that the version has, where a new one is owed or isn't
 abbrev pub mode_in : Version → Bool → ℕ → Option Mode
 mode_in version owed n = only (takes_mode version owed) (mode_from_number n)
 
+-- the kind of body of a number that the version has
 abbrev pub kind_in_version : Version → ℕ → Option BodyKind
 kind_in_version version n = only (has_kind version) (body_kind_from_number n)

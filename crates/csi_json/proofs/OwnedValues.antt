@@ -28,10 +28,12 @@ abbrev before : List Value → Items → Items
 before [] rest = rest
 before (v ∷ vs) rest = item (view v) (before vs rest)
 
+-- a value in front of the rest, behind these values, is one more of these values
 before-push : (vs : List Value) (v : Value) (rest : Items) → before vs (item (view v) rest) ≡ before (vs ++ v ∷ []) rest
 before-push [] v rest = refl
 before-push (w ∷ vs) v rest = ap (item (view w)) (before-push vs v rest)
 
+-- these values, with nothing behind them, are the items that they are seen as
 before-all : (vs : List Value) → before vs no_items ≡ items_view vs
 before-all [] = refl
 before-all (v ∷ vs) = ap (item (view v)) (before-all vs)
@@ -40,13 +42,16 @@ before-all (v ∷ vs) = ap (item (view v)) (before-all vs)
 abbrev pub ReadSoFar : List (Borrowed Global) → List (Borrowed Global) → List Value → Type 0
 ReadSoFar all rest vs = of_items (items_seen all) ≡ option_map (before vs) (of_items (items_seen rest))
 
+-- no values in front change nothing, whether the rest was read or not
 nothing_before : (read : Option Items) → read ≡ option_map (before []) read
 nothing_before None = refl
 nothing_before (Some rest) = refl
 
+-- at first none is read, and all are left
 pub none_so_far : (xs : List (Borrowed Global)) → ReadSoFar xs xs []
 none_so_far xs = nothing_before (of_items (items_seen xs))
 
+-- the same as above, whether the rest was read or not: a value in front of it is one more of these values
 one_more : (vs : List Value) (v : Value) (rest : Option Items) → option_map (before vs) (option_map (item (view v)) rest) ≡ option_map (before (vs ++ v ∷ [])) rest
 one_more vs v None = refl
 one_more vs v (Some rest) = ap Some (before-push vs v rest)
@@ -66,6 +71,7 @@ all_read xs i vs h was = was ∙ ap (λ ys. option_map (before vs) (of_items (it
 
 -- ---- members
 
+-- a member of an object: its name and its value
 abbrev pub Member : Type 0
 Member = Bor (List ℕ) × Borrowed Global
 

@@ -9,22 +9,26 @@ use Rattle.csi_types.specs.Mode.{mode_from_number}
 use Rattle.csi_types.specs.declared.mode.Mode.{Mode}
 use Rattle.csi_json.specs.Json.{◌>>=◌, number_of, fs_type_of, sized_object, all_of}
 
+-- a mode, by its number
 unfoldable pub mode_of : Data → Option Mode
 mode_of d = do
   number ← number_of d
   mode_from_number number
 
+-- block access: an object of two members
 unfoldable pub block_of : Data → Option Access
 block_of d = do
   object ← sized_object 2 d
   Some Block
 
+-- mounted access: an object of three members, of which `fs` is the file system
 unfoldable pub mount_of : Data → Option Access
 mount_of d = do
   object ← sized_object 3 d
   fs_type ← get (codes "fs") object >>= fs_type_of
   Some (Mount fs_type)
 
+-- an access, by what `access` says
 unfoldable pub access_of : Data → Option Access
 access_of d = do
   kind ← get (codes "access") d >>= as_str
@@ -32,6 +36,7 @@ access_of d = do
       else if bytes_eq kind (codes "mount") then mount_of d
       else None
 
+-- a capability: its access and its mode
 unfoldable pub capability_of : Data → Option Capability
 capability_of d = do
   access ← access_of d

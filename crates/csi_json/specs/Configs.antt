@@ -10,6 +10,7 @@ use Rattle.csi_json.specs.declared.fault.ScheduleFault.{ScheduleFault}
 use Rattle.csi_json.specs.declared.fault.ScheduleFault.TheVariants.{NotJson, BadSchedule}
 use Rattle.csi_json.specs.Json.{◌>>=◌, number_of, node_id_of, sized_object, list_of, all_of}
 
+-- a node of a configuration: an object of an id and a count of slots
 unfoldable pub node_of : Data → Option NodeSlots
 node_of d = do
   object ← sized_object 2 d
@@ -22,6 +23,7 @@ abbrev pub faultless : Config → Option ConfigFault → Option Config
 faultless config None = Some config
 faultless config (Some fault) = None
 
+-- a configuration: an object of the greatest capacity and the nodes
 unfoldable pub config_of : Data → Option Config
 config_of d = do
   object ← sized_object 2 d
@@ -38,10 +40,12 @@ nodes_in d = do
 
 -- ---- a configuration alone
 
+-- a configuration, or the fault that there is none
 abbrev pub config_in : Option Config → Result Config ScheduleFault
 config_in (Some config) = Ok config
 config_in None = Err (BadSchedule 0)
 
+-- what is read of a text: a configuration, or why there is none
 abbrev pub config_read : Option Data → Result Config ScheduleFault
 config_read (Some d) = config_in (config_of d)
 config_read None = Err NotJson

@@ -11,6 +11,7 @@ abbrev pub event_fault : Flaw → ℕ → ScheduleFault
 event_fault Bad place = BadSchedule place
 event_fault flaws.NoMemory place = NoMemory
 
+-- where the configuration, or the schedule itself, has a flaw
 abbrev pub fault_of : Flaw → ScheduleFault
 fault_of flaw = event_fault flaw 0
 
@@ -21,6 +22,7 @@ IsFaultOf answer NotJson = answer ≡ Err NotJson
 IsFaultOf answer (BadSchedule place) = answer ≡ Err (BadSchedule place)
 IsFaultOf answer TooMany = answer ≡ Err TooMany
 
+-- a fault's number
 abbrev pub fault_number : ScheduleFault → ℕ
 fault_number NotJson = 1
 fault_number (BadSchedule place) = 2

@@ -7,9 +7,11 @@ use Rattle.csi_json.specs.declared.values.Flaw.{Flaw}
 use Rattle.csi_json.specs.declared.values.Flaw.TheVariants.{Bad, NoMemory}
 
 infixl 10 ◌>>=◌
+-- what is read of what was found, if both are there
 abbrev pub ◌>>=◌ : {A B : Type 0} → Option A → (A → Option B) → Option B
 found >>= next = option_and_then next found
 
+-- a whole number of 64 bits
 unfoldable pub number_of : Data → Option ℕ
 number_of d = do
   number ← as_number d
@@ -21,15 +23,19 @@ text_of least most d = do
   text ← as_str d
   if nat_le least (length text) && nat_le (length text) most then Some text else None
 
+-- a volume's name
 abbrev pub name_of : Data → Option (List ℕ)
 name_of = text_of 1 128
 
+-- a node's id
 abbrev pub node_id_of : Data → Option (List ℕ)
 node_id_of = text_of 1 255
 
+-- a target path
 abbrev pub target_of : Data → Option (List ℕ)
 target_of = text_of 1 255
 
+-- a file system
 abbrev pub fs_type_of : Data → Option (List ℕ)
 fs_type_of = text_of 0 128
 
@@ -46,15 +52,18 @@ only_member _ = None
 
 -- ---- arrays
 
+-- the items of an array
 abbrev pub items_in : Items → List Data
 items_in no_items = []
 items_in (item d ds) = d ∷ items_in ds
 
+-- the items of a value that is an array
 unfoldable pub list_of : Data → Option (List Data)
 list_of d = do
   items ← as_array d
   Some (items_in items)
 
+-- a value that was read and then the others, or the first place where something wasn't
 abbrev pub read_first : {A : Type 0} → ℕ → Option A → Result (List A) ℕ → Result (List A) ℕ
 read_first place None others = Err place
 read_first place (Some value) (Ok others) = Ok (value ∷ others)
@@ -66,6 +75,7 @@ abbrev pub read_all : {A : Type 0} → (Data → Option A) → ℕ → List Data
 read_all read place [] = Ok []
 read_all read place (d ∷ ds) = read_first place (read d) (read_all read (suc place) ds)
 
+-- all values, or nothing where one wasn't read
 abbrev pub unless_bad : {A : Type 0} → Result A ℕ → Option A
 unless_bad (Ok value) = Some value
 unless_bad (Err bad) = None

@@ -23,10 +23,12 @@ pub attached_places : (a b : ℕ) (n m : List ℕ) (p q u v : ℕ)
     ≡ place_order ((a ∷ []) ∷ n ∷ (p ∷ u ∷ []) ∷ []) ((b ∷ []) ∷ m ∷ (q ∷ v ∷ []) ∷ [])
 attached_places a b n m p q u v = sym (simp then-equal refl)
 
+-- the same of a staged volume: its id, its node, and then the rest
 pub staged_places : (a b : ℕ) (n m : List ℕ) (p q : ℕ)
     → ordering_then (nat_cmp a b) (ordering_then (texts n m) (nat_cmp p q)) ≡ place_order ((a ∷ []) ∷ n ∷ (p ∷ []) ∷ []) ((b ∷ []) ∷ m ∷ (q ∷ []) ∷ [])
 staged_places a b n m p q = sym (simp then-equal refl)
 
+-- the same of a published volume: its id, its node, its target, and then the rest
 pub published_places : (a b : ℕ) (n m s t : List ℕ) (u v : ℕ)
     → ordering_then (nat_cmp a b) (ordering_then (texts n m) (ordering_then (texts s t) (nat_cmp u v)))
     ≡ place_order ((a ∷ []) ∷ n ∷ s ∷ (u ∷ []) ∷ []) ((b ∷ []) ∷ m ∷ t ∷ (v ∷ []) ∷ [])

@@ -8,15 +8,19 @@ use Rattle.csi_node.specs.OneRow.{shown, alone}
 use Rattle.csi_listings.specs.declared.entries.StagedAt.{StagedAt}
 use Rattle.csi_listings.specs.declared.entries.PublishedAt.{PublishedAt}
 
+-- a volume that a node has staged
 abbrev pub staged_at : List ℕ → StagedVolume → StagedAt
 staged_at node staged = record { id = staged.volume; node = node; mode = (staged.capability).mode }
 
+-- a volume that a node has published
 abbrev pub published_at : List ℕ → PublishedVolume → PublishedAt
 published_at node published = record { id = published.volume; node = node; target = published.target; readonly = published.readonly }
 
+-- all that a node has staged, by its rows
 abbrev pub staged_on : NodeParts → List StagedAt
 staged_on node = map (staged_at node.id) (flat_map (λ row. (alone (shown row)).staged) node.rows)
 
+-- all that it has published, by its rows
 abbrev pub published_on : NodeParts → List PublishedAt
 published_on node = map (published_at node.id) (flat_map (λ row. (alone (shown row)).published) node.rows)
 

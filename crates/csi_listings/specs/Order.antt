@@ -9,6 +9,7 @@ use Rattle.csi_types.specs.Mode.{mode_number}
 use Rattle.csi_listings.specs.declared.entries.StagedAt.{StagedAt}
 use Rattle.csi_listings.specs.declared.entries.PublishedAt.{PublishedAt}
 
+-- 1 for a flag that is set, 0 for one that isn't
 abbrev pub flag_number : Bool → ℕ
 flag_number true = 1
 flag_number false = 0
@@ -18,12 +19,15 @@ flag_number false = 0
 abbrev pub attached_place : Holding → List (List ℕ)
 attached_place held = (held.volume ∷ []) ∷ held.node ∷ (mode_number (held.capability).mode ∷ flag_number held.readonly ∷ []) ∷ []
 
+-- the place of a staged volume: its id, its node and its mode
 abbrev pub staged_place : StagedAt → List (List ℕ)
 staged_place staged = (staged.id ∷ []) ∷ staged.node ∷ (mode_number staged.mode ∷ []) ∷ []
 
+-- the place of a published volume: its id, its node, its target and whether it is readonly
 abbrev pub published_place : PublishedAt → List (List ℕ)
 published_place published = (published.id ∷ []) ∷ published.node ∷ published.target ∷ (flag_number published.readonly ∷ []) ∷ []
 
+-- places in order, text by text
 abbrev pub place_order : List (List ℕ) → List (List ℕ) → Ordering
 place_order a b = slice_cmp (slice_cmp nat_cmp) a b
 

@@ -19,39 +19,48 @@ abbrev pub capability_of : ℕ → Access → Data
 capability_of mode Block = object (member (codes "access") (string (codes "block")) (member (codes "mode") (whole mode) no_members))
 capability_of mode (Mount fs) = object (member (codes "access") (string (codes "mount")) (member (codes "fs") (string fs) (member (codes "mode") (whole mode) no_members)))
 
+-- a capability
 abbrev pub capability_entry : Capability → Data
 capability_entry capability = capability_of (mode_number capability.mode) capability.access
 
+-- a call's number
 abbrev pub number_entry : Number → Data
 number_entry last = object (member (codes "call") (whole last.call) (member (codes "session") (whole last.session) no_members))
 
 -- ---- the controller's: volumes that were made, and where each is held
 
+-- a node that a volume is attached to
 abbrev pub holding_entry : NodeHolding → Data
 holding_entry held =
     object (member (codes "capability") (capability_entry held.capability) (member (codes "node") (string held.node) (member (codes "readonly") (boolean held.readonly) no_members)))
 
+-- a controller's row
 abbrev pub made_entry : ControllerRow → Data
 made_entry row =
     object (member (codes "attached") (entries holding_entry row.holdings.items) (member (codes "capabilities") (entries capability_entry row.capabilities) (member (codes "capacity") (whole row.capacity) (member (codes "id") (whole row.id) (member (codes "last") (number_entry row.last) (member (codes "live") (boolean row.live) (member (codes "name") (string row.name) no_members)))))))
 
+-- a controller's record
 abbrev pub controller_entry : RecordParts → Data
 controller_entry kept =
     object (member (codes "next_id") (whole kept.next_id) (member (codes "plugin") (string (codes "controller")) (member (codes "session") (whole kept.session) (member (codes "volumes") (entries made_entry kept.rows) no_members))))
 
 -- ---- a node's: volumes for which it answered a call, how each is staged and where it is published
 
+-- a target that a volume is published at
 abbrev pub target_entry : NodeTarget → Data
 target_entry at = object (member (codes "readonly") (boolean at.readonly) (member (codes "target") (string at.target) no_members))
 
+-- the capability with which a volume is staged, or null
 abbrev pub staged_as : Option Capability → Data
 staged_as None = null
 staged_as (Some capability) = capability_entry capability
 
+-- a node's row
 abbrev pub answered_entry : NodeRow → Data
 answered_entry row =
     object (member (codes "id") (whole row.id) (member (codes "last") (number_entry row.last) (member (codes "published") (entries target_entry row.targets.items) (member (codes "staged") (staged_as row.staged) no_members))))
 
+-- a node's record
 abbrev pub node_entry : NodeParts → Data
 node_entry kept =
     object (member (codes "node") (string kept.id) (member (codes "plugin") (string (codes "node")) (member (codes "session") (whole kept.session) (member (codes "volumes") (entries answered_entry kept.rows) no_members))))

@@ -63,10 +63,12 @@ among-append [] ys x among = absurd among
 among-append (y ∷ rest) ys x (inl e) = inl e
 among-append (y ∷ rest) ys x (inr among) = inr (among-append rest ys x among)
 
+-- what is among the second of two lists is among the two
 pub among-right : {X : Type 0} (xs ys : List X) (x : X) → IsAmong x ys → IsAmong x (xs ++ ys)
 among-right [] ys x among = among
 among-right (y ∷ rest) ys x among = inr (among-right rest ys x among)
 
+-- what is among the two is among one of them
 pub among-joined : {X : Type 0} (xs ys : List X) (x : X) → IsAmong x (xs ++ ys) → IsAmong x xs ⊎ IsAmong x ys
 among-joined [] ys x among = inr among
 among-joined (y ∷ rest) ys x (inl is) = inl (inl is)
@@ -100,6 +102,7 @@ among-flat f (x ∷ xs) y among = either (λ there. among-flat f xs y there) (am
     either later (inl here) = (x, inl refl, here)
     either later (inr there) = let found = later there in (found.0, inr found.1, found.2)
 
+-- what is among an element's own list is among the lists of all elements
 pub in-flat : {X Y : Type 0} (f : X → List Y) (xs : List X) (x : X) (y : Y) → IsAmong x xs → IsAmong y (f x) → IsAmong y (flat_map f xs)
 in-flat f [] x y among here = absurd among
 in-flat f (z ∷ zs) x y (inl is) here = among-append (f z) (flat_map f zs) y (subst (λ w. IsAmong y (f w)) is here)
@@ -121,6 +124,7 @@ among-kept p (y ∷ ys) x among = by (p y) refl among (among-kept p ys x)
 pub among-filter : {X : Type 0} (p : X → Bool) (xs : List X) (x : X) → IsAmong x (filter p xs) → IsAmong x xs
 among-filter p xs x among = (among-kept p xs x among).0
 
+-- what a filter kept passes
 pub passes-filter : {X : Type 0} (p : X → Bool) (xs : List X) (x : X) → IsAmong x (filter p xs) → p x ≡ true
 passes-filter p xs x among = (among-kept p xs x among).1
 
@@ -173,6 +177,7 @@ in-filter_map f (z ∷ zs) x y (inr there) e = by (f z) (in-filter_map f zs x y 
     by None rest = rest
     by (Some w) rest = inr rest
 
+-- what is among what the list gives is given by some element of it
 pub among-filter_map : {X Y : Type 0} (f : X → Option Y) (xs : List X) (y : Y) → IsAmong y (filter_map f xs) → (x : X) × IsAmong x xs × (f x ≡ Some y)
 among-filter_map f [] y among = absurd among
 among-filter_map f (z ∷ zs) y among = by (f z) refl among (among-filter_map f zs y)
@@ -220,5 +225,6 @@ among-moved xs ys x moved among =
     let all = All-permutation (λ z. IsAmong z xs) xs ys moved (λ k d inside. each-place (λ z. IsAmong z xs) xs k d own inside) in
     each_of (λ z. IsAmong z xs) ys x (each-by_places (λ z. IsAmong z xs) ys x (λ k inside. all k x inside)) among
 
+-- what is among the first of two such lists is among the second
 pub among-back : {X : Type 0} (xs ys : List X) (x : X) → IsPermutation xs ys → IsAmong x xs → IsAmong x ys
 among-back xs ys x moved among = among-moved ys xs x (IsPermutation-sym xs ys moved) among

@@ -59,11 +59,13 @@ FirstAt-passes p [] i x h = absurd h
 FirstAt-passes p (y ∷ ys) zero x h = ap p (sym (h.1)) ∙ h.0
 FirstAt-passes p (y ∷ ys) (suc i) x h = FirstAt-passes p ys i x (h.1)
 
+-- the first that passes stands at its place
 pub FirstAt-is_at : {X : Type 0} (p : X → Bool) (xs : List X) (i : ℕ) (x : X) → FirstAt p xs i x → IsAt xs i x
 FirstAt-is_at p [] i x h = h
 FirstAt-is_at p (y ∷ ys) zero x h = h.1
 FirstAt-is_at p (y ∷ ys) (suc i) x h = FirstAt-is_at p ys i x (h.1)
 
+-- the place of the first that passes is within the list
 pub FirstAt-within : {X : Type 0} (p : X → Bool) (xs : List X) (i : ℕ) (x : X) → FirstAt p xs i x → i < length xs
 FirstAt-within p [] i x first = absurd first
 FirstAt-within p (y ∷ ys) zero x first = omega arith

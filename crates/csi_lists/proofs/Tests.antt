@@ -24,6 +24,7 @@ all-then p [] h x among = absurd among
 all-then p (y ∷ ys) h x (inl e) = ap p e ∙ (and_parts (p y) (list_all p ys) h).0
 all-then p (y ∷ ys) h x (inr among) = all-then p ys ((and_parts (p y) (list_all p ys) h).1) x among
 
+-- where each one among the list passes, all pass
 pub then-all : {X : Type 0} (p : X → Bool) (xs : List X) → ((x : X) → IsAmong x xs → p x ≡ true) → list_all p xs ≡ true
 then-all p [] f = refl
 then-all p (y ∷ ys) f = and_from (p y) (list_all p ys) (f y (inl refl)) (then-all p ys (λ x among. f x (inr among)))

@@ -18,9 +18,11 @@ use Rattle.csi_node.specs.Fenced.{carried_out, keep}
 abbrev pub kept_of : NodeState → Number → Call → Kept
 kept_of state number call = record { number = number; kind = kind_of call; reply = (lifecycle_row state call).reply }
 
+-- what the node is then
 abbrev pub state_then : NodeState → Number → Call → NodeState
 state_then state number call = keep (volume_of call) (kept_of state number call) (changed state (lifecycle_row state call).change)
 
+-- what it answers, with what it is then
 abbrev pub done_then : List ℕ → NodeState → Number → Call → Fenced NodeState
 done_then node state number call =
     record { reply = Some (reply_frame number (Node node) (kind_of call) (lifecycle_row state call).reply); state = state_then state number call }

@@ -16,6 +16,7 @@ use Rattle.csi_node.specs.Record.{parts, parts_of}
 use Rattle.csi_node.proofs.ShownAfter.{row_of}
 use Rattle.csi_node.proofs.Forgotten.{is_staged}
 
+-- what is missing isn't there: anything follows
 none_some : {X : Type 0} {A : Type 0} (x : X) → None ≡ Some x → A
 none_some x h = cc
 
@@ -34,9 +35,11 @@ not_again number fresh = by (same_number number number) (sym spent ∙ fresh)
 pub begins-now : (number : Number) → begins number.session number ≡ false
 begins-now number = grind (arith, nat_tests)
 
+-- a number of the present session leaves the session
 pub after-now : (number : Number) → session_after number.session number ≡ number.session
 after-now number = ap (λ (b : Bool). cond b number.session number.session) (begins-now number)
 
+-- and all rows
 pub staying-now : (number : Number) (rows : List RowShown) → staying number.session number rows ≡ rows
 staying-now number rows = ap (λ (b : Bool). cond b (filter is_staged rows) rows) (begins-now number)
 
@@ -44,6 +47,7 @@ staying-now number rows = ap (λ (b : Bool). cond b (filter is_staged rows) rows
 pub after-begun : (session : ℕ) (number : Number) → session < number.session → session_after session number ≡ number.session
 after-begun session number later = ap (λ (b : Bool). cond b number.session session) (lt-ltb session number.session later)
 
+-- a number of a later session leaves the rows of volumes that are staged
 pub staying-begun : (session : ℕ) (number : Number) (rows : List RowShown) → session < number.session → staying session number rows ≡ filter is_staged rows
 staying-begun session number rows later = ap (λ (b : Bool). cond b (filter is_staged rows) rows) (lt-ltb session number.session later)
 

@@ -29,6 +29,7 @@ pub err_holds : {T E : Type 0} (r : Result T E) {P : Type 0} → P → OnErr r P
 err_holds (Ok x) h = tt
 err_holds (Err e) h = h
 
+-- what is missing isn't there
 none_is_not_some : {X : Type 0} (x : X) → None ≡ Some x → ⊥
 none_is_not_some x h = cc
 

@@ -45,6 +45,7 @@ pub record IsBare (state : NodeState) : Type 0 where
   pub session : state.session ≡ 2
   pub few : length state.rows ≤ 1
 
+-- the state after the session's first call is such a one
 carried_bare : (call : Call) (after : Fenced NodeState) → Carried (codes "n1") bare first call after → IsBare after.state
 carried_bare call _ (no_room full) = record { session = refl; few = omega arith }
 carried_bare call _ (has_room room) = record {

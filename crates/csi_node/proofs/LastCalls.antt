@@ -73,6 +73,7 @@ pub keep-rows : (volume : Option ℕ) (kept : Kept) (state : NodeState) → HasA
 keep-rows None kept state = inl refl
 keep-rows (Some id) kept state = rows_grown id kept state.rows (row_with_id id state)
 
+-- a test whose opposite holds fails
 not_true : (b : Bool) → not b ≡ true → b ≡ false
 not_true true h = cc
 not_true false h = refl
@@ -112,6 +113,7 @@ row_kept id kept rows (Some row) h =
 pub keep-own : (id : ℕ) (kept : Kept) (state : NodeState) → kept_in_row id (keep (Some id) kept state) ≡ Some kept
 keep-own id kept state = row_kept id kept state.rows (row_with_id id state) refl
 
+-- true isn't false
 not_both : true ≡ false → ⊥
 not_both h = cc
 

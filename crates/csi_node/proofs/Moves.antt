@@ -46,18 +46,23 @@ pub data Move (state : NodeState) : Call → Outcome → Type 0 where
 invalid : InvalidArgument ≡ Ok → ⊥
 invalid h = cc
 
+-- the status AlreadyExists isn't OK
 exists : AlreadyExists ≡ Ok → ⊥
 exists h = cc
 
+-- the status ResourceExhausted isn't OK
 exhausted : ResourceExhausted ≡ Ok → ⊥
 exhausted h = cc
 
+-- the status FailedPrecondition isn't OK
 failed : FailedPrecondition ≡ Ok → ⊥
 failed h = cc
 
+-- the status Unimplemented isn't OK
 unimplemented : Unimplemented ≡ Ok → ⊥
 unimplemented h = cc
 
+-- a test whose opposite fails holds
 not_false : (b : Bool) → not b ≡ false → b ≡ true
 not_false true h = refl
 not_false false h = cc
@@ -107,6 +112,7 @@ not_both true h k = cc
 not_both false h k = cc
 
 module _ (state : NodeState) (p : PublishedVolume) (slash : begins_with_slash p.target ≡ true) where
+  -- what a publication at a new target is answered is one of these
   new_moves : published_at p.volume p.target state ≡ None → staged_of p.volume state ≡ Some p.capability → (targets : List PublishedVolume) → published_of p.volume state ≡ targets
       → Move state (publish_call p) (publish_new p targets)
   new_moves free staged [] is =
@@ -124,6 +130,7 @@ module _ (state : NodeState) (p : PublishedVolume) (slash : begins_with_slash p.
         room = ap (λ (targets : List PublishedVolume). nat_le 16 (length targets)) is ∙ room;
       })))
 
+  -- so is what it is answered by how the volume is staged
   staged_moves : published_at p.volume p.target state ≡ None → (o : Option Capability) → staged_of p.volume state ≡ o → Move state (publish_call p) (publish_staged state p o)
   staged_moves free None is = refuses (publish_call p) FailedPrecondition (codes "not staged") failed
   staged_moves free (Some capability) is =
@@ -131,6 +138,7 @@ module _ (state : NodeState) (p : PublishedVolume) (slash : begins_with_slash p.
       (λ _. refuses (publish_call p) FailedPrecondition (codes "staged otherwise") failed)
       (λ same. new_moves free (is ∙ ap Some ((same_capability-tells capability p.capability).0 (not_false (same_capability capability p.capability) same))) (published_of p.volume state) refl)
 
+  -- so is what it is answered by what is at the target
   target_moves : (o : Option PublishedVolume) → published_at p.volume p.target state ≡ o → Move state (publish_call p) (publish_at_target state p o)
   target_moves None is = staged_moves is (staged_of p.volume state) refl
   target_moves (Some there) is =

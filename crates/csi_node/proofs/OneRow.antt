@@ -20,6 +20,7 @@ use Rattle.csi_node.specs.Line.{WhereDone}
 pub itself : (id : ℕ) → (id == id) ≡ true
 itself id = eq-eqb id id refl
 
+-- an id is equal to itself, and so asking that too asks nothing more
 pub itself_and : (id : ℕ) (b : Bool) → ((id == id) && b) ≡ b
 itself_and id b = rw (itself id) refl
 

@@ -55,6 +55,7 @@ done_facts : (state : NodeState) (call : Call) (change : Change) → IsReady (ch
 done_facts state call change ready others =
     record { stays = λ h. absurd (h refl); plain = λ h. refl; ready = λ h. ready; others = others }
 
+-- an id is equal to itself
 same_id : (id : ℕ) → (id == id) ≡ true
 same_id id = eq-eqb id id refl
 

@@ -64,10 +64,12 @@ filter_higher volume id own xs same all =
 
 -- what rows have of their volumes, one row after another
 module _ {X : Type 0} (volume : X → ℕ) (part : RowShown → List X) (own : (row : RowShown) → AreOf volume row.id (part row)) where
+  -- what the row of a volume has, if it has one
   abbrev part_in : Option RowShown → List X
   part_in None = []
   part_in (Some row) = part row
 
+  -- what rows above an id have is of volumes above it
   above_all : (id : ℕ) (rows : List RowShown) → AllByRecursion (λ (row : RowShown). id < row.id) rows → AllByRecursion (λ x. id < volume x) (flat_map part rows)
   above_all id [] above = tt
   above_all id (row ∷ rows) above =
@@ -75,6 +77,7 @@ module _ {X : Type 0} (volume : X → ℕ) (part : RowShown → List X) (own : (
       (each-weaker (λ x. volume x ≡ row.id) (λ x. id < volume x) (part row) (λ x e. (let lt = above.0 in omega arith)) (own row))
       (above_all id rows above.1)
 
+  -- what the rows have of a volume is what its own row has, whether that is the first one or not
   of_volume : (id : ℕ) (row : RowShown) (rest : List X) (found : Option RowShown) (b : Bool) → (row.id == id) ≡ b → AllByRecursion (λ x. row.id < volume x) rest → filter (λ x. volume x == id) rest ≡ part_in found
       → filter (λ x. volume x == id) (part row) ++ filter (λ x. volume x == id) rest ≡ part_in (cond b (Some row) found)
   of_volume id row rest found true same above here =
@@ -160,6 +163,7 @@ published_part None = refl
 published_part (Some row) = refl
 
 module _ (rows : List RowShown) (state : NodeState) (rise : EachTwo IsRowBefore rows) (all : ShowsAll rows state) where
+  -- the rows and the state have the same stagings of a volume
   staged_of_one : (id : ℕ) → filter (λ (s : StagedVolume). s.volume == id) (flat_map (λ (row : RowShown). (alone row).staged) rows) ≡ filter (λ (s : StagedVolume). s.volume == id) state.staged
   staged_of_one id =
       staged_same id _ _
@@ -167,12 +171,14 @@ module _ (rows : List RowShown) (state : NodeState) (rise : EachTwo IsRowBefore 
       (each-weaker (λ (s : StagedVolume). (s.volume == id) ≡ true) (λ (s : StagedVolume). s.volume ≡ id) _ (λ s e. eqb-true s.volume id e) (each-passes (λ (s : StagedVolume). s.volume == id) state.staged))
       (ap (map (λ (s : StagedVolume). s.capability)) (of_one (λ (s : StagedVolume). s.volume) (λ row. (alone row).staged) (λ row. staged_own row.id row.staged) id rows rise ∙ staged_part (row_of id rows)) ∙ all.staged id)
 
+  -- what the rows have staged is what the state lists
   staged_listed : ListsStaged (flat_map (λ (row : RowShown). (alone row).staged) rows) state
   staged_listed = record {
     items = staged_of_one;
     rising = any_two (λ (s : StagedVolume). s.volume) (λ row. (alone row).staged) (λ row. staged_own row.id row.staged) IsStagedBefore (λ x y lt. lt) (λ row. staged_once row.id row.staged) rows rise;
   }
 
+  -- what the rows have published is what the state lists
   published_listed : ListsPublished (flat_map (λ (row : RowShown). (alone row).published) rows) state
   published_listed = record {
     items = λ id.

@@ -21,6 +21,7 @@ use Rattle.csi_node.proofs.OneRow.{staged_of-alone}
 use Rattle.csi_node.proofs.StateChanges.{part-staged}
 use Rattle.csi_node.proofs.ShownAfter.{ShowsAll, row_of, alone_in, part_of, all-from_shows}
 
+-- what is missing isn't there: anything follows
 none_some : {X : Type 0} {Y : Type 0} (x : X) → None ≡ Some x → Y
 none_some x h = cc
 
@@ -68,9 +69,11 @@ module _ (rows : List RowShown) (state : NodeState) (each : All IsSoundRow rows)
   row_rules : (id : ℕ) (row : RowShown) → row_of id rows ≡ Some row → IsSoundRow row
   row_rules id row found = one-of_all IsSoundRow rows row each (among-find (λ (r : RowShown). r.id == id) rows row found)
 
+  -- the row that is found for an id has it
   own : (id : ℕ) (row : RowShown) → row_of id rows ≡ Some row → row.id ≡ id
   own id row found = eqb-true row.id id (find-passes (λ (r : RowShown). r.id == id) rows row found)
 
+  -- the state has a volume staged as its row has it
   row_staged : (id : ℕ) (row : RowShown) → row_of id rows ≡ Some row → staged_of id state ≡ row.staged
   row_staged id row found =
       sym (part-staged id (alone_in (row_of id rows)) state (part_of id rows state all))
@@ -82,14 +85,17 @@ module _ (rows : List RowShown) (state : NodeState) (each : All IsSoundRow rows)
   row_published : (id : ℕ) (o : Option RowShown) → row_of id rows ≡ o → (alone_in o).published ≡ published_of id state
   row_published id o found = ap (λ (x : Option RowShown). (alone_in x).published) (sym found) ∙ all.published id
 
+  -- what the state has published is among what the volume's row has
   among_own : (p : PublishedVolume) (o : Option RowShown) → row_of p.volume rows ≡ o → IsAmong p state.published → IsAmong p (alone_in o).published
   among_own p o found among =
       subst (IsAmong p) (sym (row_published p.volume o found)) (in_filter (λ (q : PublishedVolume). q.volume == p.volume) state.published p among (eq-eqb p.volume p.volume refl))
 
+  -- what a row has published is staged so
   staged_by_row : (p : PublishedVolume) (o : Option RowShown) → row_of p.volume rows ≡ o → IsAmong p (alone_in o).published → staged_of p.volume state ≡ Some p.capability
   staged_by_row p None found among = absurd among
   staged_by_row p (Some row) found among = row_staged p.volume row found ∙ so_staged row.id row.staged row.targets p among
 
+  -- the volume of a publication whose mode allows one target is at one at most
   single_by_row : (p : PublishedVolume) (o : Option RowShown) → row_of p.volume rows ≡ o → IsAmong p (alone_in o).published → allows_one_target p.capability.mode ≡ true → count_of p.volume state.published ≤ 1
   single_by_row p None found among one = absurd among
   single_by_row p (Some row) found among one =
@@ -98,6 +104,7 @@ module _ (rows : List RowShown) (state : NodeState) (each : All IsSoundRow rows)
       let same : length (alone row).published ≡ count_of p.volume state.published = ap length (row_published p.volume (Some row) found) in
       omega arith
 
+  -- each publication of the state is right
   published_right : IsPublishedRight state
   published_right = record {
     staged = λ p among. staged_by_row p (row_of p.volume rows) refl (among_own p (row_of p.volume rows) refl among);

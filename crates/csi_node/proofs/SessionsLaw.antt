@@ -67,9 +67,11 @@ module _ (state : NodeState) (number : Number) (call : Call) (now : number.sessi
   abbrev kept : Kept
   kept = kept_of state number call
 
+  -- the state with the call's change
   abbrev next : NodeState
   next = changed state (lifecycle_row state call).change
 
+  -- and then with the call kept
   abbrev after : NodeState
   after = keep (volume_of call) kept next
 

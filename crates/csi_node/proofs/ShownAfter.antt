@@ -61,6 +61,7 @@ staged-shown (Some row) = by row.staged row.staged refl refl
     by None t e f = rw e refl
     by (Some capability) t e f = rw e refl
 
+-- where it is published is the same by the row and by the row as it is shown
 published-shown : (o : Option NodeRow) → (alone_in (option_map shown o)).published ≡ published_in o
 published-shown None = refl
 published-shown (Some row) = by row.staged refl

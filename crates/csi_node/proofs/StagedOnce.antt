@@ -25,6 +25,7 @@ use Rattle.csi_node.proofs.CarriedOut.{Carried, no_room, has_room, was_carried, 
 abbrev pub AreFound : NodeState → Type 0
 AreFound state = (staged : StagedVolume) → IsAmong staged state.staged → staged_of staged.volume state ≡ Some staged.capability
 
+-- the capability with which a volume is staged
 capability_of : StagedVolume → Capability
 capability_of staged = staged.capability
 

@@ -22,6 +22,7 @@ pub record IsPart (id : ℕ) (part state : NodeState) : Type 0 where
   pub published : part.published ≡ published_of id state
 
 module _ (id : ℕ) (part state : NodeState) (is : IsPart id part state) where
+  -- the part and the state have the volume staged alike
   pub part-staged : staged_of id part ≡ staged_of id state
   part-staged =
       find-first (λ (s : StagedVolume). s.volume == id) (λ (s : StagedVolume). s.capability) part.staged
@@ -29,11 +30,13 @@ module _ (id : ℕ) (part state : NodeState) (is : IsPart id part state) where
       ∙ ap first_of_list is.staged
       ∙ sym (find-first (λ (s : StagedVolume). s.volume == id) (λ (s : StagedVolume). s.capability) state.staged)
 
+  -- they have it published alike
   part-published : published_of id part ≡ published_of id state
   part-published =
       ap (filter (λ (p : PublishedVolume). p.volume == id)) is.published
       ∙ filter-filter (λ (p : PublishedVolume). p.volume == id) (λ (p : PublishedVolume). p.volume == id) state.published (λ x h. h)
 
+  -- and at each target alike
   part-published_at : (target : List ℕ) → published_at id target part ≡ published_at id target state
   part-published_at target =
       ap (find (is_published_at id target)) is.published
@@ -59,6 +62,7 @@ publish-same part state p s h at =
     ap (λ (o : Outcome). cond (not (begins_with_slash p.target)) (refused InvalidArgument (codes "target")) o)
     (ap (publish_at_target part p) at ∙ publish_at-same part state p (published_at p.volume p.target state) s h)
 
+-- a call without a volume isn't of one: anything follows
 no_volume : {id : ℕ} {X : Type 0} → None ≡ Some id → X
 no_volume h = cc
 
@@ -93,11 +97,13 @@ unfolding IsAbout
 about_stage id s None h = h
 about_stage id s (Some capability) h = about_if id (same_capability capability s.capability) met (refused AlreadyExists (codes "staged otherwise")) tt tt
 
+-- the line of NodeUnstageVolume
 about_unstage : (id volume : ℕ) (l : List PublishedVolume) → volume ≡ id → IsAbout id (unstage volume l).change
 unfolding IsAbout
 about_unstage id volume [] h = h
 about_unstage id volume (p ∷ l) h = tt
 
+-- the line of NodePublishVolume at a target that the volume isn't at
 about_new : (id : ℕ) (p : PublishedVolume) (l : List PublishedVolume) → p.volume ≡ id → IsAbout id (publish_new p l).change
 unfolding IsAbout
 about_new id p [] h = h
@@ -106,21 +112,25 @@ about_new id p (q ∷ l) h =
     (cond (nat_le 16 (length (q ∷ l))) (refused ResourceExhausted (codes "targets")) (done (Publishes p))) tt
     (about_if id (nat_le 16 (length (q ∷ l))) (refused ResourceExhausted (codes "targets")) (done (Publishes p)) tt h)
 
+-- the line of NodePublishVolume, by how the volume is staged
 about_staged : (id : ℕ) (state : NodeState) (p : PublishedVolume) (o : Option Capability) → p.volume ≡ id → IsAbout id (publish_staged state p o).change
 unfolding IsAbout
 about_staged id state p None h = tt
 about_staged id state p (Some capability) h = about_if id (not (same_capability capability p.capability)) (refused FailedPrecondition (codes "staged otherwise")) (publish_new p (published_of p.volume state)) tt (about_new id p (published_of p.volume state) h)
 
+-- the line of NodePublishVolume, by what is at the target
 about_at : (id : ℕ) (state : NodeState) (p : PublishedVolume) (o : Option PublishedVolume) → p.volume ≡ id → IsAbout id (publish_at_target state p o).change
 unfolding IsAbout
 about_at id state p (Some there) h = about_if id (same_capability there.capability p.capability && same_flag there.readonly p.readonly) met (refused AlreadyExists (codes "published otherwise")) tt tt
 about_at id state p None h = about_staged id state p (staged_of p.volume state) h
 
+-- the line of NodePublishVolume
 about_publish : (id : ℕ) (state : NodeState) (p : PublishedVolume) → p.volume ≡ id → IsAbout id (publish state p).change
 unfolding IsAbout
 about_publish id state p h =
     about_if id (not (begins_with_slash p.target)) (refused InvalidArgument (codes "target")) (publish_at_target state p (published_at p.volume p.target state)) tt (about_at id state p (published_at p.volume p.target state) h)
 
+-- the line of NodeUnpublishVolume
 about_unpublish : (id volume : ℕ) (target : List ℕ) (o : Option PublishedVolume) → volume ≡ id → IsAbout id (unpublish volume target o).change
 unfolding IsAbout
 about_unpublish id volume target None h = tt

@@ -87,6 +87,7 @@ once_more node after later call kept now is before ready =
           }),
     )
 
+-- the status ResourceExhausted isn't OK
 exhausted : ResourceExhausted ≡ Ok → ⊥
 exhausted h = cc
 

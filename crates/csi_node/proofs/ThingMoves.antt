@@ -52,23 +52,28 @@ is_at id target p h =
 abbrev staged_form : Option StagedVolume → Option Form
 staged_form found = option_map StagedAs (option_map (λ staged. staged.capability) found)
 
+-- how what is found published is held
 abbrev published_form : Option PublishedVolume → Option Form
 published_form found = option_map (λ published. PublishedAs published.capability published.readonly) found
 
 module _ (node : List ℕ) (state : NodeState) where
+  -- a refusal has no effect
   refused_effect : (call : Call) (outcome : Outcome) (o : Option Key) → (outcome.reply.status ≡ Ok → ⊥) → outcome.change ≡ Stays → EffectAt node state call outcome o
   refused_effect call outcome None not_ok stays = tt
   refused_effect call outcome (Some key) not_ok stays =
       let same : (other : Key) → held_on node (changed state outcome.change) other ≡ held_on node state other = λ other. ap (λ change. held_on node (changed state change) other) stays in
       record { done = λ ok. absurd (not_ok ok); refused = λ _. same key; others = λ other _. same other }
 
+  -- an OK that changes nothing has its effect where what is asked is so already
   met_effect : (call : Call) (key : Key) → held_on node state key ≡ asked call met.reply → Effect node state call met key
   met_effect call key is = record { done = λ _. is; refused = λ h. absurd (h refl); others = λ other _. refl }
 
+  -- an OK with a change has its effect where what is asked is so then
   done_effect : (call : Call) (change : Change) (key : Key) → held_on node (changed state change) key ≡ asked call (done change).reply
       → ((other : Key) → same_key other key ≡ false → held_on node (changed state change) other ≡ held_on node state other) → Effect node state call (done change) key
   done_effect call change key is others = record { done = λ _. is; refused = λ h. absurd (h refl); others = others }
 
+  -- to stage a volume leaves every other thing
   stages_others : (s : StagedVolume) (other : Key) → same_key other (Staged s.volume node) ≡ false → held_on node (changed state (Stages s)) other ≡ held_on node state other
   stages_others s (Exists name) differ = refl
   stages_others s (Attached id there) differ = refl
@@ -79,6 +84,7 @@ module _ (node : List ℕ) (state : NodeState) where
       let volume = eqb-true s.volume id h in is_not (Staged id there) (Staged s.volume node) differ (λ i. Staged (sym volume i) (place i))) in
       ap staged_form (find-append_other (λ (s : StagedVolume). s.volume == id) state.staged s fails))
 
+  -- to unstage one leaves every other thing
   unstages_others : (id : ℕ) (other : Key) → same_key other (Staged id node) ≡ false → held_on node (changed state (Unstages id)) other ≡ held_on node state other
   unstages_others id (Exists name) differ = refl
   unstages_others id (Attached volume there) differ = refl
@@ -89,6 +95,7 @@ module _ (node : List ℕ) (state : NodeState) where
       (find-filter (λ (s : StagedVolume). s.volume == volume) (λ (s : StagedVolume). not (s.volume == id)) state.staged (λ s found. not-where (s.volume == id) (λ h.
       let number = sym (eqb-true s.volume volume found) ∙ eqb-true s.volume id h in is_not (Staged volume there) (Staged id node) differ (λ i. Staged (number i) (place i))))))
 
+  -- to publish one leaves every other thing
   publishes_others : (p : PublishedVolume) (other : Key) → same_key other (Published p.volume node p.target) ≡ false → held_on node (changed state (Publishes p)) other ≡ held_on node state other
   publishes_others p (Exists name) differ = refl
   publishes_others p (Attached id there) differ = refl
@@ -99,6 +106,7 @@ module _ (node : List ℕ) (state : NodeState) where
       let at = is_at id target p h in is_not (Published id there target) (Published p.volume node p.target) differ (λ i. Published (sym at.0 i) (place i) (sym at.1 i))) in
       ap published_form (find-append_other (is_published_at id target) state.published p fails))
 
+  -- to unpublish one leaves every other thing
   unpublishes_others : (id : ℕ) (target : List ℕ) (other : Key) → same_key other (Published id node target) ≡ false → held_on node (changed state (Unpublishes id target)) other ≡ held_on node state other
   unpublishes_others id target (Exists name) differ = refl
   unpublishes_others id target (Attached volume there) differ = refl
@@ -113,6 +121,7 @@ module _ (node : List ℕ) (state : NodeState) where
       let end = sym first.1 ∙ second.1 in
       is_not (Published volume there aim) (Published id node target) differ (λ i. Published (number i) (place i) (end i))))))
 
+  -- each outcome of the table has its effect on the call's thing
   pub effect : (call : Call) (outcome : Outcome) → Move state call outcome → EffectAt node state call outcome (key_of node call)
   effect _ _ (refuses call status detail not_ok) = refused_effect call (refused status detail) (key_of node call) not_ok refl
   effect _ _ (was_staged s is) = met_effect (stage_call s) (Staged s.volume node) (rw (here node) (ap (option_map StagedAs) is))

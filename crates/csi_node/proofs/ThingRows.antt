@@ -60,6 +60,7 @@ staged_for node call id is_key is_volume = record { is_key = is_key; volume = id
 published_for : (node : List ℕ) (call : Call) (id : ℕ) (target : List ℕ) → key_of node call ≡ Some (Published id node target) → volume_of call ≡ Some id → IsFor node call (Published id node target)
 published_for node call id target is_key is_volume = record { is_key = is_key; volume = id; is_volume = is_volume; is_row = rw (here node) refl }
 
+-- a call that isn't for the node has no case: anything follows
 not_its_party : {A : Type 0} → false ≡ true → A
 not_its_party h = cc
 
@@ -100,6 +101,7 @@ kept_none node key = kept_on-at node empty_node key ∙ by (row_id node key)
     by None = refl
     by (Some id) = refl
 
+-- a choice between a value and itself is that value
 either_way : {X : Type 0} (b : Bool) (x : X) → cond b x x ≡ x
 either_way true x = refl
 either_way false x = refl

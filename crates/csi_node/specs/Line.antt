@@ -6,11 +6,13 @@ use Rattle.csi_node.specs.declared.line.Line.{Line}
 use Rattle.csi_node.specs.declared.line.Line.TheVariants.{Refused, Met, Done}
 use Rattle.csi_node.specs.Table.{Change, Outcome, refused, met, done}
 
+-- the reply of a line
 abbrev pub reply_shown : Line → Reply
 reply_shown (Refused status detail) = plain_reply status detail.now
 reply_shown Met = ok_reply
 reply_shown Done = ok_reply
 
+-- the line carries the call out
 abbrev pub is_done : Line → Bool
 is_done (Refused status detail) = false
 is_done Met = false

@@ -26,6 +26,7 @@ pub record RowShown : Type 0 where
   pub targets : List NodeTarget
   pub kept : Kept
 
+-- a row, as it is kept in a record
 abbrev pub shown : NodeRow → RowShown
 shown row = record { id = row.id; staged = row.staged; targets = row.targets.items; kept = record { number = row.last; kind = row.kind; reply = row.reply } }
 

@@ -16,9 +16,11 @@ pub record NodeParts : Type 0 where
   pub session : ℕ
   pub rows : List NodeRow
 
+-- the rows of a record, with their targets as lists
 abbrev pub parts : List NodeRow → List RowShown
 parts rows = map shown rows
 
+-- the ids of rows
 abbrev pub ids : List RowShown → List ℕ
 ids rows = map (λ row. row.id) rows
 

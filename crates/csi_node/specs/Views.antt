@@ -5,9 +5,11 @@ use Rattle.csi_node.specs.declared.entries.Staged.{Staged}
 use Rattle.csi_node.specs.declared.entries.Published.{Published}
 use Rattle.csi_node.specs.State.{NodeState, StagedVolume, PublishedVolume, published_of}
 
+-- a staging
 abbrev pub staged_shown : Staged → StagedVolume
 staged_shown staged = record { volume = staged.id; capability = staged.capability }
 
+-- a publication
 abbrev pub published_shown : Published → PublishedVolume
 published_shown published = record { volume = published.id; target = published.target; capability = published.capability; readonly = published.readonly }
 

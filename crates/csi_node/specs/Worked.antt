@@ -81,6 +81,7 @@ pub record TwoTargetsRow : Type 0 where
 abbrev pub seventeen_targets : List Frame
 seventeen_targets = map (λ byte. call_at byte (publish_at (47 ∷ byte ∷ []) MultiNodeMultiWriter false)) (range_with_len 97 17)
 
+-- sixteen targets are given, and the next one is refused
 pub record ManyTargetsRow : Type 0 where
   pub answers : replies (call_at 1 (NodeStageVolume 1 (block MultiNodeMultiWriter)) ∷ seventeen_targets)
       ≡ ok_reply ∷ replicate 16 ok_reply ++ plain_reply ResourceExhausted (codes "targets") ∷ []
@@ -89,6 +90,7 @@ pub record ManyTargetsRow : Type 0 where
 abbrev pub late_stage : List Frame
 late_stage = call_at 6 (NodeUnstageVolume 1) ∷ call_at 3 (NodeStageVolume 1 (block SingleNodeWriter)) ∷ []
 
+-- so it is with a NodeStageVolume that comes after its NodeUnstageVolume
 pub record LateStageRow : Type 0 where
   pub answers : replies late_stage ≡ ok_reply ∷ plain_reply Aborted (codes "stale") ∷ []
   pub not_staged : staged_of 1 (after_frames (codes "n1") empty_node late_stage) ≡ None
@@ -102,6 +104,7 @@ not_staged = plain_reply FailedPrecondition (codes "not staged")
 abbrev pub refused_publish : NodeState
 refused_publish = after_frames (codes "n1") empty_node (call_at 1 (NodePublishVolume 7 (codes "/a") (block SingleNodeWriter) false) ∷ [])
 
+-- so it is of a NodePublishVolume: the same number gets that refusal, whatever comes with it
 pub record KeptRefusalRow : Type 0 where
   pub refused : replies (call_at 1 (NodePublishVolume 7 (codes "/a") (block SingleNodeWriter) false) ∷ []) ≡ not_staged ∷ []
   pub other_target : replies_from refused_publish (call_at 1 (NodePublishVolume 7 (codes "/b") (block SingleNodeWriter) false) ∷ []) ≡ not_staged ∷ []
@@ -123,6 +126,7 @@ pub record ForgottenRow (call : Call) : Type 0 where
       ≡ Some (reply_frame (number 1) (Node (codes "n1")) kinds.NodeStageVolume (plain_reply Aborted (codes "stale")))
   pub few : length (after_frames (codes "n1") empty_node (forgotten call ++ call_at 1 (NodeStageVolume 1 (block SingleNodeWriter)) ∷ [])).rows ≤ 1
 
+-- so it is of every call
 abbrev pub ForgottenRows : Type 0
 ForgottenRows = (call : Call) → ForgottenRow call
 
@@ -162,6 +166,7 @@ staged_v = call_at 1 (NodeStageVolume 1 (block MultiNodeMultiWriter)) ∷ []
 abbrev pub publish_v : Call
 publish_v = publish_at (codes "/a") MultiNodeMultiWriter true
 
+-- the laws of the table tell this of that call
 abbrev pub LawsTellPublish : Type 0
 LawsTellPublish =
     NodeTableLaw

@@ -47,6 +47,7 @@ named_leave history name node id (target ∷ targets) = tt
 named_leave history name node id [] =
     either (IsNamed name) (not (is_no (known history (Staged name node)))) _ _ tt (either (IsNamed name) (not (is_no (known history (Attached name node)))) _ _ tt tt)
 
+-- the call that is due for a use is of the name
 named_use : (history : History) (name : List ℕ) (usage : Usage) (id : Option ℕ) → IsNamed name (option_and_then (due_use history name usage) id)
 named_use history name usage None = tt
 named_use history name usage (Some id) =
@@ -54,11 +55,13 @@ named_use history name usage (Some id) =
     (either (IsNamed name) (not (is_yes (known history (Staged name usage.node)))) _ _ tt
     (either (IsNamed name) (not (is_yes (known history (Published name usage.node usage.target)))) _ _ tt tt))
 
+-- the call that is due for a stop is of the name
 named_stop : (history : History) (name node target : List ℕ) (id : Option ℕ) → IsNamed name (option_and_then (due_stop history name node target) id)
 named_stop history name node target None = tt
 named_stop history name node target (Some id) =
     either (IsNamed name) (not (is_no (known history (Published name node target)))) _ _ tt (named_leave history name node id (targets_in_use history name node))
 
+-- the call that is due for a delete is of the name
 named_delete : (history : History) (name : List ℕ) (id : Option ℕ) → IsNamed name (option_and_then (due_delete history name) id)
 named_delete history name None = tt
 named_delete history name (Some id) = either (IsNamed name) (is_no (known history (Exists name))) _ _ tt tt
@@ -104,6 +107,7 @@ pub record Adds (history : History) (input : Input) (moved : Moved) : Type 0 whe
   pub few : length moved.items ≤ 3
   pub frames : map frame_of (issued_in moved.items) ≡ frames_in moved.answer
 
+-- so it is of a result, where a refusal adds nothing
 abbrev pub AreAdded : History → Input → Result Moved OrchFault → Type 0
 AreAdded history input (Ok moved) = Adds history input moved
 AreAdded history input (Err fault) = Unit {0}
@@ -120,6 +124,7 @@ record AreQuiet (history : History) (input : Input) (items : List Item) : Type 0
 no-items : (history : History) (input : Input) → IsWellFormed history → AreQuiet history input []
 no-items history input form = record { form = form; replies = tt; few = omega arith; silent = refl; same_last = refl }
 
+-- a goal may be noted after at most one such item
 noted-after : (history : History) (input : Input) (name : List ℕ) (goal : Option Goal) (items : List Item) → AreQuiet history input items → length items ≤ 1 → AreQuiet history input (Noted name goal ∷ items)
 noted-after history input name goal items quiet short =
     record { form = (tt, quiet.form); replies = quiet.replies; few = omega (arith, short); silent = quiet.silent; same_last = quiet.same_last }
@@ -157,11 +162,13 @@ commanded : (history : History) (input : Input) (name : List ℕ) (goal : Goal) 
 commanded history input name goal (Some fault) form = tt
 commanded history input name goal None form = sends-due history input name Sends _ (λ o. refl) (noted-after history input name (Some goal) [] (no-items history input form) (omega arith))
 
+-- what a use adds is as it has to be
 used : (history : History) (input : Input) (name : List ℕ) (usage : Usage) (fault : Option OrchFault) → IsWellFormed history → AreAdded history input (use_when history name usage fault)
 used history input name usage (Some fault) form = tt
 used history input name usage None form =
     either (AreAdded history input) (is_none (option_and_then (due_use history name usage) (id_of history name))) (Ok met) _ (rests history input _ [] refl (no-items history input form)) (commanded history input name (Use usage) (use_room_fault history name usage) form)
 
+-- what a delete adds is as it has to be
 deleted : (history : History) (input : Input) (name : List ℕ) (fault : Option OrchFault) → IsWellFormed history → AreAdded history input (delete_when history name fault)
 deleted history input name (Some fault) form = tt
 deleted history input name None form =

@@ -71,6 +71,7 @@ put-long key entry (x ∷ xs) = by (same_text (key x) (key entry)) (put-long key
     by true rest = omega arith
     by false rest = omega (arith, rest)
 
+-- putting in where an entry has the text makes none more
 put-there : {X : Type 0} (key : X → List ℕ) (entry old : X) (xs : List X) → IsAmong old xs → key entry ≡ key old → length (put_by key entry xs) ≡ length xs
 put-there key entry old [] among same = absurd among
 put-there key entry old (x ∷ xs) (inl is) same =
@@ -93,19 +94,23 @@ node-marked nodes mark Publication target entry own =
     let long = change-long (λ (t : TargetEntry). t.target) target (λ (t : TargetEntry). record t { published = mark }) entry.target_entries in
     record { among = own.among; targets = omega (arith, long, least) }
 
+-- entries with a mark set at a node and a target stay within the bounds
 marked-at : (nodes : List (List ℕ)) (mark : Known) (aspect : Aspect) (node target : List ℕ) (entries : List NodeEntryShown) → AllByRecursion (IsEntryWithin nodes) entries → AllByRecursion (IsEntryWithin nodes) (marked_at mark aspect node target entries)
 marked-at nodes mark aspect node target entries all =
     each-change (IsEntryWithin nodes) (λ (entry : NodeEntryShown). entry.node) node (node_marked mark aspect target) entries (node-marked nodes mark aspect target) all
 
+-- so do those with a mark set at a goal's node and target
 at-goal : (nodes : List (List ℕ)) (mark : Known) (aspect : Aspect) (goal : Option Goal) (entries : List NodeEntryShown) → AllByRecursion (IsEntryWithin nodes) entries → AllByRecursion (IsEntryWithin nodes) (at_goal (marked_at mark aspect) goal entries)
 at-goal nodes mark aspect (Some (Use usage)) entries all = marked-at nodes mark aspect usage.node usage.target entries all
 at-goal nodes mark aspect (Some (Stop node target)) entries all = marked-at nodes mark aspect node target entries all
 at-goal nodes mark aspect goal entries all = all
 
+-- whatever aspect is marked
 nodes-marked : (nodes : List (List ℕ)) (mark : Known) (aspect : Aspect) (goal : Option Goal) (entries : List NodeEntryShown) → AllByRecursion (IsEntryWithin nodes) entries → AllByRecursion (IsEntryWithin nodes) (nodes_marked mark aspect goal entries)
 nodes-marked nodes mark Existence goal entries all = all
 nodes-marked nodes mark aspect goal entries all = at-goal nodes mark aspect goal entries all
 
+-- so does a row that a call's kind marks
 row-marked : (nodes : List (List ℕ)) (mark : Known) (kind : Kind) (row : RowShown) → AreWithin nodes row → AreWithin nodes (marked mark kind row)
 row-marked nodes mark kind row all = nodes-marked nodes mark (aspect_of kind) row.goal row.node_entries all
 
@@ -152,9 +157,11 @@ with-target-few target target_entries few may room = by (find (λ (t : TargetEnt
         let long = length_push target_entries (new_target_entry target) in
         omega (arith, same, below, long)
 
+-- an entry at which the volume is held as a use asks is still of its node
 held-node : (usage : Usage) (entry : NodeEntryShown) → (held_as usage entry).node ≡ entry.node
 held-node usage entry = by_if (λ (e : NodeEntryShown). e.node ≡ entry.node) (is_no entry.attached) (record entry { capability = usage.capability; readonly = usage.readonly }) entry (λ e. refl) (λ e. refl)
 
+-- the entry for a use is within the bounds, where its node is known and there is room for its target
 entry-within : (nodes : List (List ℕ)) (usage : Usage) (entry : Option NodeEntryShown) → list_any (same_text usage.node) nodes ≡ true
     → ((own : NodeEntryShown) → entry ≡ Some own → IsEntryWithin nodes own × IsNeeded own) → nat_le 16 (others_count usage.target entry) ≡ false → IsEntryWithin nodes (entry_for usage entry)
 entry-within nodes usage None known own room = record { among = known; targets = omega arith }
@@ -198,6 +205,7 @@ room-left : (last : Number) (usage : Usage) (row : RowShown) → room_refusal la
 room-left last usage row free =
     (first-held (nat_le 16 (others_count usage.target (node_entry_of row usage.node))) faults.Full None (first-held (is_last last) faults.NumbersSpent _ free).1).0
 
+-- a row with the entry for a use that isn't refused stays within the bounds
 used-within : (nodes : List (List ℕ)) (last : Number) (usage : Usage) (row : RowShown) → IsSoundRow row → AreWithin nodes row → use_refusal nodes usage row ≡ None → room_refusal last usage row ≡ None
     → AreWithin nodes (with_entry usage row)
 used-within nodes last usage row own all free room =
@@ -209,14 +217,17 @@ used-within nodes last usage row own all free room =
     (room-left last usage row room))
     all
 
+-- so does one whose call timed out
 timed-out-within : (nodes : List (List ℕ)) (row : RowShown) (goal : Option Goal) → AreWithin nodes row → AreWithin nodes (timed_out row goal)
 timed-out-within nodes row None all = all
 timed-out-within nodes row (Some goal) all = by_if (AreWithin nodes) (is_given_up row) (wanted (stopped_goal goal) row) (closed row) (λ spent. all) (λ more. all)
 
+-- so does one whose call failed
 failed-within : (nodes : List (List ℕ)) (row : RowShown) (goal : Option Goal) → AreWithin nodes row → AreWithin nodes (failed row goal)
 failed-within nodes row (Some Create) all = all
 failed-within nodes row goal all = all
 
+-- so does one that is changed by whatever step isn't refused
 changed-within : (nodes : List (List ℕ)) (last : Number) (step : Step) (row : RowShown) → IsSoundRow row → AreWithin nodes row → step_refusal nodes last step row ≡ None → late_refusal last step row ≡ None
     → AreWithin nodes (changed step row)
 changed-within nodes last (steps.Use usage) row own all free room = used-within nodes last usage row own all free room
@@ -225,10 +236,12 @@ changed-within nodes last (steps.Succeed kind id) row own all free room = row-ma
 changed-within nodes last steps.Fail row own all free room = failed-within nodes row row.goal all
 changed-within nodes last step row own all free room = all
 
+-- the outcome stays within the bounds where it does if nothing is refused
 unless-within : (nodes : List (List ℕ)) (fault : Option OrchFault) (result : Result MovedRow OrchFault) → (fault ≡ None → WithinAfter nodes result) → WithinAfter nodes (row_unless fault result)
 unless-within nodes None result f = f refl
 unless-within nodes (Some fault) result f = tt
 
+-- so does a row that takes a step
 step-within : (nodes : List (List ℕ)) (last : Number) (step : Step) (row : RowShown) → IsSoundRow row → AreWithin nodes row → WithinAfter nodes (row_step nodes last step row)
 step-within nodes last step row own all =
     unless-within nodes (step_refusal nodes last step row) _
@@ -238,6 +251,7 @@ step-within nodes last step row own all =
 
 -- ---- what becomes of all the rows
 
+-- the parts are within the bounds then, unless something was refused
 abbrev pub BoundedAfter : Result MovedRows OrchFault → Type 0
 BoundedAfter (Ok moved_rows) = IsWithin moved_rows.parts
 BoundedAfter (Err fault) = Unit {0}
@@ -259,6 +273,7 @@ found-within parts answer step p row kept within e =
           entries = each-put (AreWithin parts.nodes) (λ (r : RowShown). r.name) moved_row.row parts.rows all within.entries;
         }
 
+-- rows stay within the bounds where one of them is asked something, or none has the name
 asked-within : (parts : Parts) (step : Step) (name : List ℕ) → IsSound parts.rows → IsWithin parts → (o : Option RowShown) → row_of parts.rows name ≡ o → BoundedAfter (steps_at parts Sends step o)
 asked-within parts step name kept within None e = tt
 asked-within parts step name kept within (Some row) e = found-within parts Sends step (λ (r : RowShown). same_text r.name name) row kept within e
@@ -283,6 +298,7 @@ creates-within parts name arguments kept within None e = by (first_fault parts.l
     by (Some fault) e = tt
     by None e = put-in (free e) (row_sends_due parts.last (new_row name arguments)) (sends-due-within parts.nodes parts.last (new_row name arguments) tt)
 
+-- rows stay within the bounds where a frame comes
 receives-within : (parts : Parts) (number : Number) (party : Party) (body : Body) → IsSound parts.rows → IsWithin parts → BoundedAfter (receives parts number party body)
 receives-within parts number party (bodies.Call call) kept within = within
 receives-within parts number party (bodies.Reply kind reply) kept within = by (row_replied parts.rows number party kind) refl
@@ -291,6 +307,7 @@ receives-within parts number party (bodies.Reply kind reply) kept within = by (r
     by None e = within
     by (Some row) e = found-within parts hears (step_heard kind reply) (λ (r : RowShown). is_issued_as number party kind (open_in_row r)) row kept within e
 
+-- rows stay within the bounds at a restart
 restart-within : (parts : Parts) → IsWithin parts → BoundedAfter (starts_again parts)
 restart-within parts within =
     by_if BoundedAfter (nat_lt (parts.last.session + 1) (2 ^ 64)) (moved_rows (in_session (parts.last.session + 1) parts) Restarted) (Err faults.NumbersSpent)
@@ -300,6 +317,7 @@ restart-within parts within =
     record { rows = omega (arith, long, least); entries = each-map (AreWithin parts.nodes) (AreWithin parts.nodes) closed parts.rows (λ row all. all) within.entries })
     (λ spent. tt)
 
+-- rows stay within the bounds at every input
 moves-within : (parts : Parts) (input : Input) → IsSound parts.rows → IsWithin parts → BoundedAfter (row_moves parts input)
 moves-within parts (ToCreate name arguments) kept within = creates-within parts name arguments kept within (row_of parts.rows name) refl
 moves-within parts (ToUse name usage) kept within = asked-within parts (steps.Use usage) name kept within (row_of parts.rows name) refl
@@ -321,6 +339,7 @@ pub record Without {X : Type 0} (x : X) (xs : List X) : Type 0 where
   pub long : suc (length rest) ≡ length xs
   pub others : (y : X) → IsAmong y xs → (y ≡ x → ⊥) → IsAmong y rest
 
+-- what is among a list can be left out of it
 without : {X : Type 0} (x : X) (xs : List X) → IsAmong x xs → Without x xs
 without x [] among = absurd among
 without x (z ∷ zs) (inl is) = record { rest = zs; long = refl; others = other }

@@ -19,6 +19,7 @@ find-there view p (x ∷ rs) (suc i) r inside here before =
     let own : p (view x) ≡ false = before 0 (omega arith) in
     rw own (find-there view p rs i r (omega arith) here (λ k below. before (suc k) (omega arith)))
 
+-- what is written where the first entry of the text stands is a change of the list by that text
 change-there : {R X : Type 0} (view : R → X) (key : X → List ℕ) (text : List ℕ) (change : X → X) (rs : List R) (i : ℕ) (r s : R) → i < length rs
     → same_text (key (view (get_or rs i r))) text ≡ true → ((k : ℕ) → k < i → same_text (key (view (get_or rs k r))) text ≡ false) → view s ≡ change (view (get_or rs i r))
     → map view (set rs i s) ≡ change_by key text change (map view rs)
@@ -28,6 +29,7 @@ change-there view key text change (x ∷ rs) (suc i) r s inside here before is =
     let own : same_text (key (view x)) text ≡ false = before 0 (omega arith) in
     rw own (ap (λ ys. view x ∷ ys) (change-there view key text change rs i r s (omega arith) here (λ k below. before (suc k) (omega arith)) is))
 
+-- what is written there, with that text again, is put in by its text
 put-there : {R X : Type 0} (view : R → X) (key : X → List ℕ) (entry : X) (rs : List R) (i : ℕ) (r s : R) → i < length rs
     → same_text (key (view (get_or rs i r))) (key entry) ≡ true → ((k : ℕ) → k < i → same_text (key (view (get_or rs k r))) (key entry) ≡ false) → view s ≡ entry
     → map view (set rs i s) ≡ put_by key entry (map view rs)
@@ -43,12 +45,14 @@ find-place view p rs i r at there =
     let found = position-Some (λ x. p (view x)) rs i r at in
     find-there view p rs i r found.0 found.1 found.2 ∙ sym (ap (λ x. Some (view x)) there)
 
+-- the same of a change
 pub change-place : {R X : Type 0} (view : R → X) (key : X → List ℕ) (text : List ℕ) (change : X → X) (rs : List R) (i : ℕ) (r s : R) → position (λ x. same_text (key (view x)) text) rs ≡ Some i
     → r ≡ get_or rs i r → view s ≡ change (view r) → map view (set rs i s) ≡ change_by key text change (map view rs)
 change-place view key text change rs i r s at there is =
     let found = position-Some (λ x. same_text (key (view x)) text) rs i r at in
     change-there view key text change rs i r s found.0 found.1 found.2 (is ∙ ap (λ x. change (view x)) there)
 
+-- the same of what is put in
 pub put-place : {R X : Type 0} (view : R → X) (key : X → List ℕ) (entry : X) (text : List ℕ) (rs : List R) (i : ℕ) (r s : R) → key entry ≡ text → position (λ x. same_text (key (view x)) text) rs ≡ Some i
     → view s ≡ entry → map view (set rs i s) ≡ put_by key entry (map view rs)
 put-place view key entry text rs i r s own at is =
@@ -66,6 +70,7 @@ change-none_found key text change (x ∷ xs) none = by (same_text (key x) text) 
     by true rest h = absurd (some_is_not_none x h)
     by false rest h = ap (λ ys. x ∷ ys) (rest h)
 
+-- what is put in goes last where none of its text is found
 put-none_found : {X : Type 0} (key : X → List ℕ) (entry : X) (xs : List X) → find (λ x. same_text (key x) (key entry)) xs ≡ None → xs ++ entry ∷ [] ≡ put_by key entry xs
 put-none_found key entry [] none = refl
 put-none_found key entry (x ∷ xs) none = by (same_text (key x) (key entry)) (put-none_found key entry xs) none
@@ -79,11 +84,13 @@ put-none_found key entry (x ∷ xs) none = by (same_text (key x) (key entry)) (p
 pub find-none_placed : {R X : Type 0} (view : R → X) (p : X → Bool) (rs : List R) → position (λ x. p (view x)) rs ≡ None → find p (map view rs) ≡ None
 find-none_placed view p rs none = find-of_map p view rs ∙ ap (option_map view) (find-no_place (λ x. p (view x)) rs none)
 
+-- a change does nothing where `position` gives none
 pub change-none_placed : {R X : Type 0} (view : R → X) (key : X → List ℕ) (text : List ℕ) (change : X → X) (rs : List R) → position (λ x. same_text (key (view x)) text) rs ≡ None
     → map view rs ≡ change_by key text change (map view rs)
 change-none_placed view key text change rs none =
     change-none_found key text change (map view rs) (find-none_placed view (λ x. same_text (key x) text) rs none)
 
+-- what is put in goes last where `position` gives none
 pub put-none_placed : {R X : Type 0} (view : R → X) (key : X → List ℕ) (entry : X) (text : List ℕ) (rs : List R) (s : R) → key entry ≡ text → position (λ x. same_text (key (view x)) text) rs ≡ None
     → view s ≡ entry → map view (rs ++ s ∷ []) ≡ put_by key entry (map view rs)
 put-none_placed view key entry text rs s own none is =

@@ -43,9 +43,11 @@ pub record IsFound (parts : Parts) (history : History) (name : List ℕ) (row : 
   pub right : AreRight parts history
   pub found : row_of parts.rows name ≡ Some row
 
+-- the row that is found is kept as an orchestrator keeps it
 pub own-kept : (parts : Parts) (history : History) (name : List ℕ) (row : RowShown) → IsFound parts history name row → IsSoundRow row
 own-kept parts history name row at = found-kept (λ (r : RowShown). same_text r.name name) parts.rows row (at.right).kept at.found
 
+-- it tells what is shown of its name
 pub own-reads : (parts : Parts) (history : History) (name : List ℕ) (row : RowShown) → IsFound parts history name row → Reads row (view_of parts) name
 own-reads parts history name row at = row-reads parts name row (own-name parts name row at.found) at.found
 

@@ -58,10 +58,12 @@ others-with-target target target_entries = by (is_some (find (λ (a : TargetEntr
     by false =
         list_any-append (is_other target) target_entries (new_target_entry target ∷ []) ∙ ap (λ b. list_any (is_other target) target_entries || (b || false)) (new-target-free target target) ∙ last (list_any (is_other target) target_entries)
 
+-- the same of a node's entry, or of none
 others-entry : (usage : Usage) (o : Option NodeEntryShown) → others_in usage.target (Some (entry_for usage o)) ≡ others_in usage.target o
 others-entry usage None = ap (λ b. b || false) (new-target-free usage.target usage.target)
 others-entry usage (Some entry) = others-with-target usage.target entry.target_entries
 
+-- the same of a row
 others-with-entry : (usage : Usage) (row : RowShown) → others_in usage.target (node_entry_of (with_entry usage row) usage.node) ≡ others_in usage.target (node_entry_of row usage.node)
 others-with-entry usage row =
     ap (others_in usage.target) (entry-there usage row usage.node ∙ ap (λ b. cond b (Some (entry_for usage (node_entry_of row usage.node))) (node_entry_of row usage.node)) (text-same usage.node))

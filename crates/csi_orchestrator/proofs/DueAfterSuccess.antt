@@ -25,6 +25,7 @@ due-heard row id goal due kept e wanted =
     ∙ ap (λ marks. due_with row.name row.arguments (option_or (id_told kind id) row.id) marks goal)
     (marks-same goal (succeeded kind id row) (marked (told_of kind) kind row) refl refl ∙ marks-then row due goal (told_of kind) (has-entry row row.goal kept.goal) (due-cases row due e) wanted)
 
+-- the same by that call's kind
 pub due-after : (row : RowShown) (kind : Kind) (id : Option ℕ) (goal : Goal) → IsSoundRow row → kind_due (due_in row) ≡ Some kind → row.goal ≡ Some goal
     → due_in (succeeded kind id row) ≡ due_heard kind id row (Some goal)
 due-after row kind id goal kept is wanted = by (due_in row) refl is

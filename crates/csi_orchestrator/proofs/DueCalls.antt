@@ -25,6 +25,7 @@ use-told row history name usage own = ap (option_and_then (due_use history name 
     by : (id : ℕ) → due_use history name usage id ≡ use_due usage (marks_for row (kept.Use usage)) id
     by id = rw (own.marks (Attached name usage.node) refl, own.marks (Staged name usage.node) refl, own.marks (Published name usage.node usage.target) refl) refl
 
+-- the same of a stop
 stop-told : (row : RowShown) (history : History) (name node target : List ℕ) (id : ℕ) → IsRowOf row history name → AllByRecursion AreTargetsApart row.node_entries
     → due_stop history name node target id ≡ stop_due node target (marks_for row (kept.Stop node target)) id
 stop-told row history name node target id own apart =

@@ -59,12 +59,15 @@ not-so row so node other entry none e apart maybe = by (so (held_at entry)) refl
 known-yes : (row : RowShown) (history : History) (thing : Thing) → IsRowOf row history row.name → name_in thing ≡ row.name → is_yes (mark_of thing row) ≡ true → known history thing ≡ Yes
 known-yes row history thing told own e = sym (told.marks thing own) ∙ yes_is_yes (mark_of thing row) e
 
+-- a thing that the row marks No is known as No
 known-no : (row : RowShown) (history : History) (thing : Thing) → IsRowOf row history row.name → name_in thing ≡ row.name → is_no (mark_of thing row) ≡ true → known history thing ≡ No
 known-no row history thing told own e = sym (told.marks thing own) ∙ no_is_no (mark_of thing row) e
 
+-- one that it doesn't mark Yes isn't known as Yes
 known-not-yes : (row : RowShown) (history : History) (thing : Thing) → IsRowOf row history row.name → name_in thing ≡ row.name → is_yes (mark_of thing row) ≡ false → known history thing ≢ Yes
 known-not-yes row history thing told own e = not_yes (known history thing) (ap is_yes (sym (told.marks thing own)) ∙ e)
 
+-- one that it doesn't mark No isn't known as No
 known-not-no : (row : RowShown) (history : History) (thing : Thing) → IsRowOf row history row.name → name_in thing ≡ row.name → is_no (mark_of thing row) ≡ false → known history thing ≢ No
 known-not-no row history thing told own e = not_no (known history thing) (ap is_no (sym (told.marks thing own)) ∙ e)
 

@@ -15,24 +15,31 @@ use Rattle.csi_orchestrator.specs.Shown.{RowShown, marks_for, due_by, due_in, us
 abbrev pub making : RowShown → Due
 making row = record { party = Controller; call = calls.CreateVolume row.name (row.arguments).required (row.arguments).limit (row.arguments).capabilities }
 
+-- DeleteVolume
 abbrev pub removing : ℕ → Due
 removing id = record { party = Controller; call = calls.DeleteVolume id }
 
+-- ControllerPublishVolume
 abbrev pub attaching : Usage → ℕ → Due
 attaching usage id = record { party = Controller; call = calls.ControllerPublishVolume id usage.node usage.capability usage.readonly }
 
+-- NodeStageVolume
 abbrev pub staging : Usage → ℕ → Due
 staging usage id = record { party = Node usage.node; call = calls.NodeStageVolume id usage.capability }
 
+-- NodePublishVolume
 abbrev pub publishing : Usage → ℕ → Due
 publishing usage id = record { party = Node usage.node; call = calls.NodePublishVolume id usage.target usage.capability usage.readonly }
 
+-- NodeUnpublishVolume
 abbrev pub unpublishing : List ℕ → List ℕ → ℕ → Due
 unpublishing node target id = record { party = Node node; call = calls.NodeUnpublishVolume id target }
 
+-- NodeUnstageVolume
 abbrev pub unstaging : List ℕ → ℕ → Due
 unstaging node id = record { party = Node node; call = calls.NodeUnstageVolume id }
 
+-- ControllerUnpublishVolume
 abbrev pub detaching : List ℕ → ℕ → Due
 detaching node id = record { party = Controller; call = calls.ControllerUnpublishVolume id node }
 
@@ -64,6 +71,7 @@ by-create : (row : RowShown) (due : Due) → row.goal ≡ Some Create → (b : B
 by-create row due goal true e is = absurd (none-some due is)
 by-create row due goal false e is = subst (IsDueFor row) (same_Some _ due is) (ToMake goal e)
 
+-- a call that is due for a delete is so in one of the eight ways
 by-delete : (row : RowShown) (due : Due) → row.goal ≡ Some Delete → (id : Option ℕ) → row.id ≡ id → option_and_then (delete_due (marks_for row Delete)) id ≡ Some due → IsDueFor row due
 by-delete row due goal None own is = absurd (none-some due is)
 by-delete row due goal (Some id) own is = by (is_no row.exists) refl is
@@ -72,6 +80,7 @@ by-delete row due goal (Some id) own is = by (is_no row.exists) refl is
     by true e is = absurd (none-some due is)
     by false e is = subst (IsDueFor row) (same_Some _ due is) (ToRemove id goal own e)
 
+-- so is one that is due for a use
 by-use : (row : RowShown) (due : Due) (usage : Usage) → row.goal ≡ Some (Use usage) → (id : Option ℕ) → row.id ≡ id → option_and_then (use_due usage (marks_for row (Use usage))) id ≡ Some due → IsDueFor row due
 by-use row due usage goal None own is = absurd (none-some due is)
 by-use row due usage goal (Some id) own is = by (is_yes (marks_for row (Use usage)).attached) refl (is_yes (marks_for row (Use usage)).staged) refl (is_yes (marks_for row (Use usage)).published) refl is
@@ -86,6 +95,7 @@ by-use row due usage goal (Some id) own is = by (is_yes (marks_for row (Use usag
     by true a true e false f is = subst (IsDueFor row) (same_Some _ due is) (ToPublish usage id goal own a e f)
     by true a true e true f is = absurd (none-some due is)
 
+-- so is one that is due for a stop
 by-stop : (row : RowShown) (due : Due) (node target : List ℕ) → row.goal ≡ Some (Stop node target) → (id : Option ℕ) → row.id ≡ id → option_and_then (stop_due node target (marks_for row (Stop node target))) id ≡ Some due → IsDueFor row due
 by-stop row due node target goal None own is = absurd (none-some due is)
 by-stop row due node target goal (Some id) own is =

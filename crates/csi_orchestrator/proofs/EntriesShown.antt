@@ -18,5 +18,6 @@ one-here view p (x ∷ rs) (suc i) r inside is passes = by (p (view x)) (one-her
 pub counted-more : {X : Type 0} (p : X → Bool) (xs : List X) (i : ℕ) (x : X) (n m : ℕ) → i < length xs → x ≡ get_or xs i x → n ≡ count_by p (take i xs) → p x ≡ true → m ≡ n + 1 → m ≡ count_by p (take (i + 1) xs)
 counted-more p xs i x n m inside is so_far passes more = more ∙ ap (λ k. k + 1) so_far ∙ sym (count_by_more_yes p xs i x inside (ap p (sym is) ∙ passes))
 
+-- one that fails the test isn't counted
 pub counted-same : {X : Type 0} (p : X → Bool) (xs : List X) (i : ℕ) (x : X) (n m : ℕ) → i < length xs → x ≡ get_or xs i x → n ≡ count_by p (take i xs) → p x ≡ false → m ≡ n → m ≡ count_by p (take (i + 1) xs)
 counted-same p xs i x n m inside is so_far fails same = same ∙ so_far ∙ sym (count_by_more_no p xs i x inside (ap p (sym is) ∙ fails))

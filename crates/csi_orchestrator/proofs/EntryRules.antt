@@ -27,6 +27,7 @@ each-change P key text change (x ∷ xs) keeps all = by (same_text (key x) text)
     by true rest = (keeps x all.0, all.1)
     by false rest = (all.0, rest)
 
+-- entries stay apart where one is changed and keeps its text
 pub apart-change : {X : Type 0} (key : X → List ℕ) (text : List ℕ) (change : X → X) (xs : List X) → ((x : X) → key (change x) ≡ key x) → AreApart key xs → AreApart key (change_by key text change xs)
 apart-change key text change [] same apart = tt
 apart-change key text change (x ∷ xs) same apart = by (same_text (key x) text) (apart-change key text change xs same apart.1)
@@ -54,6 +55,7 @@ each-put P key entry (x ∷ xs) own all = by (same_text (key x) (key entry)) (ea
     by true rest = (own, all.1)
     by false rest = (all.0, rest)
 
+-- entries stay apart where one is put in
 pub apart-put : {X : Type 0} (key : X → List ℕ) (entry : X) (xs : List X) → AreApart key xs → AreApart key (put_by key entry xs)
 apart-put key entry [] apart = (tt, tt)
 apart-put key entry (x ∷ xs) apart = by (same_text (key x) (key entry)) refl (apart-put key entry xs apart.1)

@@ -57,6 +57,7 @@ node-in-use history name node = used history name (Attached name) attached_node 
     of None is = absurd (false≢true is)
     of (Some thing) is = absurd (false≢true is)
 
+-- a target at which the volume may be published is in use
 pub target-in-use : (history : History) (name node target : List ℕ) → is_no (known history (Published name node target)) ≡ false → IsAmong target (targets_in_use history name node)
 target-in-use history name node target = used history name (Published name node) (published_target node) target refl of
   where
@@ -72,6 +73,7 @@ target-in-use history name node target = used history name (Published name node)
 node-may : (history : History) (name node : List ℕ) → IsAmong node (nodes_in_use history name) → is_no (known history (Attached name node)) ≡ false
 node-may history name node among = not-true _ (among-kept (λ (n : List ℕ). not (is_no (known history (Attached name n)))) _ node among).1
 
+-- a target in use is one at which the volume may be published
 target-may : (history : History) (name node target : List ℕ) → IsAmong target (targets_in_use history name node) → is_no (known history (Published name node target)) ≡ false
 target-may history name node target among = not-true _ (among-kept (λ (t : List ℕ). not (is_no (known history (Published name node t)))) _ target among).1
 

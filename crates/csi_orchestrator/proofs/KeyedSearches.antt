@@ -9,6 +9,7 @@ use Rattle.csi_orchestrator.specs.Keyed.{change_by, put_by}
 same_text-follows : (a b other : List ℕ) → same_text a b ≡ true → same_text a other ≡ same_text b other
 same_text-follows a b other e = ap (λ t. same_text t other) ((same_text-tells a b).0 e)
 
+-- of none there is none, changed or not
 none-either : {X : Type 0} (b : Bool) (change : X → X) → None ≡ cond b (option_map change None) None
 none-either true change = refl
 none-either false change = refl

@@ -5,24 +5,30 @@ use Rattle.csi_orchestrator.specs.declared.thing.Known.{Known}
 use Rattle.csi_orchestrator.specs.declared.thing.Known.TheVariants.{Yes, No, Maybe}
 use Rattle.csi_orchestrator.specs.Thing.{is_yes, is_no}
 
+-- what passes the test for Yes is Yes
 pub yes_is_yes : (k : Known) → is_yes k ≡ true → k ≡ Yes
 yes_is_yes Yes e = refl
 yes_is_yes No e = absurd (false≢true e)
 yes_is_yes Maybe e = absurd (false≢true e)
 
+-- what passes the test for No is No
 pub no_is_no : (k : Known) → is_no k ≡ true → k ≡ No
 no_is_no Yes e = absurd (false≢true e)
 no_is_no No e = refl
 no_is_no Maybe e = absurd (false≢true e)
 
+-- what fails the test for Yes isn't Yes
 pub not_yes : (k : Known) → is_yes k ≡ false → k ≢ Yes
 not_yes k e is = false≢true (sym e ∙ ap is_yes is)
 
+-- what fails the test for No isn't No
 pub not_no : (k : Known) → is_no k ≡ false → k ≢ No
 not_no k e is = false≢true (sym e ∙ ap is_no is)
 
+-- Yes isn't No
 pub yes_not_no : (k : Known) → k ≡ Yes → k ≢ No
 yes_not_no k e = not_no k (ap is_no e)
 
+-- what isn't No fails the test for No
 pub is_not_no : (k : Known) → k ≢ No → is_no k ≡ false
 is_not_no k other = false_from_ne_true (is_no k) (λ e. other (no_is_no k e))

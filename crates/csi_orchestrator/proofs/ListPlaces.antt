@@ -10,11 +10,13 @@ at-of_get [] i x h = none-some x h
 at-of_get (y ∷ ys) zero x h = same_Some y x h
 at-of_get (y ∷ ys) (suc i) x h = at-of_get ys i x h
 
+-- what stands at a place is what is read there
 pub get-of_at : {X : Type 0} (xs : List X) (i : ℕ) (x : X) → IsAt xs i x → slice_get xs i ≡ Some x
 get-of_at [] i x h = absurd h
 get-of_at (y ∷ ys) zero x h = ap Some h
 get-of_at (y ∷ ys) (suc i) x h = get-of_at ys i x h
 
+-- a place where something stands is within the list
 pub at-within : {X : Type 0} (xs : List X) (i : ℕ) (x : X) → IsAt xs i x → i < length xs
 at-within [] i x h = absurd h
 at-within (y ∷ ys) zero x h = omega arith
@@ -32,11 +34,13 @@ at-set (x ∷ xs) (suc i) (suc j) y z h = by (at-set xs i j y z h)
     by (inl p) = inl (ap suc p.0, p.1)
     by (inr p) = inr p
 
+-- what was put in a place stands there
 pub at-set_same : {X : Type 0} (xs : List X) (i : ℕ) (x y : X) → IsAt xs i x → IsAt (set xs i y) i y
 at-set_same [] i x y h = absurd h
 at-set_same (z ∷ xs) zero x y h = refl
 at-set_same (z ∷ xs) (suc i) x y h = at-set_same xs i x y h
 
+-- what stands at another place stays there
 pub at-set_other : {X : Type 0} (xs : List X) (i j : ℕ) (y z : X) → IsAt xs j z → (j ≡ i → ⊥) → IsAt (set xs i y) j z
 at-set_other [] i j y z h differs = absurd h
 at-set_other (x ∷ xs) zero zero y z h differs = absurd (differs refl)

@@ -20,12 +20,15 @@ use Rattle.csi_orchestrator.specs.WellFormed.{AreWellFormed}
 is_before-then : (a b : Number) → IsBefore a b → is_before a b ≡ true
 is_before-then a b h = rw h refl
 
+-- a number that passes the test is before the other
 is_before-from : (a b : Number) → is_before a b ≡ true → IsBefore a b
 is_before-from a b h = grind (arith, nat_tests)
 
+-- what is before a number is before all that come after it
 then-before : (a b c : Number) → IsBefore a b → IsBefore b c → IsBefore a c
 then-before a b c h k = is_before-from a c (before-trans a b c (is_before-then a b h) (is_before-then b c k))
 
+-- no number is before itself
 not-before-itself : (a : Number) → IsBefore a a → ⊥
 not-before-itself a h = let t : is_before a a ≡ true = is_before-then a a h in grind (arith, nat_tests)
 
@@ -37,6 +40,7 @@ other-number a b h = false_from_ne_true (same_number a b) (λ e. not-before-itse
 abbrev AtMost : Number → Number → Type 0
 AtMost a b = (a ≡ b) ⊎ IsBefore a b
 
+-- a number that is no later than one is before all that come after that one
 most-before : (a b c : Number) → AtMost a b → IsBefore b c → IsBefore a c
 most-before a b c (inl e) h = subst (λ n. IsBefore n c) (sym e) h
 most-before a b c (inr k) h = then-before a b c k h

@@ -22,6 +22,7 @@ use Rattle.csi_orchestrator.proofs.RepliedRows.{hears-it}
 unplaced : (p : Row → Bool) (rows : List Row) → ((j : ℕ) (row : Row) → IsAt rows j row → p row ≡ true → ⊥) → None ≡ position p rows
 unplaced p rows none = position-none p rows (λ k d inside. false_from_ne_true (p (get_or rows k d)) (λ e. none k (get_or rows k d) (at-index rows k d inside) e))
 
+-- the place of a row that alone passes a test is the one that a search by the test gives
 placed : (p : Row → Bool) (rows : List Row) (i : ℕ) (row : Row) → IsAt rows i row → p row ≡ true → ((j : ℕ) (r : Row) → IsAt rows j r → p r ≡ true → j ≡ i) → Some i ≡ position p rows
 placed p rows i row at passes only = by (position p rows) refl
   where

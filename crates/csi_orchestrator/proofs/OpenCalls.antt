@@ -22,9 +22,11 @@ use Rattle.csi_orchestrator.specs.Shown.{RowShown, row_shown, due_in, closed}
 use Rattle.csi_orchestrator.proofs.RowsUnderNames.{IsOpened, catalog_with, next-unnoted, ready-set}
 use Rattle.csi_orchestrator.proofs.EntryRules.{by_if}
 
+-- values that are both there are equal where what is there is
 some-is : {X : Type 0} (a b : X) → Some a ≡ Some b → a ≡ b
 some-is a b h = cc
 
+-- two successes are equal only if what they give is
 ok-is : (a b : Option Outgoing) → ◌≡◌ {A = Result (Option Outgoing) OrchFault} (Ok a) (Ok b) → a ≡ b
 ok-is a b h = cc
 
@@ -66,10 +68,12 @@ sent_or_dropped-opened : (old : Option Number) (next : Option Outgoing) (row : R
 sent_or_dropped-opened old None row = λ number e. absurd (none-some number e)
 sent_or_dropped-opened old (Some next) row = λ number e. inr (ap (option_map (λ (n : Number). n.call)) e)
 
+-- sending the due call, or dropping the goal, leaves the row's name
 sent_or_dropped-name : (next : Option Outgoing) (row : RowShown) → (sent_or_dropped next row).name ≡ row.name
 sent_or_dropped-name None row = refl
 sent_or_dropped-name (Some next) row = refl
 
+-- a row that keeps its name goes on so where its due call is sent
 pub sends-due-goes : (last : Number) (row then : RowShown) → then.name ≡ row.name → GoesOn last row (row_sends_due last then)
 sends-due-goes last row then same = by (outgoing_by (due_in then) (next_number last)) refl
   where
@@ -77,6 +81,7 @@ sends-due-goes last row then same = by (outgoing_by (due_in then) (next_number l
     by (Err fault) e = tt
     by (Ok next) e = record { name = sent_or_dropped-name next then ∙ same; opened = sent_or_dropped-opened row.open_number next then; after = after-sent last (due_in then) next e }
 
+-- a row that goes on so does where it isn't refused
 unless-goes : (last : Number) (row : RowShown) (fault : Option OrchFault) (moved_row : Result MovedRow OrchFault) → GoesOn last row moved_row → GoesOn last row (row_unless fault moved_row)
 unless-goes last row None moved_row goes = goes
 unless-goes last row (Some fault) moved_row goes = tt
@@ -86,10 +91,12 @@ timed-out-name : (row : RowShown) (goal : Option Goal) → (timed_out row goal).
 timed-out-name row None = refl
 timed-out-name row (Some goal) = by_if (λ (r : RowShown). r.name ≡ row.name) (is_given_up row) (wanted (stopped_goal goal) row) (closed row) (λ e. refl) (λ e. refl)
 
+-- a call that failed leaves the row's name
 failed-name : (row : RowShown) (goal : Option Goal) → (failed row goal).name ≡ row.name
 failed-name row (Some Create) = refl
 failed-name row goal = refl
 
+-- whatever a step changes, it leaves the row's name
 changed-name : (step : Step) (row : RowShown) → (changed step row).name ≡ row.name
 changed-name steps.TimeOut row = timed-out-name row row.goal
 changed-name steps.Fail row = failed-name row row.goal

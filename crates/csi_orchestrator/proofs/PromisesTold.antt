@@ -61,6 +61,7 @@ ok-promised {old = old} {now = now} {new = new} {input = input} {says = says} {r
     subst (λ (p : Parts). IsDone history (moves p.nodes history input) (says r) new) is
     (is-done old history input (record { answer = says r; parts = new }) kept form (subst (λ (p : Parts). Shows p history) (sym is) agrees) told.ok)
 
+-- a refusal is the one that the history tells, by the parts that are shown
 pub err-promised : {R : Type 0} {old now new : Parts} {input : Input} {says : R → Answer} {result : Result R OrchFault} → old ≡ now → IsSound old.rows → IsMoveOf old new input says result
     → (history : History) → IsWellFormed history → Shows now history
     → IfErr result (IsRefusal (moves now.nodes history input))
@@ -68,12 +69,14 @@ err-promised {old = old} {now = now} {new = new} {input = input} {says = says} {
 err-promised {old = old} {now = now} {new = new} {input = input} {says = says} {result = Err fault} is kept told history form agrees =
     subst (λ (p : Parts). IsRefusal (moves p.nodes history input) fault) is (is-refused old history input fault kept form (subst (λ (p : Parts). Shows p history) (sym is) agrees) told.err)
 
+-- the rows stay sound and the nodes as they were, whatever the result
 sound-promised : {R : Type 0} {old new : Parts} {input : Input} {says : R → Answer} {result : Result R OrchFault} → IsSound old.rows → IsMoveOf old new input says result
     → IsSound new.rows × (new.nodes ≡ old.nodes)
 sound-promised {old = old} {new = new} {input = input} {says = says} {result = Ok r} kept told = rows-stay-sound old input (record { answer = says r; parts = new }) kept told.ok
 sound-promised {old = old} {new = new} {input = input} {says = says} {result = Err fault} kept told =
     (subst (λ (p : Parts). IsSound p.rows) (sym told.stays) kept, ap (λ (p : Parts). p.nodes) told.stays)
 
+-- parts that are kept as they have to be stay so, whatever the result
 pub kept-promised : {R : Type 0} {old new : Parts} {input : Input} {says : R → Answer} {result : Result R OrchFault} → IsKept old → IsMoveOf old new input says result → IsKept new
 kept-promised {old = old} {new = new} {input = input} {says = says} {result = Ok r} kept told =
     let after = sound-promised {input = input} {says = says} {result = Ok r} kept.sound told in
@@ -86,6 +89,7 @@ kept-promised {old = old} {new = new} {input = input} {says = says} {result = Ok
     }
 kept-promised {old = old} {new = new} {input = input} {says = says} {result = Err fault} kept told = subst IsKept (sym told.stays) kept
 
+-- the nodes stay as they were shown, whatever the result
 pub nodes-promised : {R : Type 0} {old now new : Parts} {input : Input} {says : R → Answer} {result : Result R OrchFault} → old ≡ now → IsSound old.rows → IsMoveOf old new input says result
     → new.nodes ≡ now.nodes
 nodes-promised is kept told = (sound-promised kept told).1 ∙ ap (λ (p : Parts). p.nodes) is

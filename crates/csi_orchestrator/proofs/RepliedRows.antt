@@ -28,11 +28,13 @@ use Rattle.csi_orchestrator.proofs.JoinedLists.{own-entry}
 abbrev is-call : Number → Party → Kind → Issued → Bool
 is-call number party kind issued = same_number issued.number number && same_party issued.party party && same_kind (kind_of issued.call) kind
 
+-- the same as a relation
 pub record IsCall (number : Number) (party : Party) (kind : Kind) (issued : Issued) : Type 0 where
   pub has_number : issued.number ≡ number
   pub has_party : issued.party ≡ party
   pub has_kind : kind_of issued.call ≡ kind
 
+-- a call that passes the test has this number, party and kind
 such-call : (number : Number) (party : Party) (kind : Kind) (issued : Issued) → is-call number party kind issued ≡ true → IsCall number party kind issued
 such-call number party kind issued e =
     let last = and_parts (same_number issued.number number && same_party issued.party party) (same_kind (kind_of issued.call) kind) e in
@@ -55,6 +57,7 @@ pub record HearsIt (row : RowShown) (number : Number) (party : Party) (kind : Ki
   pub is_due : due_in row ≡ Some due
   pub has_kind : kind_of due.call ≡ kind
 
+-- a row whose open call has the reply's number, party and kind is one that the reply is to
 pub hears-it : (row : RowShown) (number : Number) (party : Party) (kind : Kind) → is_issued_as number party kind (open_in_row row) ≡ true → HearsIt row number party kind
 hears-it row number party kind e = by row.open_number refl (due_in row) refl e
   where

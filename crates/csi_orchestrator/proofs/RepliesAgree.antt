@@ -99,6 +99,7 @@ closed-ready parts history name row items at c =
       guarded = c.guarded;
     }
 
+-- the rows tell the same as the history where a use, whose call was closed, becomes a stop
 use-stops : (parts : Parts) (history : History) (name : List ℕ) (row : RowShown) (items : List Item) (usage : Usage) (answer : Option Frame → Answer) → IsFound parts history name row → IsClosed parts history name row items
     → row.goal ≡ Some (Use usage) → Tells history (placed parts answer (row_sends_due parts.last (wanted (Stop usage.node usage.target) row))) (send_due history name answer (Noted name (stopped (goal_of history name)) ∷ items))
 use-stops parts history name row items usage answer at c goal =
@@ -200,6 +201,7 @@ record IsHeardBy (parts : Parts) (history : History) (row : RowShown) (number : 
 taken : Number → Reply → Item
 taken number reply = Accepted number reply.status reply.id
 
+-- what is shown after it
 heard-view : Parts → RowShown → Number → Due → Reply → View
 heard-view parts row number due reply = after_accepted (issued-by row.name number due) reply.status reply.id (view_of parts)
 
@@ -208,6 +210,7 @@ heard-form : (parts : Parts) (history : History) (row : RowShown) (number : Numb
 unfolding taken
 heard-form parts history row number due reply by = (record { name = row.name; issued = issued-by row.name number due; is_open = by.is_open; has_number = refl }, (by.at.right).form)
 
+-- the history with that item agrees with what is shown
 heard-agrees : (parts : Parts) (history : History) (row : RowShown) (number : Number) (due : Due) (reply : Reply) → IsHeardBy parts history row number due
     → Agrees (heard-view parts row number due reply) (with_items history (taken number reply ∷ []))
 unfolding heard-view taken
@@ -350,6 +353,7 @@ by-input parts history (TimesOut name) right = timeouts-tell parts history name 
 by-input parts history (Comes frame) right = deliveries-tell parts history frame.number frame.party frame.body right
 by-input parts history Restarts right = restarts-tell parts history right.agrees
 
+-- the same of rows that are sound and agree with a well-formed history
 pub all-tell : (parts : Parts) (history : History) (input : Input) → IsWellFormed history → IsSound parts.rows → Shows parts history → Tells history (row_moves parts input) (moves parts.nodes history input)
 all-tell parts history input form kept agrees = by-input parts history input (record { form = form; kept = kept; agrees = agrees })
 

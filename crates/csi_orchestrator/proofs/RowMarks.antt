@@ -55,6 +55,7 @@ pub node-stays : (mark : Known) (aspect : Aspect) (target : List ℕ) (node_entr
 node-stays mark Existence target node_entry = refl
 node-stays mark aspect target node_entry = refl
 
+-- the volume is held at the node as it was
 held-stays : (mark : Known) (aspect : Aspect) (target : List ℕ) (node_entry : NodeEntryShown) → held_at (node_marked mark aspect target node_entry) ≡ held_at node_entry
 held-stays mark Existence target node_entry = refl
 held-stays mark aspect target node_entry = refl

@@ -88,10 +88,12 @@ distinct-at change keeps goal entries distinct = distinct
 at-goal-distinct : (mark : Known) (aspect : Aspect) (goal : Option Goal) (entries : List NodeEntryShown) → AreDistinct entries → AreDistinct (at_goal (marked_at mark aspect) goal entries)
 at-goal-distinct mark aspect = distinct-at (marked_at mark aspect) (λ node target entries. distinct-change node target (node_marked mark aspect target) entries (mild-marked mark aspect target))
 
+-- entries stay distinct whatever aspect is marked
 nodes-distinct : (mark : Known) (aspect : Aspect) (goal : Option Goal) (entries : List NodeEntryShown) → AreDistinct entries → AreDistinct (nodes_marked mark aspect goal entries)
 nodes-distinct mark Existence goal entries distinct = distinct
 nodes-distinct mark aspect goal entries distinct = at-goal-distinct mark aspect goal entries distinct
 
+-- a row's entries stay distinct where a call's kind marks it
 pub marked-distinct : (mark : Known) (kind : Kind) (row : RowShown) → AreDistinct row.node_entries → AreDistinct (marked mark kind row).node_entries
 marked-distinct mark kind row distinct = nodes-distinct mark (aspect_of kind) row.goal row.node_entries distinct
 
@@ -113,6 +115,7 @@ usable-alike row other usage exists entries usable =
       one_writer = ap (list_any (is_so_elsewhere (is_second_writer usage) usage.node)) entries ∙ usable.one_writer;
     }
 
+-- whatever goal it is
 pub wanted-alike : (row other : RowShown) (goal : Option Goal) → other.id ≡ row.id → other.exists ≡ row.exists → other.node_entries ≡ row.node_entries → MayBeWanted row goal → MayBeWanted other goal
 wanted-alike row other None id exists entries may = tt
 wanted-alike row other (Some Create) id exists entries may = id ∙ may
@@ -175,6 +178,7 @@ fits row _ (ToUnpublish node target id goal own p) = subst (λ g. FitsGoal g kin
 fits row _ (ToUnstage node target id goal own p o s) = subst (λ g. FitsGoal g kinds.NodeUnstageVolume) (sym goal) tt
 fits row _ (ToDetach node target id goal own p o s a) = subst (λ g. FitsGoal g kinds.ControllerUnpublishVolume) (sym goal) tt
 
+-- the same of the call that is due
 pub due-fits-goal : (row : RowShown) (due : Due) → due_in row ≡ Some due → FitsGoal row.goal (kind_of due.call)
 due-fits-goal row due e = fits row due (due-cases row due e)
 
@@ -217,15 +221,18 @@ MayBePublishedAtAll entry = AllByRecursion (λ (target_entry : TargetEntry). tar
 target-needed : (target_entry : TargetEntry) → is_target_kept target_entry ≡ true → target_entry.published ≢ No
 target-needed target_entry e = λ no. false≢true (sym (ap (λ k. not (is_no k)) no) ∙ e)
 
+-- each target that is kept may be published
 targets-needed : (entry : NodeEntryShown) → AllByRecursion (λ (target_entry : TargetEntry). target_entry.published ≢ No) (with_kept_targets entry).target_entries
 targets-needed entry =
     each-weaker (λ (target_entry : TargetEntry). is_target_kept target_entry ≡ true) (λ (target_entry : TargetEntry). target_entry.published ≢ No) (filter is_target_kept entry.target_entries) target-needed
     (each-passes is_target_kept entry.target_entries)
 
+-- a node's entry that is kept, but where nothing is attached or staged, has a target
 node-needed : (entry : NodeEntryShown) → is_node_kept entry ≡ true → entry.attached ≡ No → entry.staged ≡ No → entry.target_entries ≢ []
 node-needed entry e attached staged none =
     false≢true (sym (ap (λ k. not (is_no k && is_no entry.staged && not (has_targets entry.target_entries))) attached ∙ ap (λ k. not (is_no k && not (has_targets entry.target_entries))) staged ∙ ap (λ entries. not (not (has_targets entries))) none) ∙ e)
 
+-- entries that are tidied are needed
 tidied-needed : (entries : List NodeEntryShown) → AllByRecursion IsNeeded (tidied entries)
 tidied-needed entries =
     let kept = each-passes is_node_kept (map with_kept_targets entries) in

@@ -41,9 +41,11 @@ pub record Here : Type 0 where
   pub arguments : Option Arguments
   pub counts : ℕ
 
+-- of a view
 abbrev pub here : View → List ℕ → Here
 here view name = record { there = view.rows name; ids = view.ids name; goals = view.goals name; arguments = view.arguments name; counts = view.counts name }
 
+-- of a row, if there is one
 abbrev here_by : Option RowShown → Here
 here_by o = record { there = is_some o; ids = option_and_then (λ row. row.id) o; goals = option_and_then goal_in o; arguments = option_map (λ row. row.arguments) o; counts = tries_in o }
 
@@ -58,6 +60,7 @@ pub record SameAt (view other : View) (name : List ℕ) : Type 0 where
 pub same-self : (view : View) (name : List ℕ) → SameAt view view name
 same-self view name = record { rest = refl; marks = λ thing is. refl; holdings = λ node. refl; open_calls = refl }
 
+-- where a first view shows the same of a name as a second, and that one as a third, the first and the third do
 pub same-then : (a b c : View) (name : List ℕ) → SameAt a b name → SameAt b c name → SameAt a c name
 same-then a b c name f g =
     record { rest = f.rest ∙ g.rest; marks = λ thing is. f.marks thing is ∙ g.marks thing is; holdings = λ node. f.holdings node ∙ g.holdings node; open_calls = f.open_calls ∙ g.open_calls }
@@ -86,9 +89,11 @@ same-accepted issued status id view other differs =
       open_calls = rw differs refl;
     }
 
+-- a call that is given up changes what is shown of its own name alone
 pub same-closed : (issued : Issued) (view : View) (other : List ℕ) → same_text issued.name other ≡ false → SameAt (after_closed issued view) view other
 same-closed issued view other differs = record { rest = refl; marks = λ thing is. refl; holdings = λ node. refl; open_calls = rw differs refl }
 
+-- so does a goal that is noted
 pub same-noted : (name : List ℕ) (goal : Option Goal) (view : View) (other : List ℕ) → same_text name other ≡ false → SameAt (after_noted name goal view) view other
 same-noted name goal view other differs = record { rest = rw differs refl; marks = λ thing is. refl; holdings = λ node. refl; open_calls = refl }
 
@@ -171,6 +176,7 @@ told_by history =
       counts = tries history;
     }
 
+-- such a row
 abbrev pub IsRowOf : RowShown → History → List ℕ → Type 0
 IsRowOf row history name = Reads row (told_by history) name
 
@@ -193,5 +199,6 @@ reads-history row view history name reads agrees =
 pub own-name : (parts : Parts) (name : List ℕ) (row : RowShown) → row_of parts.rows name ≡ Some row → row.name ≡ name
 own-name parts name row e = (same_text-tells row.name name).0 (find-passes (λ (r : RowShown). same_text r.name name) parts.rows row e)
 
+-- the row that is found for a name tells what the history tells of it
 pub is-row-of : (parts : Parts) (history : History) (name : List ℕ) (row : RowShown) → Shows parts history → row_of parts.rows name ≡ Some row → IsRowOf row history name
 is-row-of parts history name row agrees e = reads-history row (view_of parts) history name (row-reads parts name row (own-name parts name row e) e) agrees

@@ -137,6 +137,7 @@ pub reads-closed : (row : RowShown) (issued : Issued) (view : View) (name : List
 reads-closed row issued view name is reads =
     reads-shut row view (after_closed issued view) name reads refl (λ thing same. refl) (λ node. refl) (ap (λ n. cond (same_text n name) None (view.open_calls name)) is ∙ own name None (view.open_calls name))
 
+-- a row whose name has no open call tells the same once it is closed
 pub reads-quiet : (row : RowShown) (view : View) (name : List ℕ) → Reads row view name → view.open_calls name ≡ None → Reads (closed row) view name
 reads-quiet row view name reads quiet = reads-shut row view view name reads refl (λ thing same. refl) (λ node. refl) quiet
 

@@ -126,6 +126,7 @@ pub mark-same : (thing : Thing) (a b : RowShown) → a.exists ≡ b.exists → a
 mark-same (Exists name) a b exists node_entries = exists
 mark-same thing a b exists node_entries = ap (λ ps. mark_of thing (record a { node_entries = ps })) node_entries
 
+-- what is wanted of two rows is the same where goal and arguments are
 pub goals-same : (a b : RowShown) → a.arguments ≡ b.arguments → a.goal ≡ b.goal → goal_in a ≡ goal_in b
 goals-same a b arguments goal = ap (option_map (goal_shown a)) goal ∙ by b.goal
   where
@@ -167,6 +168,7 @@ told-is : (call : Call) → told call ≡ told_of (kind_of call)
 told-is (calls.CreateVolume name required limit capabilities) = refl
 told-is call = refl
 
+-- the id that a success brings is the one that its call's kind tells
 id-told-is : (call : Call) (id : Option ℕ) → id_told (kind_of call) id ≡ id_brought call id
 id-told-is (calls.CreateVolume name required limit capabilities) id = refl
 id-told-is call id = refl

@@ -32,6 +32,7 @@ position_or_len-map f p q (x ∷ xs) same =
     let rest = position_or_len-map f p q xs same in
     λ i. cond (not (own i)) (1 + rest i) 0
 
+-- a test finds the same place in what a list is changed to as the test that comes to the same finds in the list
 position-map : {X Y : Type 0} (f : X → Y) (p : Y → Bool) (q : X → Bool) (xs : List X) → ((x : X) → p (f x) ≡ q x) → position p (map f xs) ≡ position q xs
 position-map f p q xs same =
     let at = position_or_len-map f p q xs same in
@@ -165,6 +166,7 @@ ready-none catalog place ready =
 pub rows-within : (catalog : Catalog) (i : ℕ) → i < length catalog.rows.entries → i < length (rows_of catalog)
 rows-within catalog i inside = let long = length-map catalog.rows.entries (λ (e : List ℕ × Row). e.1) in omega (arith, long, inside)
 
+-- a place past the entries is past the rows
 pub rows-below : (catalog : Catalog) (i : ℕ) → length catalog.rows.entries ≤ i → length (rows_of catalog) ≤ i
 rows-below catalog i over = let long = length-map catalog.rows.entries (λ (e : List ℕ × Row). e.1) in omega (arith, long, over)
 

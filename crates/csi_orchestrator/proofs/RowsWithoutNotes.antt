@@ -15,6 +15,7 @@ pub no-left : {X : Type 0} (xs ys : List X) → xs ++ ys ≡ [] → xs ≡ []
 no-left [] ys e = refl
 no-left (x ∷ xs) ys e = cc
 
+-- the same of the second
 pub no-right : {X : Type 0} (xs ys : List X) → xs ++ ys ≡ [] → ys ≡ []
 no-right [] ys e = e
 no-right (x ∷ xs) ys e = cc

@@ -61,6 +61,7 @@ asked-kept : (parts : Parts) (step : Step) (name : List ℕ) → IsSound parts.r
 asked-kept parts step name kept fits None e = tt
 asked-kept parts step name kept fits (Some row) e = found-steps parts Sends step (λ (r : RowShown). same_text r.name name) row kept e (λ own. fits row)
 
+-- rows stay sound where a volume of the name is asked for
 creates-kept : (parts : Parts) (name : List ℕ) (arguments : Arguments) → IsSound parts.rows → (o : Option RowShown) → row_of parts.rows name ≡ o → SoundAfter parts (creates parts name arguments o)
 creates-kept parts name arguments kept None e =
     put-kept parts Sends _ kept (unless-kept (first_fault parts.last parts.rows) _ (λ free. sends-due-kept parts.last (new_row name arguments) (new-may name arguments)))

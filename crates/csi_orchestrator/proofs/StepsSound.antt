@@ -49,6 +49,7 @@ first-held true fault rest e = absurd (clash e)
     clash h = cc
 first-held false fault rest e = (refl, e)
 
+-- what fails the test of not being Yes is Yes
 is-made : (k : Known) → not (is_yes k) ≡ false → k ≡ Yes
 is-made Yes e = refl
 is-made No e = absurd (false≢true (sym e))
@@ -62,6 +63,7 @@ pub record IsFree (usage : Usage) (row : RowShown) : Type 0 where
   pub one_writer : has_elsewhere (is_second_writer usage) usage.node row ≡ false
   pub alike : is_entry_otherwise usage (node_entry_of row usage.node) ≡ false
 
+-- where nothing refuses a use, it is free in this sense
 pub use-free : (nodes : List (List ℕ)) (usage : Usage) (row : RowShown) → use_refusal nodes usage row ≡ None → IsFree usage row
 use-free nodes usage row free =
     let made = first-held (not (is_yes row.exists)) faults.NotCreated _ free in
@@ -87,13 +89,16 @@ all-detached (entry ∷ entries) e = let both = or_parts (not (is_no entry.attac
 pub closed-may : (row : RowShown) → IsSoundRow row → MaySendDue (closed row)
 closed-may row own = record { distinct = kept-distinct row own; may = λ due f. (kept-closed row own).goal }
 
+-- a row whose goal becomes its stop
 pub stopped-may : (row : RowShown) (goal : Goal) → row.goal ≡ Some goal → IsSoundRow row → MaySendDue (wanted (stopped_goal goal) row)
 stopped-may row goal e own = record { distinct = kept-distinct row own; may = λ due f. wanted-stopped row goal (subst (MayBeWanted row) e own.goal) }
 
+-- a row whose call timed out
 timed-out-may : (row : RowShown) (goal : Option Goal) → row.goal ≡ goal → IsSoundRow row → MaySendDue (timed_out row goal)
 timed-out-may row None e own = closed-may row own
 timed-out-may row (Some goal) e own = by_if MaySendDue (is_given_up row) _ _ (λ spent. stopped-may row goal e own) (λ more. closed-may row own)
 
+-- a row whose call failed
 failed-may : (row : RowShown) (goal : Option Goal) → row.goal ≡ goal → IsSoundRow row → MaySendDue (failed row goal)
 failed-may row (Some Create) e own = record { distinct = kept-distinct row own; may = λ due f. tt }
 failed-may row (Some (Use usage)) e own = stopped-may row (Use usage) e own

@@ -17,9 +17,11 @@ use Rattle.csi_orchestrator.specs.Readings.{distinct}
 pub text-same : (text : List ℕ) → same_text text text ≡ true
 text-same text = (same_text-tells text text).1 refl
 
+-- two texts are compared alike from both sides
 pub same_text-flip : (a b : List ℕ) → same_text a b ≡ same_text b a
 same_text-flip a b = alike (same_text a b) (same_text b a) (λ e. (same_text-tells b a).1 (sym ((same_text-tells a b).0 e))) (λ e. (same_text-tells a b).1 (sym ((same_text-tells b a).0 e)))
 
+-- texts that aren't equal fail the test
 pub texts-differ : (a b : List ℕ) → a ≢ b → same_text a b ≡ false
 texts-differ a b other = false_from_ne_true (same_text a b) (λ e. other ((same_text-tells a b).0 e))
 
@@ -38,17 +40,21 @@ any-distinct text (other ∷ others) = by (list_any (same_text other) others) re
     by true there rest = rest ∙ again there (same_text text other) refl
     by false there rest = ap (λ b. same_text text other || b) rest
 
+-- a text that is among a list is among another, where the test finds it in both or in neither
 among-too : (text : List ℕ) (texts others : List (List ℕ)) → list_any (same_text text) texts ≡ list_any (same_text text) others → IsAmong text texts → IsAmong text others
 among-too text texts others same among =
     let found = any-then (same_text text) others (sym same ∙ then-any (same_text text) texts text among (text-same text)) in
     subst (λ t. IsAmong t others) (sym ((same_text-tells text found.0).0 found.2)) found.1
 
+-- a text that is among a list is among its texts taken once each
 pub among-distinct : (texts : List (List ℕ)) (text : List ℕ) → IsAmong text texts → IsAmong text (distinct texts)
 among-distinct texts text = among-too text texts (distinct texts) (sym (any-distinct text texts))
 
+-- each text is there once
 abbrev pub AreOnce : List (List ℕ) → Type 0
 AreOnce texts = EachTwo (λ (a b : List ℕ). same_text a b ≡ false) texts
 
+-- a list's texts taken once each are there once
 pub distinct-once : (texts : List (List ℕ)) → AreOnce (distinct texts)
 distinct-once [] = tt
 distinct-once (first ∷ others) = by (list_any (same_text first) others) refl (distinct-once others)

@@ -30,6 +30,7 @@ texts_of (Published name node target) = name ∷ node ∷ [] ∷ target ∷ []
 abbrev by_texts : Thing → Thing → Ordering
 by_texts a b = slice_cmp (slice_cmp nat_cmp) (texts_of a) (texts_of b)
 
+-- an order stays as it is where the next comparison gives Equal
 then-equal : (r : Ordering) → ordering_then r Equal ≡ r
 then-equal Less = refl
 then-equal Equal = refl
@@ -54,9 +55,11 @@ order-total = subst IsTotalOrder (λ i a b. sym (order-by_texts a b) i) (on_tota
 text-ties : (a b : List ℕ) → pointwise nat_eq a b ≡ eq_by_cmp (slice_cmp nat_cmp) a b
 text-ties = lists_ties nat_cmp unsigned_ties
 
+-- the same of lists of texts
 texts-ties : (a b : List (List ℕ)) → pointwise (pointwise nat_eq) a b ≡ eq_by_cmp (slice_cmp (slice_cmp nat_cmp)) a b
 texts-ties = lists_ties (slice_cmp nat_cmp) text-ties
 
+-- lists of texts that come in one place are equal
 texts-same : (a b : List (List ℕ)) → slice_cmp (slice_cmp nat_cmp) a b ≡ Equal → a ≡ b
 texts-same a b e = (pointwise_decides bytes_decides a b).0 (texts-ties a b ∙ ap is_eq e)
 

@@ -105,29 +105,36 @@ each text key own read f xs apart of all =
 
 -- ---- a node's targets, its entry, a row and all rows
 
+-- the thing is a publication at a target of the node's entry
 abbrev OfTargets : RowShown → NodeEntryShown → Thing → Type 0
 OfTargets row node_entry thing = (target_entry : TargetEntry) × IsAmong target_entry node_entry.target_entries × (thing ≡ Published row.name node_entry.node target_entry.target)
 
+-- the thing is the attachment, the staging or a publication at the entry's node
 abbrev OfNode : RowShown → NodeEntryShown → Thing → Type 0
 OfNode row node_entry thing = ((thing ≡ Attached row.name node_entry.node) ⊎ (thing ≡ Staged row.name node_entry.node)) ⊎ OfTargets row node_entry thing
 
+-- the thing is the existence of the row's volume, or is one of a node's entry of the row
 abbrev OfRow : RowShown → Thing → Type 0
 OfRow row thing = (thing ≡ Exists row.name) ⊎ ((node_entry : NodeEntryShown) × IsAmong node_entry row.node_entries × OfNode row node_entry thing)
 
+-- the thing is one of some row
 abbrev pub OfRows : List RowShown → Thing → Type 0
 OfRows rows thing = (row : RowShown) × IsAmong row rows × OfRow row thing
 
+-- a thing of a node's entry is at that node
 node-of : (row : RowShown) (node_entry : NodeEntryShown) (thing : Thing) → OfNode row node_entry thing → node_in thing ≡ Some node_entry.node
 node-of row node_entry thing (inl (inl is)) = ap node_in is
 node-of row node_entry thing (inl (inr is)) = ap node_in is
 node-of row node_entry thing (inr target_entry) = ap node_in target_entry.2
 
+-- a thing of a row is of its name
 name-of : (row : RowShown) (thing : Thing) → OfRow row thing → Some (name_in thing) ≡ Some row.name
 name-of row thing (inl is) = ap (λ t. Some (name_in t)) is
 name-of row thing (inr (node_entry, among, inl (inl is))) = ap (λ t. Some (name_in t)) is
 name-of row thing (inr (node_entry, among, inl (inr is))) = ap (λ t. Some (name_in t)) is
 name-of row thing (inr (node_entry, among, inr target_entry)) = ap (λ t. Some (name_in t)) target_entry.2
 
+-- what a node's entry notes is what the rows know of its things, each thing once
 node-lists : (rows : List RowShown) (row : RowShown) (node_entry : NodeEntryShown) → row_of rows row.name ≡ Some row → node_entry_of row node_entry.node ≡ Some node_entry → AreTargetsApart node_entry
     → Lists (OfNode row node_entry) (known_by_rows rows) (noted_of_node row.name node_entry)
 node-lists rows row node_entry in_rows in_row apart =
@@ -154,6 +161,7 @@ node-lists rows row node_entry in_rows in_row apart =
     disjoint t (inl is) target_entry = let same = sym is ∙ target_entry.2 in cc
     disjoint t (inr is) target_entry = let same = sym is ∙ target_entry.2 in cc
 
+-- what a row notes is what the rows know of its things, each thing once
 row-lists : (rows : List RowShown) (row : RowShown) → row_of rows row.name ≡ Some row → IsSoundRow row → Lists (OfRow row) (known_by_rows rows) (noted_of_row row)
 row-lists rows row in_rows kept =
     joined (λ t. t ≡ Exists row.name) _ (known_by_rows rows) (noted (Exists row.name) row.exists) (flat_map (noted_of_node row.name) row.node_entries)
@@ -179,6 +187,7 @@ entry-of key read text xs other = by (find (λ x. same_text (key x) text) xs) re
     by None e f = absurd (f refl)
     by (Some x) e f = (x, among-find (λ x. same_text (key x) text) xs x e, sym ((same_text-tells (key x) text).0 (find-passes (λ x. same_text (key x) text) xs x e)), f)
 
+-- a thing that the rows don't know as No is of one of them
 pub known-of : (rows : List RowShown) (thing : Thing) → (known_by_rows rows thing ≡ No → ⊥) → OfRows rows thing
 known-of rows thing other = let row = entry-of (λ (r : RowShown). r.name) (mark_of thing) (name_in thing) rows other in (row.0, row.1, by row.0 thing row.2 row.3)
   where

@@ -31,6 +31,7 @@ added-there usage entries i entry made at there is =
     put-place node_entry_shown (λ (p : NodeEntryShown). p.node) (entry_for usage (Some (node_entry_shown entry))) usage.node entries i entry made node at is
     ∙ ap (λ (o : Option NodeEntryShown). put_by (λ (p : NodeEntryShown). p.node) (entry_for usage o) (map node_entry_shown entries)) (sym found)
 
+-- where the node has no entry, it stands last
 pub added-last : (usage : Usage) (entries : List NodeEntry) (made : NodeEntry) → position (λ (p : NodeEntry). same_text p.node usage.node) entries ≡ None → node_entry_shown made ≡ entry_for usage None → Added usage entries (entries ++ made ∷ [])
 added-last usage entries made none is =
     let found = find-none_placed node_entry_shown (λ (p : NodeEntryShown). same_text p.node usage.node) entries none in

@@ -277,6 +277,7 @@ noted-follows view history name goal agrees =
     count true k n e = refl
     count false k n e = e
 
+-- a test together with one that fails fails
 pub and-false : (b : Bool) → (b && false) ≡ false
 and-false true = refl
 and-false false = refl

@@ -23,6 +23,7 @@ pub record IsEntryWithin (nodes : List (List ℕ)) (entry : NodeEntryShown) : Ty
   pub among : list_any (same_text entry.node) nodes ≡ true
   pub targets : HasFewTargets entry
 
+-- each entry of a row is so
 abbrev pub AreWithin : List (List ℕ) → RowShown → Type 0
 AreWithin nodes row = AllByRecursion (IsEntryWithin nodes) row.node_entries
 

@@ -4,6 +4,7 @@ use Rattle.csi_orchestrator.specs.declared.state.Core.{Core}
 use Rattle.csi_orchestrator.specs.Catalog.{rows_of, IsIndexed, AreUpTo}
 use Rattle.csi_orchestrator.specs.Shown.{Parts, row_shown}
 
+-- what is shown of it
 abbrev pub parts_of : Core → Parts
 parts_of core = record { nodes = core.nodes.items; last = core.last; rows = map row_shown (rows_of core.catalog) }
 

@@ -22,6 +22,7 @@ node_due (Unstage id node) = Some node.now
 node_due (Publish id usage) = Some (usage.now).node
 node_due (Unpublish id node target) = Some node.now
 
+-- the node, or else the controller
 abbrev pub party_at : Option (List ℕ) → Party
 party_at None = parties.Controller
 party_at (Some node) = parties.Node node

@@ -63,15 +63,19 @@ IsInOrder things = EachTwo (λ a b. thing_order a.0 b.0 ≡ Less) things
 abbrev pub noted : Thing → Known → List (Thing × Known)
 noted thing mark = if is_no mark then [] else (thing, mark) ∷ []
 
+-- of a target's entry
 abbrev pub noted_of_target : List ℕ → List ℕ → TargetEntry → List (Thing × Known)
 noted_of_target name node entry = noted (Published name node entry.target) entry.published
 
+-- of a node's entry
 abbrev pub noted_of_node : List ℕ → NodeEntryShown → List (Thing × Known)
 noted_of_node name entry =
     noted (Attached name entry.node) entry.attached ++ noted (Staged name entry.node) entry.staged ++ flat_map (noted_of_target name entry.node) entry.target_entries
 
+-- of a row
 abbrev pub noted_of_row : RowShown → List (Thing × Known)
 noted_of_row row = noted (Exists row.name) row.exists ++ flat_map (noted_of_node row.name) row.node_entries
 
+-- of all rows
 abbrev pub noted_in : List RowShown → List (Thing × Known)
 noted_in rows = flat_map noted_of_row rows

@@ -3,6 +3,7 @@ use Rattle.std.specs.Prelude.{ℕ, List, codes}
 use Rattle.csi_orchestrator.specs.declared.fault.OrchFault.{OrchFault}
 use Rattle.csi_orchestrator.specs.declared.fault.OrchFault.TheVariants as faults
 
+-- a refusal's number
 abbrev pub fault_number : OrchFault → ℕ
 fault_number faults.NameUsed = 1
 fault_number faults.NoSuchVolume = 2
@@ -21,6 +22,7 @@ fault_number faults.NumbersSpent = 14
 fault_number faults.Full = 15
 fault_number faults.NoMemory = 16
 
+-- a refusal's name
 abbrev pub fault_name : OrchFault → List ℕ
 fault_name faults.NameUsed = codes "NameUsed"
 fault_name faults.NoSuchVolume = codes "NoSuchVolume"

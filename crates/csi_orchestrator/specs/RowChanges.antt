@@ -24,6 +24,7 @@ pub data Aspect : Type 0 where
   Staging : Aspect
   Publication : Aspect
 
+-- the aspect that a call of this kind does or undoes
 abbrev pub aspect_of : Kind → Aspect
 aspect_of kinds.CreateVolume = Existence
 aspect_of kinds.DeleteVolume = Existence
@@ -38,6 +39,7 @@ aspect_of kinds.NodeUnpublishVolume = Publication
 abbrev pub target_marked : Known → List ℕ → List TargetEntry → List TargetEntry
 target_marked mark target entries = change_by (λ entry. entry.target) target (λ entry. record entry { published = mark }) entries
 
+-- this aspect of an entry is marked so, at the target where it is a publication
 abbrev pub node_marked : Known → Aspect → List ℕ → NodeEntryShown → NodeEntryShown
 node_marked mark Existence target entry = entry
 node_marked mark Attachment target entry = record entry { attached = mark }
@@ -61,10 +63,12 @@ abbrev pub exists_marked : Known → Aspect → Known → Known
 exists_marked mark Existence exists = mark
 exists_marked mark aspect exists = exists
 
+-- this aspect is marked so in the entry of the goal's node
 abbrev pub nodes_marked : Known → Aspect → Option Goal → List NodeEntryShown → List NodeEntryShown
 nodes_marked mark Existence goal entries = entries
 nodes_marked mark aspect goal entries = at_goal (marked_at mark aspect) goal entries
 
+-- what a call of this kind does or undoes is marked so in a row
 abbrev pub marked : Known → Kind → RowShown → RowShown
 marked mark kind row =
     record row { exists = exists_marked mark (aspect_of kind) row.exists; node_entries = nodes_marked mark (aspect_of kind) row.goal row.node_entries }
@@ -73,6 +77,7 @@ marked mark kind row =
 abbrev pub opened : Number → RowShown → RowShown
 opened number row = record row { open_number = Some number; tries = min 3 (1 + row.tries) }
 
+-- it is open under this number then, and what it does or undoes may be so
 abbrev pub sent : Number → Kind → RowShown → RowShown
 sent number kind row = opened number (marked Maybe kind row)
 
@@ -96,6 +101,7 @@ id_told kind id = None
 abbrev pub answered : Kind → Option ℕ → RowShown → RowShown
 answered kind id row = record row { id = option_or (id_told kind id) row.id; open_number = None; tries = 0 }
 
+-- what it does is so then, and what it undoes isn't
 abbrev pub succeeded : Kind → Option ℕ → RowShown → RowShown
 succeeded kind id row = answered kind id (marked (told_of kind) kind row)
 
@@ -107,16 +113,20 @@ wanted goal row = record row { goal = Some goal; open_number = None; tries = 0 }
 abbrev pub is_target_kept : TargetEntry → Bool
 is_target_kept entry = not (is_no entry.published)
 
+-- an entry of a node with its targets that are kept
 abbrev pub with_kept_targets : NodeEntryShown → NodeEntryShown
 with_kept_targets entry = record entry { target_entries = filter is_target_kept entry.target_entries }
 
+-- some target is there
 abbrev pub has_targets : List TargetEntry → Bool
 has_targets [] = false
 has_targets (entry ∷ entries) = not false
 
+-- something of the entry may be so
 abbrev pub is_node_kept : NodeEntryShown → Bool
 is_node_kept entry = not (is_no entry.attached && is_no entry.staged && not (has_targets entry.target_entries))
 
+-- entries of which those are left
 abbrev pub tidied : List NodeEntryShown → List NodeEntryShown
 tidied entries = filter is_node_kept (map with_kept_targets entries)
 
@@ -144,16 +154,20 @@ wanted_anew arguments row = record row { arguments = arguments; goal = Some Crea
 abbrev pub new_target_entry : List ℕ → TargetEntry
 new_target_entry target = record { target = target; published = No }
 
+-- the target's entry is there then
 abbrev pub with_target : List ℕ → List TargetEntry → List TargetEntry
 with_target target entries = if is_some (find (λ entry. same_text entry.target target) entries) then entries else entries ++ new_target_entry target ∷ []
 
+-- a node that isn't attached gets the capability and the flag of the use
 abbrev pub held_as : Usage → NodeEntryShown → NodeEntryShown
 held_as usage entry = if is_no entry.attached then record entry { capability = usage.capability; readonly = usage.readonly } else entry
 
+-- the entry of the use's node then
 abbrev pub entry_for : Usage → Option NodeEntryShown → NodeEntryShown
 entry_for usage None =
     record { node = usage.node; capability = usage.capability; readonly = usage.readonly; attached = No; staged = No; target_entries = new_target_entry usage.target ∷ [] }
 entry_for usage (Some entry) = record (held_as usage entry) { target_entries = with_target usage.target entry.target_entries }
 
+-- a row with that entry
 abbrev pub with_entry : Usage → RowShown → RowShown
 with_entry usage row = record row { node_entries = put_by (λ entry. entry.node) (entry_for usage (node_entry_of row usage.node)) row.node_entries }

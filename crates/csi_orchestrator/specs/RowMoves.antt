@@ -32,6 +32,7 @@ pub record MovedRows : Type 0 where
   pub answer : Answer
   pub parts : Parts
 
+-- this is answered, and this shown then
 abbrev pub moved_rows : Parts → Answer → Result MovedRows OrchFault
 moved_rows parts answer = Ok (record { answer = answer; parts = parts })
 
@@ -44,6 +45,7 @@ abbrev pub frame_in : Option Outgoing → Option Frame
 frame_in None = None
 frame_in (Some outgoing) = Some outgoing.frame
 
+-- the last number once this was sent, if anything was
 abbrev pub last_after : Number → Option Outgoing → Number
 last_after last None = last
 last_after last (Some outgoing) = outgoing.number
@@ -52,6 +54,7 @@ last_after last (Some outgoing) = outgoing.number
 abbrev pub parts_after : Parts → MovedRow → Parts
 parts_after parts moved_row = record { nodes = parts.nodes; last = last_after parts.last moved_row.outgoing; rows = put moved_row.row parts.rows }
 
+-- what becomes of all the rows where this becomes of one, unless that is refused
 abbrev pub placed : Parts → (Option Frame → Answer) → Result MovedRow OrchFault → Result MovedRows OrchFault
 placed parts answer (Err fault) = Err fault
 placed parts answer (Ok moved_row) = moved_rows (parts_after parts moved_row) (answer (frame_in moved_row.outgoing))
@@ -71,6 +74,7 @@ abbrev pub is_issued_as : Number → Party → Kind → Option Issued → Bool
 is_issued_as number party kind None = false
 is_issued_as number party kind (Some issued) = same_number issued.number number && same_party issued.party party && same_kind (kind_of issued.call) kind
 
+-- the row that a reply is to
 abbrev pub row_replied : List RowShown → Number → Party → Kind → Option RowShown
 row_replied rows number party kind = find (λ row. is_issued_as number party kind (open_in_row row)) rows
 

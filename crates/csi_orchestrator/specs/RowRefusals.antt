@@ -22,6 +22,7 @@ is_last last = is_none (next_number last)
 abbrev pub first_fault : Number → List RowShown → Option OrchFault
 first_fault last rows = if is_last last then Some faults.NumbersSpent else if nat_le 4096 (length rows) then Some faults.Full else None
 
+-- why a create of a name that has a row is refused
 abbrev pub again_fault : Number → RowShown → Option OrchFault
 again_fault last row = if is_some row.id || is_some row.goal then Some faults.NameUsed else if is_last last then Some faults.NumbersSpent else None
 
@@ -29,6 +30,7 @@ again_fault last row = if is_some row.id || is_some row.goal then Some faults.Na
 abbrev pub is_so_elsewhere : (Held → Bool) → List ℕ → NodeEntryShown → Bool
 is_so_elsewhere so node entry = not (same_text entry.node node) && not (is_no entry.attached) && so (held_at entry)
 
+-- at some other node of the row it may be attached so
 abbrev pub has_elsewhere : (Held → Bool) → List ℕ → RowShown → Bool
 has_elsewhere so node row = list_any (is_so_elsewhere so node) row.node_entries
 
@@ -76,9 +78,11 @@ stop_refusal nodes last node target row =
 abbrev pub is_attached_somewhere : RowShown → Bool
 is_attached_somewhere row = list_any (λ entry. not (is_no entry.attached)) row.node_entries
 
+-- why a delete is refused by what is known
 abbrev pub delete_refusal : RowShown → Option OrchFault
 delete_refusal row = if is_none row.id then Some faults.NotCreated else if is_attached_somewhere row then Some faults.InUse else None
 
+-- why it is refused by what is wanted, or for want of a number
 abbrev pub busy_refusal : Number → RowShown → Option OrchFault
 busy_refusal last row = if is_some row.goal then Some faults.Busy else if is_last last then Some faults.NumbersSpent else None
 

@@ -74,6 +74,7 @@ waits_for (Some Create) = false
 waits_for (Some (Use usage)) = false
 waits_for goal = true
 
+-- the step is such a failure
 abbrev pub waits : Step → RowShown → Bool
 waits steps.Fail row = waits_for row.goal
 waits step row = false
@@ -87,6 +88,7 @@ needs_entry step = false
 abbrev pub is_given_up : RowShown → Bool
 is_given_up row = is_forward_due (due_in row) && (row.tries == 3)
 
+-- the row then, by its goal
 abbrev pub timed_out : RowShown → Option Goal → RowShown
 timed_out row None = closed row
 timed_out row (Some goal) = if is_given_up row then wanted (stopped_goal goal) row else closed row
@@ -115,6 +117,7 @@ row_takes last step row =
     else if waits step row then row_rests (closed row)
     else row_unless (late_refusal last step row) (row_sends_due last (changed step row))
 
+-- what a row makes of a step: the reason to refuse it, or what becomes of the row
 abbrev pub row_step : List (List ℕ) → Number → Step → RowShown → Result MovedRow OrchFault
 row_step nodes last step row = row_unless (step_refusal nodes last step row) (row_takes last step row)
 

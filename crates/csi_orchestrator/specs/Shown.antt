@@ -42,9 +42,11 @@ pub record RowShown : Type 0 where
   pub tries : ℕ
   pub node_entries : List NodeEntryShown
 
+-- a node's entry, as it is shown
 abbrev pub node_entry_shown : NodeEntry → NodeEntryShown
 node_entry_shown entry = record { node = entry.node; capability = entry.capability; readonly = entry.readonly; attached = entry.attached; staged = entry.staged; target_entries = entry.target_entries.items }
 
+-- a row, as it is shown
 abbrev pub row_shown : Row → RowShown
 row_shown row =
     record {
@@ -68,9 +70,11 @@ pub record Parts : Type 0 where
 abbrev pub row_of : List RowShown → List ℕ → Option RowShown
 row_of rows name = find (λ row. same_text row.name name) rows
 
+-- the row's entry of a node
 abbrev pub node_entry_of : RowShown → List ℕ → Option NodeEntryShown
 node_entry_of row node = find (λ entry. same_text entry.node node) row.node_entries
 
+-- the node's entry of a target
 abbrev pub target_entry_of : NodeEntryShown → List ℕ → Option TargetEntry
 target_entry_of entry target = find (λ target_entry. same_text target_entry.target target) entry.target_entries
 
@@ -79,6 +83,7 @@ abbrev pub mark_in : {X : Type 0} → (X → Known) → Option X → Known
 mark_in mark None = No
 mark_in mark (Some x) = mark x
 
+-- what is known of the publication at this target
 abbrev pub published_in : List ℕ → NodeEntryShown → Known
 published_in target entry = mark_in (λ target_entry. target_entry.published) (target_entry_of entry target)
 
@@ -96,6 +101,7 @@ goal_shown row (kept.Use usage) = Use usage
 goal_shown row (kept.Stop node target) = Stop node target
 goal_shown row kept.Delete = Delete
 
+-- the goal of a row
 abbrev pub goal_in : RowShown → Option Goal
 goal_in row = option_map (goal_shown row) row.goal
 
@@ -103,6 +109,7 @@ goal_in row = option_map (goal_shown row) row.goal
 abbrev pub held_at : NodeEntryShown → Held
 held_at entry = record { capability = entry.capability; readonly = entry.readonly }
 
+-- how it is held there, if the node has an entry
 abbrev pub held_in : RowShown → List ℕ → Option Held
 held_in row node = option_map held_at (node_entry_of row node)
 
@@ -115,6 +122,7 @@ others_in target (Some entry) = list_any (λ target_entry. not (same_text target
 abbrev pub marks_of_volume : RowShown → Marks
 marks_of_volume row = record { exists = row.exists; attached = No; staged = No; published = No; others = false }
 
+-- at this node and target
 abbrev pub marks_at : RowShown → List ℕ → List ℕ → Marks
 marks_at row node target =
     record {
@@ -125,6 +133,7 @@ marks_at row node target =
       others = others_in target (node_entry_of row node);
     }
 
+-- for this goal
 abbrev pub marks_for : RowShown → KeptGoal → Marks
 marks_for row kept.Create = marks_of_volume row
 marks_for row (kept.Use usage) = marks_at row usage.node usage.target
@@ -137,6 +146,7 @@ create_due name arguments marks =
     if is_yes marks.exists then None
     else Some (record { party = Controller; call = calls.CreateVolume name arguments.required arguments.limit arguments.capabilities })
 
+-- the call that is due for a use
 abbrev pub use_due : Usage → Marks → ℕ → Option Due
 use_due usage marks id =
     if not (is_yes marks.attached) then
@@ -146,6 +156,7 @@ use_due usage marks id =
     Some (record { party = Node usage.node; call = calls.NodePublishVolume id usage.target usage.capability usage.readonly })
     else None
 
+-- the call that is due for a stop
 abbrev pub stop_due : List ℕ → List ℕ → Marks → ℕ → Option Due
 stop_due node target marks id =
     if not (is_no marks.published) then Some (record { party = Node node; call = calls.NodeUnpublishVolume id target })
@@ -154,6 +165,7 @@ stop_due node target marks id =
     else if not (is_no marks.attached) then Some (record { party = Controller; call = calls.ControllerUnpublishVolume id node })
     else None
 
+-- the call that is due for a delete
 abbrev pub delete_due : Marks → ℕ → Option Due
 delete_due marks id = if is_no marks.exists then None else Some (record { party = Controller; call = calls.DeleteVolume id })
 
@@ -169,6 +181,7 @@ abbrev pub due_by : RowShown → Option KeptGoal → Option Due
 due_by row None = None
 due_by row (Some goal) = due_with row.name row.arguments row.id (marks_for row goal) goal
 
+-- the call that is due for a row
 abbrev pub due_in : RowShown → Option Due
 due_in row = due_by row row.goal
 
@@ -178,6 +191,7 @@ issued_as name None due = None
 issued_as name (Some number) None = None
 issued_as name (Some number) (Some due) = Some (record { name = name; number = number; party = due.party; call = due.call })
 
+-- the open call of a row
 abbrev pub open_in_row : RowShown → Option Issued
 open_in_row row = issued_as row.name row.open_number (due_in row)
 
@@ -185,6 +199,7 @@ open_in_row row = issued_as row.name row.open_number (due_in row)
 abbrev pub without_call : Row → Row
 without_call row = record row { open_number = None }
 
+-- the row has no open call
 abbrev pub closed : RowShown → RowShown
 closed row = record row { open_number = None }
 
@@ -220,6 +235,7 @@ in_session session parts = record parts { last = record { session = session; cal
 abbrev pub AreTargetsApart : NodeEntryShown → Type 0
 AreTargetsApart entry = EachTwo (λ (a b : TargetEntry). same_text a.target b.target ≡ false) entry.target_entries
 
+-- so it is at each node of each row
 abbrev pub AreAllTargetsApart : List RowShown → Type 0
 AreAllTargetsApart rows = AllByRecursion (λ (row : RowShown). AllByRecursion AreTargetsApart row.node_entries) rows
 

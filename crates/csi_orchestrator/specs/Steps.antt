@@ -48,10 +48,12 @@ MayDoAll history input (item ∷ older) = MayDo (with_items history older) input
 abbrev pub frame_of : Issued → Frame
 frame_of issued = call_frame issued.number issued.party issued.call
 
+-- the frame, if there is one
 abbrev pub frame_in : Option Frame → List Frame
 frame_in None = []
 frame_in (Some frame) = frame ∷ []
 
+-- the frames of an answer
 abbrev pub frames_in : Answer → List Frame
 frames_in (Sends frame) = frame_in frame
 frames_in (Hears Ignored) = []
@@ -64,6 +66,7 @@ pub record IsStepwise (history : History) (input : Input) (moved : Moved) : Type
   pub few : length moved.items ≤ 3
   pub frames : map frame_of (issued_in moved.items) ≡ frames_in moved.answer
 
+-- so it is, unless the input is refused
 abbrev pub AreStepwise : History → Input → Result Moved OrchFault → Type 0
 AreStepwise history input (Ok moved) = IsStepwise history input moved
 AreStepwise history input (Err fault) = Unit {0}

@@ -55,21 +55,27 @@ number session call = record { session = session; call = call }
 abbrev pub sends : ℕ → Party → Call → Result Answer OrchFault
 sends call_number party call = Ok (Sends (Some (call_frame (number 1 call_number) party call)))
 
+-- a reply was taken, and a call of this number sent
 abbrev pub takes_and_sends : ℕ → Party → Call → Result Answer OrchFault
 takes_and_sends call_number party call = Ok (Hears (Taken (Some (call_frame (number 1 call_number) party call))))
 
+-- a reply was taken, and nothing sent
 abbrev pub takes : Result Answer OrchFault
 takes = Ok (Hears (Taken None))
 
+-- a reply was ignored
 abbrev pub ignores : Result Answer OrchFault
 ignores = Ok (Hears Ignored)
 
+-- nothing had to be sent
 abbrev pub is_met : Result Answer OrchFault
 is_met = Ok (Sends None)
 
+-- the name of a volume
 abbrev pub v : List ℕ
 v = codes "v"
 
+-- the node n1
 abbrev pub n1 : Party
 n1 = Node (codes "n1")
 
@@ -77,9 +83,11 @@ n1 = Node (codes "n1")
 abbrev pub created : Input
 created = Comes (reply_frame (number 1 1) Controller kinds.CreateVolume (ok_reply_with 1))
 
+-- OK to a call of this number and kind
 abbrev pub ok_from : ℕ → Party → Kind → Input
 ok_from call_number party kind = Comes (reply_frame (number 1 call_number) party kind ok_reply)
 
+-- a refusal of a call of this number and kind
 abbrev pub refused_from : ℕ → Party → Kind → Status → Input
 refused_from call_number party kind status = Comes (reply_frame (number 1 call_number) party kind (plain_reply status []))
 
@@ -87,6 +95,7 @@ refused_from call_number party kind status = Comes (reply_frame (number 1 call_n
 abbrev pub create_v : Mode → Input
 create_v mode = ToCreate v (record { required = 10; limit = 0; capabilities = block mode ∷ [] })
 
+-- v is to be used at a node and a target so
 abbrev pub use_v : List ℕ → List ℕ → Mode → Bool → Input
 use_v node target mode readonly = ToUse v (record { node = node; target = target; capability = block mode; readonly = readonly })
 
@@ -99,6 +108,7 @@ abbrev pub published : Mode → Bool → List Input
 published mode readonly =
     attaching mode readonly ++ ok_from 2 Controller kinds.ControllerPublishVolume ∷ ok_from 3 n1 kinds.NodeStageVolume ∷ ok_from 4 n1 kinds.NodePublishVolume ∷ []
 
+-- v is to be attached to n1 so
 abbrev pub attach_v : Mode → Bool → Call
 attach_v mode readonly = ControllerPublishVolume 1 (codes "n1") (block mode) readonly
 
@@ -131,6 +141,7 @@ SingleWriterRow = answers (after_inputs new_history one_writer) (use_v (codes "n
 abbrev pub given_up : List Input
 given_up = attaching SingleNodeWriter false ++ ok_from 2 Controller kinds.ControllerPublishVolume ∷ ok_from 3 n1 kinds.NodeStageVolume ∷ TimesOut v ∷ []
 
+-- so it is with the reply to a NodePublishVolume that came too late
 pub record LateReplyRow : Type 0 where
   pub ignored : answers (after_inputs new_history given_up) (ok_from 4 n1 kinds.NodePublishVolume ∷ []) ≡ ignores ∷ []
   pub maybe_published : known (after_inputs new_history (given_up ++ ok_from 4 n1 kinds.NodePublishVolume ∷ [])) (Published v (codes "n1") (codes "/a")) ≡ Maybe
@@ -139,6 +150,7 @@ pub record LateReplyRow : Type 0 where
 abbrev pub restarted : List Input
 restarted = attaching SingleNodeWriter false ++ Restarts ∷ []
 
+-- so it is after an attachment was asked for
 pub record RestartRow : Type 0 where
   pub answer : answers (after_inputs new_history (attaching SingleNodeWriter false)) (Restarts ∷ []) ≡ Ok Restarted ∷ []
   pub session : last_number (after_inputs new_history restarted) ≡ number 2 0
@@ -192,6 +204,7 @@ pub record TwoTargetsRow : Type 0 where
 abbrev pub refused_unstage : List Input
 refused_unstage = one_left ++ ToStop v (codes "n1") (codes "/b") ∷ ok_from 7 n1 kinds.NodeUnpublishVolume ∷ refused_from 8 n1 kinds.NodeUnstageVolume FailedPrecondition ∷ []
 
+-- so it is with a NodeUnstageVolume
 pub record RefusedUnstageRow : Type 0 where
   pub maybe_staged : known (after_inputs new_history refused_unstage) (Staged v (codes "n1")) ≡ Maybe
   pub waits : answers (after_inputs new_history refused_unstage) (use_v (codes "n1") (codes "/a") MultiNodeMultiWriter false ∷ TimesOut v ∷ []) ≡ Err Busy ∷ sends 9 n1 (NodeUnstageVolume 1) ∷ []
@@ -221,5 +234,6 @@ empty_view =
       counts = λ name. 0;
     }
 
+-- nothing shown agrees with nothing done
 abbrev pub NewAgrees : Type 0
 NewAgrees = Agrees empty_view new_history

@@ -5,14 +5,17 @@ use Rattle.csi_pictures.specs.declared.bars.Bar.{Bar}
 use Rattle.csi_pictures.specs.Bars.{is_taken, free_among}
 
 module _ (lane row : ℕ) (all : List Bar) where
+  -- a column that is free is the one
   here : (rest : List Bar) (column : ℕ) → 0 < length rest → is_taken lane row column all ≡ false → free_among lane row all column rest ≡ column
   here [] column some free = absurd (omega (arith, some))
   here (bar ∷ others) column some free = rw free refl
 
+  -- where a column is taken, the search goes on at the next one
   next : (rest : List Bar) (column : ℕ) → 0 < length rest → is_taken lane row column all ≡ true → free_among lane row all column rest ≡ free_among lane row all (suc column) (drop 1 rest)
   next [] column some taken = absurd (omega (arith, some))
   next (bar ∷ others) column some taken = rw taken refl
 
+  -- a column below the count of bars has bars left behind it
   left : (column : ℕ) → column < length all → 0 < length (drop column all)
   left column below = omega (arith, below, length-drop column all)
 

@@ -11,9 +11,11 @@ pub two : {T E : Type 0} (result : Result T E) (old o1 new a b : List ℕ) → o
 two (Ok done) old o1 new a b p q = and_then old o1 new a b p q
 two (Err fault) old o1 new a b p q = tt
 
+-- three pieces, of which the last may fail
 pub three : {T E : Type 0} (result : Result T E) (old o1 o2 new a b c : List ℕ) → o1 ≡ old ++ a → o2 ≡ o1 ++ b → OnOk result (new ≡ o2 ++ c) → OnOk result (new ≡ old ++ (a ++ b ++ c))
 three result old o1 o2 new a b c p q r = two result old o2 new (a ++ b) c (and_then old o1 o2 a b p q) r
 
+-- five pieces, of which the last may fail
 pub five : {T E : Type 0} (result : Result T E) (old o1 o2 o3 o4 new a b c d e : List ℕ) → o1 ≡ old ++ a → o2 ≡ o1 ++ b → o3 ≡ o2 ++ c → o4 ≡ o3 ++ d → OnOk result (new ≡ o4 ++ e) → OnOk result (new ≡ old ++ (a ++ b ++ c ++ d ++ e))
 five result old o1 o2 o3 o4 new a b c d e p q r s t =
     three result old o3 o4 new (a ++ b ++ c) d e (and_then old o2 o3 (a ++ b) c (and_then old o1 o2 a b p q) r) s t

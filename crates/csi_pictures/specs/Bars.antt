@@ -22,18 +22,22 @@ use Rattle.csi_pictures.specs.Scene.{lane_of, delivered, succeeded}
 
 -- ---- what undoes what
 
+-- the call detaches the volume from this node
 abbrev pub detaches : ℕ → List ℕ → Call → Bool
 detaches volume from (calls.ControllerUnpublishVolume id node) = (id == volume) && same_text node from
 detaches volume from _ = false
 
+-- the call unstages the volume
 abbrev pub unstages : ℕ → Call → Bool
 unstages volume (calls.NodeUnstageVolume id) = id == volume
 unstages volume _ = false
 
+-- the call unpublishes the volume at this target
 abbrev pub unpublishes : ℕ → List ℕ → Call → Bool
 unpublishes volume at (calls.NodeUnpublishVolume id target) = (id == volume) && same_text target at
 unpublishes volume at _ = false
 
+-- a call undoes what another did
 abbrev pub undoes : Call → Call → Bool
 undoes (calls.ControllerPublishVolume id node capability readonly) call = detaches id node call
 undoes (calls.NodeStageVolume id capability) call = unstages id call
@@ -45,6 +49,7 @@ abbrev pub undoes_at : ℕ → ℕ → Call → Body → Bool
 undoes_at to lane begun (bodies.Call call) = (to == lane) && undoes begun call
 undoes_at to lane begun (bodies.Reply kind reply) = false
 
+-- the frame, if there is one, is of such a call to the lane's plugin
 abbrev pub undone_by : WorldParts → ℕ → Call → Option Frame → Bool
 undone_by world lane begun None = false
 undone_by world lane begun (Some frame) = undoes_at (lane_of world.nodes frame.party) lane begun frame.body
@@ -63,14 +68,17 @@ end_row world lane begun row place (event ∷ events) =
 
 -- ---- what is the same thing
 
+-- the call attaches the volume to this node
 abbrev pub attaches : ℕ → List ℕ → Call → Bool
 attaches volume at (calls.ControllerPublishVolume id node capability readonly) = (id == volume) && same_text node at
 attaches volume at _ = false
 
+-- the call stages the volume
 abbrev pub stages : ℕ → Call → Bool
 stages volume (calls.NodeStageVolume id capability) = id == volume
 stages volume _ = false
 
+-- the call publishes the volume at this target
 abbrev pub publishes : ℕ → List ℕ → Call → Bool
 publishes volume at (calls.NodePublishVolume id target capability readonly) = (id == volume) && same_text target at
 publishes volume at _ = false
@@ -82,6 +90,7 @@ is_same_thing (calls.NodeStageVolume id capability) call = stages id call
 is_same_thing (calls.NodePublishVolume id target capability readonly) call = publishes id target call
 is_same_thing _ call = false
 
+-- the body is a call that asks for the same thing
 abbrev pub asks_in : Call → Body → Bool
 asks_in call (bodies.Call begun) = is_same_thing begun call
 asks_in call (bodies.Reply kind reply) = false
@@ -104,6 +113,7 @@ lasting_of _ = None
 abbrev pub is_shown_by : List Frame → ℕ → ℕ → Call → Bar → Bool
 is_shown_by frames lane row call bar = (bar.lane == lane) && (nat_lt row bar.to && asks_for call (numbered frames bar.number))
 
+-- some bar shows it there
 abbrev pub is_shown : List Frame → ℕ → ℕ → Call → List Bar → Bool
 is_shown frames lane row call bars = list_any (is_shown_by frames lane row call) bars
 
@@ -111,6 +121,7 @@ is_shown frames lane row call bars = list_any (is_shown_by frames lane row call)
 abbrev pub is_taken_by : ℕ → ℕ → ℕ → Bar → Bool
 is_taken_by lane row column bar = (bar.lane == lane) && ((bar.column == column) && nat_le row bar.to)
 
+-- some bar takes the column there
 abbrev pub is_taken : ℕ → ℕ → ℕ → List Bar → Bool
 is_taken lane row column bars = list_any (is_taken_by lane row column) bars
 
@@ -129,10 +140,12 @@ with_lasting world events bars row number lane call None = bars
 with_lasting world events bars row number lane call (Some what) =
     if is_shown world.frames lane row call bars then bars else bars ++ bar_of world events bars row number lane call what ∷ []
 
+-- a bar more, where the body is a call that brings something about that lasts
 abbrev pub with_body : WorldParts → List Event → List Bar → ℕ → ℕ → Party → Body → List Bar
 with_body world events bars row number party (bodies.Call call) = with_lasting world events bars row number (lane_of world.nodes party) call (lasting_of call)
 with_body world events bars row number party (bodies.Reply kind reply) = bars
 
+-- the same of a frame, if there is one
 abbrev pub with_frame : WorldParts → List Event → List Bar → ℕ → ℕ → Option Frame → List Bar
 with_frame world events bars row number None = bars
 with_frame world events bars row number (Some frame) = with_body world events bars row number frame.party frame.body
@@ -142,6 +155,7 @@ abbrev pub with_event : WorldParts → List Event → List Bar → ℕ → Event
 with_event world events bars row (happens.Deliver number) outcome = if succeeded world.frames outcome then with_frame world events bars row number (numbered world.frames number) else bars
 with_event world events bars row _ outcome = bars
 
+-- the same of an event and what came of it
 abbrev pub with_both : WorldParts → List Event → List Bar → ℕ → Option Event → Option Outcome → List Bar
 with_both world events bars row (Some event) (Some outcome) = with_event world events bars row event outcome
 with_both world events bars row _ _ = bars
@@ -153,6 +167,7 @@ bars_to world events (suc place) = with_both world events (bars_to world events 
 
 -- ---- as they are drawn
 
+-- how a bar is drawn
 abbrev pub class_of : Lasting → List ℕ
 class_of lasting.Attached = codes "attached"
 class_of lasting.Staged = codes "staged"
@@ -162,8 +177,10 @@ class_of lasting.Published = codes "published"
 unfoldable pub bar_front : List ℕ → ℕ → ℕ → List ℕ
 bar_front class lane from = pieces (codes "<path class='" ∷ class ∷ codes "' d='M" ∷ decimal lane ∷ codes "036 " ∷ decimal from ∷ codes "20m" ∷ [])
 
+-- a bar's column, and the row down to which it goes
 unfoldable pub bar_way : ℕ → ℕ → List ℕ
 bar_way column to = pieces (decimal column ∷ codes "0 0m" ∷ decimal column ∷ codes "0 0V" ∷ decimal to ∷ codes "20'/>\n" ∷ [])
 
+-- a bar
 abbrev pub bar : Bar → List ℕ
 bar b = bar_front (class_of b.what) b.lane b.from ++ bar_way b.column b.to

@@ -13,5 +13,6 @@ escaped_byte byte =
     then 92 ∷ 120 ∷ digit_glyph false (byte / 16) ∷ digit_glyph false (byte % 16) ∷ []
     else byte ∷ []
 
+-- a text, byte by byte
 abbrev pub escaped : List ℕ → List ℕ
 escaped bytes = flat_map escaped_byte bytes

@@ -18,6 +18,7 @@ legend = codes "<path class='attached' d='M800-110h60'/><text x='880' y='-97'>at
 unfoldable pub size : ℕ → ℕ → List ℕ
 size last lowest = pieces (codes "<svg xmlns='http://www.w3.org/2000/svg' font-size='28' width='" ∷ decimal last ∷ codes "6em' height='" ∷ decimal lowest ∷ codes "em' viewBox='0 -160 " ∷ decimal last ∷ codes "600 " ∷ decimal lowest ∷ codes "00'>\n" ∷ [])
 
+-- what an audit found, in a word
 abbrev pub found : Bool → List ℕ
 found is_safe = if is_safe then codes "nothing" else codes "something"
 
@@ -25,5 +26,6 @@ found is_safe = if is_safe then codes "nothing" else codes "something"
 unfoldable pub title : ℕ → ℕ → List ℕ → List ℕ
 title events frames found = pieces (codes "<text class='t' x='30' y='-90'>" ∷ decimal events ∷ codes " events, " ∷ decimal frames ∷ codes " frames</text>\n<text x='30' y='-35'>Audit: " ∷ found ∷ codes " wrong</text>\n" ∷ [])
 
+-- all of it
 abbrev pub front : ℕ → ℕ → ℕ → ℕ → Bool → List ℕ
 front last lowest events frames is_safe = size last lowest ++ style ++ shapes ++ title events frames (found is_safe) ++ legend

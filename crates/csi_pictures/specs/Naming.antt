@@ -5,6 +5,7 @@ use Rattle.csi_types.specs.declared.call.Kind.TheVariants as kinds
 use Rattle.csi_types.specs.declared.status.Status.{Status}
 use Rattle.csi_types.specs.declared.status.Status.TheVariants as statuses
 
+-- a call's name
 abbrev pub kind_name : Kind → List ℕ
 kind_name kinds.CreateVolume = codes "CreateVolume"
 kind_name kinds.DeleteVolume = codes "DeleteVolume"
@@ -15,6 +16,7 @@ kind_name kinds.NodeUnstageVolume = codes "NodeUnstageVolume"
 kind_name kinds.NodePublishVolume = codes "NodePublishVolume"
 kind_name kinds.NodeUnpublishVolume = codes "NodeUnpublishVolume"
 
+-- a status's name
 abbrev pub status_name : Status → List ℕ
 status_name statuses.Ok = codes "OK"
 status_name statuses.Cancelled = codes "CANCELLED"

@@ -26,6 +26,7 @@ abbrev pub passage_of : WorldParts → ℕ → ℕ → Outcome → Option Frame 
 passage_of world row number outcome None = []
 passage_of world row number outcome (Some frame) = arrow (way_of world.frames outcome) (sender world.nodes frame) (sent_row number world.outcomes) (receiver world.nodes frame) row
 
+-- the arrow of an event, if it delivers a frame that was sent before
 abbrev pub passage : WorldParts → ℕ → Event → Outcome → List ℕ
 passage world row (events.Deliver number) outcome = if came outcome then passage_of world row number outcome (numbered world.frames number) else []
 passage world row _ outcome = []
@@ -35,10 +36,12 @@ abbrev pub sent_of : WorldParts → List Event → ℕ → ℕ → Option Frame 
 sent_of world events row number None = []
 sent_of world events row number (Some frame) = label world.nodes row number frame ++ (if delivered_from number world.outcomes 0 events then [] else lost_of (sender world.nodes frame) row frame.body)
 
+-- the frame of this number, if an event sent one
 abbrev pub sent_frame : WorldParts → List Event → ℕ → Option ℕ → List ℕ
 sent_frame world events row None = []
 sent_frame world events row (Some number) = sent_of world events row number (numbered world.frames number)
 
+-- what is below the texts of an event, where there are both it and what came of it
 abbrev pub under_of : WorldParts → List Event → ℕ → Option Event → Option Outcome → List ℕ
 under_of world events row (Some event) (Some outcome) = passage world row event outcome
 under_of world events row _ _ = []
@@ -51,15 +54,18 @@ under world events place = under_of world events (place + 1) (slice_get events p
 abbrev pub event_over : WorldParts → List Event → ℕ → Event → Outcome → List ℕ
 event_over world events row event outcome = row_text row event outcome ++ mark world.nodes row event outcome ++ sent_frame world events row (sent_number outcome)
 
+-- what is above, where there are both
 abbrev pub over_of : WorldParts → List Event → ℕ → Option Event → Option Outcome → List ℕ
 over_of world events row (Some event) (Some outcome) = event_over world events row event outcome
 over_of world events row _ _ = []
 
+-- what is above of the event at a place
 abbrev pub over : WorldParts → List Event → ℕ → List ℕ
 over world events place = over_of world events (place + 1) (slice_get events place) (slice_get world.outcomes place)
 
 -- ---- the whole
 
+-- the front of a world's picture
 abbrev pub world_front : WorldParts → List Event → Bool → List ℕ
 world_front world events is_safe = front (length world.nodes + 2) (length events + 4) (length events) (length world.frames) is_safe
 
@@ -67,6 +73,7 @@ world_front world events is_safe = front (length world.nodes + 2) (length events
 abbrev pub below_texts : WorldParts → List Event → List ℕ
 below_texts world events = lanes (length events + 1) world.nodes ++ flat_map bar (bars_to world events (length events)) ++ each (under world events) (length events)
 
+-- the whole picture
 abbrev pub picture : WorldParts → List Event → Bool → List ℕ
 picture world events is_safe =
     world_front world events is_safe

@@ -22,9 +22,11 @@ use Rattle.csi_pictures.specs.Scene.{is_ok, lane_of, node_lane}
 
 -- ---- the words
 
+-- a command at a node and a target, in words
 abbrev pub placed : List ℕ → List ℕ → List ℕ → List ℕ → List ℕ
 placed command name node target = command ++ escaped name ++ codes " at " ++ escaped node ++ codes " " ++ escaped target
 
+-- an event, in words
 abbrev pub words : Event → List ℕ
 words (events.Create name required limit capabilities) = codes "create " ++ escaped name
 words (events.Use name node target capability readonly) = placed (codes "use ") name node target
@@ -43,6 +45,7 @@ is_wrong outcomes.NoSuchFrame = true
 is_wrong outcomes.NoSuchNode = true
 is_wrong _ = false
 
+-- how the words of what came of an event are drawn
 abbrev pub class_of : Outcome → List ℕ
 class_of (outcomes.Refused fault) = codes "wrong"
 class_of outcomes.NoSuchFrame = codes "wrong"
@@ -50,9 +53,11 @@ class_of outcomes.NoSuchNode = codes "wrong"
 class_of outcomes.Ignored = codes "odd"
 class_of _ = codes "plain"
 
+-- the front of an event's row, up to its words
 unfoldable pub row_front : ℕ → List ℕ → List ℕ
 row_front row class = pieces (codes "<svg y='" ∷ decimal row ∷ codes "00' width='970' height='95'><text class='" ∷ class ∷ codes "' x='30' y='42'>" ∷ decimal row ∷ codes " " ∷ [])
 
+-- from its words to those of what came of it
 unfoldable pub row_middle : List ℕ → List ℕ
 row_middle class = pieces (codes "</text><text class='" ∷ class ∷ codes " o' x='75' y='82'>" ∷ [])
 
@@ -62,6 +67,7 @@ row_text row event outcome = row_front row (class_of outcome) ++ words event ++ 
 
 -- ---- the mark
 
+-- the shape of an event's mark
 abbrev pub shape_of : Event → List ℕ
 shape_of (events.Timeout name) = codes "clock"
 shape_of events.RestartOrchestrator = codes "restart"
@@ -69,17 +75,21 @@ shape_of events.RestartController = codes "restart"
 shape_of (events.RestartNode node) = codes "restart"
 shape_of _ = codes "command"
 
+-- a cross where it couldn't happen, and else that shape
 abbrev pub mark_of : Event → Outcome → List ℕ
 mark_of event outcome = if is_wrong outcome then codes "cross" else shape_of event
 
+-- the lane of the mark
 abbrev pub mark_lane : List NodeParts → Event → ℕ
 mark_lane nodes events.RestartController = 2
 mark_lane nodes (events.RestartNode node) = node_lane node nodes
 mark_lane nodes _ = 1
 
+-- a mark, by its lane, its row and its shape
 unfoldable pub mark_at : ℕ → ℕ → List ℕ → List ℕ
 mark_at lane row shape = pieces (codes "<use href='#" ∷ shape ∷ codes "' x='" ∷ decimal lane ∷ codes "045' y='" ∷ decimal row ∷ codes "20'/>\n" ∷ [])
 
+-- the event is a delivery
 abbrev pub is_delivery : Event → Bool
 is_delivery (events.Deliver number) = true
 is_delivery _ = false
@@ -90,6 +100,7 @@ mark nodes row event outcome = if is_delivery event then [] else mark_at (mark_l
 
 -- ---- the frame that it sent
 
+-- the front of a call's label in a row
 unfoldable pub call_front : ℕ → List ℕ
 call_front row = pieces (codes "<svg x='1100' y='" ∷ decimal row ∷ codes "20' width='895' height='55'><text class='label' x='10' y='44'>" ∷ [])
 
@@ -97,31 +108,40 @@ call_front row = pieces (codes "<svg x='1100' y='" ∷ decimal row ∷ codes "20
 unfoldable pub frame_words : ℕ → Kind → List ℕ
 frame_words sent kind = pieces (decimal sent ∷ codes " " ∷ kind_name kind ∷ codes " " ∷ [])
 
+-- a call's number, in words
 unfoldable pub number_words : ℕ → ℕ → List ℕ
 number_words session call = pieces (decimal session ∷ codes "." ∷ decimal call ∷ codes "</text></svg>\n" ∷ [])
 
+-- a call's label
 abbrev pub call_label : ℕ → ℕ → Kind → Number → List ℕ
 call_label row sent kind number = call_front row ++ frame_words sent kind ++ number_words number.session number.call
 
+-- how the label of a reply is drawn
 abbrev pub reply_class : Status → List ℕ
 reply_class status = if is_ok status then codes "label" else codes "bad"
 
+-- where it stands
 unfoldable pub reply_place : ℕ → ℕ → List ℕ
 reply_place row lane = pieces (codes "<g transform='translate(" ∷ decimal lane ∷ codes "000 " ∷ decimal row ∷ codes "20)'>" ∷ [])
 
+-- its front
 unfoldable pub reply_front : List ℕ → List ℕ
 reply_front class = pieces (codes "<svg x='-905' width='895' height='55'><text class='" ∷ class ∷ codes " b' x='885' y='44'>" ∷ [])
 
+-- a reply's status and detail
 abbrev pub status_words : Reply → List ℕ
 status_words reply = status_name reply.status ++ codes " " ++ escaped reply.detail
 
+-- a reply's label
 abbrev pub reply_label : ℕ → ℕ → ℕ → Kind → Reply → List ℕ
 reply_label row lane sent kind reply = reply_place row lane ++ reply_front (reply_class reply.status) ++ frame_words sent kind ++ status_words reply ++ codes "</text></svg></g>\n"
 
+-- the label of a call or of a reply
 abbrev pub label_of : List NodeParts → ℕ → ℕ → Number → Party → Body → List ℕ
 label_of nodes row sent number party (bodies.Call call) = call_label row sent (kind_of call) number
 label_of nodes row sent number party (bodies.Reply kind reply) = reply_label row (lane_of nodes party) sent kind reply
 
+-- the label of a frame
 abbrev pub label : List NodeParts → ℕ → ℕ → Frame → List ℕ
 label nodes row sent frame = label_of nodes row sent frame.number frame.party frame.body
 

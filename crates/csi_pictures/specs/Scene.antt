@@ -22,6 +22,7 @@ abbrev pub node_lane : List ℕ → List NodeParts → ℕ
 node_lane id [] = 3
 node_lane id (node ∷ nodes) = if same_text node.id id then 3 else suc (node_lane id nodes)
 
+-- the lane of a party
 abbrev pub lane_of : List NodeParts → Party → ℕ
 lane_of nodes Controller = 2
 lane_of nodes (Node id) = node_lane id nodes
@@ -31,13 +32,16 @@ abbrev pub sender_of : List NodeParts → Party → Body → ℕ
 sender_of nodes party (bodies.Call call) = 1
 sender_of nodes party (bodies.Reply kind reply) = lane_of nodes party
 
+-- the lane that a frame comes from
 abbrev pub sender : List NodeParts → Frame → ℕ
 sender nodes frame = sender_of nodes frame.party frame.body
 
+-- the lane that a body goes to
 abbrev pub receiver_of : List NodeParts → Party → Body → ℕ
 receiver_of nodes party (bodies.Call call) = lane_of nodes party
 receiver_of nodes party (bodies.Reply kind reply) = 1
 
+-- the lane that a frame goes to
 abbrev pub receiver : List NodeParts → Frame → ℕ
 receiver nodes frame = receiver_of nodes frame.party frame.body
 
@@ -50,10 +54,12 @@ sent_number (outcomes.Answered number) = Some number
 sent_number (outcomes.Taken (Some number)) = Some number
 sent_number _ = None
 
+-- there is a number, and it is this one
 abbrev pub is_number : ℕ → Option ℕ → Bool
 is_number number None = false
 is_number number (Some sent) = sent == number
 
+-- the frame that was sent has this number
 abbrev pub sends : ℕ → Outcome → Bool
 sends number outcome = is_number number (sent_number outcome)
 
@@ -64,6 +70,7 @@ sent_row number (outcome ∷ outcomes) = if sends number outcome then 1 else suc
 
 -- ---- deliveries
 
+-- the event is a delivery of the frame of this number
 abbrev pub delivers : ℕ → Event → Bool
 delivers number (events.Deliver delivered) = delivered == number
 delivers number _ = false
@@ -73,6 +80,7 @@ abbrev pub came : Outcome → Bool
 came outcomes.NoSuchFrame = false
 came _ = true
 
+-- it is, and the frame came
 abbrev pub comes_by : ℕ → Event → Option Outcome → Bool
 comes_by number event None = false
 comes_by number event (Some outcome) = if came outcome then delivers number event else false
@@ -87,6 +95,7 @@ abbrev pub delivered : List Frame → Event → Option Frame
 delivered frames (events.Deliver number) = numbered frames number
 delivered frames _ = None
 
+-- the status is OK
 abbrev pub is_ok : Status → Bool
 is_ok statuses.Ok = true
 is_ok _ = false
@@ -96,6 +105,7 @@ abbrev pub is_success : Body → Bool
 is_success (bodies.Call call) = false
 is_success (bodies.Reply kind reply) = is_ok reply.status
 
+-- the frame, if there is one, is such a reply
 abbrev pub is_reply_of_success : Option Frame → Bool
 is_reply_of_success None = false
 is_reply_of_success (Some frame) = is_success frame.body

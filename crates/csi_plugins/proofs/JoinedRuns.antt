@@ -53,6 +53,7 @@ served-ok (Err fault) e = absurd (no-fault fault.kind e)
 
 -- ---- frames of two inputs
 
+-- where all of two lists are frames, so are all of the two together
 each-frame : (fs gs : List Frame) → AllByRecursion IsFrame fs → AllByRecursion IsFrame gs → AllByRecursion IsFrame (fs ++ gs)
 each-frame [] gs one two = two
 each-frame (f ∷ fs) gs one two = (one.0, each-frame fs gs one.1 two)
@@ -98,6 +99,7 @@ module _ {C : Type 0} (IsAsked : C → Type 0) (answers : C → Frame → Option
 
 -- a core's parts are a record in the present version, and opening leaves them
 module _ {X C : Type 0} (records : Records X) (head : StoredPart) (parts_of : C → List StoredPart) where
+  -- what a core left is opened with its parts, where these are of the present version and never none
   pub opened-again : ((core : C) (version : RecordVersion) → records.are version (parts_of core) → version ≡ present) → ((core : C) → parts_of core ≡ [] → ⊥)
       → (core other : C) → OpensTo records head (parts_of core) (parts_of other) → parts_of other ≡ parts_of core
   opened-again told some core other (inl same) = same.1
@@ -106,6 +108,7 @@ module _ {X C : Type 0} (records : Records X) (head : StoredPart) (parts_of : C 
 
 -- ---- one run that ended well
 
+-- a plugin was opened and served all frames of its input
 record RanWell {X C : Type 0} (records : Records X) (IsAsked : C → Type 0) (answers : C → Frame → Option Frame → C → Type 0) (parts_of : C → List StoredPart) (head : StoredPart) (content : List StoredPart) (after : Store) (io : Streams) : Type 0 where
   core : C
   asked : IsAsked core
@@ -130,9 +133,11 @@ module _ {X C K : Type 0} (seen : K → Store) (records : Records X) (IsAsked : 
   opened-well before after io (inl refused) = absurd (no-refusal refused.fault refused.ends)
   opened-well before after io (inr opened) = opened
 
+  -- a store that is honest after a run was so before it
   was-honest : (before after : K) (io : Streams) → IsOpened seen records IsAsked answers parts_of before after head io Done → (seen after).honest → (seen before).honest
   was-honest before after io o honest = o.honest (o.served.honest honest)
 
+  -- a run that is done, over a store that has one content alone, ran well
   ran-well : (before after : K) (content : List StoredPart) (io : Streams) → (seen after).honest → IsOnly (seen before) content → IsOpened seen records IsAsked answers parts_of before after head io Done
       → RanWell records IsAsked answers parts_of head content (seen after) io
   ran-well before after content io honest only o =

@@ -16,22 +16,27 @@ second [] = 0
 second (a ∷ []) = 0
 second (a ∷ b ∷ more) = b
 
+-- that byte of the first part, and 0 where there is no part
 owner : List StoredPart → ℕ
 owner [] = 0
 owner (part ∷ parts) = second part.value
 
+-- parts that begin as a node's record have 1 there
 owner-of-node : (parts more : List StoredPart) → IsNodeRecord None parts → owner (parts ++ more) ≡ 1
 unfolding owner second
 owner-of-node parts more is = ap (λ (ps : List StoredPart). owner (ps ++ more)) is.there.spelled.are
 
+-- parts that begin as a controller's record have 0 there
 owner-of-controller : (parts more : List StoredPart) → IsControllerRecord parts → owner (parts ++ more) ≡ 0
 unfolding owner second
 owner-of-controller parts more is = ap (λ (ps : List StoredPart). owner (ps ++ more)) is.there.spelled.are
 
+-- a node's record has 1 there
 owner-of-node-alone : (parts : List StoredPart) → IsNodeRecord None parts → owner parts ≡ 1
 unfolding owner second
 owner-of-node-alone parts is = ap owner is.there.spelled.are
 
+-- a controller's record has 0 there
 owner-of-controller-alone : (parts : List StoredPart) → IsControllerRecord parts → owner parts ≡ 0
 unfolding owner second
 owner-of-controller-alone parts is = ap owner is.there.spelled.are
@@ -40,6 +45,7 @@ owner-of-controller-alone parts is = ap owner is.there.spelled.are
 not_controller : (parts more : List StoredPart) → IsNodeRecord None parts → IsControllerRecord (parts ++ more) → ⊥
 not_controller parts more of_node of_controller = omega (arith, owner-of-node parts more of_node, owner-of-controller-alone (parts ++ more) of_controller)
 
+-- parts that begin as a controller's record are no node's
 not_node : (parts more : List StoredPart) → IsControllerRecord parts → IsNodeRecord None (parts ++ more) → ⊥
 not_node parts more of_controller of_node = omega (arith, owner-of-controller parts more of_controller, owner-of-node-alone (parts ++ more) of_node)
 
@@ -67,6 +73,7 @@ refused_controller parts place behind (inr at) = inr (record {
   refused (inl none) (inr is) = absurd (omega (arith, ap length none, at.here, behind))
   refused (inr begun) (inr is) = not_node at.before (at.part ∷ []) begun is
 
+-- a list of no length has nothing
 nothing : {A : Type 0} (xs : List A) → length xs ≡ 0 → xs ≡ []
 nothing [] e = refl
 nothing (x ∷ xs) e = absurd (omega (arith, e))

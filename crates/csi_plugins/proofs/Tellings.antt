@@ -31,6 +31,7 @@ load_refused before after NoMemory cause = tt
 load_refused before after (BadRecord place) cause = λ honest content holds. absurd (cause honest content holds)
 load_refused before after Full cause = absurd cause
 
+-- where a store has something that is no part, the process ends at its place, or for the device or for memory
 pub refuses_at : (place : ℕ) (fault : KeepFault) → IsForeignFault place fault → EndsAt place (ending_of_store fault)
 refuses_at place Device at = tt
 refuses_at place NoMemory at = tt

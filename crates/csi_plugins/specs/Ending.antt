@@ -9,6 +9,7 @@ use Rattle.csi_serving.specs.declared.serving.fault.ServeFault.{ServeFault}
 use Rattle.csi_serving.specs.declared.serving.fault.ServeFaultKind.{ServeFaultKind}
 use Rattle.csi_serving.specs.declared.serving.fault.ServeFaultKind.TheVariants as kinds
 
+-- by what the store answered
 abbrev pub ending_of_store : KeepFault → Ending
 ending_of_store Device = endings.Device
 ending_of_store NoMemory = endings.Memory
@@ -27,6 +28,7 @@ abbrev pub ending_unopened : KeepFault → Ending
 ending_unopened NoMemory = endings.Memory
 ending_unopened _ = endings.StoreNotOpened
 
+-- by why serving stopped
 abbrev pub ending_of_kind : ServeFaultKind → Ending
 ending_of_kind kinds.Input = endings.Device
 ending_of_kind kinds.Output = endings.Device
@@ -35,6 +37,7 @@ ending_of_kind (kinds.Keep fault) = ending_of_store fault
 ending_of_kind kinds.NoMemory = endings.Memory
 ending_of_kind kinds.Endless = endings.Endless
 
+-- by what serving answered
 abbrev pub ending_of_serving : Result Served ServeFault → Ending
 ending_of_serving (Ok served) = endings.Done
 ending_of_serving (Err fault) = ending_of_kind fault.kind

@@ -57,6 +57,7 @@ pub record Writer : Type 0 where
   pub contents : Option (List ℕ)
   pub faults : ℕ
 
+-- a counted writer, by what it took and how often it failed
 abbrev pub written_by : {W : Type 0} → (W → Option (List ℕ)) → Counted W → Writer
 written_by contents writer = record { contents = contents writer.inner; faults = writer.faults }
 

@@ -46,6 +46,7 @@ reads_of {read = read} one = record {
   again = λ value front rest s. ap taken (one.again value front rest s);
 }
 
+-- a byte, as it is spelled
 abbrev pub one_byte : ℕ → List ℕ
 one_byte b = b ∷ []
 
@@ -55,9 +56,11 @@ unfolding byte_in
 byte_reads =
     in_words (Spelled Always one_byte) (λ n bytes s. record { fits = tt; are = s.one }) (λ n bytes s. record { is_allowed = refl; one = s.are }) (reads_of (byte_agrees any LengthDiffers (λ _. End)))
 
+-- a count is at most so much
 pub record IsCount (most n : ℕ) : Type 0 where
   pub within : n ≤ most
 
+-- the reader of a count reads what spells one
 pub count_reads : (most : ℕ) → Reads (count_in most) (Spelled (IsCount most) one_byte)
 unfolding count_in
 count_reads most =
@@ -71,27 +74,33 @@ within-by : (most b n : ℕ) (bytes left : List ℕ) (t : Bool) → leb b most �
 within-by most b n bytes left true is e = subst (λ (k : ℕ). k ≤ most) (ap (λ (x : ℕ × List ℕ). x.0) (ok_is b bytes (n, left) e)) (leb-true b most is)
 within-by most b n bytes left false is e = absurd cc
 
+-- a count that was read is at most so much
 pub count-within : (most n : ℕ) (bytes left : List ℕ) → byte_at (at_most most) BadCount bytes ≡ Ok (n, left) → n ≤ most
 unfolding byte_at
 count-within most n [] left e = absurd cc
 count-within most n (b ∷ bytes) left e = within-by most b n bytes left (leb b most) refl e
 
+-- the reader of a number reads what spells one
 pub word_reads : Reads word_in (Spelled IsWord spelling.word)
 unfolding word_in
 word_reads = reads_of (any_word_agrees (λ _. End))
 
+-- the reader of a text reads what spells one
 pub text_reads : (least most : ℕ) → Reads (text_in least most) (Spelled (IsText least most) spelling.text)
 unfolding text_in
 text_reads least most = reads_of (any_text_agrees least most (λ _. End))
 
+-- the reader of a flag reads what spells one
 pub flag_reads : Reads flag_in (Spelled Always spelling.flag)
 unfolding flag_in
 flag_reads = reads_of (flag_agrees (λ _. End))
 
+-- the reader of a status reads what spells one
 pub status_reads : Reads status_in (Spelled Always (λ status. status_code status ∷ []))
 unfolding status_in
 status_reads = reads_of (status_agrees (λ _. End))
 
+-- the reader of a capability of a version reads what spells one
 pub capability_reads : (version : RecordVersion) → Reads (capability_in version) (Spelled (IsCapabilityIn version) spelling.capability)
 unfolding capability_in
 capability_reads version =
@@ -100,9 +109,11 @@ capability_reads version =
     (λ c bytes s. record { fits = record { fits = s.fits.fits; in_mode = s.fits.in_mode }; are = s.are })
     (reads_of (capability_agrees (modes_of version) End))
 
+-- a call's number, as it is spelled
 abbrev pub number_bytes : Number → List ℕ
 number_bytes number = spelling.word number.session ++ spelling.word number.call
 
+-- the reader of a call's number reads what spells one
 pub number_reads : Reads number_in (Spelled IsNumber number_bytes)
 unfolding number_in
 number_reads = reads_of (number_agrees End)
@@ -157,6 +168,7 @@ live-again : (a : Bool) → live_from (state_byte a) ≡ Some a
 live-again true = refl
 live-again false = refl
 
+-- the reader of whether a volume is live reads what spells it
 pub live_reads : Reads (code_in live_from) (Spelled Always (λ a. state_byte a ∷ []))
 live_reads = code_reads live_from state_byte (record { back = live-back; again = live-again })
 
@@ -194,6 +206,7 @@ version-back (suc (suc (suc zero))) Two e = absurd cc
 version-back (suc (suc (suc zero))) Three e = refl
 version-back (suc (suc (suc (suc n)))) version e = absurd cc
 
+-- each version is found at its number
 pub version-found : (version : RecordVersion) → version_from_number (version_number version) ≡ Some version
 version-found One = refl
 version-found Two = refl

@@ -30,11 +30,13 @@ use Rattle.csi_records.proofs.ValueReaders.{AreFew, counted_reads, holding_reads
 
 -- ---- a volume's row, behind the version
 
+-- the value of a volume's row, behind its version
 abbrev volume_body : VolumeRow → List ℕ
 volume_body row =
     state_byte row.volume.is_live ∷ spelling.text row.volume.name ++ spelling.word row.volume.capacity ++ counted spelling.capability row.volume.capabilities
     ++ counted holding_bytes row.holdings ++ kept_bytes row.volume.kept
 
+-- a volume's row, from its fields
 abbrev make_volume : ℕ → Bool → List ℕ → ℕ → List Capability → List NodeHolding → Kept → VolumeRow
 make_volume id is_live name capacity capabilities holdings kept =
     record { volume = record { id = id; name = name; capacity = capacity; capabilities = capabilities; is_live = is_live; kept = kept }; holdings = holdings }
@@ -44,6 +46,7 @@ pub record IsRowOf {R : Type 0} (IsRow : R → Type 0) (id_of : R → ℕ) (id :
   pub has_id : id_of row ≡ id
   pub fits : IsRow row
 
+-- it is a row of the volume of this id
 abbrev IsVolumeOf : RecordVersion → ℕ → VolumeRow → Type 0
 IsVolumeOf version = IsRowOf (IsVolumeRow version) (λ row. row.volume.id)
 
@@ -145,12 +148,15 @@ volume_reads version id is_id =
 
 -- ---- a node's row, behind the version
 
+-- the value of a node's row, behind its version
 abbrev answered_body : RowShown → List ℕ
 answered_body row = staged_bytes row.staged ++ counted target_bytes row.targets ++ kept_bytes row.kept
 
+-- a node's row, from its fields
 abbrev make_answered : ℕ → Option Capability → List NodeTarget → Kept → RowShown
 make_answered id staged targets kept = record { id = id; staged = staged; targets = targets; kept = kept }
 
+-- it is a node's row of the volume of this id
 abbrev IsAnsweredOf : RecordVersion → ℕ → RowShown → Type 0
 IsAnsweredOf version = IsRowOf (IsAnsweredRow version) (λ row. row.id)
 
@@ -247,9 +253,11 @@ row_read version IsRow id_of body reads ids = record {
   again = λ row fits. whole-again version (IsRowOf IsRow id_of (id_of row)) body (reads (id_of row) (ids row fits)) row (record { has_id = refl; fits = fits });
 }
 
+-- rows of volumes are read as what spells them
 pub volume_read : (version : RecordVersion) → IsReadWhole version (volume_in version) IsVolumeId (IsVolumeRow version) (volume_part version)
 volume_read version = row_read version (IsVolumeRow version) (λ row. row.volume.id) volume_body (volume_reads version) (λ row fits. fits.id)
 
+-- a node's rows are read as what spells them
 pub answered_read : (version : RecordVersion) → IsReadWhole version (answered_in version) IsVolumeId (IsAnsweredRow version) (answered_part version)
 answered_read version = row_read version (IsAnsweredRow version) (λ row. row.id) answered_body (answered_reads version) (λ row fits. fits.id)
 
@@ -268,9 +276,11 @@ head_read version Fits body reads = record {
   again = λ first fits. whole-again version Fits body reads first fits;
 }
 
+-- a controller's head is read as what spells it
 pub controller_head_read : (version : RecordVersion) → IsReadWhole version (λ key. controller_head_in version) IsHeadKey (IsHead IsWord version) (λ head. controller_head version head.own head.session)
 controller_head_read version = head_read version (IsHead IsWord version) (λ head. 0 ∷ head_fields spelling.word head) (controller_head_reads version)
 
+-- a node's head is read as what spells it
 pub node_head_read : (version : RecordVersion) → IsReadWhole version (λ key. node_head_in version) IsHeadKey (IsHead IsNodeId version) (λ head. node_head version head.own head.session)
 node_head_read version = head_read version (IsHead IsNodeId version) (λ head. 1 ∷ head_fields spelling.text head) (node_head_reads version)
 

@@ -56,6 +56,7 @@ rules-copies : (next_id : ℕ) (session : Option ℕ) (rows copies : List Contro
 rules-copies next_id None rows copies same are = sound-copies next_id rows copies same are
 rules-copies next_id (Some session) rows copies same are = (sound-copies next_id rows copies same are.0, current-copies session rows copies same are.1)
 
+-- rows that are spelled as a controller's record's keep its rules
 pub rules-shown : (head : Head ℕ) (rows : List ControllerRow) → AreVolumeRows head (map volume_row rows) → AreControllerRows head.own head.session rows
 rules-shown head rows are = rules-copies head.own head.session are.0 rows (same-rows are.0 rows are.1) are.2
 
@@ -171,5 +172,6 @@ writable layout plain first rows parts are = let fits = fit-parts layout plain p
 pub controller_versioned : AreVersioned controller_layout
 controller_versioned = record { heads = λ version head. version-found version }
 
+-- a node's head begins with the byte of its version
 pub node_versioned : (wanted : Option (List ℕ)) → AreVersioned (λ version. node_layout version wanted)
 node_versioned wanted = record { heads = λ version head. version-found version }

@@ -33,6 +33,7 @@ use Rattle.csi_records.proofs.WritingPieces.{flat_map-push}
 abbrev pub long : ℕ → List ℕ
 long n = big_bytes 4 n
 
+-- it fits 32 bits
 pub record IsLong (n : ℕ) : Type 0 where
   pub fits : n < 2 ^ 32
 
@@ -66,9 +67,11 @@ long_reads = record { takes = long_in-takes; again = λ n front rest s. ap (λ (
 
 -- ---- so many bytes
 
+-- the bytes are so many
 pub record IsOfLength (n : ℕ) (value : List ℕ) : Type 0 where
   pub counted : length value ≡ n
 
+-- bytes are spelled as they are
 abbrev pub itself : List ℕ → List ℕ
 itself value = value
 
@@ -102,6 +105,7 @@ bytes_read n = record {
 
 -- ---- a part
 
+-- a part, from its key and its value
 abbrev make_part : ℕ → List ℕ → StoredPart
 make_part key value = record { key = key; value = value }
 
@@ -150,15 +154,19 @@ part_reads =
 abbrev pub Head : Type 0
 Head = RecordVersion × ℕ
 
+-- the number of parts fits 32 bits
 abbrev pub IsHead : Head → Type 0
 IsHead head = IsLong head.1
 
+-- that front, as it is spelled
 abbrev pub head_bytes : Head → List ℕ
 head_bytes head = record_head head.0 head.1
 
+-- a front, from its fields
 abbrev pub make_head : RecordVersion → ℕ → Head
 make_head version count = (version, count)
 
+-- these bytes spell it
 abbrev SaysHead : Head → List ℕ → Type 0
 SaysHead = After Always (λ version. version_number version ∷ []) (λ version. Made IsLong long (λ count. make_head version count))
 

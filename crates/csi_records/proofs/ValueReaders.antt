@@ -117,6 +117,7 @@ counted_reads Fits spell most one =
 
 -- ---- holdings and targets
 
+-- these bytes spell a holding of this version
 abbrev SaysHolding : RecordVersion → NodeHolding → List ℕ → Type 0
 SaysHolding version = After IsNodeId spelling.text (λ node. After (IsCapabilityIn version) spelling.capability (λ capability. Made Always spelling.flag (λ readonly. record { node = node; capability = capability; readonly = readonly })))
 
@@ -155,6 +156,7 @@ holding_reads version =
     in_words (Spelled (IsHolding version) holding_bytes) (holding-there version) (holding-back version)
     (after (text_reads 1 255) (λ node. after (capability_reads version) (λ capability. makes (λ readonly. record { node = node; capability = capability; readonly = readonly }) flag_reads)))
 
+-- these bytes spell a target
 abbrev SaysTarget : NodeTarget → List ℕ → Type 0
 SaysTarget = After IsTarget spelling.text (λ target. Made Always spelling.flag (λ readonly. record { target = target; readonly = readonly }))
 
@@ -178,6 +180,7 @@ target_reads =
 
 -- ---- a reply
 
+-- an id, if there is one, is a volume's
 abbrev IsReplyId : Option ℕ → Type 0
 IsReplyId id = IfSome id IsVolumeId
 
@@ -203,6 +206,7 @@ reply_id_reads =
     (λ value bytes s. let p = id-back value s.fits in record { before = p.0; fits = p.1; same = p.3; are = s.are ∙ p.2 })
     (makes id_from word_reads)
 
+-- these bytes spell a reply
 abbrev SaysReply : Reply → List ℕ → Type 0
 SaysReply =
     After Always (λ status. status_code status ∷ []) (λ status. After IsReplyId spelling.reply_id (λ id. Made (IsText 0 255) spelling.text (λ detail. record { status = status; id = id; detail = detail })))
@@ -242,6 +246,7 @@ reply_reads =
     in_words (Spelled IsReply spelling.reply_fields) reply-there reply-back
     (after status_reads (λ status. after reply_id_reads (λ id. makes (λ detail. record { status = status; id = id; detail = detail }) (text_reads 0 255))))
 
+-- these bytes spell a kept call
 abbrev SaysKept : Kept → List ℕ → Type 0
 SaysKept =
     After IsNumber number_bytes (λ number. After Always (λ kind. (128 + kind_number kind) ∷ []) (λ kind. Made IsReply spelling.reply_fields (λ reply. record { number = number; kind = kind; reply = reply })))

@@ -25,40 +25,50 @@ access-size : (a : Access) → IsAccess a → length (spelling.access a) ≤ 130
 access-size Block fits = omega arith
 access-size (Mount fs_type) fits = omega (arith, fits.no_longer)
 
+-- a capability has at most 131 bytes
 capability-size : (version : RecordVersion) (c : Capability) → IsCapabilityIn version c → length (spelling.capability c) ≤ 131
 capability-size version c fits = omega (arith, access-size c.access fits.fits, length-append (spelling.access c.access) (mode_number c.mode ∷ []))
 
+-- capabilities have at most 131 bytes each
 capabilities-size : (version : RecordVersion) (cs : List Capability) → AllByRecursion (IsCapabilityIn version) cs → length (flat_map spelling.capability cs) ≤ 131 * length cs
 capabilities-size version [] fits = omega arith
 capabilities-size version (c ∷ cs) fits = omega (arith, capability-size version c (fits.0), capabilities-size version cs (fits.1), length-append (spelling.capability c) (flat_map spelling.capability cs))
 
+-- a holding has at most 388 bytes
 holding-size : (version : RecordVersion) (h : NodeHolding) → IsHolding version h → length (holding_bytes h) ≤ 388
 holding-size version h fits =
     omega (arith, fits.node.no_longer, capability-size version h.capability fits.capability, length-append (spelling.text h.node) (spelling.capability h.capability), length-append (spelling.text h.node ++ spelling.capability h.capability) (spelling.flag h.readonly))
 
+-- holdings have at most 388 bytes each
 holdings-size : (version : RecordVersion) (hs : List NodeHolding) → AllByRecursion (IsHolding version) hs → length (flat_map holding_bytes hs) ≤ 388 * length hs
 holdings-size version [] fits = omega arith
 holdings-size version (h ∷ hs) fits = omega (arith, holding-size version h (fits.0), holdings-size version hs (fits.1), length-append (holding_bytes h) (flat_map holding_bytes hs))
 
+-- a target has at most 257 bytes
 target-size : (t : NodeTarget) → IsTargetRow t → length (target_bytes t) ≤ 257
 target-size t fits = omega (arith, fits.no_longer, length-append (spelling.text t.target) (spelling.flag t.readonly))
 
+-- targets have at most 257 bytes each
 targets-size : (ts : List NodeTarget) → AllByRecursion IsTargetRow ts → length (flat_map target_bytes ts) ≤ 257 * length ts
 targets-size [] fits = omega arith
 targets-size (t ∷ ts) fits = omega (arith, target-size t (fits.0), targets-size ts (fits.1), length-append (target_bytes t) (flat_map target_bytes ts))
 
+-- a reply's id has at most 8 bytes
 id-size : (id : Option ℕ) → length (spelling.reply_id id) ≤ 8
 id-size None = omega arith
 id-size (Some n) = omega arith
 
+-- a reply has at most 265 bytes
 reply-size : (r : Reply) → IsReply r → length (spelling.reply_fields r) ≤ 265
 reply-size r fits = omega (arith, fits.detail_fits.no_longer, id-size r.id, length-append (spelling.reply_id r.id) (spelling.text r.detail))
 
+-- a kept reply, with its number and its kind, has at most 282 bytes
 kept-size : (k : Kept) → IsKept k → length (kept_bytes k) ≤ 282
 kept-size k fits =
     let words : List ℕ = spelling.word k.number.session ++ spelling.word k.number.call in
     omega (arith, reply-size k.reply fits.reply, length-append words ((128 + kind_number k.kind) ∷ spelling.reply_fields k.reply), length-append (spelling.word k.number.session) (spelling.word k.number.call))
 
+-- how a volume is staged has at most 132 bytes
 staged-size : (version : RecordVersion) (s : Option Capability) → IsStagedSo version s → length (staged_bytes s) ≤ 132
 staged-size version None fits = omega arith
 staged-size version (Some c) fits = omega (arith, capability-size version c fits)
@@ -67,6 +77,7 @@ staged-size version (Some c) fits = omega (arith, capability-size version c fits
 length6 : (a b c d e f : List ℕ) → length (a ++ b ++ c ++ d ++ e ++ f) ≡ length a + length b + length c + length d + length e + length f
 length6 a b c d e f = simp length-append
 
+-- the length of three pieces is the sum of theirs
 length3 : (a b c : List ℕ) → length (a ++ b ++ c) ≡ length a + length b + length c
 length3 a b c = simp length-append
 
@@ -89,6 +100,7 @@ volume_size version row fits =
     fewer : (n : ℕ) → n ≤ 282 → n ≤ 300
     fewer n h = omega arith
 
+-- the value of a node's row is shorter than 2^32 bytes
 pub answered_size : (version : RecordVersion) (row : RowShown) → IsAnsweredRow version row → length (answered_bytes version row) < 2 ^ 32
 answered_size version row fits =
     let a : List ℕ = version_number version ∷ staged_bytes row.staged in

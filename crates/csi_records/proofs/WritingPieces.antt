@@ -12,6 +12,7 @@ use Rattle.csi_stores.specs.declared.part.Part.{Part}
 use Rattle.csi_stores.specs.Part.{StoredPart, IsPart, Change, put_all, take_all, change_of, stored_in, all_stored_in}
 use Rattle.csi_records.specs.Spelling.{part_bytes}
 
+-- a part, from its key and its value
 abbrev make_part : ℕ → List ℕ → StoredPart
 make_part key value = record { key = key; value = value }
 
@@ -19,9 +20,11 @@ make_part key value = record { key = key; value = value }
 pub written2 : (old a new x y : List ℕ) → a ≡ old ++ x → new ≡ a ++ y → new ≡ old ++ (x ++ y)
 written2 old a new x y p q = q ∙ ap (λ (t : List ℕ). t ++ y) p ∙ append_assoc old x y
 
+-- three pieces
 pub written3 : (old a b new x y z : List ℕ) → a ≡ old ++ x → b ≡ a ++ y → new ≡ b ++ z → new ≡ old ++ (x ++ y ++ z)
 written3 old a b new x y z p q r = written2 old b new (x ++ y) z (written2 old a b x y p q) r
 
+-- four pieces
 pub written4 : (old a b c new x y z w : List ℕ) → a ≡ old ++ x → b ≡ a ++ y → c ≡ b ++ z → new ≡ c ++ w → new ≡ old ++ (x ++ y ++ z ++ w)
 written4 old a b c new x y z w p q r s = written2 old c new (x ++ y ++ z) w (written3 old a b c x y z p q r) s
 

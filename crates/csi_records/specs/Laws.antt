@@ -30,6 +30,7 @@ pub record LawsOf {H R : Type 0} (layouts : RecordVersion → Layout H R) : Type
   pub refusals : (parts : List StoredPart) → HasOneRefusal (IsInSome (λ version. IsRecordOf (layouts version))) parts
   pub bytes : (bytes : List ℕ) → HasOneReading (λ version. IsRecordOf (layouts version)) bytes
 
+-- the laws of the records of both plugins
 pub record RecordLaws : Type 0 where
   pub controller : LawsOf controller_layout
   pub node : (wanted : Option (List ℕ)) → LawsOf (λ version. node_layout version wanted)

@@ -9,6 +9,7 @@ use Rattle.csi_stores.specs.Part.{StoredPart, IsPart}
 use Rattle.csi_records.specs.Spelling.{part_bytes, record_head, record_bytes}
 use Rattle.csi_records.specs.Records.{IsInSome, Begins, IsRefusedAt}
 
+-- bytes that are no record are refused at this place
 pub data IsBadAt (Is : RecordVersion → List StoredPart → Type 0) (bytes : List ℕ) : ℕ → Type 0 where
   -- no version and number of parts, from 1 on, stand in front
   no_head : ((version : RecordVersion) (count : ℕ) (rest : List ℕ) → 1 ≤ count → count < 2 ^ 32 → bytes ≡ record_head version count ++ rest → ⊥) → IsBadAt Is bytes 0

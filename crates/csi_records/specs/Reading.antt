@@ -26,14 +26,17 @@ use Rattle.csi_records.specs.Records.{Head}
 abbrev pub Reader : Type 0 → Type 0
 Reader A = List ℕ → Option (A × List ℕ)
 
+-- where a value was read, reading goes on with the next reader
 abbrev pub go_on : {A B : Type 0} → Option (A × List ℕ) → (A → Reader B) → Option (B × List ℕ)
 go_on (Some read) next = next read.0 read.1
 go_on None next = None
 
 infixl 10 ◌>>=◌
+-- one reader, and then the one for its value
 abbrev pub ◌>>=◌ : {A B : Type 0} → Reader A → (A → Reader B) → Reader B
 (reader >>= next) bytes = go_on (reader bytes) next
 
+-- a reader that takes no bytes and gives this value
 abbrev pub give : {A : Type 0} → A → Reader A
 give value bytes = Some (value, bytes)
 
@@ -42,6 +45,7 @@ abbrev pub or_none : {A : Type 0} → Option A → Reader A
 or_none (Some value) bytes = Some (value, bytes)
 or_none None bytes = None
 
+-- a reader that takes nothing
 abbrev pub nothing : {A : Type 0} → Reader A
 nothing bytes = None
 
@@ -50,11 +54,13 @@ abbrev pub taken : {A : Type 0} → Result (A × List ℕ) Stop → Option (A ×
 taken (Ok read) = Some read
 taken (Err stop) = None
 
+-- a reader of frames, whose faults aren't told apart
 abbrev pub as_in_frames : {A : Type 0} → frames.Reader A → Reader A
 as_in_frames read bytes = taken (read bytes)
 
 -- ---- fields, as in frames
 
+-- a byte
 unfoldable pub byte_in : Reader ℕ
 byte_in = as_in_frames (frames.byte_at any LengthDiffers)
 
@@ -62,21 +68,27 @@ byte_in = as_in_frames (frames.byte_at any LengthDiffers)
 unfoldable pub count_in : ℕ → Reader ℕ
 count_in most = as_in_frames (frames.byte_at (at_most most) BadCount)
 
+-- a number of eight bytes
 unfoldable pub word_in : Reader ℕ
 word_in = as_in_frames (frames.word_at any)
 
+-- a text of no fewer and no more bytes than so many
 unfoldable pub text_in : ℕ → ℕ → Reader (List ℕ)
 text_in least most = as_in_frames (frames.text_at least most)
 
+-- a flag
 unfoldable pub flag_in : Reader Bool
 flag_in = as_in_frames frames.flag_at
 
+-- a capability, in a mode that the version has
 unfoldable pub capability_in : RecordVersion → Reader Capability
 capability_in version = as_in_frames (frames.capability_at (modes_of version))
 
+-- a status
 unfoldable pub status_in : Reader Status
 status_in = as_in_frames frames.status_at
 
+-- a call's number
 unfoldable pub number_in : Reader Number
 number_in = as_in_frames frames.number_at
 
@@ -114,6 +126,7 @@ counted_in most read = do
   count ← count_in most
   items_in read count
 
+-- a node that a volume is attached to, and how
 unfoldable pub holding_in : RecordVersion → Reader NodeHolding
 holding_in version = do
   node ← text_in 1 255
@@ -121,17 +134,20 @@ holding_in version = do
   readonly ← flag_in
   give (record { node = node; capability = capability; readonly = readonly })
 
+-- a target that a volume is published at, and how
 unfoldable pub target_in : Reader NodeTarget
 target_in = do
   target ← text_in 1 255
   readonly ← flag_in
   give (record { target = target; readonly = readonly })
 
+-- the id of a reply, if it has one
 unfoldable pub reply_id_in : Reader (Option ℕ)
 reply_id_in = do
   n ← word_in
   give (id_from n)
 
+-- a reply
 unfoldable pub reply_in : Reader Reply
 reply_in = do
   status ← status_in
@@ -139,6 +155,7 @@ reply_in = do
   detail ← text_in 0 255
   give (record { status = status; id = id; detail = detail })
 
+-- the last call that is kept: its number, its kind and its reply
 unfoldable pub kept_in : Reader Kept
 kept_in = do
   number ← number_in
@@ -146,6 +163,7 @@ kept_in = do
   reply ← reply_in
   give (record { number = number; kind = kind; reply = reply })
 
+-- how a volume is staged, if it is
 unfoldable pub staged_in : RecordVersion → Reader (Option Capability)
 staged_in version = do
   is_staged ← flag_in
@@ -155,6 +173,7 @@ staged_in version = do
 
 -- ---- the values of parts, behind the version
 
+-- a controller's row, for the volume of this id
 unfoldable pub volume_in : RecordVersion → ℕ → Reader VolumeRow
 volume_in version id = do
   is_live ← code_in live_from
@@ -165,6 +184,7 @@ volume_in version id = do
   kept ← kept_in
   give (record { volume = record { id = id; name = name; capacity = capacity; capabilities = capabilities; is_live = is_live; kept = kept }; holdings = holdings })
 
+-- a node's row, for the volume of this id
 unfoldable pub answered_in : RecordVersion → ℕ → Reader RowShown
 answered_in version id = do
   staged ← staged_in version
@@ -185,6 +205,7 @@ session_in version =
       session ← word_in
       give (Some session)) else give None
 
+-- a controller's head: the next id and the session
 unfoldable pub controller_head_in : RecordVersion → Reader (Head ℕ)
 controller_head_in version = do
   plugin ← tag_in 0
@@ -192,6 +213,7 @@ controller_head_in version = do
   session ← session_in version
   give (record { own = next_id; session = session })
 
+-- a node's head: its id and the session
 unfoldable pub node_head_in : RecordVersion → Reader (Head (List ℕ))
 node_head_in version = do
   plugin ← tag_in 1
@@ -201,6 +223,7 @@ node_head_in version = do
 
 -- ---- a part of a whole record
 
+-- a number of four bytes
 unfoldable pub long_in : Reader ℕ
 long_in bytes = if nat_lt (length bytes) 4 then None else Some (big_number 4 bytes, drop 4 bytes)
 
@@ -208,6 +231,7 @@ long_in bytes = if nat_lt (length bytes) 4 then None else Some (big_number 4 byt
 unfoldable pub bytes_in : ℕ → Reader (List ℕ)
 bytes_in n bytes = if nat_lt (length bytes) n then None else Some (take n bytes, drop n bytes)
 
+-- a part of the bytes of a record
 unfoldable pub part_in : Reader StoredPart
 part_in = do
   key ← word_in
@@ -224,11 +248,13 @@ record_head_in = do
 
 -- ---- a whole value: the version's byte, what stands behind it, and no byte more
 
+-- the value, where no byte is left
 abbrev pub ended : {A : Type 0} → Option (A × List ℕ) → Option A
 ended (Some (value, [])) = Some value
 ended (Some (value, b ∷ bytes)) = None
 ended None = None
 
+-- a value that is read from all bytes behind the version's
 unfoldable pub whole : {A : Type 0} → RecordVersion → Reader A → List ℕ → Option A
 whole version read bytes = ended (go_on (tag_in (version_number version) bytes) (λ _. read))
 
@@ -241,10 +267,12 @@ pub record IsReadWhole {R : Type 0} (version : RecordVersion) (row_in : ℕ → 
 
 -- ---- the version of parts: that of the byte with which the first value begins
 
+-- the version that a value begins with
 abbrev pub version_in_value : List ℕ → Option RecordVersion
 version_in_value [] = None
 version_in_value (b ∷ bytes) = version_from_number b
 
+-- the version of the first part, if there is one
 abbrev pub version_in_parts : List StoredPart → Option RecordVersion
 version_in_parts [] = None
 version_in_parts (part ∷ parts) = version_in_value part.value

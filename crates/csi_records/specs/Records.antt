@@ -31,14 +31,17 @@ pub record IsCapabilityIn (version : RecordVersion) (capability : Capability) : 
   pub fits : IsCapability capability
   pub in_mode : has_mode (modes_of version) capability.mode ≡ true
 
+-- a kept call is within its limits
 pub record IsKept (kept : Kept) : Type 0 where
   pub number : IsNumber kept.number
   pub reply : IsReply kept.reply
 
+-- so is where a volume is held
 pub record IsHolding (version : RecordVersion) (holding : NodeHolding) : Type 0 where
   pub node : IsNodeId holding.node
   pub capability : IsCapabilityIn version holding.capability
 
+-- so is a controller's row
 pub record IsVolumeRow (version : RecordVersion) (row : VolumeRow) : Type 0 where
   pub id : IsVolumeId row.volume.id
   pub name : IsName row.volume.name
@@ -49,12 +52,15 @@ pub record IsVolumeRow (version : RecordVersion) (row : VolumeRow) : Type 0 wher
   pub holdings : AllByRecursion (IsHolding version) row.holdings
   pub kept : IsKept row.volume.kept
 
+-- so is how a volume is staged, if it is
 abbrev pub IsStagedSo : RecordVersion → Option Capability → Type 0
 IsStagedSo version staged = IfSome staged (IsCapabilityIn version)
 
+-- so is a target
 abbrev pub IsTargetRow : NodeTarget → Type 0
 IsTargetRow target = IsTarget target.target
 
+-- so is a node's row
 pub record IsAnsweredRow (version : RecordVersion) (row : RowShown) : Type 0 where
   pub id : IsVolumeId row.id
   pub staged : IsStagedSo version row.staged
@@ -110,9 +116,11 @@ abbrev pub AreControllerRows : ℕ → Option ℕ → List ControllerRow → Typ
 AreControllerRows next_id None rows = IsSound next_id rows
 AreControllerRows next_id (Some session) rows = AreRecorded next_id session rows
 
+-- rows that keep a controller's rules, as they are spelled
 abbrev pub AreVolumeRows : Head ℕ → List VolumeRow → Type 0
 AreVolumeRows head shown = (rows : List ControllerRow) × (map volume_row rows ≡ shown) × AreControllerRows head.own head.session rows
 
+-- how a controller's record is laid out
 abbrev pub controller_layout : RecordVersion → Layout (Head ℕ) VolumeRow
 controller_layout version = record {
   head = λ head. controller_head version head.own head.session;
@@ -127,6 +135,7 @@ controller_layout version = record {
 abbrev pub IsAskedNode : Option (List ℕ) → List ℕ → Type 0
 IsAskedNode wanted node = IsNodeId node × IfSome wanted (λ id. node ≡ id)
 
+-- how a node's record is laid out
 abbrev pub node_layout : RecordVersion → Option (List ℕ) → Layout (Head (List ℕ)) RowShown
 node_layout version wanted = record {
   head = λ head. node_head version head.own head.session;
@@ -138,10 +147,12 @@ node_layout version wanted = record {
 
 -- ---- the record of a head and rows: with the head's session, or without one
 
+-- the record of a head and its rows; without a session it is that of the rows' last calls
 abbrev pub controller_of : ℕ → Option ℕ → List ControllerRow → RecordParts
 controller_of next_id (Some session) rows = record { next_id = next_id; session = session; rows = rows }
 controller_of next_id None rows = without_session next_id rows
 
+-- the same of a node's
 abbrev pub node_of : List ℕ → Option ℕ → List NodeRow → NodeParts
 node_of id (Some session) rows = record { id = id; session = session; rows = rows }
 node_of id None rows = node_without_session id rows

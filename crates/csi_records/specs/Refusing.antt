@@ -4,6 +4,7 @@ use Rattle.csi_stores.specs.declared.keep.KeepFault.TheVariants.{NoMemory, BadRe
 use Rattle.csi_records.specs.declared.fault.RecordStop.{RecordStop}
 use Rattle.csi_records.specs.declared.fault.RecordStop.TheVariants as stops
 
+-- the store's fault
 abbrev pub fault_of_stop : RecordStop → KeepFault
 fault_of_stop (stops.BadRecord place) = BadRecord place
 fault_of_stop stops.NoMemory = NoMemory

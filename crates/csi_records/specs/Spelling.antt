@@ -47,6 +47,7 @@ pub record VolumeRow : Type 0 where
   pub volume : Volume
   pub holdings : List NodeHolding
 
+-- a controller's head
 abbrev pub controller_head : RecordVersion → ℕ → Option ℕ → StoredPart
 controller_head version next_id session = record { key = 0; value = version_number version ∷ 0 ∷ word next_id ++ session_bytes session }
 
@@ -54,17 +55,21 @@ controller_head version next_id session = record { key = 0; value = version_numb
 abbrev pub state_byte : Bool → ℕ
 state_byte is_live = if is_live then 1 else 2
 
+-- where a volume is held, and how
 abbrev pub holding_bytes : NodeHolding → List ℕ
 holding_bytes holding = text holding.node ++ capability holding.capability ++ flag holding.readonly
 
+-- the value of a controller's row
 abbrev pub volume_bytes : RecordVersion → VolumeRow → List ℕ
 volume_bytes version row =
     version_number version ∷ state_byte row.volume.is_live ∷ text row.volume.name ++ word row.volume.capacity ++ counted capability row.volume.capabilities
     ++ counted holding_bytes row.holdings ++ kept_bytes row.volume.kept
 
+-- the part of a controller's row
 abbrev pub volume_part : RecordVersion → VolumeRow → StoredPart
 volume_part version row = record { key = row.volume.id; value = volume_bytes version row }
 
+-- a controller's record: its head, and its rows
 abbrev pub controller_parts : RecordVersion → ℕ → Option ℕ → List VolumeRow → List StoredPart
 controller_parts version next_id session rows = controller_head version next_id session ∷ map (volume_part version) rows
 
@@ -76,11 +81,13 @@ volume_row row = record { volume = volume_of_row row; holdings = row.holdings.it
 abbrev pub node_holding : Holding → NodeHolding
 node_holding holding = record { node = holding.node; capability = holding.capability; readonly = holding.readonly }
 
+-- each volume that was made, and where it is held
 abbrev pub rows_of : ControllerState → List VolumeRow
 rows_of state = map (λ volume. record { volume = volume; holdings = map node_holding (holdings_of volume.id state) }) state.volumes
 
 -- ---- the node's parts: a head with its id and the session, and a row for each volume, under the volume's id
 
+-- a node's head
 abbrev pub node_head : RecordVersion → List ℕ → Option ℕ → StoredPart
 node_head version node session = record { key = 0; value = version_number version ∷ 1 ∷ text node ++ session_bytes session }
 
@@ -89,20 +96,25 @@ abbrev pub staged_bytes : Option Capability → List ℕ
 staged_bytes None = 0 ∷ []
 staged_bytes (Some staged) = 1 ∷ capability staged
 
+-- a target that a volume is published at, and how
 abbrev pub target_bytes : NodeTarget → List ℕ
 target_bytes target = text target.target ++ flag target.readonly
 
+-- the value of a node's row
 abbrev pub answered_bytes : RecordVersion → RowShown → List ℕ
 answered_bytes version row = version_number version ∷ staged_bytes row.staged ++ counted target_bytes row.targets ++ kept_bytes row.kept
 
+-- the part of a node's row
 abbrev pub answered_part : RecordVersion → RowShown → StoredPart
 answered_part version row = record { key = row.id; value = answered_bytes version row }
 
+-- a node's record: its head, and its rows
 abbrev pub node_parts : RecordVersion → List ℕ → Option ℕ → List RowShown → List StoredPart
 node_parts version node session rows = node_head version node session ∷ map (answered_part version) rows
 
 -- ---- a whole record: the version, the number of parts, and of each part the key, the length of its value and the value
 
+-- a part among the bytes of a record
 abbrev pub part_bytes : StoredPart → List ℕ
 part_bytes part = word part.key ++ big_bytes 4 (length part.value) ++ part.value
 
@@ -110,5 +122,6 @@ part_bytes part = word part.key ++ big_bytes 4 (length part.value) ++ part.value
 abbrev pub record_head : RecordVersion → ℕ → List ℕ
 record_head version count = version_number version ∷ big_bytes 4 count
 
+-- the bytes of a record of these parts
 abbrev pub record_bytes : RecordVersion → List StoredPart → List ℕ
 record_bytes version parts = record_head version (length parts) ++ flat_map part_bytes parts

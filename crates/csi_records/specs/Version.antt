@@ -11,6 +11,7 @@ version_number One = 1
 version_number Two = 2
 version_number Three = 3
 
+-- the version of a number, if it has one
 abbrev pub version_from_number : ℕ → Option RecordVersion
 version_from_number zero = None
 version_from_number (suc zero) = Some One

@@ -39,6 +39,7 @@ use Rattle.csi_reports.proofs.OneOrder.{one-order, same-members}
 text-ties : (a b : List ℕ) → pointwise nat_eq a b ≡ eq_by_cmp (slice_cmp nat_cmp) a b
 text-ties = lists_ties nat_cmp unsigned_ties
 
+-- the test of two places holds exactly where neither comes before the other
 places-ties : (a b : List (List ℕ)) → pointwise (pointwise nat_eq) a b ≡ eq_by_cmp place_order a b
 places-ties = lists_ties (slice_cmp nat_cmp) text-ties
 
@@ -62,6 +63,7 @@ attached-told a b e =
     let flag = one-flag a.readonly b.readonly (ap (λ p. get_or (get_or p 2 []) 1 0) e) in
     rw (id, node, mode, flag) refl
 
+-- two staged volumes at one place have the same entry
 staged-told : (a b : StagedAt) → staged_place a ≡ staged_place b → staged_entry a ≡ staged_entry b
 staged-told a b e =
     let id : a.id ≡ b.id = ap (λ p. get_or (get_or p 0 []) 0 0) e in
@@ -69,6 +71,7 @@ staged-told a b e =
     let mode = ap (λ p. get_or (get_or p 2 []) 0 0) e in
     rw (id, node, mode) refl
 
+-- two published volumes at one place have the same entry
 published-told : (a b : PublishedAt) → published_place a ≡ published_place b → published_entry a ≡ published_entry b
 published-told a b e =
     let id : a.id ≡ b.id = ap (λ p. get_or (get_or p 0 []) 0 0) e in

@@ -2,6 +2,7 @@
 use Rattle.csi_reports.specs.declared.gathering.Findings.{Findings}
 use Rattle.csi_reports.specs.Gathered.{Gathered}
 
+-- what was gathered, as lists
 abbrev pub gathered_of : Findings → Gathered
 gathered_of findings =
     record {

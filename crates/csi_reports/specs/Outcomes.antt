@@ -3,5 +3,6 @@ use Rattle.serde_json.specs.Data.{Data, string}
 use Rattle.csi_world.specs.declared.event.Outcome.{Outcome}
 use Rattle.csi_world.specs.Outcomes.{outcome_text}
 
+-- an outcome, as a text
 abbrev pub outcome_entry : Outcome → Data
 outcome_entry outcome = string (outcome_text outcome)

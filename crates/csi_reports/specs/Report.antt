@@ -10,18 +10,23 @@ use Rattle.csi_reports.specs.Gathered.{Gathered, IsGathered}
 
 -- ---- a function for each key
 
+-- the attached volumes
 abbrev pub attached_value : Gathered → Data
 attached_value gathered = entries attached_entry gathered.attached
 
+-- what came of each event
 abbrev pub events_value : WorldParts → Data
 events_value world = entries outcome_entry world.outcomes
 
+-- how many frames there are
 abbrev pub frames_value : WorldParts → Data
 frames_value world = whole (length world.frames)
 
+-- what the orchestrator knows
 abbrev pub known_value : Gathered → Data
 known_value gathered = entries known_entry gathered.known
 
+-- the published volumes
 abbrev pub published_value : Gathered → Data
 published_value gathered = entries published_entry gathered.published
 
@@ -29,17 +34,21 @@ published_value gathered = entries published_entry gathered.published
 abbrev pub safe_value : Gathered → Data
 safe_value gathered = boolean (not (is_some gathered.found))
 
+-- the orchestrator's session
 abbrev pub session_value : WorldParts → Data
 session_value world = whole ((world.orchestrator).last).session
 
+-- the staged volumes
 abbrev pub staged_value : Gathered → Data
 staged_value gathered = entries staged_entry gathered.staged
 
+-- the live volumes
 abbrev pub volumes_value : WorldParts → Data
 volumes_value world = entries volume_entry (live_rows (world.controller).rows)
 
 -- ---- the whole
 
+-- all of these
 abbrev pub report_of : WorldParts → Gathered → Data
 report_of world gathered =
     object (member (codes "attached") (attached_value gathered) (member (codes "events") (events_value world) (member (codes "frames") (frames_value world) (member (codes "known") (known_value gathered) (member (codes "published") (published_value gathered) (member (codes "safe") (safe_value gathered) (member (codes "session") (session_value world) (member (codes "staged") (staged_value gathered) (member (codes "volumes") (volumes_value world) no_members)))))))))

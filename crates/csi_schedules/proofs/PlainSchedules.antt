@@ -21,6 +21,7 @@ use Rattle.csi_schedules.specs.Events.{event_of, event_at, deliver_of}
 use Rattle.csi_schedules.specs.Plain.{event_in, config_in}
 use Rattle.csi_schedules.specs.Schedule.{Schedule, parts_of, events_of, schedule_read, text_schedule}
 
+-- a member of an object: its name and its value
 abbrev pub Member : Type 0
 Member = Bor (List ℕ) × Value Global
 
@@ -31,11 +32,13 @@ inside f (Some a) b h = (a, refl, h)
 
 -- ---- a delivery
 
+-- an object whose one member `deliver` is a number is read as the delivery of the frame of that number
 delivered_of : (s : List ℕ) (n : ℕ) → number_in s ≡ Some (unsigned n)
     → option_and_then event_of (of_json (json.object (json.member (codes "deliver") (json.number s) json.no_members))) ≡ Some (Deliver n)
 unfolding event_of event_at deliver_of number_of
 delivered_of s n h = rw h refl
 
+-- a number of JSON that borrows its digits is seen as they are
 pub seen_number : (text : Bor (List ℕ)) → value_view {A = Global} (Number text) ≡ json.number text.now
 seen_number text = search (rules, the_lemmas)
 
@@ -86,6 +89,7 @@ all_events (x ∷ xs) (e ∷ es) place h =
 
 -- ---- a schedule
 
+-- an object with a configuration and an array that is read as events is read as their schedule, where these are at most 100000
 schedule_of_two : (c : json.Json) (js : json.Items) (d : Data) (ds : Items) (config : Config) (es : List Event) → of_json c ≡ Some d → config_of d ≡ Some config → of_items js ≡ Some ds
     → read_all event_of 1 (items_in ds) ≡ Ok es → length (items_in ds) ≤ 100000
     → schedule_read (of_json (json.object (json.member (codes "config") c (json.member (codes "events") (json.array js) json.no_members)))) ≡ Ok (record { config = config; events = es })

@@ -25,17 +25,21 @@ use Rattle.csi_schedules.proofs.UsualCommands.{two_of}
 
 -- ---- a text within its limits
 
+-- a text of JSON that is borrowed is seen as it is
 seen_text : (text : Bor (List ℕ)) → value_view {A = Global} (values.String text) ≡ json.string text.now
 seen_text text = search (rules, the_lemmas)
 
+-- a text within two limits is read as it is
 fits : (least most : ℕ) (text : List ℕ) → least ≤ length text → length text ≤ most → text_of least most (string text) ≡ Some text
 unfolding text_of
 fits least most text low high = rw (le-leb _ _ low, le-leb _ _ high) refl
 
+-- a text that isn't empty has a byte
 some_byte : (text : List ℕ) → (text ≡ [] → ⊥) → 1 ≤ length text
 some_byte [] none = absurd (none refl)
 some_byte (x ∷ xs) none = omega arith
 
+-- what isn't less is no less
 not_more : (a b : ℕ) → (a < b → ⊥) → b ≤ a
 not_more a b never = elim (leb_tells b a) as (λ t. b ≤ a) [ inl t ↦ t.1 | inr t ↦ absurd (never t.1) ]
 
@@ -52,6 +56,7 @@ text_is most value text read made is ok same empty long =
 
 -- ---- a capability with block access
 
+-- an object with the access `block` and a mode's number is read as the capability of these
 block_data : (text : List ℕ) (n : ℕ) (mode : Mode) → number_in text ≡ Some (unsigned n) → mode_from_number n ≡ Some mode
     → option_and_then capability_of (of_json (json.object (json.member (codes "access") (json.string (codes "block")) (json.member (codes "mode") (json.number text) json.no_members)))) ≡ Some (record { access = Block; mode = mode })
 unfolding capability_of access_of block_of mode_of number_of sized_object

@@ -7,6 +7,7 @@ use Rattle.csi_world.specs.declared.event.Event.TheVariants as events
 use Rattle.csi_json.specs.Json.{◌>>=◌, number_of, name_of, node_id_of, target_of, sized_object, only_member}
 use Rattle.csi_json.specs.Capabilities.{capability_of, capabilities_of}
 
+-- a volume is asked for
 unfoldable pub create_of : Data → Option Event
 create_of d = do
   object ← sized_object 4 d
@@ -16,6 +17,7 @@ create_of d = do
   capabilities ← get (codes "capabilities") object >>= capabilities_of
   Some (events.Create name required limit capabilities)
 
+-- a use is asked for
 unfoldable pub use_of : Data → Option Event
 use_of d = do
   object ← sized_object 5 d
@@ -26,6 +28,7 @@ use_of d = do
   readonly ← get (codes "readonly") object >>= as_bool
   Some (events.Use name node target capability readonly)
 
+-- a stop is asked for
 unfoldable pub stop_of : Data → Option Event
 stop_of d = do
   object ← sized_object 3 d
@@ -34,21 +37,25 @@ stop_of d = do
   target ← get (codes "target") object >>= target_of
   Some (events.Stop name node target)
 
+-- a delete is asked for
 unfoldable pub delete_of : Data → Option Event
 delete_of d = do
   name ← name_of d
   Some (events.Delete name)
 
+-- the open call of a volume times out
 unfoldable pub timeout_of : Data → Option Event
 timeout_of d = do
   name ← name_of d
   Some (events.Timeout name)
 
+-- the frame of a number is delivered
 unfoldable pub deliver_of : Data → Option Event
 deliver_of d = do
   number ← number_of d
   Some (events.Deliver number)
 
+-- the orchestrator or the controller restarts
 unfoldable pub restart_of : Data → Option Event
 restart_of d = do
   part ← as_str d
@@ -56,6 +63,7 @@ restart_of d = do
       else if bytes_eq part (codes "controller") then Some events.RestartController
       else None
 
+-- a node restarts
 unfoldable pub restart_node_of : Data → Option Event
 restart_node_of d = do
   node ← node_id_of d
@@ -74,6 +82,7 @@ event_at key d =
     else if bytes_eq key (codes "restart_node") then restart_node_of d
     else None
 
+-- an event: an object of one member, whose key says which
 unfoldable pub event_of : Data → Option Event
 event_of d = do
   only ← only_member d

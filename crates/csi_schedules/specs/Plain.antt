@@ -10,9 +10,11 @@ use Rattle.csi_json.specs.Configs.{config_of}
 use Rattle.csi_world.specs.declared.event.Event.{Event}
 use Rattle.csi_schedules.specs.Events.{event_of}
 
+-- the event that a value is
 abbrev pub event_in : Value Global → Option Event
 event_in value = option_and_then event_of (of_json (value_view value))
 
+-- the configuration that a value is
 abbrev pub config_in : Value Global → Option Config
 config_in value = option_and_then config_of (of_json (value_view value))
 

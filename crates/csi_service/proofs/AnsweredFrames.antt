@@ -58,10 +58,12 @@ module _ {State : Type 0} (machine : Machine State) (state : State) where
 
 -- ---- by whether the frame is for the plugin
 
+-- where the test says that a frame isn't for this party, it isn't
 pub not-for : (result : Bool) (own party : Party) → IsTrue result ↔ (own ≡ party) → result ≡ false → own ≡ party → ⊥
 not-for true own party tells e same = cc
 not-for false own party tells e same = let t : false ≡ true = tells.1 same in cc
 
+-- where it says so, it is
 pub is-for : (result : Bool) (own party : Party) → IsTrue result ↔ (own ≡ party) → result ≡ true → own ≡ party
 is-for true own party tells e = tells.0 refl
 is-for false own party tells e = absurd cc

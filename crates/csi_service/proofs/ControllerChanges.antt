@@ -33,6 +33,7 @@ use Rattle.csi_service.proofs.StayingRows.{rising-staying, gone-taken, gone-ther
 abbrev pub shown_part : ControllerRow → StoredPart
 shown_part row = volume_part present (volume_row row)
 
+-- the parts of rows, in the present version
 abbrev pub shown_parts : List ControllerRow → List StoredPart
 shown_parts rows = map (volume_part present) (map volume_row rows)
 
@@ -50,12 +51,14 @@ at-shown id rows =
 same-shown : (old new : ControllerRow) → IsSameRow old new → volume_row new ≡ volume_row old
 same-shown old new same = λ i. record { volume = same.volume i; holdings = same.items i }
 
+-- so are rows that may be there
 copy-shown : (old new : Option ControllerRow) → IsCopyOf old new → option_map volume_row new ≡ option_map volume_row old
 copy-shown None None same = refl
 copy-shown None (Some new) same = absurd same
 copy-shown (Some old) None same = absurd same
 copy-shown (Some old) (Some new) same = ap Some (same-shown old new same)
 
+-- rows that say the same at an id have the same part there
 same-at : (id : ℕ) (olds news : List ControllerRow) → IsSameAt id olds news → part_at id (shown_parts news) ≡ part_at id (shown_parts olds)
 same-at id olds news same = at-shown id news ∙ ap (option_map (volume_part present)) (copy-shown _ _ same) ∙ sym (at-shown id olds)
 
@@ -64,10 +67,12 @@ above-shown : (version : RecordVersion) (id : ℕ) (rows : List ControllerRow) �
 above-shown version id [] above = tt
 above-shown version id (row ∷ rows) above = (above.0, above-shown version id rows above.1)
 
+-- rows by rising id are parts by rising key, in every version
 pub rising-in : (version : RecordVersion) (rows : List ControllerRow) → AreRising rows → IsRising (map (volume_part version) (map volume_row rows))
 rising-in version [] rising = tt
 rising-in version (row ∷ rows) rising = (above-shown version row.id rows rising.0, rising-in version rows rising.1)
 
+-- so they are in the present one
 pub rising-shown : (rows : List ControllerRow) → AreRising rows → IsRising (shown_parts rows)
 rising-shown rows rising = rising-in present rows rising
 
@@ -77,6 +82,7 @@ rising-shown rows rising = rising-in present rows rising
 abbrev stays : ControllerRow → Bool
 stays row = row.live
 
+-- rows by rising id, each as its part, are parts by rising key
 each-rising : (rows : List ControllerRow) → AreRising rows → IsRising (map shown_part rows)
 each-rising rows rising = subst IsRising (each-shown rows) (rising-shown rows rising)
 

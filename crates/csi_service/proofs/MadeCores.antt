@@ -62,6 +62,7 @@ controller-made found now changes version kept read same renewal =
     (λ tell. controller-own tell.head.own tell.head.session tell.rows kept found tell.spelled.head_fits.session tell.is tell.spelled.are)
     read.0 read.1 same renewal
 
+-- a node's parts in the present version are those of the record that they are read as
 node-own : (id : List ℕ) (session : Option ℕ) (rows : List NodeRow) (kept : NodeParts) (found : List StoredPart) → IsSessionIf true session → kept ≡ node_of id session rows
     → found ≡ node_parts present id session (map shown rows) → found ≡ node_parts present kept.id (Some kept.session) (map shown kept.rows)
 node-own id None rows kept found fits is are = absurd fits

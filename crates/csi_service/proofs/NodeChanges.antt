@@ -94,6 +94,7 @@ stays row = is_some row.staged
 abbrev gone_ids : List RowShown → List ℕ
 gone_ids rows = map (λ (row : RowShown). row.id) (filter (λ (row : RowShown). is_none row.staged) rows)
 
+-- these are the ids of the rows that don't stay
 each-gone : (rows : List RowShown) → gone_ids rows ≡ map (λ (row : RowShown). row.id) (filter (λ (row : RowShown). not (stays row)) rows)
 each-gone rows = λ i. map (λ (row : RowShown). row.id) (filter (λ (row : RowShown). by row.staged i) rows)
   where
@@ -117,9 +118,11 @@ stay-nowhere false id rows rising among = absurd among
 -- ---- a call
 
 module _ (old new : NodeParts) (row : Option ℕ) (number : Number) (rising : IsRisingById (parts old.rows)) (changes : Changes row number old new) where
+  -- the call begins a session
   abbrev begun : Bool
   begun = begins old.session number
 
+  -- the old parts rise by key
   rising_parts : IsRising (shown_parts (parts old.rows))
   rising_parts = answered-rising present (parts old.rows) rising
 
@@ -199,6 +202,7 @@ module _ (old new : NodeParts) (row : Option ℕ) (number : Number) (rising : Is
 pub same-session : (x y new old : ℕ) → x ≡ new → y ≡ old → not (x == y) ≡ false → new ≡ old
 same-session x y new old is is_too same = let one : x ≡ y = grind (arith, nat_tests) in sym is ∙ one ∙ is_too
 
+-- sessions that the test tells apart aren't equal
 pub other-session : (x y new old : ℕ) → x ≡ new → y ≡ old → not (x == y) ≡ true → new ≡ old → ⊥
 other-session x y new old is is_too other same = let one : x ≡ y = is ∙ same ∙ sym is_too in grind (arith, nat_tests)
 

@@ -34,6 +34,7 @@ rows-rising : (next_id : ℕ) (session : Option ℕ) (rows : List ControllerRow)
 rows-rising next_id None rows rules = rules.rising
 rows-rising next_id (Some session) rows rules = rules.0.rising
 
+-- the parts of a controller's record rise by key
 pub controller-rising : (version : RecordVersion) (parts : List StoredPart) → IsRecordOf (controller_layout version) parts → IsRising parts
 controller-rising version parts is =
     let rules = is.spelled.rules in
@@ -44,10 +45,12 @@ controller-rising version parts is =
 
 -- ---- a node's
 
+-- rows whose ids are above a number are parts whose keys are
 answered-above : (version : RecordVersion) (low : ℕ) (rows : List RowShown) → ((place : ℕ) → place < length rows → low < id_at rows place) → AreAbove low (map (answered_part version) rows)
 answered-above version low [] above = tt
 answered-above version low (row ∷ rows) above = (above zero (omega arith), answered-above version low rows (λ place within. above (suc place) (omega arith)))
 
+-- a node's rows by rising id are parts by rising key
 pub answered-rising : (version : RecordVersion) (rows : List RowShown) → IsRisingById rows → IsRising (map (answered_part version) rows)
 answered-rising version [] rising = tt
 answered-rising version (row ∷ rows) rising = (
@@ -55,6 +58,7 @@ answered-rising version (row ∷ rows) rising = (
   answered-rising version rows (λ i j less within. rising (suc i) (suc j) (omega arith) (omega arith)),
 )
 
+-- the keys of a node's rows are above 0
 rows-above : (version : RecordVersion) (rows : List RowShown) → AllByRecursion (IsAnsweredRow version) rows → AreAbove 0 (map (answered_part version) rows)
 rows-above version [] fit = tt
 rows-above version (row ∷ rows) fit = (fit.0.id.from_one, rows-above version rows fit.1)
@@ -64,6 +68,7 @@ kept-rising : (session : Option ℕ) (rows : List RowShown) → KeepRules sessio
 kept-rising None rows rules = rules.rising
 kept-rising (Some session) rows rules = rules.0.rising
 
+-- the parts of a node's record rise by key
 pub node-rising : (version : RecordVersion) (wanted : Option (List ℕ)) (parts : List StoredPart) → IsRecordOf (node_layout version wanted) parts → IsRising parts
 node-rising version wanted parts is =
     subst IsRising (sym is.spelled.are) (
@@ -89,6 +94,7 @@ behind_two [] = []
 behind_two (a ∷ []) = []
 behind_two (a ∷ b ∷ bytes) = bytes
 
+-- the bytes behind the first two of the first part
 abbrev head_fields : List StoredPart → List ℕ
 head_fields [] = []
 head_fields (part ∷ parts) = behind_two part.value

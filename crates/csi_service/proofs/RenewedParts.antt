@@ -81,6 +81,7 @@ has-found key part (other ∷ others) found = by (other.key == key) refl (has-fo
     by true t rest = refl
     by false t rest = rest (sym (at-other key other others t) ∙ found)
 
+-- a key under which nothing is found isn't there
 has-missed : (key : ℕ) (parts : List StoredPart) → part_at key parts ≡ None → has_key key parts ≡ false
 has-missed key [] missed = refl
 has-missed key (other ∷ others) missed =
@@ -95,6 +96,7 @@ not-left key part olds news found among =
     let there : has_key image.0.key news ≡ true = ap (λ (k : ℕ). has_key k news) (sym image.2) ∙ has-found key part news found in
     true≢false (sym kept.1 ∙ ap not there)
 
+-- what was there, and the new parts lack, is left out
 is-left : (key : ℕ) (old : StoredPart) (olds news : List StoredPart) → part_at key olds ≡ Some old → part_at key news ≡ None → IsAmong key (left_out olds news)
 is-left key old olds news found missed =
     let own : old.key ≡ key = eqb-true old.key key (find-passes (λ (p : StoredPart). p.key == key) olds old found) in

@@ -15,6 +15,7 @@ use Rattle.csi_stores.specs.Part.{bytes_in}
 use Rattle.csi_serving.specs.Answering.{Steps}
 use Rattle.csi_service.specs.Appending.{AppendsReply, reply_bytes}
 
+-- a reply's id has eight bytes
 length-id : (id : Option ℕ) → length (spelling.reply_id id) ≡ 8
 length-id None = refl
 length-id (Some n) = refl
@@ -25,10 +26,12 @@ length_reply number party kind reply few short =
     let frame = reply_frame number party kind reply in
     omega (arith, length-spelling frame, length-frame_body_is frame, few, length-append (spelling.reply_id reply.id) (spelling.text reply.detail), length-id reply.id, short)
 
+-- the bytes of a reply that is there are its spelling
 spelled-is : (reply : Option Frame) (bytes : List ℕ) → bytes ≡ reply_bytes reply → true ≡ is_some reply → Some bytes ≡ option_map spelling.spelling reply
 spelled-is None bytes e t = absurd (true≢false t)
 spelled-is (Some reply) bytes e t = ap Some e
 
+-- where there is no reply, there are no bytes of one
 silent-is : (reply : Option Frame) → false ≡ is_some reply → option_map bytes_in None ≡ option_map spelling.spelling reply
 silent-is None t = refl
 silent-is (Some reply) t = absurd (true≢false (sym t))

@@ -21,6 +21,7 @@ at-own key part parts same = rw same refl
 pub at-other : (key : ℕ) (part : StoredPart) (parts : List StoredPart) → (part.key == key) ≡ false → part_at key (part ∷ parts) ≡ part_at key parts
 at-other key part parts differs = rw differs refl
 
+-- a number is equal to itself
 itself : (n : ℕ) → (n == n) ≡ true
 itself n = grind (arith, nat_tests)
 

@@ -42,6 +42,7 @@ same_row one other volume held =
     let items = same_held one.id one.holdings.items other.holdings.items (held ∙ ap (λ (n : ℕ). map (held_by n) other.holdings.items) ids) in
     λ i. record { volume = volume i; holdings = items i }
 
+-- rows that may be there, with the same volume and the same holdings, are spelled the same
 row-told : (one other : Option ControllerRow) → option_map volume_of_row one ≡ option_map volume_of_row other → holdings_in one ≡ holdings_in other → option_map volume_row one ≡ option_map volume_row other
 row-told None None volume held = refl
 row-told None (Some other) volume held = absurd (some_is_not_none (volume_of_row other) (sym volume))
@@ -66,9 +67,11 @@ module _ (one other : Parts) (state : ControllerState) (shown : Shows one state)
   same-next_id : one.next_id ≡ other.next_id
   same-next_id = shown.shows.next ∙ sym shown_too.shows.next
 
+  -- the two have the same session
   same-session : one.session ≡ other.session
   same-session = shown.session ∙ sym shown_too.session
 
+  -- the heads of their records are the same
   same-head : head_of_controller one ≡ head_of_controller other
   same-head = λ i. head_of_controller (record one { next_id = same-next_id i; session = same-session i })
 
@@ -85,10 +88,12 @@ module _ (one other : Parts) (state : ControllerState) (shown : Shows one state)
   shown_change None = []
   shown_change (Some row) = record { key = (volume_part present row).key; value = Some (volume_part present row).value } ∷ []
 
+  -- it is told so
   change-shown : (o : Option ControllerRow) → row_change o ≡ shown_change (option_map volume_row o)
   change-shown None = refl
   change-shown (Some row) = refl
 
+  -- the change of a row that a number names is the same of both
   same-named : (row : Option ℕ) → named_change row one.rows ≡ named_change row other.rows
   same-named None = refl
   same-named (Some id) = change-shown (row_by_id id one.rows) ∙ ap shown_change (same-row_at id) ∙ sym (change-shown (row_by_id id other.rows))

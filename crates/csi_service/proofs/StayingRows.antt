@@ -66,6 +66,7 @@ module _ {R : Type 0} (shown : R → StoredPart) (stays : R → Bool) where
       by true rest = (above.0, rest)
       by false rest = rest
 
+  -- where all keys are above a key, those that are taken out are
   above-gone : (key : ℕ) (rows : List R) → AreAbove key (map shown rows) → AllByRecursion (λ (change : Change). key < change.key) (take_all (gone_keys rows))
   above-gone key [] above = tt
   above-gone key (row ∷ rows) above = by (not (stays row)) (above-gone key rows above.1)
@@ -109,6 +110,7 @@ module _ {R : Type 0} (shown : R → StoredPart) (stays : R → Bool) where
       let found = gone-there key rows among in
       some_is_not_none (shown found.0) (sym (ap (option_map shown) found.1) ∙ sym (find-of_map (λ (part : StoredPart). part.key == key) shown rows) ∙ none-below key (map shown rows) above)
 
+  -- the key of a row that doesn't stay is that of none that stays
   pub gone-nowhere : (key : ℕ) (rows : List R) → IsRising (map shown rows) → IsAmong key (gone_keys rows) → find (λ (r : R). (shown r).key == key) (filter stays rows) ≡ None
   gone-nowhere key [] rising among = absurd among
   gone-nowhere key (row ∷ rows) rising among = by (stays row) ((shown row).key == key) refl (gone-nowhere key rows rising.1) among

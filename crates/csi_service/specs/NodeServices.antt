@@ -18,6 +18,7 @@ use Rattle.csi_service.specs.Changed.{head_change, AllDiffer}
 abbrev pub head_of_node : NodeParts → StoredPart
 head_of_node node = node_head present node.id (Some node.session)
 
+-- the parts of a node's record
 abbrev pub parts_of_node : NodeParts → List StoredPart
 parts_of_node node = node_parts present node.id (Some node.session) (parts node.rows)
 

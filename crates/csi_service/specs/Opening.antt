@@ -24,6 +24,7 @@ pub record Records (X : Type 0) : Type 1 where
   pub are_of : RecordVersion → List StoredPart → X → Type 0
   pub parts_of : X → List StoredPart
 
+-- a controller's records
 abbrev pub controller_records : Records RecordParts
 controller_records = record {
   are = λ version. IsRecordOf (controller_layout version);

@@ -23,9 +23,11 @@ use Rattle.csi_stores.specs.Part.{StoredPart, Change, put_all, take_all}
 abbrev pub head_of_controller : Parts → StoredPart
 head_of_controller controller = controller_head present controller.next_id (Some controller.session)
 
+-- the parts of a controller's record
 abbrev pub parts_of_controller : Parts → List StoredPart
 parts_of_controller controller = controller_parts present controller.next_id (Some controller.session) (map volume_row controller.rows)
 
+-- those of a controller that is served
 abbrev pub controller_service_parts : ControllerService → List StoredPart
 controller_service_parts service = parts_of_controller service.controller
 
@@ -71,5 +73,6 @@ pub record ControllerAnswers (old : ControllerService) (frame : Frame) (reply : 
 
 -- ---- a node
 
+-- those of a node that is served
 abbrev pub node_service_parts : NodeService → List StoredPart
 node_service_parts service = node_parts present service.node.id (Some service.node.session) (map shown service.node.rows)

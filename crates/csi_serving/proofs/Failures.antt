@@ -18,6 +18,7 @@ reader-same b a (kinds.Keep fault) same = same
 reader-same b a kinds.NoMemory same = same
 reader-same b a kinds.Endless same = same
 
+-- the writer's count, if it is the same, stays whatever stopped
 pub writer-same : (b a : ℕ) (kind : ServeFaultKind) → a ≡ b → WriterStays b a kind
 writer-same b a kinds.Input same = same
 writer-same b a kinds.Output same = tt
@@ -35,6 +36,7 @@ reader-more b mid a (kinds.Keep fault) frames was now = now ∙ was
 reader-more b mid a kinds.NoMemory frames was now = now ∙ was
 reader-more b mid a kinds.Endless frames was now = now ∙ was
 
+-- the writer's count, if it was the same up to here, stays by what stopped here
 pub writer-more : (b mid a : ℕ) (kind : ServeFaultKind) (frames : ℕ) → mid ≡ b → WriterStays mid a kind → WriterStaysAt b a (stopped_by kind frames)
 writer-more b mid a kinds.Input frames was now = now ∙ was
 writer-more b mid a kinds.Output frames was now = tt
@@ -54,6 +56,7 @@ pub reader-ends : (b a : ℕ) (r : Result Served ServeFault) → a ≡ b → Sta
 reader-ends b a (Ok served) same = same
 reader-ends b a (Err fault) same = reader-same b a fault.kind same
 
+-- the writer's count, if it is the same, stays whatever is answered
 pub writer-ends : (b a : ℕ) (r : Result Served ServeFault) → a ≡ b → Stays WriterStaysAt b a r
 writer-ends b a (Ok served) same = same
 writer-ends b a (Err fault) same = writer-same b a fault.kind same

@@ -101,22 +101,27 @@ capped : (a b : ℕ) → a + b < 2 ^ 64 → min (a + b) (2 ^ 64 - 1) ≡ a + b
 capped a b few = omega arith
 
 module _ {C : Type 0} (answers : C → Frame → Option Frame → C → Type 0) (parts_of : C → List StoredPart) (core now : C) (before mid : Store) (out0 out1 : Option (List ℕ)) (stream : List ℕ) (s : Splitting) (served : Served) where
+  -- how far serving has come
   abbrev Now : Type 0
   Now = Progress answers parts_of core before mid out0 out1 stream s served now
 
   -- ---- how much there may be
 
+  -- one more frame fits the count
   pub more_frames : Now → served.frames + 1 < 2 ^ 64
   more_frames p = omega (arith, p.counted, frames_few p.done, p.taken, p.total, p.few)
 
+  -- one more reply fits the count
   pub more_replies : Now → served.replies + 1 < 2 ^ 64
   more_replies p = omega (arith, p.replied, count_by-le-length is_some p.replies, runs-length answers core p.done p.replies now p.runs, frames_few p.done, p.taken, p.total, p.few)
 
   -- ---- one frame more
 
+  -- the splitter's next frame is the one that its bytes begin with
   next_is : Now → (frame : Frame) → IsNext s.fault s.kept (Ok (Some frame)) → BeginsWith s.kept frame (length (spelling frame))
   next_is p frame is = subst (λ (f : Option FrameFault). IsNext f s.kept (Ok (Some frame))) p.clear is
 
+  -- serving comes so far by a frame more that was answered
   pub more : (new : C) (after : Store) (out2 : Option (List ℕ)) (V : Type 0) (t : Splitting) (next : Option Bool) (replied : Bool) → next ≡ Some replied → Now → Follows mid after
       → AnswersNext (setting_of answers parts_of now mid after out1 out2 ⊥ ⊥ V ⊥) s t new (Ok next)
       → Progress answers parts_of core before after out0 out2 stream t (one_more_served served replied) new

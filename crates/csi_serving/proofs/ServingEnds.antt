@@ -43,6 +43,7 @@ get-seam (d ∷ ds) frame later = get-seam ds frame later
 abbrev given : Frame → Result (Option Frame) FrameFault
 given frame = Ok (Some frame)
 
+-- the answer that gives none
 abbrev none_given : Result (Option Frame) FrameFault
 none_given = Ok None
 
@@ -59,6 +60,7 @@ nothing_more_of : (stream bytes : List ℕ) → bytes ≡ [] → stream ≡ stre
 nothing_more_of stream bytes is = sym (append-nil stream) ∙ ap (λ bs. stream ++ bs) (sym is)
 
 module _ {C : Type 0} (answers : C → Frame → Option Frame → C → Type 0) (parts_of : C → List StoredPart) (core now : C) (before mid : Store) (out0 out1 : Option (List ℕ)) (stream : List ℕ) (s : Splitting) (served : Served) where
+  -- how far serving has come
   abbrev Now : Type 0
   Now = Progress answers parts_of core before mid out0 out1 stream s served now
 

@@ -20,6 +20,7 @@ WriterStays before after _ = after ≡ before
 abbrev pub ReaderStaysAt : ℕ → ℕ → ServeFault → Type 0
 ReaderStaysAt before after fault = ReaderStays before after fault.kind
 
+-- so does the writer's
 abbrev pub WriterStaysAt : ℕ → ℕ → ServeFault → Type 0
 WriterStaysAt before after fault = WriterStays before after fault.kind
 

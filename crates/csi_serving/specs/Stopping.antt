@@ -12,6 +12,7 @@ use Rattle.csi_serving.specs.Serving.{Setting, AllDone, NextRefused}
 use Rattle.csi_serving.specs.Reading.{IsReadStop, GivesNext}
 use Rattle.csi_serving.specs.Answering.{AnswersOne, StopsOne}
 
+-- why serving stops where a frame does
 abbrev pub kind_of_stop : FrameStop → ServeFaultKind
 kind_of_stop stops.NoMemory = kinds.NoMemory
 kind_of_stop (stops.Keep fault) = kinds.Keep fault

@@ -42,6 +42,7 @@ first_byte k n = ap (λ (p : ℕ). n % p) (pow-succ' 256 k) ∙ mod-split n {m =
 nat_less : (x y : ℕ) → x < y → nat_cmp x y ≡ Less
 nat_less x y h = grind (arith, nat_tests)
 
+-- equal numbers compare as Equal
 nat_same : (x y : ℕ) → x ≡ y → nat_cmp x y ≡ Equal
 nat_same x y h = grind (arith, nat_tests)
 

@@ -11,6 +11,7 @@ IsForeignFault place NoMemory = Unit {0}
 IsForeignFault place (BadRecord at) = at ≡ place
 IsForeignFault place Full = ⊥
 
+-- the answer is such a fault
 abbrev pub RefusesAt : {A : Type 0} → ℕ → Result A KeepFault → Type 0
 RefusesAt place (Ok a) = ⊥
 RefusesAt place (Err fault) = IsForeignFault place fault

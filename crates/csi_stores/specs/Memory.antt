@@ -15,9 +15,11 @@ pub record IsMemory (memory : Memory) : Type 0 where
   pub rising : IsRising memory.parts
   pub fits : size_of memory.parts ≤ memory.limit
 
+-- a part that it has
 abbrev pub stored : Entry → StoredPart
 stored entry = record { key = entry.key; value = entry.value.items }
 
+-- all that it has
 abbrev pub all_stored : List Entry → List StoredPart
 all_stored entries = map stored entries
 

@@ -4,6 +4,7 @@ use Rattle.std.specs.Global.{Vec}
 use Rattle.csi_types.specs.Limits.{IsWord}
 use Rattle.csi_stores.specs.declared.part.Part.{Part}
 
+-- a part that is there: its key and its value
 pub record StoredPart : Type 0 where
   pub key : ℕ
   pub value : List ℕ
@@ -21,9 +22,11 @@ put_all parts = map (λ part. record { key = part.key; value = Some part.value }
 abbrev pub take_all : List ℕ → List Change
 take_all keys = map (λ key. record { key = key; value = None }) keys
 
+-- the bytes of a value
 abbrev pub bytes_in : Vec ℕ → List ℕ
 bytes_in bytes = bytes.items
 
+-- a part as the change that it makes: its value is put in, or what is there taken out
 abbrev pub change_of : Part → Change
 change_of part = record { key = part.key; value = option_map bytes_in part.value }
 
@@ -32,9 +35,11 @@ abbrev pub value_in : Option (Vec ℕ) → List ℕ
 value_in None = []
 value_in (Some bytes) = bytes.items
 
+-- a part, as it is there
 abbrev pub stored_in : Part → StoredPart
 stored_in part = record { key = part.key; value = value_in part.value }
 
+-- parts, as they are there
 abbrev pub all_stored_in : List Part → List StoredPart
 all_stored_in parts = map stored_in parts
 

@@ -24,6 +24,7 @@ ended-reader splitter count before after (Err stops.Input) ends same = absurd en
 ended-reader splitter count before after (Err stops.Output) ends same = absurd ends
 ended-reader splitter count before after (Err stops.Endless) ends same = absurd ends
 
+-- nor does such an end tell a failure of the writer
 pub ended-writer : (splitter : Splitting) (count before after : ℕ) (result : Result ℕ StreamFault) → EndsStream splitter count result → after ≡ before → TellsWriter before after result
 ended-writer splitter count before after (Ok n) ends same = same
 ended-writer splitter count before after (Err (stops.Frame kind place)) ends same = same
@@ -41,6 +42,7 @@ passed-reader has_handled gives fed given splitter count handler had has stops.I
 passed-reader has_handled gives fed given splitter count handler had has stops.Output before after stop same = same
 passed-reader has_handled gives fed given splitter count handler had has stops.Endless before after stop same = absurd stop
 
+-- a count that rose since it was the first one rose above that one
 pub risen-since : (first before after : ℕ) → before ≡ first → HasRisen before after → HasRisen first after
 risen-since first before after was risen = subst (λ (n : ℕ). HasRisen n after) was risen
 

@@ -58,14 +58,17 @@ kept_after-open : (fault : Option FrameFault) (kept piece : List ℕ) → fault 
 kept_after-open None kept piece e = refl
 kept_after-open (Some f) kept piece e = absurd cc
 
+-- a fault that is answered is that of the bytes kept, and isn't Short
 next-open : (fault : Option FrameFault) (kept : List ℕ) (f : FrameFault) → fault ≡ None → IsNext fault kept (Err f) → (f.kind ≢ Short) × IsFaulty kept f.kind f.place
 next-open None kept f e next = next
 next-open (Some g) kept f e next = absurd cc
 
+-- where no frame is answered yet, the bytes kept are at fault with Short
 pub waits-open : (fault : Option FrameFault) (kept : List ℕ) → fault ≡ None → IsNext fault kept (Ok None) → IsFaulty kept Short (length kept)
 waits-open None kept e next = next
 waits-open (Some g) kept e next = absurd cc
 
+-- the bytes kept are what is left
 left-open : (fault : Option FrameFault) (kept rest : List ℕ) → fault ≡ None → IsLeft fault kept rest → kept ≡ rest
 left-open None kept rest e left = left
 left-open (Some g) kept rest e left = absurd cc

@@ -32,6 +32,7 @@ abbrev pub StopsBy : (List Frame → List ℕ → Type 0) → List Frame → Lis
 StopsBy gives frames rest given (faults.Frame kind place) = (kind ≢ Short) × IsFaultOf frames rest kind place × gives frames given
 StopsBy gives frames rest given faults.NoMemory = (k : ℕ) × (k ≤ length frames) × gives (take k frames) given
 
+-- so it is whatever comes behind them
 abbrev pub StopsIn : (List Frame → List ℕ → Type 0) → List ℕ → List ℕ → AnswerFault → Type 0
 StopsIn gives fed given fault = (behind rest : List ℕ) (frames : List Frame) → AreBytes (fed ++ behind) → FramesOf (fed ++ behind) frames rest → StopsBy gives frames rest given fault
 

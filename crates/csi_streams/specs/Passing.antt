@@ -12,6 +12,7 @@ use Rattle.csi_streams.specs.Handling.{StopsIn}
 use Rattle.csi_streams.specs.Progress.{Progress, Rests}
 use Rattle.csi_streams.specs.Replay.{Grows}
 
+-- a fault of the frames, as one of their stream
 abbrev pub stream_fault : AnswerFault → StreamFault
 stream_fault (faults.Frame kind place) = stops.Frame kind place
 stream_fault faults.NoMemory = stops.NoMemory
@@ -37,6 +38,7 @@ pub record StopsUnwritten (gives : List Frame → List ℕ → Type 0) (fed give
   pub grows : Grows more all
   pub stops : StopsIn gives fed (given ++ all) faults.NoMemory
 
+-- these bytes are passed on, or it stops at one of these ends
 abbrev pub PassesOn : {H : Type 0} → (H → List Frame → Type 0) → (List Frame → List ℕ → Type 0) → List ℕ → List ℕ → Splitting → ℕ → H → Option (List ℕ) → Option (List ℕ) → Result (Unit {0}) StreamFault → Type 0
 PassesOn has_handled gives fed given splitter count handler before after (Ok done) = Passes has_handled gives fed given splitter count handler before after
 PassesOn has_handled gives fed given splitter count handler before after (Err (stops.Frame kind place)) = StopsWritten gives fed given before after (faults.Frame kind place)

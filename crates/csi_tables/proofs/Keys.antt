@@ -48,18 +48,22 @@ pair_from (x ∷ v ∷ w ∷ []) typed present = refl
 pair_from (x ∷ v ∷ w ∷ y ∷ more) typed present = absurd (true≢false (sym typed))
 
 module _ (db : Trees) (sound : IsSound parts_schema db) where
+  -- a row of the table has all its columns
   present : (r : Row) → Has (db 0) r → are_present None 0 parts_table.columns r ≡ true
   unfolding parts_schema parts_table
   present r h = keeps_at NotNull parts_schema db parts_table r (sound.obeys.rules NotNull) (inl refl) h
 
+  -- behind its rowid it has a key and a value
   pub pairs : (r : Row) → Has (db 0) r → IsPair (drop 1 r)
   unfolding parts_schema parts_table
   pairs r h = pair_from r (and_parts _ _ (keeps_at Datatype parts_schema db parts_table r (sound.obeys.rules Datatype) (inl refl) h)).0 (present r h)
 
+  -- its key isn't NULL
   has_a_key : (r : Row) → Has (db 0) r → is_null (column r 1) ≡ false
   unfolding parts_table
   has_a_key r h = not-true _ (and_parts _ _ (present r h)).0
 
+  -- two rows of different rowids have different keys
   apart : (a b : Row) → Has (db 0) a → Has (db 0) b → differ (rowid a) (rowid b) ≡ true → is_eq (value_cmp (column a 1) (column b 1)) ≡ false
   unfolding parts_schema parts_table first_key
   apart a b h k other =
@@ -68,6 +72,7 @@ module _ (db : Trees) (sound : IsSound parts_schema db) where
       let same = equal_is (column a 1) (column b 1) (has_a_key a h) (has_a_key b k) in
       false_from_ne_true _ (λ tie. true≢false (sym (some_from (λ x. agree plain (1 ∷ []) x (1 ∷ []) b && differ (rowid x) (rowid b)) (db 0) a h (and_from _ _ (and_from _ _ (same ∙ tie) refl) other)) ∙ none))
 
+  -- so have any of them
   apart_among : AreInts (db 0) → IsTable (db 0) → (rows : List Row) → ((r : Row) → Has rows r → Has (db 0) r) → IsTable rows → IsAscending (λ a b. is_eq (value_cmp (column a 1) (column b 1)) ≡ false) rows
   apart_among ints table [] within up = tt
   apart_among ints table (a ∷ rows) within up = (
@@ -79,6 +84,7 @@ module _ (db : Trees) (sound : IsSound parts_schema db) where
     apart_among ints table rows (λ r h. within r (inr h)) up.1,
   )
 
+  -- no two rows have the same key
   pub keys_apart : AreInts (db 0) → IsTable (db 0) → IsAscending (λ a b. is_eq (value_cmp (column a 1) (column b 1)) ≡ false) (db 0)
   keys_apart ints table = apart_among ints table (db 0) (λ r h. h) table
 

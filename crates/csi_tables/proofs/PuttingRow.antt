@@ -54,6 +54,7 @@ cast_null : cast Integer Null ≡ Null
 unfolding unary
 cast_null = either _ Null
 
+-- an integer is itself as an integer
 cast_int : (n : ℤ) → cast Integer (Int n) ≡ Int n
 unfolding unary
 cast_int n = either _ (Int n)
@@ -91,9 +92,11 @@ pub record IsPut (key value : List ℕ) (stored left : List Row) : Type 0 where
 -- ---- one row
 
 module _ (limit : Option ℕ) (params : Row) where
+  -- the insert, as SQLite carries it out
   abbrev task : Task
   task = record { limit = limit; keys = Enforced; schema = parts_schema; table = parts_table; params = params }
 
+  -- an insert that isn't refused goes on by its conflict clause
   judged_on : (verdict : Option Refusal) (new : Row) (db : Trees) (out : Written) → Judged task Abort (put_clause ∷ []) new db verdict (Ok out) → Upserts task Abort new db (put_clause ∷ []) (Ok out)
   judged_on None new db out h = h
   judged_on (Some why) new db out h = absurd (let e = h in cc)
@@ -103,6 +106,7 @@ module _ (limit : Option ℕ) (params : Row) where
   cleared row db [] out h = h
   cleared row db (x ∷ more) out h = h
 
+  -- where this row is put, the table has it besides, and its rowid was free
   placed : (id : ℤ) (key value : List ℕ) (mid : Trees) (out : Written) → Puts task (Int id ∷ Blob key ∷ Blob value ∷ []) mid (Ok out)
       → (out.trees 0 ≡ put_row (Int id ∷ Blob key ∷ Blob value ∷ []) (mid 0)) × (is_taken (mid 0) (Int id ∷ Blob key ∷ Blob value ∷ []) ≡ false)
   unfolding parts_schema parts_table
@@ -114,6 +118,7 @@ module _ (limit : Option ℕ) (params : Row) where
         ap (λ v. is_taken (mid 0) (row v)) (sym (cast_int id)) ∙ not-true _ (and_parts _ _ applied.fresh).0,
       )
 
+  -- what an attempt at one row leaves is what the insert of that row leaves
   tried : (new : Row) (db : Trees) (top : ℤ) (source : Row) (out : Written × ℤ)
       → TriesEach task Abort (put_clause ∷ []) (source ∷ []) top (nothing db) (Ok out) → with_rowid Chosen (db 0) (cast_row parts_table source) ≡ new
       → (one : Written) × (out.0.trees 0 ≡ one.trees 0) × Upserts task Abort new db (put_clause ∷ []) (Ok one)
@@ -127,6 +132,7 @@ module _ (limit : Option ℕ) (params : Row) where
       ] in
       (one.0, same, subst (λ r. Upserts task Abort r db (put_clause ∷ []) (Ok one.0)) is there)
 
+  -- a row of a key that no row has is put in so
   put_anew : (key value : List ℕ) (db : Trees) (out : Written) → ((r : Row) → Has (db 0) r → has_key key (drop 1 r) ≡ false)
       → Puts task (Int (next_rowid (db 0)) ∷ Blob key ∷ Blob value ∷ []) db (Ok out) → IsPut key value (db 0) (out.trees 0)
   put_anew key value db out none h =
@@ -142,6 +148,7 @@ module _ (limit : Option ℕ) (params : Row) where
   abbrev changing : Trees → ℤ → List ℕ → List ℕ → Edit
   changing db id key value = edit_of db parts_table (ids_of ((Int id ∷ Int id ∷ Blob key ∷ Blob value ∷ []) ∷ [])) Given 1 ((Int id ∷ Int id ∷ Blob key ∷ Blob value ∷ []) ∷ [])
 
+  -- where a row is put in place of the one of its rowid, the table has it so
   changed : (db next : Trees) (id : ℤ) (key value : List ℕ) → Writes parts_schema Enforced db (changing db id key value) (Ok next)
       → (next 0 ≡ put_row (Int id ∷ Blob key ∷ Blob value ∷ []) (without_all (db 0) (id ∷ []))) × (is_taken (without_all (db 0) (id ∷ [])) (Int id ∷ Blob key ∷ Blob value ∷ []) ≡ false)
   unfolding parts_schema parts_table
@@ -152,6 +159,7 @@ module _ (limit : Option ℕ) (params : Row) where
         ap (λ v. is_taken (without_all (db 0) (id ∷ [])) (row v)) (sym (cast_int id)) ∙ not-true _ (and_parts _ _ applied.fresh).0,
       )
 
+  -- where a row has the key, the update puts the value in so
   put_over : (key value : List ℕ) (db : Trees) (rows : List KeyedRow) (fresh : Value) (r : Row) (out : Written) → StoresRows db rows → Has (db 0) r → has_key key (drop 1 r) ≡ true
       → Updates task (record { lets = []; body = update_query }) (Blob key ∷ Blob value ∷ rowid r ∷ fresh ∷ Blob key ∷ Blob value ∷ []) db (Ok out) → IsPut key value (db 0) (out.trees 0)
   put_over key value db rows fresh r out stores h passing done =

@@ -8,9 +8,11 @@ use Rattle.sqlite_rules.proofs.ListLemmas.{all_has, all_from}
 use Rattle.sqlite_keyed.proofs.ListLemmas.{all_weaker, along_permutation}
 
 module _ {X : Type 0} (R : X → X → Type 0) (back : (x y : X) → R x y → R y x) where
+  -- what is in the second list is in the first, and it is pairwise so where the first is
   abbrev Keeps : List X → List X → Type 0
   Keeps xs ys = ((y : X) → Has ys y → Has xs y) × (IsAscending R xs → IsAscending R ys)
 
+  -- so it is of a permutation
   kept : (xs ys : List X) → IsPermutation xs ys → Keeps xs ys
   kept = along_permutation Keeps
       (λ xs. (λ y h. h, λ up. up))
@@ -23,6 +25,7 @@ module _ {X : Type 0} (R : X → X → Type 0) (back : (x y : X) → R x y → R
   pairwise-permutation xs ys same = (kept xs ys same).1
 
 module _ {X : Type 0} (cmp : X → X → Ordering) (total : IsTotalOrder cmp) where
+  -- what is neither greater nor tied is less
   less_from : (x y : X) → is_lt (cmp y x) ≡ false → is_eq (cmp x y) ≡ false → cmp x y ≡ Less
   less_from x y up apart = go (cmp x y) (ap is_lt (sym (total.antisymm y x)) ∙ up) apart
     where
@@ -31,6 +34,7 @@ module _ {X : Type 0} (cmp : X → X → Ordering) (total : IsTotalOrder cmp) wh
       go Equal p q = absurd (true≢false q)
       go Greater p q = absurd (true≢false p)
 
+  -- what isn't tied isn't tied the other way round
   pub untied_back : (x y : X) → is_eq (cmp x y) ≡ false → is_eq (cmp y x) ≡ false
   untied_back x y apart = ap is_eq (total.antisymm y x) ∙ go (cmp x y) apart
     where
@@ -39,6 +43,7 @@ module _ {X : Type 0} (cmp : X → X → Ordering) (total : IsTotalOrder cmp) wh
       go Equal p = p
       go Greater p = refl
 
+  -- a sorted list without ties rises
   pub rising_from : (xs : List X) → IsSorted cmp xs → IsAscending (λ a b. is_eq (cmp a b) ≡ false) xs → IsAscending (λ a b. cmp a b ≡ Less) xs
   rising_from [] sorted apart = tt
   rising_from (x ∷ []) sorted apart = (tt, tt)

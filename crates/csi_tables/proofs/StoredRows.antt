@@ -57,6 +57,7 @@ pub record AreIdsOf (rows : List Row) (passes : Row → Bool) (ids : List ℤ) :
   pub sound : (id : ℤ) → Has ids id → (r : Row) × Has rows r × (passes r ≡ true) × (id ≡ id_of r)
 
 module _ (rows : List Row) (table : IsTable rows) (ints : AreInts rows) where
+  -- a row's rowid is its id
   pub keyed : (r : Row) → Has rows r → rowid r ≡ Int (id_of r)
   keyed r h = int_is (rowid r) (all_has _ rows r ints h)
 
@@ -66,9 +67,11 @@ module _ (rows : List Row) (table : IsTable rows) (ints : AreInts rows) where
       let tie : Tied r x = subst (λ v. value_cmp (rowid r) v ≡ Equal) (sym (keyed x k)) (equal_is _ is) in
       tied_same rows r x table h k tie
 
+  -- a row has the rowid of its id
   own : (r : Row) → Has rows r → has_rowid (id_of r) r ≡ true
   own r h = subst (λ v. is_eq (value_cmp v (Int (id_of r))) ≡ true) (sym (keyed r h)) (ap is_eq (tied_itself value_cmp_total (Int (id_of r))))
 
+  -- without the rows of these ids, those that don't pass are left
   pub taken_out : (passes : Row → Bool) (ids : List ℤ) → AreIdsOf rows passes ids → without_all rows ids ≡ filter (λ r. not (passes r)) rows
   taken_out passes ids are = left_is ids rows ∙ filter_on _ _ rows (λ r h. ap not (decides r h))
     where

@@ -88,6 +88,7 @@ pub found_is : command_of (understood parts_schema make_text) ≡ Nothing
 unfolding understood everything parts_table parts_schema
 found_is = refl
 
+-- where the table is there, the text that makes it is plain
 pub found_plain : IsPlain (understood parts_schema make_text)
 unfolding understood everything parts_table parts_schema
 found_plain = (refl, refl)
@@ -97,6 +98,7 @@ pub read_is : (command_of (understood parts_schema read_text) ≡ Select (record
 unfolding understood everything parts_table parts_schema
 read_is = (refl, refl)
 
+-- so is the text that reads
 pub read_plain : IsPlain (understood parts_schema read_text)
 unfolding understood everything parts_table parts_schema
 read_plain = (refl, refl)
@@ -106,6 +108,7 @@ pub put_is : command_of (understood parts_schema put_text) ≡ InsertOr 0 Abort 
 unfolding understood everything parts_table parts_schema
 put_is = refl
 
+-- so is the text that puts a row in
 pub put_plain : IsPlain (understood parts_schema put_text)
 unfolding understood everything parts_table parts_schema
 put_plain = (refl, refl)
@@ -115,6 +118,7 @@ pub remove_is : command_of (understood parts_schema remove_text) ≡ Delete 0 (r
 unfolding understood everything parts_table parts_schema
 remove_is = refl
 
+-- so is the text that takes a row out
 pub remove_plain : IsPlain (understood parts_schema remove_text)
 unfolding understood everything parts_table parts_schema
 remove_plain = (refl, refl)

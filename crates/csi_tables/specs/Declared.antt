@@ -34,5 +34,6 @@ parts_schema = record {
   views = [];
 }
 
+-- a database without a table
 abbrev pub no_schema : Schema
 no_schema = record { tables = []; indexes = []; views = [] }

@@ -15,6 +15,7 @@ use Rattle.sqlite.specs.declared.error.Error.TheVariants.{SqlInputError}
 use Rattle.sqlite_resolve.specs.declared.error.CompileError.{CompileError}
 use Rattle.csi_tables.specs.Declared.{parts_schema, no_schema}
 
+-- a row: its key and its value
 pub record KeyedRow : Type 0 where
   pub key : List ℕ
   pub value : List ℕ

@@ -4,15 +4,19 @@ use Rattle.sqlite.specs.declared.types.Value.TheVariants.{Blob}
 use Rattle.sqlite.specs.declared.error.Error.{Error}
 use Rattle.sqlite.specs.State.{State, Executes, ExecutesInside}
 
+-- makes the table, if it isn't there
 abbrev pub make_text : List ℕ
 make_text = codes "CREATE TABLE IF NOT EXISTS parts (key BLOB NOT NULL PRIMARY KEY, value BLOB NOT NULL)"
 
+-- reads the table, by rising key
 abbrev pub read_text : List ℕ
 read_text = codes "SELECT key, value FROM parts ORDER BY key"
 
+-- puts a row in, over one of the same key
 abbrev pub put_text : List ℕ
 put_text = codes "INSERT INTO parts (key, value) VALUES (?1, ?2) ON CONFLICT (key) DO UPDATE SET value = excluded.value"
 
+-- takes the row of a key out
 abbrev pub remove_text : List ℕ
 remove_text = codes "DELETE FROM parts WHERE key = ?1"
 
@@ -21,8 +25,10 @@ remove_text = codes "DELETE FROM parts WHERE key = ?1"
 abbrev pub RefusesToMake : State → State → Error → Type 0
 RefusesToMake before after error = Executes make_text [] before after (Err error)
 
+-- SQLite refuses to put this row in, with this error
 abbrev pub RefusesToPut : List ℕ → List ℕ → State → State → Error → Type 0
 RefusesToPut key value before after error = ExecutesInside 0 put_text (Blob key ∷ Blob value ∷ []) before after (Err error)
 
+-- SQLite refuses to take the row of this key out, with this error
 abbrev pub RefusesToRemove : List ℕ → State → State → Error → Type 0
 RefusesToRemove key before after error = ExecutesInside 0 remove_text (Blob key ∷ []) before after (Err error)

@@ -29,6 +29,7 @@ same_flag-then true b h = sym h
 same_flag-then false true h = absurd (false≢true h)
 same_flag-then false false h = refl
 
+-- a flag passes with itself
 same_flag-self : (a : Bool) → same_flag a a ≡ true
 same_flag-self true = refl
 same_flag-self false = refl
@@ -44,16 +45,19 @@ mode_number-then SingleNodeSingleWriter SingleNodeSingleWriter h = refl
 mode_number-then SingleNodeMultiWriter SingleNodeMultiWriter h = refl
 mode_number-then a b h = cc
 
+-- accesses that pass the test are equal
 same_access-then : (a b : Access) → same_access a b ≡ true → a ≡ b
 same_access-then Block Block h = refl
 same_access-then Block (Mount f) h = absurd (false≢true h)
 same_access-then (Mount f) Block h = absurd (false≢true h)
 same_access-then (Mount f) (Mount g) h = ap Mount ((same_text-tells f g).0 h)
 
+-- an access passes with itself
 same_access-self : (a : Access) → same_access a a ≡ true
 same_access-self Block = refl
 same_access-self (Mount f) = (same_text-tells f f).1 refl
 
+-- capabilities that pass the test are equal
 same_capability-then : (a b : Capability) → same_capability a b ≡ true → a ≡ b
 same_capability-then a b h =
     let parts = and_parts (same_access a.access b.access) (mode_number a.mode == mode_number b.mode) h in
@@ -61,6 +65,7 @@ same_capability-then a b h =
     let mode = mode_number-then a.mode b.mode (eqb-true (mode_number a.mode) (mode_number b.mode) parts.1) in
     λ i. record { access = access i; mode = mode i }
 
+-- a capability passes with itself
 same_capability-self : (a : Capability) → same_capability a a ≡ true
 same_capability-self a =
     and_from (same_access a.access a.access) (mode_number a.mode == mode_number a.mode) (same_access-self a.access) (eq-eqb (mode_number a.mode) (mode_number a.mode) refl)
@@ -70,6 +75,7 @@ pub same_capability-tells : (a b : Capability) → IsTrue (same_capability a b) 
 same_capability-tells a b =
     (same_capability-then a b, λ e. subst (λ x. same_capability a x ≡ true) e (same_capability-self a))
 
+-- holdings that pass the test are equal
 same_holding-then : (a b : Holding) → same_holding a b ≡ true → a ≡ b
 same_holding-then a b h =
     let last = and_parts ((a.volume == b.volume) && same_text a.node b.node && same_capability a.capability b.capability) (same_flag a.readonly b.readonly) h in
@@ -81,14 +87,17 @@ same_holding-then a b h =
     let readonly = same_flag-then a.readonly b.readonly last.1 in
     λ i. record { volume = volume i; node = node i; capability = capability i; readonly = readonly i }
 
+-- a holding passes with itself
 same_holding-self : (a : Holding) → same_holding a a ≡ true
 same_holding-self a =
     and_from _ _ (and_from _ _ (and_from _ _ (eq-eqb a.volume a.volume refl) ((same_text-tells a.node a.node).1 refl)) (same_capability-self a.capability)) (same_flag-self a.readonly)
 
+-- the test of two holdings holds exactly where they are equal
 pub same_holding-tells : (a b : Holding) → IsTrue (same_holding a b) ↔ (a ≡ b)
 same_holding-tells a b =
     (same_holding-then a b, λ e. subst (λ x. same_holding a x ≡ true) e (same_holding-self a))
 
+-- numbers of calls that pass the test are equal
 same_number-then : (a b : Number) → same_number a b ≡ true → a ≡ b
 same_number-then a b h =
     let parts = and_parts (a.session == b.session) (a.call == b.call) h in
@@ -96,10 +105,12 @@ same_number-then a b h =
     let call = eqb-true a.call b.call parts.1 in
     λ i. record { session = session i; call = call i }
 
+-- a call's number passes with itself
 same_number-self : (a : Number) → same_number a a ≡ true
 same_number-self a =
     and_from (a.session == a.session) (a.call == a.call) (eq-eqb a.session a.session refl) (eq-eqb a.call a.call refl)
 
+-- the test of two numbers of calls holds exactly where they are equal
 pub same_number-tells : (a b : Number) → IsTrue (same_number a b) ↔ (a ≡ b)
 same_number-tells a b =
     (same_number-then a b, λ e. subst (λ x. same_number a x ≡ true) e (same_number-self a))
@@ -116,24 +127,29 @@ kind_number-then kinds.NodePublishVolume kinds.NodePublishVolume h = refl
 kind_number-then kinds.NodeUnpublishVolume kinds.NodeUnpublishVolume h = refl
 kind_number-then a b h = cc
 
+-- the test of two kinds holds exactly where they are equal
 pub same_kind-tells : (a b : Kind) → IsTrue (same_kind a b) ↔ (a ≡ b)
 same_kind-tells a b =
     (λ h. kind_number-then a b (eqb-true (kind_number a) (kind_number b) h), λ e. eq-eqb (kind_number a) (kind_number b) (ap kind_number e))
 
+-- parties that pass the test are equal
 same_party-then : (a b : Party) → same_party a b ≡ true → a ≡ b
 same_party-then Controller Controller h = refl
 same_party-then Controller (Node id) h = absurd (false≢true h)
 same_party-then (Node id) Controller h = absurd (false≢true h)
 same_party-then (Node id) (Node other) h = ap Node ((same_text-tells id other).0 h)
 
+-- a party passes with itself
 same_party-self : (a : Party) → same_party a a ≡ true
 same_party-self Controller = refl
 same_party-self (Node id) = (same_text-tells id id).1 refl
 
+-- the test of two parties holds exactly where they are equal
 pub same_party-tells : (a b : Party) → IsTrue (same_party a b) ↔ (a ≡ b)
 same_party-tells a b =
     (same_party-then a b, λ e. subst (λ x. same_party a x ≡ true) e (same_party-self a))
 
+-- keys that pass the test are equal
 same_key-then : (a b : Key) → same_key a b ≡ true → a ≡ b
 same_key-then (Exists name) (Exists other) h = ap Exists ((same_text-tells name other).0 h)
 same_key-then (Attached id node) (Attached other there) h =
@@ -148,6 +164,7 @@ same_key-then (Published id node target) (Published other there aim) h =
     λ i. Published (eqb-true id other place.0 i) ((same_text-tells node there).0 place.1 i) ((same_text-tells target aim).0 parts.1 i)
 same_key-then a b h = cc
 
+-- a key passes with itself
 same_key-self : (a : Key) → same_key a a ≡ true
 same_key-self (Exists name) = (same_text-tells name name).1 refl
 same_key-self (Attached id node) = and_from _ _ (eq-eqb id id refl) ((same_text-tells node node).1 refl)
@@ -155,6 +172,7 @@ same_key-self (Staged id node) = and_from _ _ (eq-eqb id id refl) ((same_text-te
 same_key-self (Published id node target) =
     and_from _ _ (and_from _ _ (eq-eqb id id refl) ((same_text-tells node node).1 refl)) ((same_text-tells target target).1 refl)
 
+-- the test of two keys holds exactly where they are equal
 pub same_key-tells : (a b : Key) → IsTrue (same_key a b) ↔ (a ≡ b)
 same_key-tells a b =
     (same_key-then a b, λ e. subst (λ x. same_key a x ≡ true) e (same_key-self a))

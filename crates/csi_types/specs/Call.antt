@@ -7,6 +7,7 @@ use Rattle.csi_types.specs.declared.call.Party.TheVariants.{Controller, Node}
 use Rattle.csi_types.specs.declared.call.Call.{Call}
 use Rattle.csi_types.specs.declared.call.Call.TheVariants as calls
 
+-- the kind of a call
 abbrev pub kind_of : Call → Kind
 kind_of (calls.CreateVolume name required limit capabilities) = kinds.CreateVolume
 kind_of (calls.DeleteVolume id) = kinds.DeleteVolume

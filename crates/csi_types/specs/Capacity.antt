@@ -16,6 +16,7 @@ is_empty_range required limit = not (limit == 0) && nat_lt limit required
 abbrev pub wanted : ℕ → ℕ → ℕ
 wanted required limit = if required == 0 then min 1073741824 limit else required
 
+-- what a volume gets by what is required, by its limit and by the greatest capacity that there is, or the status that refuses it
 abbrev pub grant_of : ℕ → ℕ → ℕ → Result ℕ Status
 grant_of required limit greatest =
     if is_bad_range required limit then Err InvalidArgument

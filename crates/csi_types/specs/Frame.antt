@@ -7,6 +7,7 @@ use Rattle.csi_types.specs.declared.frame.Body.TheVariants.{Call, Reply}
 use Rattle.csi_types.specs.Call.{kind_of, is_party_of}
 use Rattle.csi_types.specs.Reply.{has_id_by_rule}
 
+-- a frame: the number of its call, the party that the call is for, and the call or the reply
 pub record Frame : Type 0 where
   pub number : Number
   pub party : Party

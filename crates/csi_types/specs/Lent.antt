@@ -13,13 +13,16 @@ use Rattle.csi_types.specs.declared.lent.CapabilityRef.{CapabilityRef}
 use Rattle.csi_types.specs.declared.lent.CallRef.{CallRef}
 use Rattle.csi_types.specs.declared.lent.CallRef.TheVariants.{CreateVolume, DeleteVolume, ControllerPublishVolume, ControllerUnpublishVolume, NodeStageVolume, NodeUnstageVolume, NodePublishVolume, NodeUnpublishVolume}
 
+-- the access that a lent one stands for
 abbrev pub lent_access : AccessRef → Access
 lent_access Block = accesses.Block
 lent_access (Mount fs_type) = accesses.Mount fs_type.now
 
+-- the capability that a lent one stands for
 abbrev pub lent_capability : CapabilityRef → Capability
 lent_capability c = record { access = lent_access c.access; mode = c.mode }
 
+-- the call that a lent one stands for
 abbrev pub lent_call : CallRef → Call
 lent_call (CreateVolume name required limit capabilities) = calls.CreateVolume name.now required limit capabilities.now
 lent_call (DeleteVolume id) = calls.DeleteVolume id

@@ -21,24 +21,30 @@ use Rattle.csi_types.specs.Frame.{Frame, IsAllowed}
 abbrev pub IsWord : ℕ → Type 0
 IsWord n = n < 2 ^ 64
 
+-- a call's number is two of 64 bits
 pub record IsNumber (number : Number) : Type 0 where
   pub session_fits : IsWord number.session
   pub call_fits : IsWord number.call
 
+-- a mounted volume's file system is a text within its limits
 abbrev pub IsAccess : Access → Type 0
 IsAccess Block = Unit {0}
 IsAccess (Mount fs_type) = IsFsType fs_type
 
+-- and so is that of a capability
 abbrev pub IsCapability : Capability → Type 0
 IsCapability capability = IsAccess capability.access
 
+-- at most eight of them
 abbrev pub IsCapabilityList : List Capability → Type 0
 IsCapabilityList capabilities = (length capabilities ≤ 8) × AllByRecursion IsCapability capabilities
 
+-- a node's id is a text within its limits
 abbrev pub IsParty : Party → Type 0
 IsParty Controller = Unit {0}
 IsParty (Node id) = IsNodeId id
 
+-- each part of a call is within its limits
 abbrev pub IsCall : Call → Type 0
 IsCall (calls.CreateVolume name required limit capabilities) = IsName name × IsWord required × IsWord limit × IsCapabilityList capabilities
 IsCall (calls.DeleteVolume id) = IsVolumeId id
@@ -49,10 +55,12 @@ IsCall (calls.NodeUnstageVolume id) = IsVolumeId id
 IsCall (calls.NodePublishVolume id target capability readonly) = IsVolumeId id × IsTarget target × IsCapability capability
 IsCall (calls.NodeUnpublishVolume id target) = IsVolumeId id × IsTarget target
 
+-- an id, if there is one, and the detail are within theirs
 pub record IsReply (reply : Reply) : Type 0 where
   pub id_fits : IfSome reply.id IsVolumeId
   pub detail_fits : IsDetail reply.detail
 
+-- so is each part of a call or of a reply
 abbrev pub IsBody : Body → Type 0
 IsBody (bodies.Call call) = IsCall call
 IsBody (bodies.Reply kind reply) = IsReply reply

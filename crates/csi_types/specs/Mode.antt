@@ -3,6 +3,7 @@ use Rattle.std.specs.Prelude.{ℕ, zero, suc, Option, Some, None}
 use Rattle.csi_types.specs.declared.mode.Mode.{Mode}
 use Rattle.csi_types.specs.declared.mode.Mode.TheVariants.{SingleNodeWriter, SingleNodeReaderOnly, MultiNodeReaderOnly, MultiNodeSingleWriter, MultiNodeMultiWriter, SingleNodeSingleWriter, SingleNodeMultiWriter}
 
+-- a mode's number
 abbrev pub mode_number : Mode → ℕ
 mode_number SingleNodeWriter = 1
 mode_number SingleNodeReaderOnly = 2
@@ -12,6 +13,7 @@ mode_number MultiNodeMultiWriter = 5
 mode_number SingleNodeSingleWriter = 6
 mode_number SingleNodeMultiWriter = 7
 
+-- the mode of a number, if it has one
 abbrev pub mode_from_number : ℕ → Option Mode
 mode_from_number zero = None
 mode_from_number (suc zero) = Some SingleNodeWriter

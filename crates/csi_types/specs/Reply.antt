@@ -6,10 +6,12 @@ use Rattle.csi_types.specs.declared.status.Status.{Status}
 use Rattle.csi_types.specs.declared.status.Status.TheVariants.{Ok}
 use Rattle.csi_types.specs.declared.reply.Reply.{Reply}
 
+-- the kind is CreateVolume
 abbrev pub is_create : Kind → Bool
 is_create CreateVolume = true
 is_create _ = false
 
+-- the status is OK
 abbrev pub is_ok_status : Status → Bool
 is_ok_status Ok = true
 is_ok_status _ = false

@@ -3,6 +3,7 @@ use Rattle.std.specs.Prelude.{ℕ, zero, suc, Option, Some, None, List, [], ◌�
 use Rattle.csi_types.specs.declared.status.Status.{Status}
 use Rattle.csi_types.specs.declared.status.Status.TheVariants.{Ok, Cancelled, Unknown, InvalidArgument, DeadlineExceeded, NotFound, AlreadyExists, PermissionDenied, ResourceExhausted, FailedPrecondition, Aborted, OutOfRange, Unimplemented, Internal, Unavailable, DataLoss, Unauthenticated}
 
+-- a status's code
 abbrev pub status_code : Status → ℕ
 status_code Ok = 0
 status_code Cancelled = 1
@@ -26,10 +27,12 @@ status_code Unauthenticated = 16
 abbrev pub statuses : List Status
 statuses = Ok ∷ Cancelled ∷ Unknown ∷ InvalidArgument ∷ DeadlineExceeded ∷ NotFound ∷ AlreadyExists ∷ PermissionDenied ∷ ResourceExhausted ∷ FailedPrecondition ∷ Aborted ∷ OutOfRange ∷ Unimplemented ∷ Internal ∷ Unavailable ∷ DataLoss ∷ Unauthenticated ∷ []
 
+-- the status at a place of a list
 abbrev pub status_at : List Status → ℕ → Option Status
 status_at [] code = None
 status_at (status ∷ others) zero = Some status
 status_at (status ∷ others) (suc code) = status_at others code
 
+-- the status of a code, if it has one
 abbrev pub status_from_code : ℕ → Option Status
 status_from_code code = status_at statuses code

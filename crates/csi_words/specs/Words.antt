@@ -49,6 +49,7 @@ bare = record (new_app (codes "csi-replay")) { top = record (new_app (codes "csi
 abbrev pub on_files : App
 on_files = with_file_command (with_file_command (with_file_command (with_file_command (with_file_command bare (codes "answer")) (codes "show")) (codes "run")) (codes "frames")) (codes "draw")
 
+-- all commands
 abbrev pub program : App
 program = with_one_word (with_store_command (with_store_command on_files (codes "controller") (codes "CONFIG")) (codes "node") (codes "ID")) (codes "record") (codes "DB")
 
@@ -56,15 +57,19 @@ program = with_one_word (with_store_command (with_store_command on_files (codes 
 abbrev pub on_file_in : FileCommand → List Row → Option Named
 on_file_in command rows = option_map (λ path. File command path) (first_of (codes "FILE") rows)
 
+-- a command of two words, where both are there
 abbrev pub both : (List ℕ → List ℕ → Named) → Option (List ℕ) → Option (List ℕ) → Option Named
 both command first second = option_and_then (λ a. option_map (λ b. command a b) second) first
 
+-- the controller's process
 abbrev pub controller_in : List Row → Option Named
 controller_in rows = both Controller (first_of (codes "DB") rows) (first_of (codes "CONFIG") rows)
 
+-- a node's process
 abbrev pub node_in : List Row → Option Named
 node_in rows = both Node (first_of (codes "DB") rows) (first_of (codes "ID") rows)
 
+-- the line of a record
 abbrev pub record_in : List Row → Option Named
 record_in rows = option_map (λ store. Record store) (first_of (codes "DB") rows)
 

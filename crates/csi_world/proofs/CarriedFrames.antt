@@ -13,6 +13,7 @@ use Rattle.csi_world.specs.Simulating.{numbered}
 pub begins-whole : (frame : Frame) (bytes : List ℕ) → Spells frame bytes → BeginsWith bytes frame (length bytes)
 begins-whole frame bytes spells = record { within = omega arith; spelled = subst (Spells frame) (sym (take-length bytes)) spells }
 
+-- a result that is a success isn't an error
 ok_isnt_err : {X Y : Type 0} (x : X) (y : Y) (result : Result X Y) → result ≡ Ok x → result ≡ Err y → ⊥
 ok_isnt_err x y result f g = cc
 

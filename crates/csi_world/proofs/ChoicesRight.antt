@@ -64,15 +64,19 @@ IsTold world item = Unit {0}
 
 -- a world of which all is so that is kept of every world
 module _ (config : Config) (world : World) (right : IsRight config world) where
+  -- the ids that were given so far
   abbrev given : List GivenId
   given = right.good.given
 
+  -- the world is as it has to be
   abbrev well : IsWell world given
   well = right.good.well
 
+  -- what is told of the world so far
   abbrev so_far : IsSoFar world.history world.frames (told_by given world) given
   so_far = well.so_far
 
+  -- the calls that were sent
   abbrev issued : List Issued
   issued = issued_in world.history.items
 

@@ -66,6 +66,7 @@ kept-either old new call key kind reply of_party only keeps other k is = by (sam
 
 -- a sent call that came to its plugin, and what the plugins know then
 module _ (world : World) (controller : ControllerState) (nodes : List NodeAt) (call : Issued) where
+  -- the world after the call was delivered
   abbrev next : World
   next = with_plugins world controller nodes
 

@@ -89,6 +89,7 @@ pub record IsGood (config : Config) (world : World) : Type 0 where
 
 -- a sent call that came to its plugin, and what the plugins know then
 module _ (laws : PluginLaws) (config : Config) (world : World) (controller : ControllerState) (nodes : List NodeAt) (call : Issued) where
+  -- the world after the delivery
   abbrev next : World
   next = with_plugins world controller nodes
 

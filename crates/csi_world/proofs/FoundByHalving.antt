@@ -32,14 +32,17 @@ place-of [] x among = absurd among
 place-of (y ∷ ys) x (inl e) = (0, omega arith, sym e)
 place-of (y ∷ ys) x (inr there) = let found = place-of ys x there in (suc found.0, omega (arith, found.1), found.2)
 
+-- what stands at a place of a list is among it
 pub at-place : {X : Type 0} (xs : List X) (k : ℕ) (d : X) → k < length xs → IsAmong (get_or xs k d) xs
 at-place [] k d inside = absurd (omega arith)
 at-place (x ∷ xs) zero d inside = inl refl
 at-place (x ∷ xs) (suc k) d inside = inr (at-place xs k d (omega arith))
 
+-- Less isn't Equal
 less_is_not : Less ≡ Equal → ⊥
 less_is_not e = cc
 
+-- Greater isn't Equal
 greater_is_not : Greater ≡ Equal → ⊥
 greater_is_not e = cc
 
@@ -53,6 +56,7 @@ found-ties ord xs (Err i) within parted is = absurd (false_is_not is)
     false_is_not : false ≡ true → ⊥
     false_is_not e = cc
 
+-- of two numbers the one is less, or else no less
 between : (k i : ℕ) → (k < i → ⊥) → (i ≤ k → ⊥) → ⊥
 between k i below above = by (nat_lt k i) refl
   where
@@ -89,6 +93,7 @@ comparisons_rise rows id rising = λ i j d le within.
     let rise = rises rows i j d rising le within in
     grind (arith, nat_tests, rise)
 
+-- ids that aren't equal fail the test
 other-id : (a b : ℕ) → (a ≡ b → ⊥) → (a == b) ≡ false
 other-id a b differ = grind (arith, nat_tests, differ)
 

@@ -51,6 +51,7 @@ names-ids given a b i j are ha hb =
 pub id-of_found : (id : ℕ) (controller : ControllerState) (volume : Volume) → volume_with_id id controller ≡ Some volume → volume.id ≡ id
 id-of_found id controller volume is = eqb-true volume.id id (find-passes (λ (v : Volume). v.id == id) controller.volumes volume is)
 
+-- the volume that is found by a name has it
 pub name-of_found : (name : List ℕ) (controller : ControllerState) (volume : Volume) → volume_named name controller ≡ Some volume → volume.name ≡ name
 name-of_found name controller volume is = (same_text-tells volume.name name).0 (find-passes (λ (v : Volume). same_text v.name name) controller.volumes volume is)
 
@@ -60,6 +61,7 @@ pub named-id : (controller : ControllerState) (given : List GivenId) (name : Lis
 named-id controller given name id volume are of has is =
     are.one_id name volume.id id (subst (λ n. HasName given n volume.id) (name-of_found name controller volume is) (of.listed volume.id volume (of.names.by_id name volume is))) has
 
+-- the volume that has an id which was given to a name has the name
 pub id-named : (controller : ControllerState) (given : List GivenId) (name : List ℕ) (id : ℕ) (volume : Volume) → AreGiven given → AreOf controller given → HasName given name id
     → volume_with_id id controller ≡ Some volume → volume.name ≡ name
 id-named controller given name id volume are of has is =
@@ -75,6 +77,7 @@ gone-unnamed controller given name id are of has gone = by (volume_named name co
     by (Some volume) e =
         absurd (none-some volume (sym gone ∙ ap (λ n. volume_with_id n controller) (sym (named-id controller given name id volume are of has e)) ∙ of.names.by_id name volume e))
 
+-- where no volume has the name, none has the id that was given to it
 pub unnamed-gone : (controller : ControllerState) (given : List GivenId) (name : List ℕ) (id : ℕ) → AreGiven given → AreOf controller given → HasName given name id
     → volume_named name controller ≡ None → volume_with_id id controller ≡ None
 unnamed-gone controller given name id are of has none = by (volume_with_id id controller) refl
@@ -117,6 +120,7 @@ is_forgotten given controller key = list_any (λ one. is_given key one && is_gon
 gone-is : (controller : ControllerState) (one : GivenId) → volume_with_id one.id controller ≡ None → is_gone controller one ≡ true
 gone-is controller one e = ap (λ (o : Option Volume). not (is_some o)) e
 
+-- where the test says that a given id is gone, no volume has it
 is-gone : (controller : ControllerState) (one : GivenId) → is_gone controller one ≡ true → volume_with_id one.id controller ≡ None
 is-gone controller one h = by (volume_with_id one.id controller) refl h
   where
@@ -192,6 +196,7 @@ pub record AreGivenNext (old new : ControllerState) (given more : List GivenId) 
   pub of : AreOf new more
   pub newer : (name : List ℕ) (id : ℕ) → HasName more name id → HasName given name id ⊎ IsNewlyGiven old new name id
 
+-- after a frame there are ids given so
 pub given-next : (old new : ControllerState) (given : List GivenId) → controllers.KeepsNames old new → AreOf old given → controllers.AreNamed new → (more : List GivenId) × AreGivenNext old new given more
 given-next old new given keeps of names = by (volume_with_id old.next_id new) refl
   where

@@ -17,6 +17,7 @@ use Rattle.csi_world.specs.Safe.{holds}
 use Rattle.csi_world.specs.Audited.{AreMarkedRight}
 use Rattle.csi_world.specs.Listed.{is_listed, is_noted, is_affirmed}
 
+-- Yes isn't No
 yes_not_no : Yes ≢ No
 yes_not_no e = cc
 

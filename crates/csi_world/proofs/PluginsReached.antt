@@ -26,6 +26,7 @@ use Rattle.csi_world.specs.Step.{answered_by_node, answered_by, answered}
 abbrev pub IsOfFrames : Config → ControllerState → Type 0
 IsOfFrames config state = (frames : List Frame) × (state ≡ controller.after_frames config empty_controller frames)
 
+-- a node's state is one to which frames lead
 abbrev pub IsNodeOfFrames : NodeAt → Type 0
 IsNodeOfFrames at = (frames : List Frame) × (at.state ≡ node.after_frames at.id empty_node frames)
 

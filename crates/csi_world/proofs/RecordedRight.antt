@@ -63,6 +63,7 @@ known-one world given thing well h =
 
 -- ---- how the views tell what holds
 
+-- a text is the same as itself
 self : (node : List ℕ) → same_text node node ≡ true
 self node = (same_text-tells node node).1 refl
 

@@ -130,6 +130,7 @@ one-key call a b p q = by (key_at call.name call.party call.call) p q
 reply-parts : (a b : Number) (p q : Party) (k l : Kind) (r s : Reply) → reply_frame a p k r ≡ reply_frame b q l s → (k ≡ l) × (r ≡ s)
 reply-parts a b p q k l r s e = let body : bodies.Reply k r ≡ bodies.Reply l s = ap (λ (f : Frame). f.body) e in (cc, cc)
 
+-- the status OK passes the test
 is_ok : (reply : Reply) → reply.status ≡ Ok → is_ok_status reply.status ≡ true
 is_ok reply ok = ap is_ok_status ok
 

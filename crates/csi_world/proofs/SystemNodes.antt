@@ -24,6 +24,7 @@ use Rattle.csi_world.specs.Listed.{AreDistinct}
 abbrev pub is_shown_node : List ℕ → NodeParts → Bool
 is_shown_node id node = same_text node.id id
 
+-- the node has this id
 abbrev pub is_node : List ℕ → NodeAt → Bool
 is_node id node = same_text node.id id
 

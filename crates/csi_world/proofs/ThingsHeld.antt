@@ -44,6 +44,7 @@ only-found p (y ∷ ys) x one (inr there) passes = by (p y) refl (only-found p y
 
 -- the lists of a world's plugins
 module _ (lists : Lists) (world : World) (is : IsListed lists world) (kept : AreRowsApart lists.rows) where
+  -- the controller's rows
   abbrev rows : List ControllerRow
   rows = lists.rows
 
@@ -188,6 +189,7 @@ module _ (lists : Lists) (world : World) (is : IsListed lists world) (kept : Are
 
   -- ---- what holds is listed
 
+  -- the things that are listed
   abbrev things : List Thing
   things = things_listed rows lists.nodes
 

@@ -25,6 +25,7 @@ pub record IsMarkedRight (marks : Thing → Known) (world : World) (thing : Thin
   pub yes : marks thing ≡ Yes → holds world thing ≡ true
   pub no : marks thing ≡ No → holds world thing ≡ false
 
+-- so it is of every thing
 abbrev pub AreMarkedRight : (Thing → Known) → World → Type 0
 AreMarkedRight marks world = (thing : Thing) → IsMarkedRight marks world thing
 

@@ -109,6 +109,7 @@ row_with_id id rows = find (λ row. row.id == id) rows
 abbrev pub is_staged_right : List ControllerRow → List ℕ → Staged → Bool
 is_staged_right rows node staged = is_row_held node staged.capability (row_with_id staged.id rows)
 
+-- so it is at this node
 abbrev pub is_node_attached : List ControllerRow → NodeLists → Bool
 is_node_attached rows node = list_all (is_staged_right rows node.id) node.staged.items
 
@@ -116,9 +117,11 @@ is_node_attached rows node = list_all (is_staged_right rows node.id) node.staged
 abbrev pub exists_thing : ControllerRow → List Thing
 exists_thing row = if row.live then Exists row.name ∷ [] else []
 
+-- an attachment, as a thing
 abbrev pub attached_thing : List ℕ → NodeHolding → Thing
 attached_thing name held = Attached name held.node
 
+-- the volume's existence and its attachments
 abbrev pub things_of : ControllerRow → List Thing
 things_of row = exists_thing row ++ map (attached_thing row.name) row.holdings.items
 
@@ -127,16 +130,20 @@ abbrev pub staged_by : List ℕ → Option ControllerRow → List Thing
 staged_by node None = []
 staged_by node (Some row) = StagedAt row.name node ∷ []
 
+-- a staging, if the controller has its volume
 abbrev pub staged_thing : List ControllerRow → List ℕ → Staged → List Thing
 staged_thing rows node staged = staged_by node (row_with_id staged.id rows)
 
+-- a publication at this target, if the controller has its volume
 abbrev pub published_by : List ℕ → List ℕ → Option ControllerRow → List Thing
 published_by node target None = []
 published_by node target (Some row) = PublishedAt row.name node target ∷ []
 
+-- the same, by the volume's id
 abbrev pub published_thing : List ControllerRow → List ℕ → Published → List Thing
 published_thing rows node published = published_by node published.target (row_with_id published.id rows)
 
+-- all that holds at this node
 abbrev pub things_at : List ControllerRow → NodeLists → List Thing
 things_at rows node = flat_map (staged_thing rows node.id) node.staged.items ++ flat_map (published_thing rows node.id) node.published.items
 

@@ -9,6 +9,7 @@ use Rattle.csi_world.specs.declared.event.Outcome.TheVariants as outcomes
 abbrev pub refused_text : OrchFault → List ℕ
 refused_text fault = codes "refused " ++ (decimal (fault_number fault) ++ codes " ") ++ fault_name fault
 
+-- an outcome
 abbrev pub outcome_text : Outcome → List ℕ
 outcome_text (outcomes.Sent number) = codes "sent " ++ decimal number
 outcome_text outcomes.Met = codes "met"

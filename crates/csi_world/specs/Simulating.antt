@@ -43,6 +43,7 @@ pub record IsRefused (old new : List Frame) (fault : OrchFault) (outcome : Outco
   pub frames : new ≡ old
   pub came : outcome ≡ outcomes.Refused fault
 
+-- what came of an input, whether it was refused or not
 abbrev pub IsSettled : {X : Type 0} → (X → Answer) → List Frame → List Frame → Result X OrchFault → Outcome → Type 0
 IsSettled answer old new (Ok x) outcome = IsPosted old new (answer x) outcome
 IsSettled answer old new (Err fault) outcome = IsRefused old new fault outcome
@@ -58,6 +59,7 @@ pub record ControllerDoes (old new : ControllerParts) (frame : Frame) (reply : O
   pub replies : (state : ControllerState) → ControllerShows old state → reply ≡ (controller.fenced old.config state frame).reply
   pub state : (state : ControllerState) → ControllerShows old state → ControllerShows new (controller.fenced old.config state frame).state
 
+-- what a node's plugin does with a frame
 pub record NodeDoes (old new : NodeParts) (frame : Frame) (reply : Option Frame) : Type 0 where
   pub id : new.id ≡ old.id
   pub replies : (state : NodeState) → NodeShows old state → reply ≡ (node.fenced old.id state frame).reply
@@ -68,6 +70,7 @@ pub record IsSameController (old new : ControllerParts) : Type 0 where
   pub config : new.config ≡ old.config
   pub shown : (state : ControllerState) → ControllerShows old state → ControllerShows new state
 
+-- a node's plugin is as it was to its callers
 pub record IsSameNode (old new : NodeParts) : Type 0 where
   pub id : new.id ≡ old.id
   pub shown : (state : NodeState) → NodeShows old state → NodeShows new state

@@ -2,6 +2,7 @@
 use Rattle.csi_world.specs.declared.system.System.{System}
 use Rattle.csi_world.specs.Simulated.{WorldParts}
 
+-- its parts, each as it is shown
 abbrev pub parts_of : System → WorldParts
 parts_of system =
     record {

@@ -28,18 +28,23 @@ use Rattle.csi_world.specs.Laws.{IsMadeOfSteps}
 abbrev pub config : Config
 config = record { greatest = 1000; nodes = (record { id = codes "n1"; slots = 4 }) ∷ [] }
 
+-- the name of a volume
 abbrev pub v : List ℕ
 v = codes "v"
 
+-- the node's id
 abbrev pub n1 : List ℕ
 n1 = codes "n1"
 
+-- a target path
 abbrev pub a : List ℕ
 a = codes "/a"
 
+-- block access in the mode of a single node's writer
 abbrev pub block : Capability
 block = record { access = Block; mode = SingleNodeWriter }
 
+-- a call's number
 abbrev pub number : ℕ → ℕ → Number
 number session call = record { session = session; call = call }
 
@@ -47,15 +52,19 @@ number session call = record { session = session; call = call }
 abbrev pub made : Thing
 made = things.Exists v
 
+-- v is attached to n1
 abbrev pub attached : Thing
 attached = things.Attached v n1
 
+-- v is staged there
 abbrev pub staged : Thing
 staged = things.Staged v n1
 
+-- v is published at /a there
 abbrev pub published : Thing
 published = things.Published v n1 a
 
+-- v is to be used at /a of n1
 abbrev pub use_v : Event
 use_v = Use v n1 a block false
 
@@ -75,18 +84,23 @@ publishing = staging ++ Deliver 5 ∷ Deliver 6 ∷ Deliver 7 ∷ []
 abbrev pub using : List Event
 using = publishing ++ Deliver 8 ∷ []
 
+-- what came of these events
 abbrev pub outcomes_of : List Event → List Outcome
 outcomes_of events = (after config events).outcomes
 
+-- the world after these events
 abbrev pub world_of : List Event → World
 world_of events = (after config events).world
 
+-- what is known of a thing after these events
 abbrev pub known_after : List Event → Thing → Known
 known_after events thing = known (world_of events).history thing
 
+-- what comes of the events up to the call that stages v
 abbrev pub staging_outcomes : List Outcome
 staging_outcomes = Sent 1 ∷ Answered 2 ∷ Taken None ∷ Sent 3 ∷ Answered 4 ∷ Taken (Some 5) ∷ []
 
+-- what comes of those up to the end of the use
 abbrev pub using_outcomes : List Outcome
 using_outcomes = staging_outcomes ++ Answered 6 ∷ Taken (Some 7) ∷ Answered 8 ∷ Taken None ∷ []
 
@@ -118,6 +132,7 @@ UseIsMadeOfSteps = IsMadeOfSteps config using
 abbrev pub late_stage : List Event
 late_stage = staging ++ Timeout v ∷ Timeout v ∷ Timeout v ∷ Deliver 8 ∷ Deliver 9 ∷ Deliver 5 ∷ []
 
+-- so it is: nothing is staged by the call that comes late
 pub record WorkedLateStage : Type 0 where
   pub outcomes : outcomes_of late_stage ≡ staging_outcomes ++ Sent 6 ∷ Sent 7 ∷ Sent 8 ∷ Answered 9 ∷ Taken (Some 10) ∷ Answered 11 ∷ []
   pub undo : slice_get (world_of late_stage).frames 7 ≡ Some (call_frame (number 1 6) (Node n1) (calls.NodeUnstageVolume 1))
@@ -131,6 +146,7 @@ late_detach =
     using ++ Stop v n1 a ∷ Deliver 9 ∷ Deliver 10 ∷ Deliver 11 ∷ Deliver 12 ∷ Timeout v ∷ Deliver 14 ∷ Deliver 15
     ∷ use_v ∷ Deliver 16 ∷ Deliver 17 ∷ Deliver 18 ∷ Deliver 19 ∷ Deliver 13 ∷ []
 
+-- so it is: the volume stays attached
 pub record WorkedLateDetach : Type 0 where
   pub outcomes : outcomes_of late_detach
       ≡ using_outcomes ++ Sent 9 ∷ Answered 10 ∷ Taken (Some 11) ∷ Answered 12 ∷ Taken (Some 13) ∷ Sent 14 ∷ Answered 15 ∷ Taken None
@@ -144,6 +160,7 @@ pub record WorkedLateDetach : Type 0 where
 abbrev pub late_reply : List Event
 late_reply = publishing ++ Timeout v ∷ Deliver 8 ∷ []
 
+-- so it is: whether v is published isn't known
 pub record WorkedLateReply : Type 0 where
   pub outcomes : outcomes_of late_reply ≡ staging_outcomes ++ Answered 6 ∷ Taken (Some 7) ∷ Answered 8 ∷ Sent 9 ∷ Ignored ∷ []
   pub maybe_published : known_after late_reply published ≡ Maybe
@@ -152,6 +169,7 @@ pub record WorkedLateReply : Type 0 where
 abbrev pub restarted : List Event
 restarted = attaching ++ Deliver 3 ∷ RestartOrchestrator ∷ Timeout v ∷ Deliver 4 ∷ Deliver 5 ∷ []
 
+-- so it is: the reply is ignored, and the attach is sent again
 pub record WorkedRestart : Type 0 where
   pub outcomes : outcomes_of restarted ≡ Sent 1 ∷ Answered 2 ∷ Taken None ∷ Sent 3 ∷ Answered 4 ∷ Restarted ∷ Sent 5 ∷ Ignored ∷ Answered 6 ∷ []
   pub session : last_number (world_of (attaching ++ Deliver 3 ∷ RestartOrchestrator ∷ [])).history ≡ number 2 0
@@ -163,6 +181,7 @@ pub record WorkedRestart : Type 0 where
 abbrev pub undone : List Event
 undone = attaching ++ Delete v ∷ Timeout v ∷ Timeout v ∷ Timeout v ∷ Deliver 6 ∷ Deliver 7 ∷ Delete v ∷ []
 
+-- so it is: the delete is sent once the attach is undone
 pub record WorkedUndone : Type 0 where
   pub outcomes : outcomes_of undone
       ≡ Sent 1 ∷ Answered 2 ∷ Taken None ∷ Sent 3 ∷ Refused InUse ∷ Sent 4 ∷ Sent 5 ∷ Sent 6 ∷ Answered 7 ∷ Taken None ∷ Sent 8 ∷ []
@@ -173,6 +192,7 @@ pub record WorkedUndone : Type 0 where
 abbrev pub no_nodes : Config
 no_nodes = record { greatest = 1000; nodes = [] }
 
+-- nor does a run of no events
 pub record WorkedNothing : Type 0 where
   pub no_frame : after no_nodes (Deliver 99 ∷ []) ≡ record { world = empty_world no_nodes; outcomes = NoSuchFrame ∷ [] }
   pub no_event : after no_nodes [] ≡ record { world = empty_world no_nodes; outcomes = [] }
