@@ -1,2 +1,3 @@
 pub mod Places
-pub mod PlainRecords
+pub mod WrittenLists
+pub mod WrittenSteps

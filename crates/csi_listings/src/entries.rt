@@ -1,11 +1,14 @@
 //! The things that a report lists, each with its value in JSON and its place in the order.
-ghost use Rattle.std.specs.Prelude.{◌≡◌, IfOk, map, List, ℕ};
-ghost use Rattle.serde_json.specs.Data.{Data, array};
-ghost use Rattle.serde_json.specs.View.{view, items_of};
+ghost use Rattle.std.specs.Prelude.{◌≡◌, ◌++◌, OnOk, List, ℕ};
+ghost use Rattle.std.specs.List.{flat_map};
+ghost use Rattle.json.specs.Tree.{json_tokens};
+ghost use Rattle.serde_json.specs.Data.{Data};
+ghost use Rattle.serde_json.specs.Written.{outline};
+ghost use Rattle.csi_listings.specs.Entries.{entries};
 
+use crate::writer::JsonWriter;
 use csi_types::{Holding, Mode, NodeId, Target, VolumeId};
-use serde_json::{Value, json};
-use std::alloc::{AllocError, Global};
+use std::alloc::AllocError;
 
 /// A volume that is staged at a node, and in which mode.
 #[derive(Drop)]
@@ -28,21 +31,29 @@ pub struct PublishedAt {
 pub trait Entry {
     ghost entry: { Self → Data };
 
-    /// Its value.
-    fn value(&self, alloc: Global) -> Result<Value, AllocError>
-        ensures { IfOk result (λ value. view value ≡ entry self.now) };
+    /// Writes its value.
+    fn write(&self, out: &mut JsonWriter) -> Result<(), AllocError>
+        ensures { OnOk result (out.new ≡ out.old ++ json_tokens (outline (entry self.now))) };
 }
 
-/// The values of these, in order, as an array.
-pub fn array<T: Entry>(alloc: Global, items: &[T]) -> Result<Value, AllocError>
-    ensures { IfOk result (λ value. view value ≡ array (items_of (map T.entry items.now))) }
+// Writes the values of these, one after another.
+fn write_items<T: Entry>(out: &mut JsonWriter, items: &[T]) -> Result<(), AllocError>
+    ensures { OnOk result (out.new ≡ out.old ++ flat_map (λ item. json_tokens (outline (T.entry item))) items.now) }
 {
-    let mut list = Vec::new(alloc);
     for item in items {
-        let value = item.value(alloc)?;
-        list.push(value)?;
+        item.write(out)?;
     }
-    Ok(Value::Array(list))
+    Ok(())
+}
+
+/// Writes the values of these, in order, as an array.
+#[tactic(auto, using(crate::proofs::WrittenLists::array_written))]
+pub fn write_array<T: Entry>(out: &mut JsonWriter, items: &[T]) -> Result<(), AllocError>
+    ensures { OnOk result (out.new ≡ out.old ++ json_tokens (outline (entries T.entry items.now))) }
+{
+    out.begin_array()?;
+    write_items(out, items)?;
+    out.end_array()
 }
 
 impl Entry for Holding {
@@ -50,12 +61,13 @@ impl Entry for Holding {
 
     ghost entry = { attached_entry };
 
-    fn value(&self, alloc: Global) -> Result<Value, AllocError> {
-        let id = self.volume.number();
-        let mode = self.capability.mode.number();
-        let node = self.node.as_str();
-        let readonly = self.readonly;
-        json!(in alloc; {"id": id, "mode": mode, "node": node, "readonly": readonly})
+    fn write(&self, out: &mut JsonWriter) -> Result<(), AllocError> {
+        out.begin_object()?;
+        out.put_number("id", self.volume.number())?;
+        out.put_number("mode", self.capability.mode.number() as u64)?;
+        out.put_text("node", self.node.as_str())?;
+        out.put_flag("readonly", self.readonly)?;
+        out.end_object()
     }
 }
 
@@ -64,11 +76,12 @@ impl Entry for StagedAt {
 
     ghost entry = { staged_entry };
 
-    fn value(&self, alloc: Global) -> Result<Value, AllocError> {
-        let id = self.id.number();
-        let mode = self.mode.number();
-        let node = self.node.as_str();
-        json!(in alloc; {"id": id, "mode": mode, "node": node})
+    fn write(&self, out: &mut JsonWriter) -> Result<(), AllocError> {
+        out.begin_object()?;
+        out.put_number("id", self.id.number())?;
+        out.put_number("mode", self.mode.number() as u64)?;
+        out.put_text("node", self.node.as_str())?;
+        out.end_object()
     }
 }
 
@@ -77,11 +90,12 @@ impl Entry for PublishedAt {
 
     ghost entry = { published_entry };
 
-    fn value(&self, alloc: Global) -> Result<Value, AllocError> {
-        let id = self.id.number();
-        let node = self.node.as_str();
-        let readonly = self.readonly;
-        let target = self.target.as_str();
-        json!(in alloc; {"id": id, "node": node, "readonly": readonly, "target": target})
+    fn write(&self, out: &mut JsonWriter) -> Result<(), AllocError> {
+        out.begin_object()?;
+        out.put_number("id", self.id.number())?;
+        out.put_text("node", self.node.as_str())?;
+        out.put_flag("readonly", self.readonly)?;
+        out.put_text("target", self.target.as_str())?;
+        out.end_object()
     }
 }

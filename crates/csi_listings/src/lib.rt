@@ -8,9 +8,11 @@ mod members;
 mod order;
 mod records;
 mod things;
+mod writer;
 
-pub use entries::{Entry, PublishedAt, StagedAt, array};
+pub use entries::{Entry, PublishedAt, StagedAt};
 pub use lists::{attached, published, staged};
-pub use live_volumes::volumes;
+pub use live_volumes::write_volumes;
 pub use members::put_array;
 pub use records::{controller_line, node_line};
+pub use writer::JsonWriter;

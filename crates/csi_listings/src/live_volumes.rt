@@ -1,41 +1,51 @@
 //! The volumes that are there, in JSON.
-ghost use Rattle.std.specs.Prelude.{◌≡◌, ◌++◌, IfOk, OnOk, map, [], ◌∷◌};
-ghost use Rattle.serde_json.specs.Data.{array};
-ghost use Rattle.serde_json.specs.View.{view, items_of};
-ghost use Rattle.csi_listings.specs.Entries.{volume_entry};
+ghost use Rattle.std.specs.Prelude.{◌≡◌, ◌++◌, OnOk, [], ◌∷◌};
+ghost use Rattle.std.specs.List.{flat_map};
+ghost use Rattle.json.specs.Tree.{json_tokens};
+ghost use Rattle.serde_json.specs.Written.{outline};
+ghost use Rattle.csi_listings.specs.Entries.{entries, volume_entry};
 ghost use Rattle.csi_listings.specs.Listed.{live_rows};
 
+use crate::writer::JsonWriter;
 use csi_controller::ControllerRow;
-use serde_json::{Value, json};
-use std::alloc::{AllocError, Global};
+use std::alloc::AllocError;
 
-fn volume(alloc: Global, row: &ControllerRow) -> Result<Value, AllocError>
-    ensures { IfOk result (λ value. view value ≡ volume_entry row.now) }
+fn write_volume(out: &mut JsonWriter, row: &ControllerRow) -> Result<(), AllocError>
+    ensures { OnOk result (out.new ≡ out.old ++ json_tokens (outline (volume_entry row.now))) }
 {
-    let capacity = row.capacity;
-    let id = row.id.number();
-    let name = row.name.as_str();
-    json!(in alloc; {"capacity": capacity, "id": id, "name": name})
+    out.begin_object()?;
+    out.put_number("capacity", row.capacity)?;
+    out.put_number("id", row.id.number())?;
+    out.put_text("name", row.name.as_str())?;
+    out.end_object()
 }
 
-// Appends the volume of a row, where it is live.
-fn add_volume(alloc: Global, list: &mut Vec<Value>, row: &ControllerRow) -> Result<(), AllocError>
-    ensures { OnOk result (map view list.new.items ≡ map view list.old.items ++ map volume_entry (live_rows (row.now ∷ []))) }
+// Writes the volume of a row, where it is live.
+fn write_live(out: &mut JsonWriter, row: &ControllerRow) -> Result<(), AllocError>
+    ensures { OnOk result (out.new ≡ out.old ++ flat_map (λ row. json_tokens (outline (volume_entry row))) (live_rows (row.now ∷ []))) }
 {
     if row.live {
-        let value = volume(alloc, row)?;
-        list.push(value)?;
+        write_volume(out, row)?;
     }
     Ok(())
 }
 
-/// The volumes of the live rows, in their order, as an array.
-pub fn volumes(alloc: Global, rows: &[ControllerRow]) -> Result<Value, AllocError>
-    ensures { IfOk result (λ value. view value ≡ array (items_of (map volume_entry (live_rows rows.now)))) }
+// Writes the volumes of the live rows, one after another.
+fn write_all_live(out: &mut JsonWriter, rows: &[ControllerRow]) -> Result<(), AllocError>
+    ensures { OnOk result (out.new ≡ out.old ++ flat_map (λ row. json_tokens (outline (volume_entry row))) (live_rows rows.now)) }
 {
-    let mut list = Vec::new(alloc);
     for row in rows {
-        add_volume(alloc, &mut list, row)?;
+        write_live(out, row)?;
     }
-    Ok(Value::Array(list))
+    Ok(())
+}
+
+/// Writes the volumes of the live rows, in their order, as an array.
+#[tactic(auto, using(crate::proofs::WrittenLists::array_written))]
+pub fn write_volumes(out: &mut JsonWriter, rows: &[ControllerRow]) -> Result<(), AllocError>
+    ensures { OnOk result (out.new ≡ out.old ++ json_tokens (outline (entries volume_entry (live_rows rows.now)))) }
+{
+    out.begin_array()?;
+    write_all_live(out, rows)?;
+    out.end_array()
 }

@@ -1,15 +1,15 @@
 //! What plugins' records have, each thing with its value in JSON.
-ghost use Rattle.std.specs.Prelude.{◌≡◌, IfOk, string_bytes};
-ghost use Rattle.serde_json.specs.View.{view};
-ghost use Rattle.serde_json.specs.Written.{compact_text};
+ghost use Rattle.std.specs.Prelude.{◌≡◌, ◌++◌, IfOk, OnOk, string_bytes};
+ghost use Rattle.json.specs.Tree.{json_tokens};
+ghost use Rattle.serde_json.specs.Written.{outline, compact_text};
 ghost use Rattle.csi_listings.specs.Records.{controller_entry, node_entry, number_entry, staged_as};
 
 use crate::entries::Entry;
-use crate::members::{put_array, put_text};
+use crate::members::put_array;
+use crate::writer::JsonWriter;
 use csi_controller::{ControllerRecord, ControllerRow, NodeHolding};
 use csi_node::{NodeRecord, NodeRow, NodeTarget};
 use csi_types::{Access, Capability, Number};
-use serde_json::{Map, Value, json, put};
 use std::alloc::{AllocError, Global};
 
 impl Entry for Capability {
@@ -17,25 +17,34 @@ impl Entry for Capability {
 
     ghost entry = { capability_entry };
 
-    fn value(&self, alloc: Global) -> Result<Value, AllocError> {
-        let mode = self.mode.number();
+    fn write(&self, out: &mut JsonWriter) -> Result<(), AllocError> {
+        let mode = self.mode.number() as u64;
         match &self.access {
-            Access::Block => json!(in alloc; {"access": "block", "mode": mode}),
+            Access::Block => {
+                out.begin_object()?;
+                out.put_text("access", "block")?;
+                out.put_number("mode", mode)?;
+                out.end_object()
+            }
             Access::Mount(fs) => {
-                let fs = fs.as_str();
-                json!(in alloc; {"access": "mount", "fs": fs, "mode": mode})
+                out.begin_object()?;
+                out.put_text("access", "mount")?;
+                out.put_text("fs", fs.as_str())?;
+                out.put_number("mode", mode)?;
+                out.end_object()
             }
         }
     }
 }
 
-// The number of a call.
-fn number(alloc: Global, last: Number) -> Result<Value, AllocError>
-    ensures { IfOk result (λ value. view value ≡ number_entry last) }
+// Writes the number of a call.
+fn write_number(out: &mut JsonWriter, last: Number) -> Result<(), AllocError>
+    ensures { OnOk result (out.new ≡ out.old ++ json_tokens (outline (number_entry last))) }
 {
-    let call = last.call;
-    let session = last.session;
-    json!(in alloc; {"call": call, "session": session})
+    out.begin_object()?;
+    out.put_number("call", last.call)?;
+    out.put_number("session", last.session)?;
+    out.end_object()
 }
 
 impl Entry for NodeHolding {
@@ -43,13 +52,13 @@ impl Entry for NodeHolding {
 
     ghost entry = { holding_entry };
 
-    fn value(&self, alloc: Global) -> Result<Value, AllocError> {
-        let mut map = Map::new(alloc);
-        let capability = self.capability.value(alloc)?;
-        put(&mut map, alloc, "capability", capability)?;
-        put_text(&mut map, alloc, "node", self.node.as_str())?;
-        put(&mut map, alloc, "readonly", Value::from(self.readonly))?;
-        Ok(Value::Object(map))
+    fn write(&self, out: &mut JsonWriter) -> Result<(), AllocError> {
+        out.begin_object()?;
+        out.key("capability")?;
+        self.capability.write(out)?;
+        out.put_text("node", self.node.as_str())?;
+        out.put_flag("readonly", self.readonly)?;
+        out.end_object()
     }
 }
 
@@ -58,22 +67,17 @@ impl Entry for ControllerRow {
 
     ghost entry = { made_entry };
 
-    fn value(&self, alloc: Global) -> Result<Value, AllocError> {
-        let mut map = Map::new(alloc);
-        put_array(&mut map, alloc, "attached", &self.holdings)?;
-        put_array(
-            &mut map,
-            alloc,
-            "capabilities",
-            self.capabilities.as_slice(),
-        )?;
-        put(&mut map, alloc, "capacity", Value::from(self.capacity))?;
-        put(&mut map, alloc, "id", Value::from(self.id.number()))?;
-        let last = number(alloc, self.last)?;
-        put(&mut map, alloc, "last", last)?;
-        put(&mut map, alloc, "live", Value::from(self.live))?;
-        put_text(&mut map, alloc, "name", self.name.as_str())?;
-        Ok(Value::Object(map))
+    fn write(&self, out: &mut JsonWriter) -> Result<(), AllocError> {
+        out.begin_object()?;
+        put_array(out, "attached", &self.holdings)?;
+        put_array(out, "capabilities", self.capabilities.as_slice())?;
+        out.put_number("capacity", self.capacity)?;
+        out.put_number("id", self.id.number())?;
+        out.key("last")?;
+        write_number(out, self.last)?;
+        out.put_flag("live", self.live)?;
+        out.put_text("name", self.name.as_str())?;
+        out.end_object()
     }
 }
 
@@ -82,13 +86,13 @@ impl Entry for ControllerRecord {
 
     ghost entry = { controller_entry };
 
-    fn value(&self, alloc: Global) -> Result<Value, AllocError> {
-        let mut map = Map::new(alloc);
-        put(&mut map, alloc, "next_id", Value::from(self.next_id()))?;
-        put_text(&mut map, alloc, "plugin", "controller")?;
-        put(&mut map, alloc, "session", Value::from(self.session()))?;
-        put_array(&mut map, alloc, "volumes", self.rows())?;
-        Ok(Value::Object(map))
+    fn write(&self, out: &mut JsonWriter) -> Result<(), AllocError> {
+        out.begin_object()?;
+        out.put_number("next_id", self.next_id())?;
+        out.put_text("plugin", "controller")?;
+        out.put_number("session", self.session())?;
+        put_array(out, "volumes", self.rows())?;
+        out.end_object()
     }
 }
 
@@ -97,20 +101,21 @@ impl Entry for NodeTarget {
 
     ghost entry = { target_entry };
 
-    fn value(&self, alloc: Global) -> Result<Value, AllocError> {
-        let readonly = self.readonly;
-        let target = self.target.as_str();
-        json!(in alloc; {"readonly": readonly, "target": target})
+    fn write(&self, out: &mut JsonWriter) -> Result<(), AllocError> {
+        out.begin_object()?;
+        out.put_flag("readonly", self.readonly)?;
+        out.put_text("target", self.target.as_str())?;
+        out.end_object()
     }
 }
 
-// How a volume is staged, if it is.
-fn staged(alloc: Global, staged: &Option<Capability>) -> Result<Value, AllocError>
-    ensures { IfOk result (λ value. view value ≡ staged_as staged.now) }
+// Writes how a volume is staged, if it is.
+fn write_staged(out: &mut JsonWriter, staged: &Option<Capability>) -> Result<(), AllocError>
+    ensures { OnOk result (out.new ≡ out.old ++ json_tokens (outline (staged_as staged.now))) }
 {
     match staged {
-        Some(capability) => capability.value(alloc),
-        None => Ok(Value::Null),
+        Some(capability) => capability.write(out),
+        None => out.null(),
     }
 }
 
@@ -119,15 +124,15 @@ impl Entry for NodeRow {
 
     ghost entry = { answered_entry };
 
-    fn value(&self, alloc: Global) -> Result<Value, AllocError> {
-        let mut map = Map::new(alloc);
-        put(&mut map, alloc, "id", Value::from(self.id.number()))?;
-        let last = number(alloc, self.last)?;
-        put(&mut map, alloc, "last", last)?;
-        put_array(&mut map, alloc, "published", &self.targets)?;
-        let staged = staged(alloc, &self.staged)?;
-        put(&mut map, alloc, "staged", staged)?;
-        Ok(Value::Object(map))
+    fn write(&self, out: &mut JsonWriter) -> Result<(), AllocError> {
+        out.begin_object()?;
+        out.put_number("id", self.id.number())?;
+        out.key("last")?;
+        write_number(out, self.last)?;
+        put_array(out, "published", &self.targets)?;
+        out.key("staged")?;
+        write_staged(out, &self.staged)?;
+        out.end_object()
     }
 }
 
@@ -136,13 +141,13 @@ impl Entry for NodeRecord {
 
     ghost entry = { node_entry };
 
-    fn value(&self, alloc: Global) -> Result<Value, AllocError> {
-        let mut map = Map::new(alloc);
-        put_text(&mut map, alloc, "node", self.id().as_str())?;
-        put_text(&mut map, alloc, "plugin", "node")?;
-        put(&mut map, alloc, "session", Value::from(self.session()))?;
-        put_array(&mut map, alloc, "volumes", self.rows())?;
-        Ok(Value::Object(map))
+    fn write(&self, out: &mut JsonWriter) -> Result<(), AllocError> {
+        out.begin_object()?;
+        out.put_text("node", self.id().as_str())?;
+        out.put_text("plugin", "node")?;
+        out.put_number("session", self.session())?;
+        put_array(out, "volumes", self.rows())?;
+        out.end_object()
     }
 }
 
@@ -151,8 +156,9 @@ impl Entry for NodeRecord {
 pub fn controller_line(alloc: Global, kept: &ControllerRecord) -> Result<String, AllocError>
     ensures { IfOk result (λ text. string_bytes text ≡ compact_text (controller_entry kept.now)) }
 {
-    let value = kept.value(alloc)?;
-    value.to_string(alloc)
+    let mut out = JsonWriter::new(alloc);
+    kept.write(&mut out)?;
+    Ok(out.into_string())
 }
 
 /// A node's record so: whose it is (`plugin`, and the node's id, `node`), and the volumes for which it answered a call, by rising id
@@ -160,6 +166,7 @@ pub fn controller_line(alloc: Global, kept: &ControllerRecord) -> Result<String,
 pub fn node_line(alloc: Global, kept: &NodeRecord) -> Result<String, AllocError>
     ensures { IfOk result (λ text. string_bytes text ≡ compact_text (node_entry kept.now)) }
 {
-    let value = kept.value(alloc)?;
-    value.to_string(alloc)
+    let mut out = JsonWriter::new(alloc);
+    kept.write(&mut out)?;
+    Ok(out.into_string())
 }

@@ -1,12 +1,13 @@
 //! What the orchestrator knows, in JSON.
-ghost use Rattle.std.specs.Prelude.{◌≡◌};
-ghost use Rattle.csi_listings.specs.Entries.{known_text as text_of_known};
+ghost use Rattle.std.specs.Prelude.{◌≡◌, ◌++◌, OnOk};
+ghost use Rattle.json.specs.Tree.{json_tokens};
+ghost use Rattle.serde_json.specs.Written.{outline};
+ghost use Rattle.csi_listings.specs.Entries.{known_text as text_of_known, thing_entry};
 
 use crate::entries::Entry;
-use crate::members::put_text;
+use crate::writer::JsonWriter;
 use csi_orchestrator::{Known, Thing};
-use serde_json::{Map, Value};
-use std::alloc::{AllocError, Global};
+use std::alloc::AllocError;
 
 fn known_text(known: Known) -> &'static str
     ensures { result.now ≡ text_of_known known }
@@ -23,33 +24,33 @@ impl Entry for (Thing, Known) {
 
     ghost entry = { known_entry };
 
-    fn value(&self, alloc: Global) -> Result<Value, AllocError> {
-        let mut map = Map::new(alloc);
-        put_text(&mut map, alloc, "known", known_text(self.1))?;
+    fn write(&self, out: &mut JsonWriter) -> Result<(), AllocError> {
+        out.begin_object()?;
+        out.put_text("known", known_text(self.1))?;
         match &self.0 {
             Thing::Exists { name } => {
-                put_text(&mut map, alloc, "name", name.as_str())?;
-                put_text(&mut map, alloc, "thing", "exists")?;
-                Ok(Value::Object(map))
+                out.put_text("name", name.as_str())?;
+                out.put_text("thing", "exists")?;
+                out.end_object()
             }
             Thing::Attached { name, node } => {
-                put_text(&mut map, alloc, "name", name.as_str())?;
-                put_text(&mut map, alloc, "node", node.as_str())?;
-                put_text(&mut map, alloc, "thing", "attached")?;
-                Ok(Value::Object(map))
+                out.put_text("name", name.as_str())?;
+                out.put_text("node", node.as_str())?;
+                out.put_text("thing", "attached")?;
+                out.end_object()
             }
             Thing::Staged { name, node } => {
-                put_text(&mut map, alloc, "name", name.as_str())?;
-                put_text(&mut map, alloc, "node", node.as_str())?;
-                put_text(&mut map, alloc, "thing", "staged")?;
-                Ok(Value::Object(map))
+                out.put_text("name", name.as_str())?;
+                out.put_text("node", node.as_str())?;
+                out.put_text("thing", "staged")?;
+                out.end_object()
             }
             Thing::Published { name, node, target } => {
-                put_text(&mut map, alloc, "name", name.as_str())?;
-                put_text(&mut map, alloc, "node", node.as_str())?;
-                put_text(&mut map, alloc, "target", target.as_str())?;
-                put_text(&mut map, alloc, "thing", "published")?;
-                Ok(Value::Object(map))
+                out.put_text("name", name.as_str())?;
+                out.put_text("node", node.as_str())?;
+                out.put_text("target", target.as_str())?;
+                out.put_text("thing", "published")?;
+                out.end_object()
             }
         }
     }

@@ -1,4 +1,2 @@
-pub mod Laid
-pub mod NoFloats
 pub mod OneOrder
 pub mod OneReport

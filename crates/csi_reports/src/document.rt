@@ -1,36 +1,40 @@
 //! The report of a world.
-ghost use Rattle.std.specs.Prelude.{◌≡◌, IfOk, string_bytes};
-ghost use Rattle.serde_json.specs.View.{view};
+ghost use Rattle.std.specs.Prelude.{◌≡◌, ◌++◌, IfOk, OnOk, string_bytes};
+ghost use Rattle.json.specs.Tree.{json_tokens};
+ghost use Rattle.serde_json.specs.Written.{outline};
 ghost use Rattle.csi_reports.specs.Found.{gathered_of};
 ghost use Rattle.csi_reports.specs.Report.{report_of, IsReport};
 
 use crate::gathering::{Findings, gathered};
-use crate::outcomes::outcome_texts;
-use csi_listings::{put_array, volumes};
+use crate::outcomes::write_outcomes;
+use csi_listings::{JsonWriter, put_array, write_volumes};
 use csi_types::NoMemory;
 use csi_world::World;
-use serde_json::{Map, Value, put};
 use std::alloc::{AllocError, Global};
 
-// The report as a value. Each list is made where it is put in, so that a refused growth drops nothing but the object.
-fn document(alloc: Global, world: &World, findings: &Findings) -> Result<Value, AllocError>
-    ensures { IfOk result (λ value. view value ≡ report_of world.now (gathered_of findings.now)) }
+// Writes the report.
+fn write_document(
+    alloc: Global,
+    out: &mut JsonWriter,
+    world: &World,
+    findings: &Findings,
+) -> Result<(), AllocError>
+    ensures { OnOk result (out.new ≡ out.old ++ json_tokens (outline (report_of world.now (gathered_of findings.now)))) }
 {
-    let mut map = Map::new(alloc);
-    put_array(&mut map, alloc, "attached", &findings.attached)?;
-    let events = outcome_texts(alloc, world.outcomes())?;
-    put(&mut map, alloc, "events", events)?;
-    put(&mut map, alloc, "frames", Value::from(world.frames()))?;
-    put_array(&mut map, alloc, "known", &findings.known)?;
-    put_array(&mut map, alloc, "published", &findings.published)?;
+    out.begin_object()?;
+    put_array(out, "attached", &findings.attached)?;
+    out.key("events")?;
+    write_outcomes(alloc, out, world.outcomes())?;
+    out.put_number("frames", world.frames())?;
+    put_array(out, "known", &findings.known)?;
+    put_array(out, "published", &findings.published)?;
     let safe = findings.found.is_none();
-    put(&mut map, alloc, "safe", Value::from(safe))?;
-    let session = world.orchestrator().session();
-    put(&mut map, alloc, "session", Value::from(session))?;
-    put_array(&mut map, alloc, "staged", &findings.staged)?;
-    let volumes = volumes(alloc, world.controller().all_rows())?;
-    put(&mut map, alloc, "volumes", volumes)?;
-    Ok(Value::Object(map))
+    out.put_flag("safe", safe)?;
+    out.put_number("session", world.orchestrator().session())?;
+    put_array(out, "staged", &findings.staged)?;
+    out.key("volumes")?;
+    write_volumes(out, world.controller().all_rows())?;
+    out.end_object()
 }
 
 /// The report of this world, one object of JSON in compact form: what came of each event (`events`), how many frames were
@@ -42,7 +46,7 @@ pub fn report(alloc: Global, world: &World) -> Result<String, NoMemory>
     ensures { IfOk result (λ text. IsReport world.now (string_bytes text)) }
 {
     let findings = gathered(alloc, world)?;
-    let value = document(alloc, world, &findings)?;
-    let text = value.to_string(alloc)?;
-    Ok(text)
+    let mut out = JsonWriter::new(alloc);
+    write_document(alloc, &mut out, world, &findings)?;
+    Ok(out.into_string())
 }

@@ -1,11 +1,7 @@
--- The text that is written of a value without floats is the definition's.
-use Rattle.std.proofs.Common.{◌∙◌, ap}
-use Rattle.std.proofs.lemmas.Result.{IfOk-weaker}
-use Rattle.serde_json.specs.Written.{has_float, compact_text}
-use Rattle.csi_listings.proofs.PlainRecords.{node-plain}
+-- The text is that of the value's tokens.
+use Rattle.csi_listings.specs.Records.{node_entry}
+use Rattle.csi_listings.proofs.WrittenSteps.{alone}
 use Rattle.csi_listings.proofs.records.node_line.Goals as goal
 
 pub returns : goal.returns
-returns c =
-    let value = c.in_ok-value.ensures in
-    IfOk-weaker c.to_string.result _ _ (λ text written. written (ap has_float value ∙ node-plain c.args.kept.now) ∙ ap compact_text value) c.to_string.ensures.text
+returns c = c.into_string.ensures (node_entry c.args.kept.now) (alone _ _ _ c.new-out.ensures c.in_ok-write.ensures)
