@@ -19,36 +19,28 @@ pub each-plain : {A : Type 0} (entry : A → Data) → ((x : A) → has_float (e
 each-plain entry plain [] = refl
 each-plain entry plain (x ∷ xs) = rw (plain x, each-plain entry plain xs) refl
 
--- a capability's entry, made of a mode's number and an access, has no float
 access-plain : (mode : ℕ) (access : Access) → has_float (capability_of mode access) ≡ false
 access-plain mode Block = refl
 access-plain mode (Mount fs) = refl
 
--- nor has a capability's
 capability-plain : (capability : Capability) → has_float (capability_entry capability) ≡ false
 capability-plain capability = access-plain (mode_number capability.mode) capability.access
 
--- nor has a holding's
 holding-plain : (held : NodeHolding) → has_float (holding_entry held) ≡ false
 holding-plain held = rw (capability-plain held.capability) refl
 
--- nor has that of a controller's row
 made-plain : (row : ControllerRow) → has_float (made_entry row) ≡ false
 made-plain row = rw (each-plain holding_entry holding-plain row.holdings.items, each-plain capability_entry capability-plain row.capabilities) refl
 
--- nor has that of a controller's record
 pub controller-plain : (kept : RecordParts) → has_float (controller_entry kept) ≡ false
 controller-plain kept = rw (each-plain made_entry made-plain kept.rows) refl
 
--- nor has that of how a volume is staged
 staged-plain : (staged : Option Capability) → has_float (staged_as staged) ≡ false
 staged-plain None = refl
 staged-plain (Some capability) = capability-plain capability
 
--- nor has that of a node's row
 answered-plain : (row : NodeRow) → has_float (answered_entry row) ≡ false
 answered-plain row = rw (each-plain target_entry (λ x. refl) row.targets.items, staged-plain row.staged) refl
 
--- nor has that of a node's record
 pub node-plain : (kept : NodeParts) → has_float (node_entry kept) ≡ false
 node-plain kept = rw (each-plain answered_entry answered-plain kept.rows) refl

@@ -6,7 +6,6 @@ use Rattle.serde_json.specs.Data.{Data, Members, object, no_members, member, put
 pub with_value : (key : List ℕ) {value other : Data} (before : Members) {after : Members} → after ≡ put key value before → value ≡ other → after ≡ put key other before
 with_value key before told same = told ∙ ap (λ value. put key value before) same
 
--- what is put in member by member is the object of these members in this order
 pub laid : {attached events frames known published safe session staged volumes : Data} {a b c d e f g h i j : Members}
     → a ≡ no_members
     → b ≡ put (codes "attached") attached a
