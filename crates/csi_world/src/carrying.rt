@@ -1,6 +1,5 @@
 //! How a frame is carried: written as bytes, and read from them.
 ghost use Rattle.std.specs.Prelude.{◌≡◌, IfOk};
-ghost use Rattle.std.specs.Option.{option_copied};
 ghost use Rattle.csi_frames.specs.Decoding.{no_memory};
 ghost use Rattle.csi_frames.specs.Spelling.{Spells};
 
@@ -34,18 +33,4 @@ pub(crate) fn carried(alloc: Global, bytes: &mut Vec<u8>, frame: &Frame) -> Resu
     bytes.clear();
     encode(frame, bytes)?;
     read(alloc, bytes.as_slice(), frame)
-}
-
-/// The same, of the frame that is there, if one is.
-pub(crate) fn carried_option(
-    alloc: Global,
-    bytes: &mut Vec<u8>,
-    frame: Option<&Frame>,
-) -> Result<Option<Frame>, NoMemory>
-    ensures { IfOk result (λ copy. copy ≡ option_copied frame.entry) }
-{
-    match frame {
-        Some(frame) => Ok(Some(carried(alloc, bytes, frame)?)),
-        None => Ok(None),
-    }
 }

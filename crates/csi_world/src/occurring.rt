@@ -8,7 +8,7 @@ ghost use Rattle.csi_world.specs.Simulating.{IsSound, Does, IsLogged};
 ghost use Rattle.csi_world.specs.System.{parts_of};
 ghost use Rattle.csi_world.specs.declared.event.Outcome.TheVariants as outcomes;
 
-use crate::carrying::carried_option;
+use crate::carrying::carried;
 use crate::event::{Event, Outcome};
 use crate::plugins::{place_of, restarted_controller, restarted_node, step_controller, step_node};
 use crate::sending::{answered, frame_of, settled, settled_reply, settled_restart};
@@ -53,19 +53,13 @@ impl System {
         }
     }
 
-    // A copy of the frame of this number, once it was carried.
-    fn carried_frame(&self, bytes: &mut Vec<u8>, number: u64) -> Result<Option<Frame>, NoMemory>
-        ensures { (world : World) → ShowsWorld (parts_of self.now) world → IfOk result (λ frame. frame ≡ frame_at world number) }
-    {
-        carried_option(self.alloc, bytes, frame_of(&self.frames, number))
-    }
-
     // The frame of this number is delivered, if it is there.
     fn deliver(&mut self, bytes: &mut Vec<u8>, number: u64) -> Result<Outcome, NoMemory>
         ensures { Does (parts_of self.old) (parts_of self.new) result (λ world. delivered self.old.config world (frame_at world number)) }
     {
-        match self.carried_frame(bytes, number)? {
-            Some(frame) => {
+        match frame_of(&self.frames, number) {
+            Some(sent) => {
+                let frame = carried(self.alloc, bytes, sent)?;
                 let outcome = self.take(&frame);
                 drop(frame);
                 outcome
