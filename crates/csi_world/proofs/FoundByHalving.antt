@@ -1,4 +1,4 @@
--- What a search by halving tells in a list that is in order: the place of a row by its id, and whether a thing is there.
+-- What a search by halving tells in a list that is in order: the place of a row by its id, and where something is noted of a thing.
 use Rattle.std.proofs.Common.{◌≡◌, ◌≤◌, ◌<◌, ℕ, zero, suc, List, [], ◌∷◌, length, get_or, Bool, true, false, Result, Ok, Err, nat_lt, refl, sym, ◌∙◌, ap, inl, inr, arith, position, ◌==◌, ◌+◌, subst}
 use Rattle.std.specs.Result.{is_ok, result_ok}
 use Rattle.std.proofs.lemmas.Bool.Decides.{nat_tests}
@@ -7,7 +7,8 @@ use Rattle.std.specs.Ordering.{ordering_index, nat_cmp, is_lt, ordering_reverse}
 use Rattle.std.specs.declared.cmp.Ordering.{Ordering}
 use Rattle.std.specs.declared.cmp.Ordering.TheVariants.{Less, Equal, Greater}
 use Rattle.csi_lists.specs.Members.{IsAmong, EachTwo}
-use Rattle.std.proofs.lemmas.Bool.{eq-eqb}
+use Rattle.csi_lists.specs.Places.{AtMostOne}
+use Rattle.std.proofs.lemmas.Bool.{eq-eqb, false_from_ne_true}
 use Rattle.std.proofs.lemmas.Cmp.{ranked, tied_itself}
 use Rattle.csi_lists.proofs.Each.{each-at, each-place}
 use Rattle.csi_lists.proofs.Places.{FirstAt-only, at-index, position-first, position-none}
@@ -17,13 +18,15 @@ use Rattle.csi_controller.proofs.Sound.{rising-one}
 use Rattle.std.specs.List.{list_any}
 use Rattle.std.specs.Cmp.{both_ways}
 use Rattle.std.proofs.lemmas.List.Sorted.{searchable_from_sorted}
-use Rattle.csi_lists.proofs.Tests.{any-then, then-any}
+use Rattle.csi_lists.proofs.Members.{each_of}
+use Rattle.csi_lists.proofs.Searches.{find-none}
+use Rattle.csi_lists.proofs.Tests.{any-then, then-any, none-among}
 use Rattle.csi_orchestrator.specs.declared.thing.Thing.{Thing}
 use Rattle.csi_orchestrator.specs.declared.thing.Known.{Known}
 use Rattle.csi_orchestrator.specs.Listing.{thing_order, IsInOrder}
 use Rattle.csi_orchestrator.specs.Thing.{same_thing}
 use Rattle.csi_orchestrator.proofs.ThingOrder.{order-total, order-same}
-use Rattle.csi_world.specs.Listed.{AreSorted, is_listed, is_noted}
+use Rattle.csi_world.specs.Listed.{is_entry_of}
 use Rattle.csi_world.proofs.MarksTold.{same-itself, same-tells}
 
 -- what is among a list stands at a place of it, and the other way round
@@ -136,11 +139,6 @@ told key xs thing r sorted within found = both_ways (is_ok r) (list_any (λ x. s
         ties-found (λ x. thing_order (key x) thing) xs r (searchable_from_sorted order-total key xs thing sorted) within found one.0 one.1
         (subst (λ t. thing_order t thing ≡ Equal) same (tied_itself order-total thing))
 
--- a search by halving tells whether a thing is listed
-pub listed-told : (things : List Thing) (thing : Thing) (r : Result ℕ ℕ) → AreSorted things → IsSearchInRange r (length things) → IsBinarySearchResult (λ other. thing_order other thing) things r
-    → is_ok r ≡ is_listed things thing
-listed-told things thing r sorted within found = told (λ other. other) things thing r sorted within found
-
 -- what is so of each one of a list and each after it is so of what stands at two places
 two-at : {X : Type 0} (R : X → X → Type 0) (xs : List X) (i j : ℕ) (d : X) → EachTwo R xs → i < j → j < length xs → R (get_or xs i d) (get_or xs j d)
 two-at R [] i j d two before inside = absurd (omega arith)
@@ -156,7 +154,35 @@ in-order-sorted noted two k d from inside =
     let rises : thing_order first.0 second.0 ≡ Less = two-at (λ (a b : Thing × Known). thing_order a.0 b.0 ≡ Less) noted k (k + 1) d two (omega arith) inside in
     ap is_lt (order-total.antisymm second.0 first.0 ∙ ap ordering_reverse rises)
 
--- a search by halving tells whether something is noted of a thing
-pub noted-told : (noted : List (Thing × Known)) (thing : Thing) (r : Result ℕ ℕ) → IsInOrder noted → IsSearchInRange r (length noted) → IsBinarySearchResult (λ entry. thing_order entry.0 thing) noted r
-    → is_ok r ≡ is_noted noted thing
-noted-told noted thing r ordered within found = told (λ (entry : Thing × Known). entry.0) noted thing r (in-order-sorted noted ordered) within found
+-- a thing that comes before another isn't it
+before-other : (a b : Thing) → thing_order a b ≡ Less → same_thing a b ≡ false
+before-other a b less = false_from_ne_true (same_thing a b) (λ same. less_is_not (sym less ∙ ap (thing_order a) (sym (same-tells a b same)) ∙ tied_itself order-total a))
+
+-- where an entry is of the thing, none after it is
+pub later-other : (entry : Thing × Known) (noted : List (Thing × Known)) (thing : Thing) → IsInOrder (entry ∷ noted) → same_thing thing entry.0 ≡ true → (later : Thing × Known) → IsAmong later noted
+    → same_thing thing later.0 ≡ false
+later-other entry noted thing ordered here later among =
+    let less : thing_order entry.0 later.0 ≡ Less = each_of (λ (other : Thing × Known). thing_order entry.0 other.0 ≡ Less) noted later (ordered.0) among in
+    before-other thing later.0 (ap (λ (t : Thing). thing_order t later.0) (same-tells thing entry.0 here) ∙ less)
+
+-- something is noted of a thing once
+pub noted-once : (noted : List (Thing × Known)) (thing : Thing) → IsInOrder noted → AtMostOne (is_entry_of thing) noted
+noted-once [] thing ordered = tt
+noted-once (entry ∷ noted) thing ordered =
+    (λ here. find-none (is_entry_of thing) noted (λ later among. later-other entry noted thing ordered here later among), noted-once noted thing (ordered.1))
+
+-- a search by halving tells where something is noted of a thing
+pub noted-place : (noted : List (Thing × Known)) (thing : Thing) (r : Result ℕ ℕ) → IsInOrder noted → IsSearchInRange r (length noted) → IsBinarySearchResult (λ entry. thing_order entry.0 thing) noted r
+    → result_ok r ≡ position (is_entry_of thing) noted
+noted-place [] thing (Ok at) ordered within found = absurd (omega arith)
+noted-place [] thing (Err at) ordered within found = refl
+noted-place (first ∷ rest) thing (Ok at) ordered within found =
+    let noted : List (Thing × Known) = first ∷ rest in
+    let entry : Thing × Known = get_or noted at first in
+    let same : entry.0 ≡ thing = order-same entry.0 thing (found first) in
+    position-first (is_entry_of thing) noted at entry
+    (FirstAt-only (is_entry_of thing) noted at entry (at-index noted at first within) (subst (λ (t : Thing). same_thing thing t ≡ true) (sym same) (same-itself thing)) (noted-once noted thing ordered))
+noted-place (first ∷ rest) thing (Err at) ordered within found =
+    let noted : List (Thing × Known) = first ∷ rest in
+    let none : list_any (is_entry_of thing) noted ≡ false = sym (told (λ (entry : Thing × Known). entry.0) noted thing (Err at) (in-order-sorted noted ordered) within found) in
+    position-none (is_entry_of thing) noted (λ k d inside. none-among (is_entry_of thing) noted (get_or noted k d) none (at-place noted k d inside))

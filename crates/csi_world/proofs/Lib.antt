@@ -2,6 +2,7 @@ pub mod MarksTold
 pub mod PartsSafe
 pub mod ListedNodes
 pub mod FoundByHalving
+pub mod MarksMade
 pub mod ThingsHeld
 pub mod AssembledNodes
 pub mod PluginSafety

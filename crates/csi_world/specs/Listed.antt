@@ -1,8 +1,6 @@
 -- What an audit lists of the plugins, as a world of its own, and which worlds are like it. This profile's own.
 use Rattle.std.specs.Prelude.{◌≡◌, ℕ, ◌==◌, List, [], ◌∷◌, ◌++◌, map, filter, find, Bool, false, not, ◌&&◌, ◌||◌, Option, Some, None, if◌then◌else◌}
 use Rattle.std.specs.List.{list_any, list_all, flat_map}
-use Rattle.std.specs.List.Sorted.{IsSortedBy}
-use Rattle.std.specs.Ordering.{is_lt}
 use Rattle.csi_lists.specs.Places.{AtMostOne}
 use Rattle.csi_types.specs.declared.capability.Capability.{Capability}
 use Rattle.csi_types.specs.Same.{same_text, same_capability}
@@ -18,7 +16,6 @@ use Rattle.csi_node.specs.Safe.{IsPublishedRight}
 use Rattle.csi_node.specs.Record.{Shows as NodeShows}
 use Rattle.csi_node.specs.State.{NodeState, published_of}
 use Rattle.csi_node.specs.Views.{staged_shown, published_shown}
-use Rattle.csi_orchestrator.specs.Listing.{thing_order}
 use Rattle.csi_orchestrator.specs.declared.thing.Thing.{Thing}
 use Rattle.csi_orchestrator.specs.declared.thing.Thing.TheVariants.{Exists, Attached, Staged as StagedAt, Published as PublishedAt}
 use Rattle.csi_orchestrator.specs.declared.thing.Known.{Known}
@@ -151,18 +148,22 @@ things_at rows node = flat_map (staged_thing rows node.id) node.staged.items ++ 
 abbrev pub things_listed : List ControllerRow → List NodeLists → List Thing
 things_listed rows nodes = flat_map things_of rows ++ flat_map (things_at rows) nodes
 
--- none comes before the one that stands before it
-abbrev pub AreSorted : List Thing → Type 0
-AreSorted things = IsSortedBy (λ a b. is_lt (thing_order a b)) things
-
 -- the thing is in the list
 abbrev pub is_listed : List Thing → Thing → Bool
 is_listed things thing = list_any (same_thing thing) things
 
+-- the entry's thing is in the list
+abbrev pub is_entry_listed : List Thing → Thing × Known → Bool
+is_entry_listed things entry = is_listed things entry.0
+
+-- the entry is of the thing
+abbrev pub is_entry_of : Thing → Thing × Known → Bool
+is_entry_of thing entry = same_thing thing entry.0
+
 -- something is noted of the thing
 abbrev pub is_noted : List (Thing × Known) → Thing → Bool
-is_noted noted thing = list_any (λ entry. same_thing thing entry.0) noted
+is_noted noted thing = list_any (is_entry_of thing) noted
 
 -- where it is known that the thing is so, it is in the list
 abbrev pub is_affirmed : List Thing → Thing × Known → Bool
-is_affirmed things entry = not (is_yes entry.1) || is_listed things entry.0
+is_affirmed things entry = not (is_yes entry.1) || is_entry_listed things entry

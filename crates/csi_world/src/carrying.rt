@@ -1,6 +1,5 @@
 //! How a frame is carried: written as bytes, and read from them.
 ghost use Rattle.std.specs.Prelude.{◌≡◌, IfOk};
-ghost use Rattle.std.specs.Option.{option_copied};
 ghost use Rattle.csi_frames.specs.Decoding.{no_memory};
 ghost use Rattle.csi_frames.specs.Spelling.{Spells};
 
@@ -26,24 +25,12 @@ fn read(alloc: Global, bytes: &[u8], frame: &Frame) -> Result<Frame, NoMemory>
     }
 }
 
-/// The frame, once it was written as bytes and read from them. An `Err` is an allocation that was refused.
-pub(crate) fn carried(alloc: Global, frame: &Frame) -> Result<Frame, NoMemory>
+/// The frame, once it was written as bytes, in place of those that were there, and read from them. An `Err` is an
+/// allocation that was refused.
+pub(crate) fn carried(alloc: Global, bytes: &mut Vec<u8>, frame: &Frame) -> Result<Frame, NoMemory>
     ensures { IfOk result (λ copy. copy ≡ frame.now) }
 {
-    let mut bytes = Vec::new(alloc);
-    encode(frame, &mut bytes)?;
+    bytes.clear();
+    encode(frame, bytes)?;
     read(alloc, bytes.as_slice(), frame)
-}
-
-/// The same, of the frame that is there, if one is.
-pub(crate) fn carried_option(
-    alloc: Global,
-    frame: Option<&Frame>,
-) -> Result<Option<Frame>, NoMemory>
-    ensures { IfOk result (λ copy. copy ≡ option_copied frame.entry) }
-{
-    match frame {
-        Some(frame) => Ok(Some(carried(alloc, frame)?)),
-        None => Ok(None),
-    }
 }

@@ -8,18 +8,18 @@ ghost use Rattle.csi_world.specs.Simulating.{IsSound, Does, IsLogged};
 ghost use Rattle.csi_world.specs.System.{parts_of};
 ghost use Rattle.csi_world.specs.declared.event.Outcome.TheVariants as outcomes;
 
-use crate::carrying::carried_option;
+use crate::carrying::carried;
 use crate::event::{Event, Outcome};
 use crate::plugins::{place_of, restarted_controller, restarted_node, step_controller, step_node};
 use crate::sending::{answered, frame_of, settled, settled_reply, settled_restart};
 use crate::system::System;
-use csi_types::{Body, Frame, NoMemory, NodeId, Party};
+use csi_types::{Body, CapabilityList, Frame, NoMemory, NodeId, Party};
 
-// A copy of an event.
-fn copied(event: &Event) -> Result<Event, NoMemory>
-    ensures { IfOk result (λ copy. copy ≡ event.now) }
+// A copy of these capabilities.
+fn copied(capabilities: &CapabilityList) -> Result<CapabilityList, NoMemory>
+    ensures { IfOk result (λ copy. copy ≡ capabilities.now) }
 {
-    Ok(event.clone()?)
+    Ok(capabilities.clone()?)
 }
 
 impl System {
@@ -53,19 +53,13 @@ impl System {
         }
     }
 
-    // A copy of the frame of this number, once it was carried.
-    fn carried_frame(&self, number: u64) -> Result<Option<Frame>, NoMemory>
-        ensures { (world : World) → ShowsWorld (parts_of self.now) world → IfOk result (λ frame. frame ≡ frame_at world number) }
-    {
-        carried_option(self.alloc, frame_of(&self.frames, number))
-    }
-
     // The frame of this number is delivered, if it is there.
-    fn deliver(&mut self, number: u64) -> Result<Outcome, NoMemory>
+    fn deliver(&mut self, bytes: &mut Vec<u8>, number: u64) -> Result<Outcome, NoMemory>
         ensures { Does (parts_of self.old) (parts_of self.new) result (λ world. delivered self.old.config world (frame_at world number)) }
     {
-        match self.carried_frame(number)? {
-            Some(frame) => {
+        match frame_of(&self.frames, number) {
+            Some(sent) => {
+                let frame = carried(self.alloc, bytes, sent)?;
                 let outcome = self.take(&frame);
                 drop(frame);
                 outcome
@@ -98,51 +92,59 @@ impl System {
         }
     }
 
-    // What comes of an event, which isn't logged yet.
-    fn outcome_of(&mut self, event: &Event) -> Result<Outcome, NoMemory>
+    // What comes of an event, which isn't logged yet. Only what the orchestrator keeps of it is copied.
+    fn outcome_of(&mut self, bytes: &mut Vec<u8>, event: &Event) -> Result<Outcome, NoMemory>
         ensures { Does (parts_of self.old) (parts_of self.new) result (λ world. occurs self.old.config world event.now) }
     {
         csi_orchestrator::form_law();
         let orchestrator = &mut self.orchestrator;
         let frames = &mut self.frames;
-        match copied(event)? {
+        match event {
             Event::Create {
                 name,
                 required,
                 limit,
                 capabilities,
-            } => settled(
-                frames,
-                orchestrator.create(name, required, limit, capabilities),
-            ),
+            } => {
+                let name = name.clone()?;
+                let capabilities = copied(capabilities)?;
+                let answer = orchestrator.create(name, *required, *limit, capabilities);
+                settled(frames, answer)
+            }
             Event::Use {
                 name,
                 node,
                 target,
                 capability,
                 readonly,
-            } => settled(
-                frames,
-                orchestrator.use_at(&name, node, target, capability, readonly),
-            ),
-            Event::Stop { name, node, target } => {
-                settled(frames, orchestrator.stop(&name, node, target))
+            } => {
+                let node = node.clone()?;
+                let target = target.clone()?;
+                let capability = capability.clone()?;
+                let answer = orchestrator.use_at(name, node, target, capability, *readonly);
+                settled(frames, answer)
             }
-            Event::Delete(name) => settled(frames, orchestrator.delete(&name)),
-            Event::Timeout(name) => settled(frames, orchestrator.timeout(&name)),
-            Event::Deliver(number) => self.deliver(number),
+            Event::Stop { name, node, target } => {
+                let node = node.clone()?;
+                let target = target.clone()?;
+                settled(frames, orchestrator.stop(name, node, target))
+            }
+            Event::Delete(name) => settled(frames, orchestrator.delete(name)),
+            Event::Timeout(name) => settled(frames, orchestrator.timeout(name)),
+            Event::Deliver(number) => self.deliver(bytes, *number),
             Event::RestartOrchestrator => settled_restart(orchestrator.restart()),
             Event::RestartController => self.restart_controller(),
-            Event::RestartNode(id) => self.restart_node(&id),
+            Event::RestartNode(id) => self.restart_node(id),
         }
     }
 
-    /// What comes of an event, which is logged. An `Err` is an allocation that was refused; the system is of no use then.
-    pub(crate) fn occur(&mut self, event: &Event) -> Result<(), NoMemory>
+    /// What comes of an event, which is logged. A frame that is delivered is written in place of the bytes. An `Err` is an
+    /// allocation that was refused; the system is of no use then.
+    pub(crate) fn occur(&mut self, bytes: &mut Vec<u8>, event: &Event) -> Result<(), NoMemory>
         ensures { (world : World) → IsSound (parts_of self.old) → ShowsWorld (parts_of self.old) world →
             OnOk result (IsLogged (parts_of self.old) (parts_of self.new) (occurs self.old.config world event.now)) }
     {
-        let outcome = self.outcome_of(event)?;
+        let outcome = self.outcome_of(bytes, event)?;
         self.outcomes.push(outcome)?;
         Ok(())
     }

@@ -43,8 +43,9 @@ fn run(alloc: Global, config: &Config, events: &[Event]) -> Result<System, NoMem
     ensures { IfOk result (λ system. IsRun config.now events.now (parts_of system)) }
 {
     let mut system = new_system(alloc, config)?;
+    let mut bytes = Vec::new(alloc);
     for event in events {
-        system.occur(event)?;
+        system.occur(&mut bytes, event)?;
     }
     Ok(system)
 }

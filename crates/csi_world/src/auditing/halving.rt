@@ -3,7 +3,7 @@ ghost use Rattle.std.specs.Prelude.{◌≡◌, ◌==◌, find, position};
 ghost use Rattle.std.specs.Option.{option_copied};
 ghost use Rattle.csi_controller.specs.Core.{IsRising};
 ghost use Rattle.csi_orchestrator.specs.Listing.{IsInOrder};
-ghost use Rattle.csi_world.specs.Listed.{AreSorted, is_listed, is_noted as is_noted_so};
+ghost use Rattle.csi_world.specs.Listed.{is_entry_of};
 
 use csi_controller::ControllerRow;
 use csi_orchestrator::{Known, Thing};
@@ -29,22 +29,10 @@ pub(crate) fn find_row(rows: &[ControllerRow], id: VolumeId) -> Option<&Controll
     }
 }
 
-/// Whether the thing is among these, which are in order.
-pub(crate) fn has_thing(things: &[Thing], thing: &Thing) -> bool
-    requires { AreSorted things.now }
-    ensures { result ≡ is_listed things.now thing.now }
-{
-    things
-        .binary_search_by(|other| other.compare(thing))
-        .is_ok()
-}
-
-/// Whether something is noted of the thing in this list, which is in order.
-pub(crate) fn is_noted(noted: &[(Thing, Known)], thing: &Thing) -> bool
+/// Where something is noted of the thing in this list, which is in order.
+pub(crate) fn place_of_noted(noted: &[(Thing, Known)], thing: &Thing) -> Option<usize>
     requires { IsInOrder noted.now }
-    ensures { result ≡ is_noted_so noted.now thing.now }
+    ensures { result ≡ position (is_entry_of thing.now) noted.now }
 {
-    noted
-        .binary_search_by(|entry| entry.0.compare(thing))
-        .is_ok()
+    noted.binary_search_by(|entry| entry.0.compare(thing)).ok()
 }

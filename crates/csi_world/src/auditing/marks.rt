@@ -1,13 +1,15 @@
 //! Whether what the orchestrator knows is so.
-ghost use Rattle.std.specs.Prelude.{◌≡◌, ◌↔◌, ◌&&◌, IfOk, IsTrue};
+ghost use Rattle.std.specs.Prelude.{◌≡◌, ◌↔◌, ◌&&◌, ◌||◌, List, [], length, map, not, IfOk, IsTrue};
 ghost use Rattle.std.specs.List.{list_all};
 ghost use Rattle.csi_orchestrator.specs.Listing.{ListsKnown, IsInOrder};
 ghost use Rattle.csi_orchestrator.specs.Shown.{view_of};
+ghost use Rattle.csi_orchestrator.specs.Thing.{is_yes};
+ghost use Rattle.csi_orchestrator.specs.declared.thing.Thing.{Thing as ThingParts};
 ghost use Rattle.csi_world.specs.World.{World};
 ghost use Rattle.csi_world.specs.Audited.{AreMarkedRight};
-ghost use Rattle.csi_world.specs.Listed.{AreRowsApart, AreSorted, IsListed, is_affirmed as is_affirmed_so, is_noted as is_noted_so};
+ghost use Rattle.csi_world.specs.Listed.{AreRowsApart, IsListed, is_affirmed as is_affirmed_so, is_entry_listed, is_noted};
 
-use super::halving::{has_thing, is_noted};
+use super::halving::place_of_noted;
 use super::lists::NodeLists;
 use super::things::list_things;
 use csi_controller::ControllerRow;
@@ -15,37 +17,52 @@ use csi_orchestrator::{Known, Orchestrator, Thing};
 use csi_types::NoMemory;
 use std::alloc::Global;
 
-// Whether the thing is among these, where it is known to be so.
-fn is_affirmed(things: &[Thing], entry: &(Thing, Known)) -> bool
-    requires { AreSorted things.now }
-    ensures { result ≡ is_affirmed_so things.now entry.now }
+// Marks each entry whose thing is among these. Whether something is noted of each of them.
+fn mark_noted(things: &[Thing], noted: &[(Thing, Known)], marks: &mut [bool]) -> bool
+    requires ordered { IsInOrder noted.now }
+    requires unmarked { marks.old ≡ map (is_entry_listed []) noted.now }
+    ensures all { result ≡ list_all (is_noted noted.now) things.now }
+    ensures marked { IsTrue result → marks.new ≡ map (is_entry_listed things.now) noted.now }
 {
-    !matches!(entry.1, Known::Yes) || has_thing(things, &entry.0)
+    for thing in things {
+        match place_of_noted(noted, thing) {
+            Some(place) => marks[place] = true,
+            None => return false,
+        }
+    }
+    true
+}
+
+// Whether the entry is marked, where its thing is known to be so.
+fn is_affirmed(entry: &(Thing, Known), marked: bool) -> bool
+    ensures { result ≡ (not (is_yes entry.now.1) || marked) }
+{
+    !matches!(entry.1, Known::Yes) || marked
 }
 
 // The same for all that is noted.
-fn are_affirmed(things: &[Thing], noted: &[(Thing, Known)]) -> bool
-    requires { AreSorted things.now }
-    ensures { result ≡ list_all (is_affirmed_so things.now) noted.now }
+fn are_affirmed(noted: &[(Thing, Known)], marks: &[bool]) -> bool
+    requires { length marks.now ≡ length noted.now }
+    ensures { (things : List ThingParts) → marks.now ≡ map (is_entry_listed things) noted.now → result ≡ list_all (is_affirmed_so things) noted.now }
 {
-    noted.iter().all(|entry| is_affirmed(things, entry))
+    for (place, entry) in noted.iter().enumerate() {
+        if !is_affirmed(entry, marks[place]) {
+            return false;
+        }
+    }
+    true
 }
 
-// Whether something is noted of each of these things.
-fn are_noted(noted: &[(Thing, Known)], things: &[Thing]) -> bool
+// Whether each thing that is known to be so is among these, and something is noted of each of them.
+fn are_right(alloc: Global, things: &[Thing], noted: &[(Thing, Known)]) -> Result<bool, NoMemory>
     requires { IsInOrder noted.now }
-    ensures { result ≡ list_all (is_noted_so noted.now) things.now }
+    ensures { IfOk result (λ right. right ≡ (list_all (is_affirmed_so things.now) noted.now && list_all (is_noted noted.now) things.now)) }
 {
-    things.iter().all(|thing| is_noted(noted, thing))
-}
-
-// Both.
-fn are_right(things: &[Thing], noted: &[(Thing, Known)]) -> bool
-    requires sorted { AreSorted things.now }
-    requires ordered { IsInOrder noted.now }
-    ensures { result ≡ (list_all (is_affirmed_so things.now) noted.now && list_all (is_noted_so noted.now) things.now) }
-{
-    are_affirmed(things, noted) && are_noted(noted, things)
+    let mut marks = vec![in alloc; false; noted.len()]?;
+    if !mark_noted(things, noted, marks.as_mut_slice()) {
+        return Ok(false);
+    }
+    Ok(are_affirmed(noted, &marks))
 }
 
 // What the orchestrator knows.
@@ -71,5 +88,5 @@ pub(crate) fn is_marked_right(
 {
     let noted = known_by(orchestrator)?;
     let things = list_things(alloc, rows, nodes)?;
-    Ok(are_right(&things, &noted))
+    are_right(alloc, &things, &noted)
 }

@@ -1,13 +1,12 @@
 //! Everything that holds, by what is listed.
 ghost use Rattle.std.specs.Prelude.{◌≡◌, ◌++◌, ◌↔◌, map, true, IfOk, OnOk};
 ghost use Rattle.std.specs.List.{flat_map};
-ghost use Rattle.std.specs.List.Sorted.{IsPermutation};
 ghost use Rattle.csi_lists.specs.Members.{IsAmong};
 ghost use Rattle.csi_controller.specs.Core.{IsRising};
 ghost use Rattle.csi_orchestrator.specs.declared.thing.Thing.{Thing as ThingParts};
 ghost use Rattle.csi_world.specs.World.{World};
 ghost use Rattle.csi_world.specs.Safe.{holds};
-ghost use Rattle.csi_world.specs.Listed.{AreRowsApart, AreSorted, IsListed, attached_thing, things_of, staged_thing, published_thing, things_at, things_listed};
+ghost use Rattle.csi_world.specs.Listed.{AreRowsApart, IsListed, attached_thing, things_of, staged_thing, published_thing, things_at, things_listed};
 
 use super::halving::find_row;
 use super::lists::NodeLists;
@@ -151,7 +150,7 @@ fn add_nodes(
     Ok(())
 }
 
-// Everything that holds, in no order.
+// Everything that holds, row by row and node by node.
 fn gathered(
     alloc: Global,
     rows: &[ControllerRow],
@@ -166,25 +165,14 @@ fn gathered(
     Ok(things)
 }
 
-// Puts things in order.
-fn put_in_order(things: &mut Vec<Thing>)
-    ensures moved { IsPermutation things.old.items things.new.items }
-    ensures order { AreSorted things.new.items }
-{
-    things.sort_unstable_by(|a, b| a.compare(b));
-}
-
-/// Everything that holds in the worlds of which this is the list, in order.
+/// Everything that holds in the worlds of which this is the list, in no order.
 pub(crate) fn list_things(
     alloc: Global,
     rows: &[ControllerRow],
     nodes: &[NodeLists],
 ) -> Result<Vec<Thing>, NoMemory>
     requires { AreRowsApart rows.now }
-    ensures all { (world : World) → IsListed (record { rows = rows.now; nodes = nodes.now }) world → IfOk result (λ things. (thing : ThingParts) → IsAmong thing things.items ↔ (holds world thing ≡ true)) }
-    ensures order { IfOk result (λ things. AreSorted things.items) }
+    ensures { (world : World) → IsListed (record { rows = rows.now; nodes = nodes.now }) world → IfOk result (λ things. (thing : ThingParts) → IsAmong thing things.items ↔ (holds world thing ≡ true)) }
 {
-    let mut things = gathered(alloc, rows, nodes)?;
-    put_in_order(&mut things);
-    Ok(things)
+    gathered(alloc, rows, nodes)
 }

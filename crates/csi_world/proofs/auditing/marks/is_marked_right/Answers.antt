@@ -1,5 +1,6 @@
 -- By both lists.
-use Rattle.std.proofs.Common.{◌&&◌, ◌∙◌}
+use Rattle.std.proofs.Common.{Bool, ◌&&◌, ◌∙◌}
+use Rattle.std.proofs.lemmas.Result.{IfOk-weaker}
 use Rattle.std.specs.List.{list_all}
 use Rattle.csi_orchestrator.specs.Shown.{view_of}
 use Rattle.csi_world.specs.Listed.{is_affirmed, is_noted}
@@ -10,5 +11,8 @@ pub returns : goal.returns
 returns c world is =
     let things = c.deref.ensures.value in
     let noted = c.deref-2.ensures.value in
-    marked-told (view_of c.args.orchestrator.now).marks world c.in_ok-things.things.items c.in_ok-noted.noted.items (c.in_ok-things.ensures.all world is) c.in_ok-noted.ensures.known c.are_right.result
-    (c.are_right.ensures ∙ (λ i. list_all (is_affirmed (things i)) (noted i) && list_all (is_noted (noted i)) (things i)))
+    IfOk-weaker c.are_right.result _ _
+    (λ (right : Bool) told.
+    marked-told (view_of c.args.orchestrator.now).marks world c.in_ok-things.things.items c.in_ok-noted.noted.items (c.in_ok-things.ensures world is) c.in_ok-noted.ensures.known right
+    (told ∙ (λ i. list_all (is_affirmed (things i)) (noted i) && list_all (is_noted (noted i)) (things i))))
+    c.are_right.ensures

@@ -4,11 +4,11 @@ use Rattle.std.proofs.lemmas.Fn.{always_returns_same}
 use Rattle.csi_orchestrator.specs.declared.thing.Thing.{Thing}
 use Rattle.csi_orchestrator.specs.declared.thing.Known.{Known}
 use Rattle.csi_orchestrator.specs.Listing.{thing_order}
-use Rattle.csi_world.proofs.FoundByHalving.{noted-told}
-use Rattle.csi_world.proofs.auditing.halving.is_noted.Goals as goal
+use Rattle.csi_world.proofs.FoundByHalving.{noted-place}
+use Rattle.csi_world.proofs.auditing.halving.place_of_noted.Goals as goal
 
 pub returns : goal.returns
 returns c =
     let facts = c.binary_search_by.ensures in
     let by_order = facts.position (λ (entry : Thing × Known). thing_order entry.0 c.args.thing.now) (always_returns_same _ _ _ (λ a r g called. (search rules, search rules))) in
-    c.is_ok.ensures.value ∙ noted-told c.args.noted.now c.args.thing.now c.binary_search_by.result c.requires facts.bound by_order
+    c.ok.ensures.value ∙ noted-place c.args.noted.now c.args.thing.now c.binary_search_by.result c.requires facts.bound by_order
