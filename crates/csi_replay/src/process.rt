@@ -17,16 +17,20 @@ fn over_file(
     command: FileCommand,
     path: &str,
 ) -> Result<Ending, Ending> {
-    let input = fs::open(rt, path).map_err(|error| Ending::of_device(error.kind()))?;
-    let mut input = Counted::new(input);
+    let mut input = match fs::open(rt, path) {
+        Ok(input) => Counted::new(input),
+        Err(error) => return Err(Ending::of_device(error.kind())),
+    };
     let mut out = Counted::new(io::writer(rt));
     Ok(stream::<Pictures, _, _>(rt.alloc(), command, &mut input, &mut out))
 }
 
 // The controller plugin under the configuration in this file.
 fn controller_of(rt: &(impl Files + AllocGlobal), path: &str) -> Result<Plugin, Ending> {
-    let input = fs::read(rt, path).map_err(|error| Ending::of_device(error.kind()))?;
-    Plugin::of_config(rt.alloc(), input.as_slice())
+    match fs::read(rt, path) {
+        Ok(input) => Plugin::of_config(rt.alloc(), input.as_slice()),
+        Err(error) => Err(Ending::of_device(error.kind())),
+    }
 }
 
 // Serves standard input to standard output, by the plugin of the store in this file.
@@ -57,7 +61,10 @@ fn told(rt: &HostRuntime, path: &str) -> Ending {
 // Does what the words name. A store's file is read after a crash as SQLite reads it: a write that was cut short left each byte
 // old or new.
 fn run(rt: &HostRuntime) -> Result<Ending, Ending> {
-    let words = std::env::args(rt).map_err(|error| Ending::of_words(error.kind()))?;
+    let words = match std::env::args(rt) {
+        Ok(words) => words,
+        Err(error) => return Err(Ending::of_words(error.kind())),
+    };
     let words: Vec<String> = words.collect(rt.alloc())?;
     match parse(rt.alloc(), words.as_slice())? {
         CommandLine::File(command, path) => over_file(rt, command, path),
@@ -76,7 +83,10 @@ fn run(rt: &HostRuntime) -> Result<Ending, Ending> {
 /// Does what the words of this process name, and says on standard error how it ended, unless all was done; the answer is the exit
 /// status. A store is opened after the words, the configuration or the id were taken, and standard input is read after that.
 pub fn ended(rt: &HostRuntime) -> ExitCode {
-    let ending = run(rt).unwrap_or_else(|ending| ending);
+    let ending = match run(rt) {
+        Ok(ending) => ending,
+        Err(ending) => ending,
+    };
     if ending != Ending::Done {
         let _ = eprintln!(rt; "{ending}");
     }
