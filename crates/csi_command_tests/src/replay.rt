@@ -2,6 +2,7 @@
 //! tables, by the formats.
 mod answers;
 mod configs;
+mod drawing;
 mod endings;
 mod events;
 mod examples;

@@ -4,9 +4,9 @@ use Rattle.csi_schedules.specs.Schedule.{Schedule}
 use Rattle.csi_world.specs.After.{after}
 use Rattle.csi_world.specs.Simulated.{WorldParts, ShowsRun}
 use Rattle.csi_endings.specs.declared.command.ScheduleCommand.{ScheduleCommand}
-use Rattle.csi_commands.specs.Running.{IsGivenOf, IsGiven}
+use Rattle.csi_commands.specs.Running.{Drawing, IsGivenOf, IsGiven}
 
 -- what is given of a world that shows the schedule's run is given of the schedule
-pub given_is : {T E : Type 0} → (bytes : T → List ℕ) (command : ScheduleCommand) (schedule : Schedule) (world : WorldParts) (result : Result T E) → world.config ≡ schedule.config → ShowsRun world (after schedule.config schedule.events) → IfOk result (λ given. IsGivenOf command schedule.events world (bytes given)) → IfOk result (λ given. IsGiven command schedule (bytes given))
-given_is bytes command schedule world (Ok given) config shows of = record { world = world; config = config; shows = shows; given = of }
-given_is bytes command schedule world (Err fault) config shows of = tt
+pub given_is : {T E : Type 0} → (bytes : T → List ℕ) (draws : Drawing) (command : ScheduleCommand) (schedule : Schedule) (world : WorldParts) (result : Result T E) → world.config ≡ schedule.config → ShowsRun world (after schedule.config schedule.events) → IfOk result (λ given. IsGivenOf draws command schedule.events world (bytes given)) → IfOk result (λ given. IsGiven draws command schedule (bytes given))
+given_is bytes draws command schedule world (Ok given) config shows of = record { world = world; config = config; shows = shows; given = of }
+given_is bytes draws command schedule world (Err fault) config shows of = tt

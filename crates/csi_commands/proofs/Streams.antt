@@ -19,7 +19,7 @@ use Rattle.csi_endings.specs.declared.command.ScheduleCommand.{ScheduleCommand}
 use Rattle.csi_endings.specs.declared.ending.Ending.{Ending}
 use Rattle.csi_endings.specs.declared.ending.Ending.TheVariants as endings
 use Rattle.csi_commands.specs.Ending.{EndsAs}
-use Rattle.csi_commands.specs.Running.{Plays, IsRefused}
+use Rattle.csi_commands.specs.Running.{Drawing, Plays, IsRefused}
 use Rattle.csi_commands.specs.Streaming.{StreamsAs, StreamEndsAs, WasCut, TellsDevice, HasRead, ReadsWhole, ending_of_stream, ending_of_written}
 
 -- all bytes begin with none; and all begin with themselves
@@ -31,7 +31,7 @@ grows-none : (bytes : List ℕ) → Grows bytes bytes
 grows-none bytes = record { more = []; appended = sym (append-nil bytes) }
 
 -- what is said of the frames of some bytes is said of them whoever reads them
-module _ (bytes rest : List ℕ) (frames : List Frame) (of : FramesOf bytes frames rest) where
+module _ (draws : Drawing) (bytes rest : List ℕ) (frames : List Frame) (of : FramesOf bytes frames rest) where
   -- what is so of one splitting of the bytes is so of every one
   for_all : (P : List Frame → List ℕ → Type 0) → P frames rest → (fs : List Frame) (more : List ℕ) → FramesOf bytes fs more → P fs more
   for_all P here fs more of' =
@@ -39,7 +39,7 @@ module _ (bytes rest : List ℕ) (frames : List Frame) (of : FramesOf bytes fram
       subst (λ (x : List ℕ). P fs x) same.1 (subst (λ (gs : List Frame). P gs rest) same.0 here)
 
   -- replies to all frames of the bytes are a front of what the command appends
-  all_given : (out : List ℕ) → AreReplies frames out → WasCut Answer bytes out
+  all_given : (out : List ℕ) → AreReplies frames out → WasCut draws Answer bytes out
   all_given out given = record {
     all = out;
     appended = for_all (λ fs more. GivesFront AreReplies fs out) (record { count = length frames; within = omega arith; given = subst (λ (fs : List Frame). AreReplies fs out) (sym (take_all (length frames) frames (omega arith))) given });
@@ -47,7 +47,7 @@ module _ (bytes rest : List ℕ) (frames : List Frame) (of : FramesOf bytes fram
   }
 
   -- however the answering of a stream ended, the command ends so on its bytes
-  answer_ends : (at_end : Type 0) (out : List ℕ) (result : Result ℕ StreamFault) → StreamEnds AreReplies bytes frames rest at_end out result → StreamEndsAs Answer at_end bytes out (ending_of_stream result)
+  answer_ends : (at_end : Type 0) (out : List ℕ) (result : Result ℕ StreamFault) → StreamEnds AreReplies bytes frames rest at_end out result → StreamEndsAs draws Answer at_end bytes out (ending_of_stream result)
   answer_ends at_end out (Ok count) ends = (ends.0, (for_all (λ fs more. EndsAs Answer fs more [] out endings.Done) (ends.1, ends.3), tt))
   answer_ends at_end out (Err (stops.Frame kind place)) ends = (ends.0, (for_all (λ fs more. EndsAs Answer fs more [] out (endings.FrameFault kind place)) (ends.1, ends.2), tt))
   answer_ends at_end out (Err stops.NoMemory) ends = (tt, (for_all (λ fs more. EndsAs Answer fs more [] out endings.Memory) (record { count = ends.count; within = ends.within; appended = ends.given }), tt))
@@ -56,11 +56,11 @@ module _ (bytes rest : List ℕ) (frames : List Frame) (of : FramesOf bytes fram
   answer_ends at_end out (Err stops.Endless) ends = (ends.0, for_all (λ fs more. Waits more × AreReplies fs out) (ends.1, ends.2))
 
   -- whatever was written of lines is a front of what the command may append
-  shown : (out : List ℕ) → WasCut Show bytes out
+  shown : (out : List ℕ) → WasCut draws Show bytes out
   shown out = record { all = out; appended = tt; grows = grows-none out }
 
   -- however the showing of a stream ended, the command ends so on its bytes
-  show_ends : (at_end : Type 0) (out : List ℕ) (result : Result ℕ StreamFault) → StreamEnds AreLines bytes frames rest at_end out result → StreamEndsAs Show at_end bytes out (ending_of_stream result)
+  show_ends : (at_end : Type 0) (out : List ℕ) (result : Result ℕ StreamFault) → StreamEnds AreLines bytes frames rest at_end out result → StreamEndsAs draws Show at_end bytes out (ending_of_stream result)
   show_ends at_end out (Ok count) ends = (ends.0, (for_all (λ fs more. EndsAs Show fs more [] out endings.Done) (ends.1, grows-all out), tt))
   show_ends at_end out (Err (stops.Frame kind place)) ends = (ends.0, (for_all (λ fs more. EndsAs Show fs more [] out (endings.FrameFault kind place)) (ends.1, grows-all out), tt))
   show_ends at_end out (Err stops.NoMemory) ends = (tt, (for_all (λ fs more. EndsAs Show fs more [] out endings.Memory) (grows-all out), tt))
@@ -69,61 +69,61 @@ module _ (bytes rest : List ℕ) (frames : List Frame) (of : FramesOf bytes fram
   show_ends at_end out (Err stops.Endless) ends = (ends.0, for_all (λ fs more. Waits more) ends.1)
 
 -- where the frames of a reader were answered, the command ends as on its bytes; and below where they were shown
-pub answers_so : (left now had has : Option (List ℕ)) (result : Result ℕ StreamFault) → Streams AreReplies left now had has result → StreamsAs Answer left now had has (ending_of_stream result)
-answers_so left now had has result s = record { bytes = s.read; consumed = s.consumed; out = s.out; written = s.written; ends = answer_ends s.read s.rest s.frames s.stream (IsAtEnd now) s.out result s.ends }
+pub answers_so : (draws : Drawing) (left now had has : Option (List ℕ)) (result : Result ℕ StreamFault) → Streams AreReplies left now had has result → StreamsAs draws Answer left now had has (ending_of_stream result)
+answers_so draws left now had has result s = record { bytes = s.read; consumed = s.consumed; out = s.out; written = s.written; ends = answer_ends draws s.read s.rest s.frames s.stream (IsAtEnd now) s.out result s.ends }
 
 -- the same where they were shown
-pub shows_so : (left now had has : Option (List ℕ)) (result : Result ℕ StreamFault) → Streams AreLines left now had has result → StreamsAs Show left now had has (ending_of_stream result)
-shows_so left now had has result s = record { bytes = s.read; consumed = s.consumed; out = s.out; written = s.written; ends = show_ends s.read s.rest s.frames s.stream (IsAtEnd now) s.out result s.ends }
+pub shows_so : (draws : Drawing) (left now had has : Option (List ℕ)) (result : Result ℕ StreamFault) → Streams AreLines left now had has result → StreamsAs draws Show left now had has (ending_of_stream result)
+shows_so draws left now had has result s = record { bytes = s.read; consumed = s.consumed; out = s.out; written = s.written; ends = show_ends draws s.read s.rest s.frames s.stream (IsAtEnd now) s.out result s.ends }
 
 -- a schedule that is refused gives nothing
-pub refused_so : (command : ScheduleCommand) (at_end : Type 0) (bytes : List ℕ) (ending : Ending) → at_end → IsRefused bytes ending → StreamEndsAs (Schedule command) at_end bytes [] ending
-refused_so command at_end bytes endings.Done end refused = absurd refused
-refused_so command at_end bytes (endings.FrameFault kind place) end refused = absurd refused
-refused_so command at_end bytes (endings.ScheduleFault fault) end refused = (end, (λ frames rest of. tt, (refused, refl)))
-refused_so command at_end bytes endings.NotUtf8 end refused = (end, (λ frames rest of. tt, (refused, refl)))
-refused_so command at_end bytes endings.ConfigRefused end refused = absurd refused
-refused_so command at_end bytes (endings.RecordFault place) end refused = absurd refused
-refused_so command at_end bytes endings.Usage end refused = absurd refused
-refused_so command at_end bytes endings.Device end refused = absurd refused
-refused_so command at_end bytes endings.StoreNotOpened end refused = absurd refused
-refused_so command at_end bytes endings.Endless end refused = absurd refused
-refused_so command at_end bytes endings.Memory end refused = refl
+pub refused_so : (draws : Drawing) (command : ScheduleCommand) (at_end : Type 0) (bytes : List ℕ) (ending : Ending) → at_end → IsRefused bytes ending → StreamEndsAs draws (Schedule command) at_end bytes [] ending
+refused_so draws command at_end bytes endings.Done end refused = absurd refused
+refused_so draws command at_end bytes (endings.FrameFault kind place) end refused = absurd refused
+refused_so draws command at_end bytes (endings.ScheduleFault fault) end refused = (end, (λ frames rest of. tt, (refused, refl)))
+refused_so draws command at_end bytes endings.NotUtf8 end refused = (end, (λ frames rest of. tt, (refused, refl)))
+refused_so draws command at_end bytes endings.ConfigRefused end refused = absurd refused
+refused_so draws command at_end bytes (endings.RecordFault place) end refused = absurd refused
+refused_so draws command at_end bytes endings.Usage end refused = absurd refused
+refused_so draws command at_end bytes endings.Device end refused = absurd refused
+refused_so draws command at_end bytes endings.StoreNotOpened end refused = absurd refused
+refused_so draws command at_end bytes endings.Endless end refused = absurd refused
+refused_so draws command at_end bytes endings.Memory end refused = refl
 
 -- where the reader failed, or memory ran out, nothing is given
-pub unread_so : (command : ScheduleCommand) (left now has : Option (List ℕ)) (before after : ℕ) (old new : List ℕ) (ending : Ending) → ReadsWhole left now before after old new (Err ending) → StreamsAs (Schedule command) left now has has ending
-unread_so command left now has before after old new endings.Device unread = record { bytes = unread.0; consumed = unread.1; out = []; written = Appends-nil has; ends = record { all = []; appended = inl refl; grows = grows-none [] } }
-unread_so command left now has before after old new endings.Memory unread = record { bytes = unread.0; consumed = unread.1; out = []; written = Appends-nil has; ends = refl }
-unread_so command left now has before after old new endings.Done unread = absurd unread
-unread_so command left now has before after old new (endings.FrameFault kind place) unread = absurd unread
-unread_so command left now has before after old new (endings.ScheduleFault fault) unread = absurd unread
-unread_so command left now has before after old new endings.NotUtf8 unread = absurd unread
-unread_so command left now has before after old new endings.ConfigRefused unread = absurd unread
-unread_so command left now has before after old new (endings.RecordFault place) unread = absurd unread
-unread_so command left now has before after old new endings.Usage unread = absurd unread
-unread_so command left now has before after old new endings.StoreNotOpened unread = absurd unread
-unread_so command left now has before after old new endings.Endless unread = absurd unread
+pub unread_so : (draws : Drawing) (command : ScheduleCommand) (left now has : Option (List ℕ)) (before after : ℕ) (old new : List ℕ) (ending : Ending) → ReadsWhole left now before after old new (Err ending) → StreamsAs draws (Schedule command) left now has has ending
+unread_so draws command left now has before after old new endings.Device unread = record { bytes = unread.0; consumed = unread.1; out = []; written = Appends-nil has; ends = record { all = []; appended = inl refl; grows = grows-none [] } }
+unread_so draws command left now has before after old new endings.Memory unread = record { bytes = unread.0; consumed = unread.1; out = []; written = Appends-nil has; ends = refl }
+unread_so draws command left now has before after old new endings.Done unread = absurd unread
+unread_so draws command left now has before after old new (endings.FrameFault kind place) unread = absurd unread
+unread_so draws command left now has before after old new (endings.ScheduleFault fault) unread = absurd unread
+unread_so draws command left now has before after old new endings.NotUtf8 unread = absurd unread
+unread_so draws command left now has before after old new endings.ConfigRefused unread = absurd unread
+unread_so draws command left now has before after old new (endings.RecordFault place) unread = absurd unread
+unread_so draws command left now has before after old new endings.Usage unread = absurd unread
+unread_so draws command left now has before after old new endings.StoreNotOpened unread = absurd unread
+unread_so draws command left now has before after old new endings.Endless unread = absurd unread
 
 -- what came into an empty vector was read
 pub read_in : (left now : Option (List ℕ)) (before after bytes : List ℕ) → before ≡ [] → bytes ≡ after → HasRead left now before after → Consumes left now bytes
 read_in left now before after bytes none is read = subst (Consumes left now) (sym (is ∙ read.appended ∙ ap (λ (front : List ℕ). front ++ read.more) none)) read.consumed
 
 -- what a schedule gives was written, or not
-pub plays_so : (command : ScheduleCommand) (left now had has : Option (List ℕ)) (bytes before given text : List ℕ) (result : Result (Unit {0}) WriteFailed) → Consumes left now bytes → IsAtEnd now → before ≡ [] → text ≡ given → Plays command bytes before given
-    → OnOk result (Appends had has text) → OnErr result (WritesFront had has text) → StreamsAs (Schedule command) left now had has (ending_of_written result)
-plays_so command left now had has bytes before given text (Ok done) consumed end none is plays written cut = record {
+pub plays_so : (draws : Drawing) (command : ScheduleCommand) (left now had has : Option (List ℕ)) (bytes before given text : List ℕ) (result : Result (Unit {0}) WriteFailed) → Consumes left now bytes → IsAtEnd now → before ≡ [] → text ≡ given → Plays draws command bytes before given
+    → OnOk result (Appends had has text) → OnErr result (WritesFront had has text) → StreamsAs draws (Schedule command) left now had has (ending_of_written result)
+plays_so draws command left now had has bytes before given text (Ok done) consumed end none is plays written cut = record {
   bytes = bytes;
   consumed = consumed;
   out = given;
   written = subst (Appends had has) is written;
-  ends = (end, (λ frames rest of. tt, subst (λ (old : List ℕ). Plays command bytes old given) none plays));
+  ends = (end, (λ frames rest of. tt, subst (λ (old : List ℕ). Plays draws command bytes old given) none plays));
 }
-plays_so command left now had has bytes before given text (Err failed) consumed end none is plays written cut = record {
+plays_so draws command left now had has bytes before given text (Err failed) consumed end none is plays written cut = record {
   bytes = bytes;
   consumed = consumed;
   out = cut.front;
   written = cut.appended;
-  ends = record { all = given; appended = inr (subst (λ (old : List ℕ). Plays command bytes old given) none plays); grows = subst (Grows cut.front) is (record { more = cut.more; appended = cut.parts }) };
+  ends = record { all = given; appended = inr (subst (λ (old : List ℕ). Plays draws command bytes old given) none plays); grows = subst (Grows cut.front) is (record { more = cut.more; appended = cut.parts }) };
 }
 
 -- ---- which failures are told

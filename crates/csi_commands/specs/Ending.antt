@@ -8,7 +8,7 @@ use Rattle.csi_streams.specs.declared.answers.AnswerFault.TheVariants as faults
 use Rattle.csi_endings.specs.declared.command.FileCommand.{FileCommand}
 use Rattle.csi_endings.specs.declared.command.FileCommand.TheVariants.{Answer, Show, Schedule}
 use Rattle.csi_streams.specs.Replay.{answered, Fails, IsFaultOf, Grows}
-use Rattle.csi_commands.specs.Running.{Plays, IsRefused}
+use Rattle.csi_commands.specs.Running.{Drawing, Plays, IsRefused}
 
 -- how it ends by what the frames stopped at
 abbrev pub ending_of : AnswerFault → Ending
@@ -29,8 +29,8 @@ EndsAs Show frames rest old new _ = ⊥
 EndsAs (Schedule command) frames rest old new ending = Unit {0}
 
 -- Where a schedule was run, what the command gives of it was appended, and otherwise nothing.
-abbrev pub RunsAs : FileCommand → List ℕ → List ℕ → List ℕ → Ending → Type 0
-RunsAs Answer input old new ending = Unit {0}
-RunsAs Show input old new ending = Unit {0}
-RunsAs (Schedule command) input old new Done = Plays command input old new
-RunsAs (Schedule command) input old new ending = IsRefused input ending × (new ≡ old)
+abbrev pub RunsAs : Drawing → FileCommand → List ℕ → List ℕ → List ℕ → Ending → Type 0
+RunsAs draws Answer input old new ending = Unit {0}
+RunsAs draws Show input old new ending = Unit {0}
+RunsAs draws (Schedule command) input old new Done = Plays draws command input old new
+RunsAs draws (Schedule command) input old new ending = IsRefused input ending × (new ≡ old)

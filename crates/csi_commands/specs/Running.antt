@@ -8,7 +8,6 @@ use Rattle.csi_world.specs.declared.event.Event.{Event}
 use Rattle.csi_world.specs.After.{after}
 use Rattle.csi_world.specs.Simulated.{WorldParts, ShowsRun}
 use Rattle.csi_reports.specs.Report.{IsReport}
-use Rattle.csi_pictures.specs.Picture.{IsPicture}
 use Rattle.csi_endings.specs.declared.command.ScheduleCommand.{ScheduleCommand}
 use Rattle.csi_endings.specs.declared.command.ScheduleCommand.TheVariants.{Run, Frames, Draw}
 use Rattle.csi_endings.specs.declared.ending.Ending.{Ending}
@@ -22,25 +21,29 @@ pub record IsReportLine (world : WorldParts) (bytes : List ℕ) : Type 0 where
   pub reported : IsReport world report
   pub line : bytes ≡ report ++ 10 ∷ []
 
+-- of a world, and the events that led to it: the bytes are its picture
+abbrev pub Drawing : Type 1
+Drawing = WorldParts → List Event → List ℕ → Type 0
+
 -- what a command gives of a world, to which these events led: its report and a newline, the spellings of all frames that were sent, in order, or its picture
-abbrev pub IsGivenOf : ScheduleCommand → List Event → WorldParts → List ℕ → Type 0
-IsGivenOf Run events world bytes = IsReportLine world bytes
-IsGivenOf Frames events world bytes = bytes ≡ flat_map spelling world.frames
-IsGivenOf Draw events world bytes = IsPicture world events bytes
+abbrev pub IsGivenOf : Drawing → ScheduleCommand → List Event → WorldParts → List ℕ → Type 0
+IsGivenOf draws Run events world bytes = IsReportLine world bytes
+IsGivenOf draws Frames events world bytes = bytes ≡ flat_map spelling world.frames
+IsGivenOf draws Draw events world bytes = draws world events bytes
 
 -- the command gives this of the world, of the schedule's configuration, to which its events lead from an empty one
-pub record IsGiven (command : ScheduleCommand) (schedule : Schedule) (bytes : List ℕ) : Type 0 where
+pub record IsGiven (draws : Drawing) (command : ScheduleCommand) (schedule : Schedule) (bytes : List ℕ) : Type 0 where
   pub world : WorldParts
   pub config : world.config ≡ schedule.config
   pub shows : ShowsRun world (after schedule.config schedule.events)
-  pub given : IsGivenOf command schedule.events world bytes
+  pub given : IsGivenOf draws command schedule.events world bytes
 
 -- the input is a schedule, and what the command gives of it was appended
-pub record Plays (command : ScheduleCommand) (input old new : List ℕ) : Type 0 where
+pub record Plays (draws : Drawing) (command : ScheduleCommand) (input old new : List ℕ) : Type 0 where
   pub schedule : Schedule
   pub read : text_schedule input ≡ Ok schedule
   pub given : List ℕ
-  pub gives : IsGiven command schedule given
+  pub gives : IsGiven draws command schedule given
   pub appended : new ≡ old ++ given
 
 -- The input is no UTF-8, or is and has this fault; or it is, and memory ran out.

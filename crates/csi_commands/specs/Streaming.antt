@@ -15,22 +15,22 @@ use Rattle.csi_endings.specs.declared.command.FileCommand.TheVariants.{Answer, S
 use Rattle.csi_endings.specs.declared.ending.Ending.{Ending}
 use Rattle.csi_endings.specs.declared.ending.Ending.TheVariants as endings
 use Rattle.csi_commands.specs.Ending.{EndsAs, RunsAs}
-use Rattle.csi_commands.specs.Running.{Plays}
+use Rattle.csi_commands.specs.Running.{Drawing, Plays}
 
 -- `file` ends so on these bytes, and appends this to nothing
-abbrev pub FileEnds : FileCommand → List ℕ → List ℕ → Ending → Type 0
-FileEnds command bytes out ending = ((frames : List Frame) (rest : List ℕ) → FramesOf bytes frames rest → EndsAs command frames rest [] out ending) × RunsAs command bytes [] out ending
+abbrev pub FileEnds : Drawing → FileCommand → List ℕ → List ℕ → Ending → Type 0
+FileEnds draws command bytes out ending = ((frames : List Frame) (rest : List ℕ) → FramesOf bytes frames rest → EndsAs command frames rest [] out ending) × RunsAs draws command bytes [] out ending
 
 -- what `file` appends for these bytes at some time: the replies to some of the first frames, or some lines, or what a schedule gives or nothing
-abbrev pub FileAppends : FileCommand → List ℕ → List ℕ → Type 0
-FileAppends Answer bytes all = (frames : List Frame) (rest : List ℕ) → FramesOf bytes frames rest → GivesFront AreReplies frames all
-FileAppends Show bytes all = Unit {0}
-FileAppends (Schedule command) bytes all = (all ≡ []) ⊎ Plays command bytes [] all
+abbrev pub FileAppends : Drawing → FileCommand → List ℕ → List ℕ → Type 0
+FileAppends draws Answer bytes all = (frames : List Frame) (rest : List ℕ) → FramesOf bytes frames rest → GivesFront AreReplies frames all
+FileAppends draws Show bytes all = Unit {0}
+FileAppends draws (Schedule command) bytes all = (all ≡ []) ⊎ Plays draws command bytes [] all
 
 -- a front of it was written
-pub record WasCut (command : FileCommand) (bytes out : List ℕ) : Type 0 where
+pub record WasCut (draws : Drawing) (command : FileCommand) (bytes out : List ℕ) : Type 0 where
   pub all : List ℕ
-  pub appended : FileAppends command bytes all
+  pub appended : FileAppends draws command bytes all
   pub grows : Grows out all
 
 -- the reader gave no fault yet, and all that `file` appends for its frames was written
@@ -49,11 +49,11 @@ ReadsAll at_end _ = Unit {0}
 
 -- It ends as with the bytes of a file, or a device failed, or the reader of frames gave 2^63 bytes; or memory ran out before a schedule gave
 -- anything, perhaps before it was read.
-abbrev pub StreamEndsAs : FileCommand → Type 0 → List ℕ → List ℕ → Ending → Type 0
-StreamEndsAs command at_end bytes out endings.Device = WasCut command bytes out
-StreamEndsAs command at_end bytes out endings.Endless = (2 ^ 63 ≤ length bytes) × WritesAll command bytes out
-StreamEndsAs (Schedule command) at_end bytes out endings.Memory = out ≡ []
-StreamEndsAs command at_end bytes out ending = ReadsAll at_end ending × FileEnds command bytes out ending
+abbrev pub StreamEndsAs : Drawing → FileCommand → Type 0 → List ℕ → List ℕ → Ending → Type 0
+StreamEndsAs draws command at_end bytes out endings.Device = WasCut draws command bytes out
+StreamEndsAs draws command at_end bytes out endings.Endless = (2 ^ 63 ≤ length bytes) × WritesAll command bytes out
+StreamEndsAs draws (Schedule command) at_end bytes out endings.Memory = out ≡ []
+StreamEndsAs draws command at_end bytes out ending = ReadsAll at_end ending × FileEnds draws command bytes out ending
 
 -- a device failed, the reader or the writer, at the ending that says so, and neither failed at any other
 abbrev pub TellsDevice : ℕ → ℕ → ℕ → ℕ → Ending → Type 0
@@ -61,12 +61,12 @@ TellsDevice reader_before reader_after writer_before writer_after endings.Device
 TellsDevice reader_before reader_after writer_before writer_after _ = (reader_after ≡ reader_before) × (writer_after ≡ writer_before)
 
 -- some bytes were read, and some written, and so it ended
-pub record StreamsAs (command : FileCommand) (left_before left_after written_before written_after : Option (List ℕ)) (ending : Ending) : Type 0 where
+pub record StreamsAs (draws : Drawing) (command : FileCommand) (left_before left_after written_before written_after : Option (List ℕ)) (ending : Ending) : Type 0 where
   pub bytes : List ℕ
   pub consumed : Consumes left_before left_after bytes
   pub out : List ℕ
   pub written : Appends written_before written_after out
-  pub ends : StreamEndsAs command (IsAtEnd left_after) bytes out ending
+  pub ends : StreamEndsAs draws command (IsAtEnd left_after) bytes out ending
 
 -- how it ends by what the stream came to
 abbrev pub ending_of_stream : Result ℕ StreamFault → Ending

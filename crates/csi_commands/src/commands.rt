@@ -4,6 +4,7 @@ ghost use Rattle.csi_types.specs.Frame.{Frame};
 ghost use Rattle.csi_frames.specs.Stream.{FramesOf};
 ghost use Rattle.csi_commands.specs.Ending.{EndsAs, RunsAs, ending_of as ending};
 
+use crate::drawing::Draws;
 use crate::running::play;
 use csi_endings::{Ending, FileCommand};
 use csi_streams::{AnswerFault, answer, show};
@@ -22,10 +23,15 @@ fn ending_of(fault: AnswerFault) -> Ending
 /// Carries the command out on the bytes of a file, and appends to `out` what goes to standard output. What was appended
 /// before a fault stays; of a schedule that is all that the command gives, or nothing. The ending is never `Usage` nor
 /// `Device`.
-pub fn file(alloc: Global, command: FileCommand, input: &[u8], out: &mut Vec<u8>) -> Ending
+pub fn file<D: Draws>(
+    alloc: Global,
+    command: FileCommand,
+    input: &[u8],
+    out: &mut Vec<u8>,
+) -> Ending
     ensures frames { (frames : List Frame) (rest : List ℕ) → FramesOf input.now frames rest →
         EndsAs command frames rest out.old.items out.new.items result }
-    ensures run { RunsAs command input.now out.old.items out.new.items result }
+    ensures run { RunsAs D.draws command input.now out.old.items out.new.items result }
 {
     match command {
         FileCommand::Answer => match answer(alloc, input, out) {
@@ -36,7 +42,7 @@ pub fn file(alloc: Global, command: FileCommand, input: &[u8], out: &mut Vec<u8>
             Ok(()) => Ending::Done,
             Err(fault) => ending_of(fault),
         },
-        FileCommand::Schedule(command) => match play(alloc, command, input, out) {
+        FileCommand::Schedule(command) => match play::<D>(alloc, command, input, out) {
             Ok(()) => Ending::Done,
             Err(ending) => ending,
         },

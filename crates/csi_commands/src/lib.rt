@@ -1,12 +1,14 @@
 //! What `csi-replay` does with the bytes of a file or of a stream, without a process: frames are answered by a new controller, or
-//! shown in lines, and schedules are run to a report, to the frames that they send, or to a picture. This profile's own.
+//! shown in lines, and schedules are run to a report, to the frames that they send, or to a picture, which the caller draws (`Draws`). This profile's own.
 #![tactic(auto)]
 
 mod commands;
+mod drawing;
 mod running;
 mod streaming;
 
 pub use commands::file;
 pub use csi_streams::{AnswerFault, StreamFault, answer, answer_from, show, show_from};
+pub use drawing::Draws;
 pub use running::play;
 pub use streaming::stream;

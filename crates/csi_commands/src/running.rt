@@ -6,9 +6,9 @@ ghost use Rattle.csi_frames.specs.Spelling.{spelling};
 ghost use Rattle.csi_schedules.specs.Schedule.{text_schedule};
 ghost use Rattle.csi_commands.specs.Running.{IsReportLine, IsGivenOf, IsGiven, Plays, IsRefused, refusal_of as refusal};
 
+use crate::drawing::Draws;
 use csi_endings::{Ending, ScheduleCommand};
 use csi_frames::encode;
-use csi_pictures::draw;
 use csi_reports::report;
 use csi_schedules::{ScheduleFault, read_schedule};
 use csi_types::{Config, NoMemory};
@@ -62,50 +62,50 @@ fn frames_of(alloc: Global, world: &World) -> Result<Vec<u8>, NoMemory>
 }
 
 // What the command gives of a world, to which these events led.
-fn given_of(
+fn given_of<D: Draws>(
     alloc: Global,
     command: ScheduleCommand,
     events: &[Event],
     world: &World,
 ) -> Result<Vec<u8>, NoMemory>
-    ensures { IfOk result (λ given. IsGivenOf command events.now world.now given.items) }
+    ensures { IfOk result (λ given. IsGivenOf D.draws command events.now world.now given.items) }
 {
     match command {
         ScheduleCommand::Run => line_of(alloc, world),
         ScheduleCommand::Frames => frames_of(alloc, world),
-        ScheduleCommand::Draw => draw(alloc, world, events),
+        ScheduleCommand::Draw => D::draw(alloc, world, events),
     }
 }
 
 // What the command gives of the world to which these events lead.
-fn given(
+fn given<D: Draws>(
     alloc: Global,
     command: ScheduleCommand,
     config: &Config,
     events: &[Event],
 ) -> Result<Vec<u8>, NoMemory>
-    ensures { IfOk result (λ given. IsGiven command (record { config = config.now; events = events.now }) given.items) }
+    ensures { IfOk result (λ given. IsGiven D.draws command (record { config = config.now; events = events.now }) given.items) }
 {
     let world = simulate(alloc, config, events)?;
-    given_of(alloc, command, events, &world)
+    given_of::<D>(alloc, command, events, &world)
 }
 
 /// Reads `input` as a schedule, lets its events happen one after another to an empty world, and appends to `out` what the
 /// command gives of the world: its report and a newline, the spellings of all frames that were sent, in order,
 /// or its picture. An `Err` appends nothing: `NotUtf8` and `ScheduleFault` say what is wrong with the input, in this order, and `Memory` that
 /// an allocation was refused. The report is this profile's own.
-pub fn play(
+pub fn play<D: Draws>(
     alloc: Global,
     command: ScheduleCommand,
     input: &[u8],
     out: &mut Vec<u8>,
 ) -> Result<(), Ending>
-    ensures ok { OnOk result (Plays command input.now out.old.items out.new.items) }
+    ensures ok { OnOk result (Plays D.draws command input.now out.old.items out.new.items) }
     ensures refused { IfErr result (IsRefused input.now) }
     ensures err { OnErr result (out.new.items ≡ out.old.items) }
 {
     let (config, events) = schedule_in(alloc, input)?;
-    let given = given(alloc, command, &config, &events)?;
+    let given = given::<D>(alloc, command, &config, &events)?;
     out.extend_from_slice(&given)?;
     Ok(())
 }

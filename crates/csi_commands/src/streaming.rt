@@ -3,6 +3,7 @@ ghost use Rattle.std.specs.Prelude.{◌≡◌};
 ghost use Rattle.csi_commands.specs.Streaming.{StreamsAs, TellsDevice, ReadsWhole, ending_of_stream, ending_of_written};
 ghost use Rattle.csi_endings.specs.declared.command.FileCommand.TheVariants as commands;
 
+use crate::drawing::Draws;
 use crate::running::play;
 use csi_counted::{Counted, WriteFailed, write_out};
 use csi_endings::{Ending, FileCommand, ScheduleCommand};
@@ -51,13 +52,13 @@ fn read_whole<R: Read>(input: &mut Counted<R>, bytes: &mut Vec<u8>) -> Result<()
 }
 
 // Runs the schedule that a reader has.
-fn play_from<R: Read, W: Write>(
+fn play_from<D: Draws, R: Read, W: Write>(
     alloc: Global,
     command: ScheduleCommand,
     input: &mut Counted<R>,
     out: &mut Counted<W>,
 ) -> Ending
-    ensures streams { StreamsAs (commands.Schedule command) (R.remaining input.old.inner) (R.remaining input.new.inner) (W.contents out.old.inner) (W.contents out.new.inner) result }
+    ensures streams { StreamsAs D.draws (commands.Schedule command) (R.remaining input.old.inner) (R.remaining input.new.inner) (W.contents out.old.inner) (W.contents out.new.inner) result }
     ensures device { TellsDevice input.old.faults input.new.faults out.old.faults out.new.faults result }
 {
     let mut bytes = Vec::new(alloc);
@@ -66,7 +67,7 @@ fn play_from<R: Read, W: Write>(
         Err(ending) => return ending,
     }
     let mut given = Vec::new(alloc);
-    match play(alloc, command, &bytes, &mut given) {
+    match play::<D>(alloc, command, &bytes, &mut given) {
         Ok(()) => written(write_out(out, &given)),
         Err(ending) => ending,
     }
@@ -77,18 +78,18 @@ fn play_from<R: Read, W: Write>(
 /// more is read; a schedule is read whole, and what it gives is written at the end. `Device` says that the reader or the writer
 /// failed, as neither did at any other ending, and then a front of what `file` would append is written; `Endless` that the frames' reader gave 2^63 bytes, and then
 /// all is written that is given for the frames that are there; the ending is never `Usage`. Of a reader or a writer that doesn't tell its bytes nothing is said.
-pub fn stream<R: Read, W: Write>(
+pub fn stream<D: Draws, R: Read, W: Write>(
     alloc: Global,
     command: FileCommand,
     input: &mut Counted<R>,
     out: &mut Counted<W>,
 ) -> Ending
-    ensures streams { StreamsAs command (R.remaining input.old.inner) (R.remaining input.new.inner) (W.contents out.old.inner) (W.contents out.new.inner) result }
+    ensures streams { StreamsAs D.draws command (R.remaining input.old.inner) (R.remaining input.new.inner) (W.contents out.old.inner) (W.contents out.new.inner) result }
     ensures device { TellsDevice input.old.faults input.new.faults out.old.faults out.new.faults result }
 {
     match command {
         FileCommand::Answer => ended(answer_from(alloc, input, out)),
         FileCommand::Show => ended(show_from(alloc, input, out)),
-        FileCommand::Schedule(command) => play_from(alloc, command, input, out),
+        FileCommand::Schedule(command) => play_from::<D, R, W>(alloc, command, input, out),
     }
 }

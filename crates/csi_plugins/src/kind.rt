@@ -1,9 +1,12 @@
 //! Which plugin a process is.
-ghost use Rattle.std.specs.Prelude.{IfOk, IfErr};
+ghost use Rattle.std.specs.Prelude.{◌≡◌, IfOk, IfErr};
 ghost use Rattle.csi_plugins.specs.Asked.{IsOfConfig, IsNoConfig, IsOfId, IsNoId};
+ghost use Rattle.csi_plugins.specs.Ending.{ending_unopened as by_opening};
 
+use crate::ending::ending_unopened;
 use csi_endings::Ending;
 use csi_json::{ScheduleFault, read_config};
+use csi_service::KeepFault;
 use csi_types::{Config, NodeId, TextFault};
 use std::alloc::Global;
 
@@ -44,5 +47,12 @@ impl Plugin {
             Err(TextFault::NoMemory) => Err(Ending::Memory),
             Err(_) => Err(Ending::ConfigRefused),
         }
+    }
+
+    /// The ending where its store can't be opened, for this cause, as `ending_unopened` says; the plugin is let go.
+    pub fn unopened(self, fault: KeepFault) -> Ending
+        ensures { result ≡ by_opening fault }
+    {
+        ending_unopened(fault)
     }
 }

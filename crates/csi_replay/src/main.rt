@@ -2,6 +2,7 @@
 #![tactic(auto)]
 
 mod laws;
+mod pictures;
 mod process;
 
 use process::ended;

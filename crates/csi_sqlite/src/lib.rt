@@ -3,4 +3,4 @@
 
 mod sqlite_keep;
 
-pub use sqlite_keep::{SqliteKeep, copies, find_at};
+pub use sqlite_keep::{SqliteKeep, close_file, close_found, copies, find_at};

@@ -25,7 +25,8 @@ mod found;
 mod reading;
 
 use changing::change_at_once;
-pub use found::{copies, find_at};
+pub use file::close_file;
+pub use found::{close_found, copies, find_at};
 use reading::parts_of;
 
 /// A store in a SQLite database: a part is a row of the table `parts`, its key in eight bytes, the greatest first. A commit is

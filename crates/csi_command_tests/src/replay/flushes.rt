@@ -1,4 +1,5 @@
 //! What is written is flushed: a reply before more is read, and all at the end.
+use super::drawing::Pictures;
 use super::running::bytes;
 use super::{CREATE, CREATED, DELETE, DELETED};
 use csi_commands::stream;
@@ -68,7 +69,7 @@ fn once(alloc: Global, command: FileCommand, input: &[u8], flushes: bool) -> Out
         most_waiting: 0,
         flushes,
     });
-    let ending = stream(alloc, command, &mut reader, &mut writer);
+    let ending = stream::<Pictures, _, _>(alloc, command, &mut reader, &mut writer);
     let writer = writer.into_inner();
     Outcome {
         ending,

@@ -1,4 +1,5 @@
 //! Commands on readers that give little at once or fail, and on writers that take little or nothing.
+use super::drawing::Pictures;
 use super::running::bytes;
 use super::{CONTROLLER_PUBLISH, CREATE, CREATED, Case, DAMAGED, DELETE, DELETED, NO_NODE};
 use csi_commands::{StreamFault, answer_from, show_from, stream};
@@ -127,7 +128,7 @@ enum Outcome {
 fn what_comes(alloc: Global, asked: Asked<'_>, ways: Ways, wanted: &[u8]) -> Outcome {
     let mut reader = Counted::new(reader_of(asked.input, ways));
     let mut writer = Counted::new(new_writer(ways));
-    let ending = stream(alloc, asked.command, &mut reader, &mut writer);
+    let ending = stream::<Pictures, _, _>(alloc, asked.command, &mut reader, &mut writer);
     let writer = writer.into_inner();
     if ending == Ending::Memory && wanted.starts_with(writer.got()) {
         return Outcome::NoMemory;

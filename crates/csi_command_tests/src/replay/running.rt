@@ -1,6 +1,7 @@
 //! How a table of commands is run. A run may see a growth refused (by `tools/refusals`): it then ends in want of
 //! memory, after a beginning of what it is to give, and gives all of it the second time.
 use super::Case;
+use super::drawing::Pictures;
 use csi_commands::file;
 use csi_endings::{Ending, FileCommand, ScheduleCommand};
 use std::alloc::{AllocError, Global};
@@ -71,7 +72,7 @@ fn run(
     there: &[u8],
 ) -> (Ending, Vec<u8>) {
     let mut out = joined(rt, there, b"");
-    let ending = file(rt.alloc(), command, input, &mut out);
+    let ending = file::<Pictures>(rt.alloc(), command, input, &mut out);
     (ending, out)
 }
 

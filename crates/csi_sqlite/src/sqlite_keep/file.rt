@@ -12,7 +12,7 @@ ghost use Rattle.csi_sqlite.specs.Closing.{AreWhole};
 
 use crate::sqlite_keep::{SqliteKeep, is_memory};
 use csi_stores::KeepFault;
-use sqlite::{Connection, FileFrom, FileStore, Files, Start};
+use sqlite::{Connection, FileFrom, FileStore, Files, Start, Unknown};
 use sqlite_disk::Disk;
 
 impl<S: Start> SqliteKeep<FileStore<FileFrom<S>>> {
@@ -68,4 +68,12 @@ impl<D: Disk + Drop> SqliteKeep<FileStore<D>> {
         drop(self.close_files());
         count
     }
+}
+
+/// Closes a store in a file of which nothing is supposed, as `SqliteKeep::close` does. A program that closes its store by this function
+/// proves nothing of how files are dropped.
+pub fn close_file(keep: SqliteKeep<FileStore<FileFrom<Unknown>>>) -> u64
+    ensures { result ≡ keep.faults }
+{
+    keep.close()
 }

@@ -140,3 +140,10 @@ pub fn find_at(
     };
     SqliteKeep::find(rt.alloc(), files)
 }
+
+/// Closes a store that `find_at` found, with its copies. The answer is how often its device had failed before.
+pub fn close_found(keep: SqliteKeep<FileStore<Memory>>) -> u64
+    ensures { result ≡ keep.faults }
+{
+    keep.close()
+}

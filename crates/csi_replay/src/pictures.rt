@@ -1,0 +1,19 @@
+//! How runs are drawn.
+ghost use Rattle.csi_pictures.specs.Picture.{IsPicture};
+
+use csi_commands::Draws;
+use csi_pictures::draw;
+use csi_types::NoMemory;
+use csi_world::{Event, World};
+use std::alloc::Global;
+
+/// Runs are drawn as `csi_pictures` draws them.
+pub struct Pictures;
+
+impl Draws for Pictures {
+    ghost draws = { IsPicture };
+
+    fn draw(alloc: Global, world: &World, events: &[Event]) -> Result<Vec<u8>, NoMemory> {
+        draw(alloc, world, events)
+    }
+}
