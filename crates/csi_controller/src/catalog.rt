@@ -188,9 +188,16 @@ impl Catalog {
         ensures err { OnErr result (rows_of self.new ≡ rows_of self.old) }
         ensures indexed { IsIndexed self.new }
     {
-        let text = self.make_room(alloc, &row.name)?;
-        self.put(text, row);
-        Ok(())
+        let id = row.id;
+        let name = text_of(alloc, &row.name)?;
+        self.ids.insert(name, id)?;
+        match self.rows.insert(id, row) {
+            Ok(_) => Ok(()),
+            Err(_) => {
+                self.ids.pop();
+                Err(CoreFault::NoMemory)
+            }
+        }
     }
 
     /// Forgets the volumes that were deleted and whose last calls are of other sessions than this one. The other rows keep their

@@ -1,6 +1,5 @@
 //! A stream of frames, answered by a new controller.
-ghost use Rattle.std.specs.Prelude.{◌≡◌, ◌++◌, ℕ, List, IfOk, IfErr, OnOk, OnErr, option_map};
-ghost use Rattle.std.specs.Option.{option_to_list, option_copied};
+ghost use Rattle.std.specs.Prelude.{◌≡◌, ◌++◌, ◌∷◌, [], ℕ, List, IfOk, IfErr, OnOk, OnErr};
 ghost use Rattle.std.specs.List.{flat_map};
 ghost use Rattle.csi_frames.specs.Spelling.{spelling};
 ghost use Rattle.csi_types.specs.declared.call.Party.{Party as OneParty};
@@ -76,15 +75,12 @@ impl From<AllocError> for AnswerFault {
     }
 }
 
-// Appends the frame of the controller's answer, if there is one. An `Err` appends nothing.
-fn append(number: Number, answer: Option<&Answer>, out: &mut Vec<u8>) -> Result<(), NoMemory>
-    ensures ok { OnOk result (out.new.items ≡ out.old.items ++ flat_map spelling (option_to_list (option_map (answer_frame number) (option_copied answer.entry)))) }
+// Appends the frame of the controller's answer. An `Err` appends nothing.
+fn append(number: Number, answer: &Answer, out: &mut Vec<u8>) -> Result<(), NoMemory>
+    ensures ok { OnOk result (out.new.items ≡ out.old.items ++ flat_map spelling (answer_frame number answer.now ∷ [])) }
     ensures err { OnErr result (out.new.items ≡ out.old.items) }
 {
-    match answer {
-        Some(answer) => encode_reply(number, &Party::Controller, answer.kind, &answer.reply, out),
-        None => Ok(()),
-    }
+    encode_reply(number, &Party::Controller, answer.kind, &answer.reply, out)
 }
 
 // Answers a call. An `Err` appends nothing.
@@ -99,9 +95,15 @@ fn answer_call(
     ensures fault { IfErr result (λ fault. fault ≡ AnswerFault.NoMemory) }
     ensures err { OnErr result (out.new.items ≡ out.old.items) }
 {
-    let answer = controller.answer(number, call)?;
-    append(number, answer.as_ref(), out)?;
-    Ok(())
+    // By a `?` the answer would be copied once more.
+    match controller.answer(number, call) {
+        Ok(Some(answer)) => match append(number, &answer, out) {
+            Ok(()) => Ok(()),
+            Err(refused) => Err(AnswerFault::from(refused)),
+        },
+        Ok(None) => Ok(()),
+        Err(fault) => Err(AnswerFault::from(fault)),
+    }
 }
 
 // Each call is answered, and its reply is given, if there is one. A reply gets none.

@@ -59,6 +59,7 @@ impl Core {
     }
 
     // Answers a call that begins a session, whose volume is live and has its row at this place. An `Err` changes nothing.
+    #[inline(always)]
     fn begin_with_row(
         &mut self,
         place: usize,
@@ -110,6 +111,8 @@ impl Core {
     }
 
     // CreateVolume, where it begins a session, of a name that no live volume has. A refusal changes nothing.
+    #[cold]
+    #[inline(never)]
     fn create_first(
         &mut self,
         number: Number,
@@ -142,6 +145,7 @@ impl Core {
     }
 
     // Answers a call that begins a session, of an id that no live volume has. An `Err` changes nothing.
+    #[inline(always)]
     fn begin_nowhere(&mut self, number: Number, call: &CallRef<'_>) -> Result<Answer, CoreFault>
         requires party { IsTrue (is_party_of (kind_of (lent_call call.now)) Controller) }
         requires kept { IsSoundCore self.old }
@@ -162,6 +166,7 @@ impl Core {
     }
 
     // Answers a call that begins a session and has no live volume. An `Err` changes nothing.
+    #[inline(always)]
     fn begin_without_row(&mut self, number: Number, call: &CallRef<'_>) -> Result<Answer, CoreFault>
         requires party { IsTrue (is_party_of (kind_of (lent_call call.now)) Controller) }
         requires kept { IsSoundCore self.old }
@@ -185,6 +190,7 @@ impl Core {
     /// Answers a call of a later session than any that came: the session begins, so that the volumes that were deleted before are
     /// forgotten, and the call is answered in it. An `Err` changes nothing. A DeleteVolume and a ControllerUnpublishVolume that the
     /// table answers with `Ok` take no memory.
+    #[inline(always)]
     pub fn begin(&mut self, number: Number, call: &CallRef<'_>) -> Result<Answer, CoreFault>
         requires party { IsTrue (is_party_of (kind_of (lent_call call.now)) Controller) }
         requires kept { IsSoundCore self.old }

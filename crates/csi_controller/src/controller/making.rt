@@ -84,6 +84,7 @@ impl Core {
     }
 
     // Makes the volume that has the next id. A refusal changes nothing.
+    #[inline(never)]
     fn make(
         &mut self,
         number: Number,

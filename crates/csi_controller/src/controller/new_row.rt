@@ -10,6 +10,7 @@ use csi_types::{CapabilityList, Kind, Name, Number, VolumeId};
 use std::alloc::Global;
 
 /// The row of a volume that is made.
+#[inline(always)]
 pub fn new_row(
     alloc: Global,
     number: Number,
