@@ -6,5 +6,4 @@ use Rattle.csi_listings.proofs.writer.JsonWriter.into_string.Goals as goal
 
 pub returns : goal.returns
 returns c = λ d same.
-    let made = rw c.unwrap.ensures at c.from_utf8.ensures.ok in
-    ap (λ (v : Vec ℕ Global). v.items) made ∙ c.into_inner-bytes.ensures.items ∙ ap₂ (λ (a b : List ℕ). a ++ b) c.self.invariant (ap print (c.self.view_is ∙ same) ∙ print-outline d)
+    ap (λ (v : Vec ℕ Global). v.items) c.from_utf8_unchecked.ensures.value ∙ c.into_inner-bytes.ensures.items ∙ ap₂ (λ (a b : List ℕ). a ++ b) c.self.invariant (ap print (c.self.view_is ∙ same) ∙ print-outline d)
