@@ -144,10 +144,27 @@ const LIVING: &[Line] = &[
     ((u64::MAX, 1), MAKE_W, TAKEN, (u64::MAX, 1, &[2])),
 ];
 
+// Calls of session 0 begin none, and are judged like any other, until one of a later session comes.
+const IN_SESSION_0: &[Line] = &[
+    ((0, 0), Ask::Delete(1), DONE, (0, 0, &[])),
+    ((0, 0), MAKE, FIRST, (0, 1, &[])),
+    ((0, 0), MAKE, FIRST, (0, 1, &[])),
+    ((0, 1), Ask::Publish(1, "n1", B1, false), DONE, (0, 1, &[])),
+    ((0, 0), MAKE, STALE, (0, 1, &[])),
+    ((0, 2), Ask::Delete(1), AT_N1, (0, 1, &[])),
+    ((0, 3), Ask::Unpublish(1, "n1"), DONE, (0, 1, &[])),
+    ((0, 4), Ask::Delete(1), DONE, (0, 1, &[1])),
+    ((0, 5), MAKE, TAKEN, (0, 1, &[1])),
+    ((1, 0), MAKE, SECOND, (1, 1, &[])),
+    ((0, 5), MAKE, STALE, (1, 1, &[])),
+    ((0, 6), MAKE_W, STALE, (1, 1, &[])),
+];
+
 const RUNS: &[&[&[Line]]] = &[
     &[DELETED, FORGOTTEN],
     &[DELETED, BY_ITS_OWN_CALL],
     &[LIVING],
+    &[IN_SESSION_0],
 ];
 
 #[test]

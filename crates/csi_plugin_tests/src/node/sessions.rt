@@ -147,15 +147,39 @@ const BY_ITS_OWN_CALL: &[Line] = &[
     ((7, 1), Ask::Unstage(1), STALE, "stale", (8, 1, &[1])),
 ];
 
-const RUNS: &[&[Line]] = &[FORGOTTEN, BY_ITS_OWN_CALL];
+// Calls of session 0 begin none, and are judged like any other, until one of a later session comes.
+const IN_SESSION_0: &[Line] = &[
+    ((0, 0), Ask::Stage(1, ONE), OK, "", (0, 1, &[])),
+    ((0, 0), Ask::Stage(1, ONE), OK, "", (0, 1, &[])),
+    ((0, 1), Ask::Unstage(1), OK, "", (0, 1, &[1])),
+    ((0, 0), Ask::Stage(1, ONE), STALE, "stale", (0, 1, &[1])),
+    (
+        (0, 2),
+        Ask::Publish(2, "/a", ONE, false),
+        REFUSED,
+        "not staged",
+        (0, 2, &[1, 2]),
+    ),
+    ((0, 3), Ask::Stage(1, ONE), OK, "", (0, 2, &[2])),
+    ((1, 0), Ask::Unstage(3), OK, "", (1, 2, &[3])),
+    ((0, 3), Ask::Stage(1, ONE), STALE, "stale", (1, 2, &[3])),
+    ((0, 4), Ask::Stage(2, ONE), STALE, "stale", (1, 2, &[3])),
+];
+
+const RUNS: &[&[&[Line]]] = &[
+    &[UNSTAGED, FORGOTTEN],
+    &[UNSTAGED, BY_ITS_OWN_CALL],
+    &[IN_SESSION_0],
+];
 
 #[test]
 fn unstaged_volumes_are_forgotten_where_a_session_begins(rt: HostRuntime) {
     for lines in RUNS {
         let mut node = new_node(&rt);
         assert!(rt; has_left(&rt, &node, (0, 0, &[])));
-        all_come(&rt, &mut node, UNSTAGED);
-        all_come(&rt, &mut node, lines);
+        for part in *lines {
+            all_come(&rt, &mut node, part);
+        }
         drop(node);
     }
 }

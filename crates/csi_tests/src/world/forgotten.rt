@@ -47,11 +47,14 @@ fn a_deleted_volume_is_forgotten_and_its_name_is_not(rt: HostRuntime) {
     plays(&rt, N1, &[DELETED, LATE_CALLS]);
 }
 
-// `v` leaves the node, and comes to it again in the next session. The staging of the first one comes between.
+// `v` leaves the node, and comes to it again in the next session. The staging of the first one comes between. The node restarts before it
+// forgets the first, and after.
 const LEFT: &[Step] = &[
     Step::Makes(ONE),
     Step::Publishes(3, "n1", ONE, false),
     Step::Leaves(9, "n1"),
+    Step::RemembersAt("n1", 1, 1),
+    Step::On(Does::RestartNode("n1"), Outcome::Restarted),
     Step::RemembersAt("n1", 1, 1),
     Step::On(Does::RestartOrchestrator, Outcome::Restarted),
     Step::On(Does::Use("n1", "/a", ONE, false), Outcome::Sent(15)),
@@ -62,6 +65,7 @@ const LEFT: &[Step] = &[
     Step::Replies(18, (1, 3), Status::Aborted, "stale"),
     Step::On(Does::Deliver(17), Outcome::Answered(19)),
     Step::Replies(19, (2, 2), Status::Ok, ""),
+    Step::On(Does::RestartNode("n1"), Outcome::Restarted),
     Step::RemembersAt("n1", 2, 1),
     Step::On(Does::Deliver(19), Outcome::Taken(Some(20))),
     Step::On(Does::Deliver(7), Outcome::Answered(21)),
