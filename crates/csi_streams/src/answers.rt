@@ -76,6 +76,7 @@ impl From<AllocError> for AnswerFault {
 }
 
 // Appends the frame of the controller's answer. An `Err` appends nothing.
+#[inline(always)]
 fn append(number: Number, answer: &Answer, out: &mut Vec<u8>) -> Result<(), NoMemory>
     ensures ok { OnOk result (out.new.items ≡ out.old.items ++ flat_map spelling (answer_frame number answer.now ∷ [])) }
     ensures err { OnErr result (out.new.items ≡ out.old.items) }

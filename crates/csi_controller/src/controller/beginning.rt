@@ -190,6 +190,7 @@ impl Core {
     /// Answers a call of a later session than any that came: the session begins, so that the volumes that were deleted before are
     /// forgotten, and the call is answered in it. An `Err` changes nothing. A DeleteVolume and a ControllerUnpublishVolume that the
     /// table answers with `Ok` take no memory.
+    // It is inlined down to what makes a volume, so that the calls of a session that goes on aren't kept in memory for its sake.
     #[inline(always)]
     pub fn begin(&mut self, number: Number, call: &CallRef<'_>) -> Result<Answer, CoreFault>
         requires party { IsTrue (is_party_of (kind_of (lent_call call.now)) Controller) }

@@ -84,6 +84,7 @@ impl Core {
     }
 
     // Makes the volume that has the next id. A refusal changes nothing.
+    // It is apart, so that the other calls' way stays short.
     #[inline(never)]
     fn make(
         &mut self,

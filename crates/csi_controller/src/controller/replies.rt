@@ -7,18 +7,33 @@ use csi_fence::CoreFault;
 use csi_types::{Detail, Reply, Status, VolumeId};
 use std::alloc::Global;
 
+// A detail of this text. An empty one takes no memory, and no bytes are copied for it.
+#[inline(always)]
+fn detail_of(alloc: Global, text: &str) -> Result<Detail, CoreFault>
+    ensures ok { IfOk result (λ detail. detail ≡ text.now) }
+    ensures succeeds { text.now ≡ [] → IsOk result }
+{
+    if text.is_empty() {
+        return Ok(Detail::try_new(alloc, "").unwrap());
+    }
+    match Detail::try_new(alloc, text) {
+        Ok(detail) => Ok(detail),
+        Err(_) => Err(CoreFault::NoMemory),
+    }
+}
+
 /// The reply of a line. Without a detail it takes no memory.
 pub fn reply_of(alloc: Global, line: &Line) -> Result<Reply, CoreFault>
     ensures ok { IfOk result (λ reply. reply ≡ line_told line.now) }
     ensures succeeds { (line_told line.now).detail ≡ [] → IsOk result }
 {
-    match Detail::try_new(alloc, line.detail) {
+    match detail_of(alloc, line.detail) {
         Ok(detail) => Ok(Reply {
             status: line.status,
             id: line.id,
             detail,
         }),
-        Err(_) => Err(CoreFault::NoMemory),
+        Err(fault) => Err(fault),
     }
 }
 
@@ -39,12 +54,12 @@ pub fn copied(alloc: Global, reply: &Reply) -> Result<Reply, CoreFault>
     ensures ok { IfOk result (λ copy. copy ≡ reply.now) }
     ensures succeeds { reply.now.detail ≡ [] → IsOk result }
 {
-    match Detail::try_new(alloc, reply.detail.as_str()) {
+    match detail_of(alloc, reply.detail.as_str()) {
         Ok(detail) => Ok(Reply {
             status: reply.status,
             id: reply.id,
             detail,
         }),
-        Err(_) => Err(CoreFault::NoMemory),
+        Err(fault) => Err(fault),
     }
 }
