@@ -52,7 +52,7 @@ fn read_event(alloc: Global, value: &Value<'_>) -> Result<Event, Flaw>
 fn read_events(alloc: Global, items: &[Value<'_>]) -> Result<Vec<Event>, Flaw>
     ensures { IfOk result (λ list. map event_in items.now ≡ map Some list.items) }
 {
-    let mut list = Vec::new(alloc);
+    let mut list = Vec::with_capacity(alloc, items.len())?;
     for item in items {
         let event = read_event(alloc, item)?;
         list.push(event)?;
