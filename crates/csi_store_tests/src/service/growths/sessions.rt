@@ -139,12 +139,15 @@ fn fed(rt: &(impl Abort + AllocGlobal), bytes: &[u8]) -> Splitter {
     splitter
 }
 
-// Whether the frame that is lent gets this reply, or none where it is empty, and changes nothing. Where it gets none that takes no memory.
+// A frame, whether it is for the plugin, and what it is replied, nothing where there is no reply.
+type Lent = (&'static [u8], bool, &'static [u8]);
+
+// Whether the frame that is lent gets this reply and changes nothing. One for another plugin takes no memory. For any other, room for a reply
+// is asked for first, also where it gets none.
 fn is_passed_over_lent<C: Core>(
     rt: &(impl Abort + AllocGlobal),
     service: &mut C,
-    bytes: &[u8],
-    reply: &[u8],
+    (bytes, is_own, reply): Lent,
 ) -> bool {
     let mut splitter = fed(rt, bytes);
     let is_replied = match splitter.next() {
@@ -152,7 +155,7 @@ fn is_passed_over_lent<C: Core>(
             let answer = match service.answer(&frame) {
                 Ok(answer) => answer,
                 Err(NoMemory) => {
-                    assert!(rt; !reply.is_empty());
+                    assert!(rt; is_own);
                     service.answer(&frame).expect(rt, "memory")
                 }
             };
@@ -182,14 +185,26 @@ const NODE_STALE: &[u8] = &[
     0, 0, 0, 0, 0, 0, 5, 115, 116, 97, 108, 101,
 ];
 
-// A reply of session 2, a call of session 2 to another plugin, and a stale call.
+// A call of session 2 to the other plugin, a reply of session 2, and a stale call.
+const TO_CONTROLLER: &[Lent] = &[
+    (UNSTAGE_LATER, false, NONE),
+    (NEXT_REPLY, true, NONE),
+    (CREATE, true, STALE),
+];
+
+const TO_NODE: &[Lent] = &[
+    (NEXT, false, NONE),
+    (UNSTAGED_REPLY, true, NONE),
+    (STAGE, true, NODE_STALE),
+];
+
 #[test]
 fn a_controller_passes_over_what_is_lent_and_changes_nothing(rt: HostRuntime) {
     let mut keep = store_of(&rt, PLAYED);
     let mut service = opened(&rt, &mut keep, (PLAYED, PLAYED));
     drop(keep);
-    for (bytes, reply) in [(NEXT_REPLY, NONE), (UNSTAGE_LATER, NONE), (CREATE, STALE)] {
-        assert!(&rt; is_passed_over_lent(&rt, &mut service, bytes, reply));
+    for lent in TO_CONTROLLER {
+        assert!(&rt; is_passed_over_lent(&rt, &mut service, *lent));
     }
     drop(service);
 }
@@ -199,8 +214,8 @@ fn a_node_passes_over_what_is_lent_and_changes_nothing(rt: HostRuntime) {
     let mut keep = store_of(&rt, NODE_BEFORE);
     let mut service = opened_later(&rt, &mut keep);
     drop(keep);
-    for (bytes, reply) in [(UNSTAGED_REPLY, NONE), (NEXT, NONE), (STAGE, NODE_STALE)] {
-        assert!(&rt; is_passed_over_lent(&rt, &mut service, bytes, reply));
+    for lent in TO_NODE {
+        assert!(&rt; is_passed_over_lent(&rt, &mut service, *lent));
     }
     drop(service);
 }
