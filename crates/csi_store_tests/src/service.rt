@@ -11,6 +11,7 @@ mod pieces;
 mod playing;
 mod plugins;
 mod records;
+mod sessions;
 mod shown;
 mod stops;
 mod stores;

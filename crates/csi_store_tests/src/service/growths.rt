@@ -1,13 +1,15 @@
 //! Refused growths of records, stores and services. With memory to spare each test compares the whole answers. Run with one
 //! allocation refused, each in turn (`tools/refusals`), the call that sees it wants memory, and is then
 //! answered in full, for `open` and `serve` after opening again.
-use super::older::{FIRST, FORGETS, FORGOTTEN, parts_of};
+mod sessions;
+
+use super::older::{FIRST, FORGETS, FORGOTTEN, NODE_FORGETS, NODE_FORGOTTEN, parts_of};
 use super::playing::{
-    CREATED, Content, ENDS, End, FRAMES, NEXT, NEXT_REPLY, NOTHING, PLAYED, PLAYED_NEXT, REPLIES,
-    SCRIPT, are_parts, has_parts, is_after, is_replied, is_slice, may_have, played,
+    CREATED, Content, ENDS, End, FRAMES, NOTHING, PLAYED, REPLIES, SCRIPT, are_parts, has_parts,
+    is_after, is_replied, is_slice, may_have, played,
 };
 use super::records::{CREATE, FIRST_RECORD, NODE_RECORD, RECORD};
-use super::{CONTROLLER_HEAD, NEW_NODE_HEAD, NODE_HEAD, controller, is_part, node, part};
+use super::{CONTROLLER_HEAD, NEW_NODE_HEAD, NODE_HEAD, controller, node, part};
 use csi_controller::ControllerRecord;
 use csi_frames::decode;
 use csi_json::{ScheduleFault, read_config};
@@ -80,12 +82,17 @@ fn opened(
     }
 }
 
-// The node of a store.
-fn opened_node(rt: &(impl Abort + AllocGlobal), keep: &mut MemoryKeep) -> NodeService {
+// The node of a store, likewise.
+fn opened_node(
+    rt: &(impl Abort + AllocGlobal),
+    keep: &mut MemoryKeep,
+    contents: (Content, Content),
+) -> NodeService {
     match node(rt, keep, "n1") {
         Ok(service) => service,
         Err(fault) => {
-            assert!(rt; fault == KeepFault::NoMemory);
+            let is_left = has_parts(keep, contents.0) || has_parts(keep, contents.1);
+            assert!(rt; fault == KeepFault::NoMemory && is_left);
             node(rt, keep, "n1").expect(rt, "memory")
         }
     }
@@ -172,7 +179,7 @@ const NODE_CONTENTS: (Content, Content) = ((NEW_NODE_HEAD, &[], &[]), (NODE_HEAD
 #[test]
 fn a_node_steps_and_commits_in_want_of_memory(rt: HostRuntime) {
     let mut keep = MemoryKeep::new(rt.alloc(), 1000);
-    let mut service = opened_node(&rt, &mut keep);
+    let mut service = opened_node(&rt, &mut keep, (NOTHING, NODE_CONTENTS.0));
     let parts = changes(&rt, &mut service, frame_of(&rt, STAGE));
     drop(service);
     assert!(&rt; are_parts(&parts, NODE_CONTENTS.1));
@@ -194,7 +201,8 @@ fn services_are_opened_again_in_want_of_memory(rt: HostRuntime) {
     let parts = [part(&rt, 0, NODE_HEAD), part(&rt, 1, STAGED)];
     commits(&rt, &mut other, &parts, (NOTHING, NODE_CONTENTS.1));
     drop(parts);
-    drop(opened_node(&rt, &mut other));
+    let staged = NODE_CONTENTS.1;
+    drop(opened_node(&rt, &mut other, (staged, staged)));
     drop(other);
 }
 
@@ -211,7 +219,7 @@ fn store_of(rt: &(impl Abort + AllocGlobal), content: Content) -> MemoryKeep {
 const OLDER: &[(Content, Content)] = &[(FIRST, PLAYED), (FORGETS, FORGOTTEN)];
 
 // Where memory is refused the store is in one version or the other, and in the present one when it is opened again. Of the second store
-// a row is left out.
+// a row is left out, and of a node's.
 #[test]
 fn a_store_of_an_earlier_version_is_rewritten_in_want_of_memory(rt: HostRuntime) {
     for contents in OLDER {
@@ -220,107 +228,11 @@ fn a_store_of_an_earlier_version_is_rewritten_in_want_of_memory(rt: HostRuntime)
         assert!(&rt; has_parts(&mut keep, contents.1));
         drop(keep);
     }
-}
-
-// Whether these are a head, a row that goes, and a row that is put in.
-fn is_begun(parts: &[Part], head: &[u8], gone: u64, (key, row): (u64, &[u8])) -> bool {
-    match parts {
-        [first, second, third] => {
-            let is_gone = second.key == gone && second.value.is_none();
-            is_gone && is_part(first, 0, head) && is_part(third, key, row)
-        }
-        _ => false,
-    }
-}
-
-// `v` goes, and the row of `w` is put in.
-#[test]
-fn a_controller_begins_a_session_in_want_of_memory(rt: HostRuntime) {
-    let mut keep = store_of(&rt, PLAYED);
-    let mut service = opened(&rt, &mut keep, (PLAYED, PLAYED));
-    let parts = changes(&rt, &mut service, frame_of(&rt, NEXT));
-    drop(service);
-    assert!(&rt; is_begun(&parts, PLAYED_NEXT.0, 1, (2, PLAYED_NEXT.2)));
-    commits(&rt, &mut keep, &parts, (PLAYED, PLAYED_NEXT));
-    drop(parts);
-    drop(keep);
-}
-
-// A volume that isn't staged, and was unstaged by call 5 of session 1.
-const UNSTAGED: &[u8] = &[
-    3, 0, 0, 0, 0, 0, 0, 0, 0, 0, 1, 0, 0, 0, 0, 0, 0, 0, 5, 134, 0, 0, 0, 0, 0, 0, 0, 0, 0, 0,
-];
-
-// Unstages it at `n1` by call 1 of session 2, and what that is replied.
-const UNSTAGE_LATER: &[u8] = &[
-    0, 0, 0, 30, 1, 6, 0, 0, 0, 0, 0, 0, 0, 2, 0, 0, 0, 0, 0, 0, 0, 1, 1, 2, 110, 49, 0, 0, 0, 0,
-    0, 0, 0, 1,
-];
-
-const UNSTAGED_REPLY: &[u8] = &[
-    0, 0, 0, 32, 1, 134, 0, 0, 0, 0, 0, 0, 0, 2, 0, 0, 0, 0, 0, 0, 0, 1, 1, 2, 110, 49, 0, 0, 0, 0,
-    0, 0, 0, 0, 0, 0,
-];
-
-// The node's stores before and after.
-const NODE_BEFORE: Content = (NODE_HEAD, UNSTAGED, &[]);
-
-const NODE_LATER: Content = (
-    &[3, 1, 2, 110, 49, 0, 0, 0, 0, 0, 0, 0, 2],
-    &[
-        3, 0, 0, 0, 0, 0, 0, 0, 0, 0, 2, 0, 0, 0, 0, 0, 0, 0, 1, 134, 0, 0, 0, 0, 0, 0, 0, 0, 0, 0,
-    ],
-    &[],
-);
-
-// The volume's row goes, and its new row is put in.
-#[test]
-fn a_node_begins_a_session_in_want_of_memory(rt: HostRuntime) {
-    let mut keep = store_of(&rt, NODE_BEFORE);
-    let mut service = opened_node(&rt, &mut keep);
-    let parts = changes(&rt, &mut service, frame_of(&rt, UNSTAGE_LATER));
-    drop(service);
-    assert!(&rt; is_begun(&parts, NODE_LATER.0, 1, (1, NODE_LATER.1)));
-    commits(&rt, &mut keep, &parts, (NODE_BEFORE, NODE_LATER));
-    drop(parts);
-    drop(keep);
-}
-
-// Whether the frame changes nothing. It takes no memory but for the id of a node, in the frame of its reply.
-fn is_passed_over<C: Core>(rt: &impl Abort, service: &mut C, frame: Frame) -> bool {
-    let reply = service.step(&frame).expect(rt, "it takes no memory");
-    drop((frame, reply));
-    let parts = service.parts().expect(rt, "it takes no memory");
-    let is_empty = parts.is_empty();
-    drop(parts);
-    is_empty
-}
-
-// A reply of session 2; a call that is stale by its number; and, where session 2 has begun, one that is over. Volumes that were deleted are
-// there each time.
-#[test]
-fn a_controller_passes_over_what_changes_nothing_without_memory(rt: HostRuntime) {
-    let mut keep = store_of(&rt, PLAYED);
-    let mut service = opened(&rt, &mut keep, (PLAYED, PLAYED));
-    drop(keep);
-    assert!(&rt; is_passed_over(&rt, &mut service, frame_of(&rt, NEXT_REPLY)));
-    assert!(&rt; is_passed_over(&rt, &mut service, frame_of(&rt, CREATE)));
-    drop(changes(&rt, &mut service, frame_of(&rt, NEXT)));
-    assert!(&rt; is_passed_over(&rt, &mut service, frame_of(&rt, CREATE)));
-    drop(service);
-}
-
-// The same of a node.
-#[test]
-fn a_node_passes_over_what_changes_nothing(rt: HostRuntime) {
-    let mut keep = store_of(&rt, NODE_BEFORE);
-    let mut service = opened_node(&rt, &mut keep);
-    drop(keep);
-    assert!(&rt; is_passed_over(&rt, &mut service, frame_of(&rt, UNSTAGED_REPLY)));
-    assert!(&rt; is_passed_over(&rt, &mut service, frame_of(&rt, STAGE)));
-    drop(changes(&rt, &mut service, frame_of(&rt, UNSTAGE_LATER)));
-    assert!(&rt; is_passed_over(&rt, &mut service, frame_of(&rt, STAGE)));
-    drop(service);
+    let mut other = store_of(&rt, NODE_FORGETS);
+    let contents = (NODE_FORGETS, NODE_FORGOTTEN);
+    drop(opened_node(&rt, &mut other, contents));
+    assert!(&rt; has_parts(&mut other, NODE_FORGOTTEN));
+    drop(other);
 }
 
 // How many frames were served in a run of the script that ended so, by a store that doesn't fail.
@@ -351,29 +263,6 @@ fn serving_in_want_of_memory(rt: HostRuntime) {
     drop(written);
     let served = count_of(end).expect(&rt, "a run");
     assert!(&rt; goes_on(&rt, &mut keep, served));
-    drop(keep);
-}
-
-// Whether so many frames of session 2 were served, and the store has what they leave.
-fn is_left(keep: &mut MemoryKeep, end: End, written: &[u8]) -> bool {
-    match count_of(end) {
-        Some(0) => written.is_empty() && has_parts(keep, PLAYED),
-        Some(1) => written == NEXT_REPLY && has_parts(keep, PLAYED_NEXT),
-        _ => false,
-    }
-}
-
-// The call that begins a session, where it wants memory, and then, after opening again.
-#[test]
-fn a_session_is_served_in_want_of_memory(rt: HostRuntime) {
-    let mut keep = store_of(&rt, PLAYED);
-    let (end, written) = played(&rt, &mut keep, NEXT);
-    assert!(&rt; is_left(&mut keep, end, written.as_slice()));
-    drop(written);
-    let (again, written) = played(&rt, &mut keep, NEXT);
-    assert!(&rt; count_of(again) == Some(1));
-    assert!(&rt; is_left(&mut keep, again, written.as_slice()));
-    drop(written);
     drop(keep);
 }
 

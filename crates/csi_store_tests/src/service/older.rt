@@ -101,8 +101,8 @@ const NODE: Content = (
     &[],
 );
 
-// A node that took volume 1 from where it was staged, in session 1, and volume 2 in session 2; and what becomes of that.
-const NODE_FORGETS: Content = (
+/// A node that took volume 1 from where it was staged, in session 1, and volume 2 in session 2; and what becomes of that.
+pub(super) const NODE_FORGETS: Content = (
     &[2, 1, 2, 110, 49],
     &[
         2, 0, 0, 0, 0, 0, 0, 0, 0, 0, 1, 0, 0, 0, 0, 0, 0, 0, 5, 134, 0, 0, 0, 0, 0, 0, 0, 0, 0, 0,
@@ -112,7 +112,7 @@ const NODE_FORGETS: Content = (
     ],
 );
 
-const NODE_FORGOTTEN: Content = (
+pub(super) const NODE_FORGOTTEN: Content = (
     &[3, 1, 2, 110, 49, 0, 0, 0, 0, 0, 0, 0, 2],
     &[],
     &[

@@ -1,7 +1,8 @@
-//! Stops where much is committed at once: a store of an earlier version is opened, or a call begins a session, by which a row goes. Both files
-//! of the store stop after 0, 1, 2 and more calls, until a run ends with no stop; also where the power fails.
-use super::older::{FORGETS, FORGOTTEN, puts};
-use super::playing::{Content, End, NEXT, NEXT_REPLY, PLAYED, PLAYED_NEXT, has_parts, played};
+//! Stops where much is committed at once: a store of an earlier version is opened, or a call begins a session, by which a row goes; of both
+//! plugins. Both files of the store stop after 0, 1, 2 and more calls, until a run ends with no stop; also where the power fails.
+use super::older::puts;
+use super::playing::{Content, End, has_parts};
+use super::sessions::{BEGUN, REWRITTEN, Turn, taken};
 use super::stops::{
     DATABASE, Image, LOG, LOST_DATABASE, LOST_LOG, MANY, NO_STOP, Stop, Way, left_by, left_closed,
     new_image, opened, stop_of,
@@ -9,31 +10,6 @@ use super::stops::{
 use csi_service::Keep;
 use std::alloc::Global;
 use std::process::Abort;
-
-// What a store has, the frames that its controller then serves and what they are replied, and what it has at the end.
-#[derive(Clone, Copy)]
-struct Turn {
-    before: Content,
-    frames: &'static [u8],
-    replies: &'static [u8],
-    after: Content,
-}
-
-// A store of version 2 is opened, of which a row is left out.
-const REWRITTEN: Turn = Turn {
-    before: FORGETS,
-    frames: &[],
-    replies: &[],
-    after: FORGOTTEN,
-};
-
-// A call begins a session, by which a row goes.
-const BEGUN: Turn = Turn {
-    before: PLAYED,
-    frames: NEXT,
-    replies: NEXT_REPLY,
-    after: PLAYED_NEXT,
-};
 
 // Files of a store that has this, which was closed.
 fn image_with(rt: &(impl Abort + AllocGlobal), content: Content) -> Image {
@@ -53,7 +29,7 @@ fn is_whole(end: End, written: &[u8], turn: Turn) -> bool {
     matches!(end, End::Served(_)) && written == turn.replies
 }
 
-// Opens the controller of such files that stop so, and serves the frames: whether that came to its end, and what the files hold then.
+// Opens the plugin of such files that stop so, and serves the frames: whether that came to its end, and what the files hold then.
 fn stopped(
     rt: &(impl Abort + AllocGlobal),
     image: &Image,
@@ -64,7 +40,7 @@ fn stopped(
         Ok(keep) => keep,
         Err(left) => return (false, left),
     };
-    let (end, written) = played(rt, &mut keep, turn.frames);
+    let (end, written) = taken(rt, &mut keep, turn);
     let is_whole = is_whole(end, written.as_slice(), turn);
     assert!(rt; is_whole || written.is_empty());
     drop(written);
@@ -80,7 +56,7 @@ fn goes_on(rt: &(impl Abort + AllocGlobal), image: &Image, was_whole: bool, turn
     };
     let is_after = has_parts(&mut keep, turn.after);
     let is_there = is_after || !was_whole && has_parts(&mut keep, turn.before);
-    let (end, written) = played(rt, &mut keep, turn.frames);
+    let (end, written) = taken(rt, &mut keep, turn);
     let is_whole = is_whole(end, written.as_slice(), turn);
     drop(written);
     let has_all = has_parts(&mut keep, turn.after) && keep.faults() == 0;
@@ -103,42 +79,52 @@ fn ends_at_last(rt: &(impl Abort + AllocGlobal), way: Way, turn: Turn) -> bool {
     false
 }
 
+// Whether each of these turns does.
+fn all_end(rt: &(impl Abort + AllocGlobal), way: Way, turns: &[Turn]) -> bool {
+    for turn in turns {
+        if !ends_at_last(rt, way, *turn) {
+            return false;
+        }
+    }
+    true
+}
+
 #[test]
 fn stops_of_the_log_leave_version_2_or_version_3(rt: HostRuntime) {
-    assert!(&rt; ends_at_last(&rt, LOG, REWRITTEN));
+    assert!(&rt; all_end(&rt, LOG, REWRITTEN));
 }
 
 #[test]
 fn stops_of_the_database_file_leave_version_2_or_version_3(rt: HostRuntime) {
-    assert!(&rt; ends_at_last(&rt, DATABASE, REWRITTEN));
+    assert!(&rt; all_end(&rt, DATABASE, REWRITTEN));
 }
 
 #[test]
 fn stops_of_the_log_that_lose_bytes_leave_version_2_or_version_3(rt: HostRuntime) {
-    assert!(&rt; ends_at_last(&rt, LOST_LOG, REWRITTEN));
+    assert!(&rt; all_end(&rt, LOST_LOG, REWRITTEN));
 }
 
 #[test]
 fn stops_of_the_database_file_that_lose_bytes_leave_version_2_or_version_3(rt: HostRuntime) {
-    assert!(&rt; ends_at_last(&rt, LOST_DATABASE, REWRITTEN));
+    assert!(&rt; all_end(&rt, LOST_DATABASE, REWRITTEN));
 }
 
 #[test]
 fn stops_of_the_log_leave_one_session_or_the_next(rt: HostRuntime) {
-    assert!(&rt; ends_at_last(&rt, LOG, BEGUN));
+    assert!(&rt; all_end(&rt, LOG, BEGUN));
 }
 
 #[test]
 fn stops_of_the_database_file_leave_one_session_or_the_next(rt: HostRuntime) {
-    assert!(&rt; ends_at_last(&rt, DATABASE, BEGUN));
+    assert!(&rt; all_end(&rt, DATABASE, BEGUN));
 }
 
 #[test]
 fn stops_of_the_log_that_lose_bytes_leave_one_session_or_the_next(rt: HostRuntime) {
-    assert!(&rt; ends_at_last(&rt, LOST_LOG, BEGUN));
+    assert!(&rt; all_end(&rt, LOST_LOG, BEGUN));
 }
 
 #[test]
 fn stops_of_the_database_file_that_lose_bytes_leave_one_session_or_the_next(rt: HostRuntime) {
-    assert!(&rt; ends_at_last(&rt, LOST_DATABASE, BEGUN));
+    assert!(&rt; all_end(&rt, LOST_DATABASE, BEGUN));
 }
