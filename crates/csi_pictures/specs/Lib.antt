@@ -1,7 +1,6 @@
 pub mod Pieces
 pub mod Escaping
 pub mod Elements
-pub mod Naming
 pub mod Scene
 pub mod Rows
 pub mod Front

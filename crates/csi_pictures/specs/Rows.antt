@@ -17,7 +17,7 @@ use Rattle.csi_world.specs.declared.event.Outcome.TheVariants as outcomes
 use Rattle.csi_world.specs.Outcomes.{outcome_text}
 use Rattle.csi_pictures.specs.Pieces.{pieces}
 use Rattle.csi_pictures.specs.Escaping.{escaped}
-use Rattle.csi_pictures.specs.Naming.{kind_name, status_name}
+use Rattle.csi_types.specs.Names.{kind_name, status_name}
 use Rattle.csi_pictures.specs.Scene.{is_ok, lane_of, node_lane}
 
 -- ---- the words

@@ -7,7 +7,6 @@ mod elements;
 mod escaping;
 mod front;
 mod lanes;
-mod naming;
 mod picture;
 mod rows;
 mod scene;

@@ -6,7 +6,6 @@ ghost use Rattle.csi_pictures.specs.Escaping.{escaped};
 ghost use Rattle.csi_pictures.specs.Rows.{placed, words, is_wrong as is_wrong_by, class_of as class_by, mark_of as mark_by, mark_lane as mark_lane_by, row_front, row_middle, row_text, is_delivery as is_delivery_by, mark_at, mark, call_front, frame_words, number_words, call_label, reply_class as reply_class_by, reply_place, reply_front, status_words, reply_label, label, lost_of};
 
 use crate::escaping::{put, put_escaped};
-use crate::naming::{kind_name, status_name};
 use crate::scene::{is_ok, lane_of, node_lane};
 use csi_node::Node;
 use csi_types::{Body, Frame, Kind, Name, NodeId, Number, Reply, Status, Target};
@@ -221,7 +220,7 @@ fn put_frame_words(
 ) -> Result<(), AllocError>
     ensures { OnOk result (out.new.items ≡ out.old.items ++ frame_words sent kind) }
 {
-    let name = kind_name(kind);
+    let name = kind.name();
     let text = format!(in alloc; "{sent} {name} ")?;
     put(out, &text)
 }
@@ -287,7 +286,7 @@ fn put_reply_front(alloc: Global, out: &mut Vec<u8>, class: &str) -> Result<(), 
 fn put_status(out: &mut Vec<u8>, reply: &Reply) -> Result<(), AllocError>
     ensures { OnOk result (out.new.items ≡ out.old.items ++ status_words reply.now) }
 {
-    put(out, status_name(reply.status))?;
+    put(out, reply.status.name())?;
     put(out, " ")?;
     put_escaped(out, reply.detail.as_str())
 }

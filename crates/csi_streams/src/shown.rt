@@ -1,7 +1,7 @@
 //! Frames as text, one line each. This profile's own.
 
 use csi_types::{
-    Access, Body, Call, Capability, CapabilityList, Frame, Kind, Party, Reply, VolumeId,
+    Access, Body, Call, Capability, CapabilityList, Frame, Party, Reply, VolumeId,
 };
 use std::fmt;
 use std::fmt::Write;
@@ -64,20 +64,6 @@ impl fmt::Display for ShownCapability<'_> {
 // `ro` or `rw`.
 fn flag_text(readonly: bool) -> &'static str {
     if readonly { "ro" } else { "rw" }
-}
-
-/// The name of a call.
-pub fn kind_name(kind: Kind) -> &'static str {
-    match kind {
-        Kind::CreateVolume => "CreateVolume",
-        Kind::DeleteVolume => "DeleteVolume",
-        Kind::ControllerPublishVolume => "ControllerPublishVolume",
-        Kind::ControllerUnpublishVolume => "ControllerUnpublishVolume",
-        Kind::NodeStageVolume => "NodeStageVolume",
-        Kind::NodeUnstageVolume => "NodeUnstageVolume",
-        Kind::NodePublishVolume => "NodePublishVolume",
-        Kind::NodeUnpublishVolume => "NodeUnpublishVolume",
-    }
 }
 
 // Each capability, with a blank before it.
@@ -180,12 +166,12 @@ impl fmt::Display for ShownFrame<'_> {
         let party = ShownParty(self.0.party());
         match self.0.body() {
             Body::Call(body) => {
-                let name = kind_name(body.kind());
+                let name = body.kind().name();
                 let fields = ShownCall(body);
                 write!(f, "{session}.{call} {party} {name} {fields}")
             }
             Body::Reply(kind, reply) => {
-                let name = kind_name(*kind);
+                let name = kind.name();
                 let fields = ShownReply(reply);
                 write!(f, "{session}.{call} {party} {name} {fields}")
             }

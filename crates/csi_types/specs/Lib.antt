@@ -4,6 +4,7 @@ pub mod Detail
 pub mod Mode
 pub mod VolumeId
 pub mod Status
+pub mod Names
 pub mod Call
 pub mod Reply
 pub mod Frame

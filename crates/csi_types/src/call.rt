@@ -1,6 +1,7 @@
 //! Calls, and the plugins that they are for.
 ghost use Rattle.std.specs.Prelude.{◌≡◌, IsTrue, ◌↔◌};
 ghost use Rattle.csi_types.specs.Call.{kind_of, is_party_of};
+ghost use Rattle.csi_types.specs.Names.{kind_name};
 
 use crate::capability::{Capability, CapabilityList};
 use crate::text::{Name, NodeId, Target};
@@ -112,6 +113,22 @@ impl Kind {
             | Kind::NodeUnstageVolume
             | Kind::NodePublishVolume
             | Kind::NodeUnpublishVolume => matches!(party, Party::Node(_)),
+        }
+    }
+
+    /// The name of the call: CSI's spec.md, "RPC Interface".
+    pub fn name(self) -> &'static str
+        ensures { result.now ≡ kind_name self }
+    {
+        match self {
+            Kind::CreateVolume => "CreateVolume",
+            Kind::DeleteVolume => "DeleteVolume",
+            Kind::ControllerPublishVolume => "ControllerPublishVolume",
+            Kind::ControllerUnpublishVolume => "ControllerUnpublishVolume",
+            Kind::NodeStageVolume => "NodeStageVolume",
+            Kind::NodeUnstageVolume => "NodeUnstageVolume",
+            Kind::NodePublishVolume => "NodePublishVolume",
+            Kind::NodeUnpublishVolume => "NodeUnpublishVolume",
         }
     }
 }

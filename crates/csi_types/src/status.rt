@@ -1,6 +1,7 @@
 //! How a call ended.
 ghost use Rattle.std.specs.Prelude.{◌≡◌};
 ghost use Rattle.csi_types.specs.Status.{status_code, status_from_code};
+ghost use Rattle.csi_types.specs.Names.{status_name};
 
 /// How a call ended: the status codes of gRPC, which CSI's spec.md, "Error Scheme", uses.
 #[derive(Clone, Copy, Debug, PartialEq, Eq)]
@@ -55,6 +56,31 @@ impl Status {
             15 => Some(Status::DataLoss),
             16 => Some(Status::Unauthenticated),
             _ => None,
+        }
+    }
+
+    /// The status's name in gRPC, which CSI's spec.md, "Error Scheme", uses.
+    pub fn name(self) -> &'static str
+        ensures { result.now ≡ status_name self }
+    {
+        match self {
+            Status::Ok => "OK",
+            Status::Cancelled => "CANCELLED",
+            Status::Unknown => "UNKNOWN",
+            Status::InvalidArgument => "INVALID_ARGUMENT",
+            Status::DeadlineExceeded => "DEADLINE_EXCEEDED",
+            Status::NotFound => "NOT_FOUND",
+            Status::AlreadyExists => "ALREADY_EXISTS",
+            Status::PermissionDenied => "PERMISSION_DENIED",
+            Status::ResourceExhausted => "RESOURCE_EXHAUSTED",
+            Status::FailedPrecondition => "FAILED_PRECONDITION",
+            Status::Aborted => "ABORTED",
+            Status::OutOfRange => "OUT_OF_RANGE",
+            Status::Unimplemented => "UNIMPLEMENTED",
+            Status::Internal => "INTERNAL",
+            Status::Unavailable => "UNAVAILABLE",
+            Status::DataLoss => "DATA_LOSS",
+            Status::Unauthenticated => "UNAUTHENTICATED",
         }
     }
 }
