@@ -45,41 +45,6 @@ pub struct ControllerService {
     changed: Changed,
 }
 
-// A controller that made no volume.
-fn begun(alloc: Global, config: Config) -> ControllerService
-    ensures shows { Shows result.controller empty_controller }
-    ensures parts { controller_service_parts result ≡ controller_head present 1 (Some 0) ∷ [] }
-    ensures config { result.controller.config ≡ config }
-    ensures changes { controller_service_changes result ≡ [] }
-{
-    ControllerService {
-        alloc,
-        controller: Controller::new(alloc, config),
-        changed: nothing(alloc),
-    }
-}
-
-// The controller of a record.
-fn of_record(
-    alloc: Global,
-    config: Config,
-    kept: ControllerRecord,
-) -> Result<ControllerService, NoMemory>
-    ensures has { IfOk result (λ service. service.controller ≡ record { config = config; next_id = kept.next_id; session = kept.session; rows = kept.rows }) }
-    ensures parts { IfOk result (λ service. controller_service_parts service ≡ controller_parts present kept.next_id (Some kept.session) (map volume_row kept.rows)) }
-    ensures config { IfOk result (λ service. service.controller.config ≡ config) }
-    ensures changes { IfOk result (λ service. controller_service_changes service ≡ []) }
-{
-    match Controller::from_record(alloc, config, kept) {
-        Ok(controller) => Ok(ControllerService {
-            alloc,
-            controller,
-            changed: nothing(alloc),
-        }),
-        Err(_) => Err(NoMemory),
-    }
-}
-
 impl Opens for ControllerService {
     type Asked = Config;
 
@@ -100,12 +65,12 @@ impl Opens for ControllerService {
     ) -> Result<(ControllerService, Vec<Part>), RecordStop> {
         if parts.is_empty() {
             let head = head_part(alloc, controller_head_value(alloc, 1, 0)?)?;
-            return Ok((begun(alloc, config), head));
+            return Ok((ControllerService::new(alloc, config), head));
         }
         match ControllerRecord::of_parts(alloc, parts) {
             Ok(Stored { kept, version }) => {
                 let changed = renewal(alloc, version, parts, &kept)?;
-                Ok((of_record(alloc, config, kept)?, changed))
+                Ok((ControllerService::from_record(alloc, config, kept)?, changed))
             }
             Err(stop) => Err(stop),
         }
@@ -120,7 +85,11 @@ impl ControllerService {
         ensures config { result.controller.config ≡ config }
         ensures changes { controller_service_changes result ≡ [] }
     {
-        begun(alloc, config)
+        ControllerService {
+            alloc,
+            controller: Controller::new(alloc, config),
+            changed: nothing(alloc),
+        }
     }
 
     /// The controller of a record, under this configuration, which need not be the one that the record was made under. A refusal is one
@@ -135,7 +104,14 @@ impl ControllerService {
         ensures config { IfOk result (λ service. service.controller.config ≡ config) }
         ensures changes { IfOk result (λ service. controller_service_changes service ≡ []) }
     {
-        of_record(alloc, config, kept)
+        match Controller::from_record(alloc, config, kept) {
+            Ok(controller) => Ok(ControllerService {
+                alloc,
+                controller,
+                changed: nothing(alloc),
+            }),
+            Err(_) => Err(NoMemory),
+        }
     }
 
     /// The controller's record as a value. A refusal is one of memory, and leaves the controller as it is.

@@ -57,7 +57,7 @@ impl Opens for NodeService {
     ) -> Result<(NodeService, Vec<Part>), RecordStop> {
         if parts.is_empty() {
             let head = head_part(alloc, node_head_value(alloc, &id, 0)?)?;
-            return Ok((NodeService::begun(alloc, id)?, head));
+            return Ok((NodeService::new(alloc, id)?, head));
         }
         match record_of_node(alloc, &id, parts) {
             Ok(Stored { kept, version }) => {
@@ -88,21 +88,6 @@ impl NodeService {
     ghost use Rattle.csi_service.specs.Opening.{node_records, IsOpenFault, LeavesOpened, HasRecord};
     ghost use Rattle.csi_service.specs.Services.{node_service_parts};
 
-    // A node that answered nothing.
-    fn begun(alloc: Global, id: NodeId) -> Result<NodeService, NoMemory>
-        ensures node { IfOk result (λ service. service.node.id ≡ id) }
-        ensures parts { IfOk result (λ service. node_service_parts service ≡ node_head present id (Some 0) ∷ []) }
-        ensures changes { IfOk result (λ service. node_service_changes service ≡ []) }
-    {
-        let party = Party::Node(id.clone()?);
-        Ok(NodeService {
-            alloc,
-            node: Node::new(alloc, id),
-            party,
-            changed: nothing(alloc),
-        })
-    }
-
     // The node of its record.
     fn of_record(alloc: Global, id: NodeId, kept: NodeRecord) -> Result<NodeService, NoMemory>
         requires { kept.id ≡ id }
@@ -127,7 +112,13 @@ impl NodeService {
         ensures parts { IfOk result (λ service. node_service_parts service ≡ node_head present id (Some 0) ∷ []) }
         ensures changes { IfOk result (λ service. node_service_changes service ≡ []) }
     {
-        NodeService::begun(alloc, id)
+        let party = Party::Node(id.clone()?);
+        Ok(NodeService {
+            alloc,
+            node: Node::new(alloc, id),
+            party,
+            changed: nothing(alloc),
+        })
     }
 
     /// The node of its record. A refusal is one of memory.

@@ -12,11 +12,11 @@ use Rattle.csi_service.proofs.controller_service.ControllerServiceOpens.made.Goa
 pub returns-then-is_empty-clause-made : goal.returns-then-is_empty-clause-made
 returns-then-is_empty-clause-made c =
     let zero : length c.args.parts.now ≡ 0 = grind (arith, nat_tests) in
-    made-new controller_records (controller_head present 1 (Some 0)) (all_stored_in c.args.parts.now) (controller_service_parts c.begun.result) (map change_of c.in_ok-head.head.items)
-    (ap all_stored_in (nil_from_length c.args.parts.now zero)) c.begun.ensures.parts
+    made-new controller_records (controller_head present 1 (Some 0)) (all_stored_in c.args.parts.now) (controller_service_parts c.new.result) (map change_of c.in_ok-head.head.items)
+    (ap all_stored_in (nil_from_length c.args.parts.now zero)) c.new.ensures.parts
     (c.in_ok-head.ensures ∙ ap (λ (value : List ℕ). put_all (record { key = 0; value = value } ∷ [])) c.in_ok-controller_head_value.ensures) new-controller
 
-pub returns-in_ok-of_record-in-Ok-clause-made : goal.returns-in_ok-of_record-in-Ok-clause-made
-returns-in_ok-of_record-in-Ok-clause-made c =
-    controller-made (all_stored_in c.args.parts.now) (controller_service_parts c.in_ok-of_record-in-Ok.field-0) (map change_of c.in_ok-changed-in-Ok.changed.items) c.in-Ok.field-0.version c.in-Ok.field-0.kept
-    c.in-Ok.ensures c.in_ok-of_record-in-Ok.ensures.parts c.in_ok-changed-in-Ok.ensures
+pub returns-in_ok-from_record-in-Ok-clause-made : goal.returns-in_ok-from_record-in-Ok-clause-made
+returns-in_ok-from_record-in-Ok-clause-made c =
+    controller-made (all_stored_in c.args.parts.now) (controller_service_parts c.in_ok-from_record-in-Ok.field-0) (map change_of c.in_ok-changed-in-Ok.changed.items) c.in-Ok.field-0.version c.in-Ok.field-0.kept
+    c.in-Ok.ensures c.in_ok-from_record-in-Ok.ensures.parts c.in_ok-changed-in-Ok.ensures

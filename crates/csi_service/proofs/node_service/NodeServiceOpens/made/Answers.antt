@@ -15,8 +15,8 @@ of_record-requires c = of-node c.in-Ok.field-0.version c.args.id (all_stored_in 
 pub returns-then-is_empty-clause-made : goal.returns-then-is_empty-clause-made
 returns-then-is_empty-clause-made c =
     let zero : length c.args.parts.now ≡ 0 = grind (arith, nat_tests) in
-    made-new (node_records c.args.id) (node_head present c.args.id (Some 0)) (all_stored_in c.args.parts.now) (node_service_parts c.in_ok-begun.field-0) (map change_of c.in_ok-head.head.items)
-    (ap all_stored_in (nil_from_length c.args.parts.now zero)) c.in_ok-begun.ensures.parts
+    made-new (node_records c.args.id) (node_head present c.args.id (Some 0)) (all_stored_in c.args.parts.now) (node_service_parts c.in_ok-new.field-0) (map change_of c.in_ok-head.head.items)
+    (ap all_stored_in (nil_from_length c.args.parts.now zero)) c.in_ok-new.ensures.parts
     (c.in_ok-head.ensures ∙ ap (λ (value : List ℕ). put_all (record { key = 0; value = value } ∷ [])) c.in_ok-node_head_value.ensures.value) (new-node c.args.id c.in_ok-node_head_value.ensures.fits)
 
 pub returns-in_ok-of_record-in-Ok-clause-made : goal.returns-in_ok-of_record-in-Ok-clause-made
