@@ -14,7 +14,7 @@ use Rattle.csi_types.specs.Reply.{has_id_by_rule}
 use Rattle.csi_types.specs.Frame.{IsAllowed}
 use Rattle.csi_types.specs.Replies.{stale_reply, reply_frame}
 use Rattle.csi_controller.specs.declared.row.ControllerRow.{ControllerRow}
-use Rattle.csi_controller.specs.declared.controller.core_parts.Core.{Core}
+use Rattle.csi_controller.specs.declared.controller.core_parts.ControllerCore.{ControllerCore}
 use Rattle.csi_controller.specs.Catalog.{rows_of, IsIndexed}
 use Rattle.csi_controller.specs.Core.{Parts, Shows, IsSound, IsCurrent}
 use Rattle.csi_controller.specs.CoreAnswers.{IsAnswered, IsLeftSo}
@@ -31,7 +31,7 @@ use Rattle.csi_controller.proofs.Counts.{same-parts-counted}
 use Rattle.csi_controller.proofs.Sessions.{answered-late, answered-now}
 
 -- a call of the present session that changed nothing
-pub same-answered : (core : Core) (number : Number) (call : Call) (answer : Answer) → IsSoundCore core → number.session ≡ core.session → answer.row ≡ None
+pub same-answered : (core : ControllerCore) (number : Number) (call : Call) (answer : Answer) → IsSoundCore core → number.session ≡ core.session → answer.row ≡ None
     → IsAllowed Controller (bodies.Reply answer.kind answer.reply)
     → ((state : ControllerState) → Shows (parts_of core) state → Answers (parts_of core) (answer_frame number answer) (fenced_call core.config state number call (kept_for call state)))
     → IsAnswered core core number call answer
@@ -57,7 +57,7 @@ stale-rule kinds.NodePublishVolume = refl
 stale-rule kinds.NodeUnpublishVolume = refl
 
 -- a call of an earlier session, which is stale
-pub late-answered : (core : Core) (number : Number) (call : Call) (answer : Answer) → IsSoundCore core → number.session < core.session
+pub late-answered : (core : ControllerCore) (number : Number) (call : Call) (answer : Answer) → IsSoundCore core → number.session < core.session
     → answer ≡ record { kind = kind_of call; reply = stale_reply; row = None } → IsTrue (is_party_of (kind_of call) Controller) → IsAnswered core core number call answer
 late-answered core number call answer kept late is party =
     subst (IsAnswered core core number call) (sym is)
@@ -72,7 +72,7 @@ late-answered core number call answer kept late is party =
     })
 
 -- a call of an id that no row has, in the present session
-pub nowhere-now : (core : Core) (number : Number) (call : Call) (kind : Kind) (reply : Reply) → IsSoundCore core → number.session ≡ core.session
+pub nowhere-now : (core : ControllerCore) (number : Number) (call : Call) (kind : Kind) (reply : Reply) → IsSoundCore core → number.session ≡ core.session
     → find (λ (r : ControllerRow). is_row_for call (volume_of_row r)) (rows_of core.catalog) ≡ None → IsTrue (is_party_of (kind_of call) Controller) → (IsCreate call → ⊥)
     → kind ≡ kind_of call → reply ≡ reply_nowhere call → IsAnswered core core number call (record { kind = kind; reply = reply; row = None })
 nowhere-now core number call kind reply kept present none party other of_kind is =
@@ -82,11 +82,11 @@ nowhere-now core number call kind reply kept present none party other of_kind is
     (λ state shown. told-nowhere core.config core.next_id core.session (rows_of core.catalog) state number call reply shown none party other is))
 
 -- nothing happened
-pub same-left : (core : Core) → IsSoundCore core → IsLeftSo core core
+pub same-left : (core : ControllerCore) → IsSoundCore core → IsLeftSo core core
 same-left core kept = record { shown = λ state shown. shown; config = refl; kept = kept }
 
 -- the maps are others, and the rows are as they were
-pub parts-left : (old new : Core) → IsSoundCore old → parts_of new ≡ parts_of old → IsIndexed new.catalog → new.counts ≡ old.counts → IsLeftSo old new
+pub parts-left : (old new : ControllerCore) → IsSoundCore old → parts_of new ≡ parts_of old → IsIndexed new.catalog → new.counts ≡ old.counts → IsLeftSo old new
 parts-left old new kept parts indexed counts =
     record {
       shown = λ state shown. subst (λ (k : Parts). Shows k state) (sym parts) shown;

@@ -21,7 +21,7 @@ use Rattle.csi_types.specs.Call.{kind_of, is_party_of}
 use Rattle.csi_types.specs.Frame.{Frame, IsAllowed}
 use Rattle.csi_types.specs.Reply.{has_id_by_rule}
 use Rattle.csi_controller.specs.declared.row.ControllerRow.{ControllerRow}
-use Rattle.csi_controller.specs.declared.controller.core_parts.Core.{Core}
+use Rattle.csi_controller.specs.declared.controller.core_parts.ControllerCore.{ControllerCore}
 use Rattle.csi_controller.specs.AtRow.{RowAnswers, row_named}
 use Rattle.csi_controller.specs.Beginning.{live_rows, HasForgotten}
 use Rattle.csi_controller.specs.declared.catalog.Catalog.{Catalog}
@@ -52,24 +52,24 @@ use Rattle.csi_controller.proofs.Sessions.{answered-first, current-own, fresh-la
 use Rattle.csi_controller.proofs.Sound.{rising-one, sound-after, sound-set}
 
 -- the core's parts in a session, with these rows
-abbrev pub begun_with : Core → ℕ → List ControllerRow → Parts
+abbrev pub begun_with : ControllerCore → ℕ → List ControllerRow → Parts
 begun_with core session rows = record { config = core.config; next_id = core.next_id; session = session; rows = rows }
 
 -- the rules of the rows of live volumes, in a later session
-pub sound-live : (core : Core) → IsSoundCore core → IsSound core.next_id (live_rows (rows_of core.catalog))
+pub sound-live : (core : ControllerCore) → IsSoundCore core → IsSound core.next_id (live_rows (rows_of core.catalog))
 sound-live core kept = sound-filter core.next_id (λ (row : ControllerRow). row.live) (rows_of core.catalog) kept.sound
 
 -- the rows of live volumes are current in a later session
-pub current-begun : (core : Core) (session : ℕ) → IsSoundCore core → core.session < session → IsCurrent session (live_rows (rows_of core.catalog))
+pub current-begun : (core : ControllerCore) (session : ℕ) → IsSoundCore core → core.session < session → IsCurrent session (live_rows (rows_of core.catalog))
 current-begun core session kept later = current-live core.session session (rows_of core.catalog) (omega (arith, later)) kept.current
 
 -- the state in which the session has begun is shown by them
-pub shown-begun : (core : Core) (session : ℕ) (state : ControllerState) → IsSoundCore core → Shows (parts_of core) state
+pub shown-begun : (core : ControllerCore) (session : ℕ) (state : ControllerState) → IsSoundCore core → Shows (parts_of core) state
     → Shows (begun_with core session (live_rows (rows_of core.catalog))) (begun session state)
 shown-begun core session state kept shown = shown-live core.config core.next_id core.session session (rows_of core.catalog) state kept.sound shown
 
 -- what is answered in that state is what is answered
-pub told-begun : (core : Core) (new : Parts) (number : Number) (call : Call) (frame : Frame) (state : ControllerState) → core.session < number.session → Shows (parts_of core) state
+pub told-begun : (core : ControllerCore) (new : Parts) (number : Number) (call : Call) (frame : Frame) (state : ControllerState) → core.session < number.session → Shows (parts_of core) state
     → Answers new frame (fenced_call core.config (begun number.session state) number call (kept_for call (begun number.session state)))
     → Answers new frame (answered_in core.config state number call)
 told-begun core new number call frame state later shown told =
@@ -78,12 +78,12 @@ told-begun core new number call frame state later shown told =
 -- ---- no row is changed
 
 -- a core that has forgotten what was deleted, and nothing else
-pub forgotten-parts : (core after : Core) (session : ℕ) → IsSoundCore core → core.session < session → HasForgotten session core after → parts_of after ≡ begun_with core session (live_rows (rows_of core.catalog))
+pub forgotten-parts : (core after : ControllerCore) (session : ℕ) → IsSoundCore core → core.session < session → HasForgotten session core after → parts_of after ≡ begun_with core session (live_rows (rows_of core.catalog))
 forgotten-parts core after session kept later forgotten =
     forgotten.parts ∙ ap (begun_with core session) (stays-all_live core.session session (rows_of core.catalog) later kept.current)
 
 -- keeps its rules
-pub forgotten-kept : (core after : Core) (session : ℕ) → IsSoundCore core → core.session < session → HasForgotten session core after → IsSoundCore after
+pub forgotten-kept : (core after : ControllerCore) (session : ℕ) → IsSoundCore core → core.session < session → HasForgotten session core after → IsSoundCore after
 forgotten-kept core after session kept later forgotten =
     let parts = forgotten-parts core after session kept later forgotten in
     record {
@@ -96,7 +96,7 @@ forgotten-kept core after session kept later forgotten =
     }
 
 -- it was answered so, where the rows of live volumes give this answer and stay as they are
-pub begun-only : (core after : Core) (number : Number) (call : Call) (answer : Answer) → IsSoundCore core → core.session < number.session → HasForgotten number.session core after
+pub begun-only : (core after : ControllerCore) (number : Number) (call : Call) (answer : Answer) → IsSoundCore core → core.session < number.session → HasForgotten number.session core after
     → answer.row ≡ None → IsAllowed Controller (bodies.Reply answer.kind answer.reply)
     → ((state : ControllerState) → Shows (begun_with core number.session (live_rows (rows_of core.catalog))) state
     → Answers (begun_with core number.session (live_rows (rows_of core.catalog))) (answer_frame number answer) (fenced_call core.config state number call (kept_for call state)))
@@ -118,7 +118,7 @@ begun-only core after number call answer kept later forgotten names allowed told
     }
 
 -- a call of an id that no live volume has
-pub nowhere-first : (core after : Core) (number : Number) (call : Call) (kind : Kind) (reply : Reply) → IsSoundCore core → core.session < number.session
+pub nowhere-first : (core after : ControllerCore) (number : Number) (call : Call) (kind : Kind) (reply : Reply) → IsSoundCore core → core.session < number.session
     → find (λ (r : ControllerRow). is_row_for call (volume_of_row r)) (live_rows (rows_of core.catalog)) ≡ None → IsTrue (is_party_of (kind_of call) Controller) → (IsCreate call → ⊥)
     → kind ≡ kind_of call → reply ≡ reply_nowhere call → HasForgotten number.session core after → IsAnswered core after number call (record { kind = kind; reply = reply; row = None })
 nowhere-first core after number call kind reply kept later none party other of_kind is forgotten =
@@ -130,7 +130,7 @@ nowhere-first core after number call kind reply kept later none party other of_k
 -- ---- a row is changed
 
 -- at the row of a live volume, with a row that answered in its place: the same at its place among the rows of live volumes
-pub begun-there : (core after : Core) (place : ℕ) (row new : ControllerRow) (counts : List ℕ) (number : Number) (call : Call) (answer : Answer)
+pub begun-there : (core after : ControllerCore) (place : ℕ) (row new : ControllerRow) (counts : List ℕ) (number : Number) (call : Call) (answer : Answer)
     → IsSoundCore core → core.session < number.session → Some place ≡ position (λ (r : ControllerRow). is_row_for call (volume_of_row r)) (rows_of core.catalog)
     → slice_get (rows_of core.catalog) place ≡ Some row → row.live ≡ true → IsTrue (is_party_of (kind_of call) Controller)
     → RowAnswers core.config.nodes row new core.counts counts number call (verdict_of (Some row.last) number) (answer_frame number answer)
@@ -243,7 +243,7 @@ begun-there core after place row new counts number call answer kept later at sta
         ∙ ap (begun_with core number.session) standing.same
 
 -- what the table answers with 0 in the state in which the session has begun, the row of the live volume answers with 0
-pub begun-undone : (core : Core) (place : ℕ) (row : ControllerRow) (number : Number) (call : Call) (state : ControllerState)
+pub begun-undone : (core : ControllerCore) (place : ℕ) (row : ControllerRow) (number : Number) (call : Call) (state : ControllerState)
     → IsSoundCore core → core.session < number.session → Some place ≡ position (λ (r : ControllerRow). is_row_for call (volume_of_row r)) (rows_of core.catalog)
     → slice_get (rows_of core.catalog) place ≡ Some row → row.live ≡ true → Shows (parts_of core) state → IsAnsweredOk core.config state number call
     → (verdict_of (Some row.last) number ≡ Fresh) × ((row_line core.config.nodes core.counts row call).reply.status ≡ Ok)
@@ -261,12 +261,12 @@ begun-undone core place row number call state kept later at stands alive shown a
     )
 
 -- a row that was put in is where both maps have it, and ids rise
-pub put-indexed : (core : Core) (place : ℕ) (row new : ControllerRow) (counts : List ℕ) → IsSoundCore core → slice_get (rows_of core.catalog) place ≡ Some row → IsPut core place row new counts
+pub put-indexed : (core : ControllerCore) (place : ℕ) (row new : ControllerRow) (counts : List ℕ) → IsSoundCore core → slice_get (rows_of core.catalog) place ≡ Some row → IsPut core place row new counts
     → IsIndexed (recounted_core core place new counts).catalog
 put-indexed core place row new counts kept stands put = indexed-set core.catalog (recounted_core core place new counts).catalog place row new kept.indexed stands put.id put.name refl refl
 
 -- ids rise with that row in its place
-pub put-rising : (core : Core) (place : ℕ) (row new : ControllerRow) (counts : List ℕ) → IsPut core place row new counts → IsRising (rows_of (recounted_core core place new counts).catalog)
+pub put-rising : (core : ControllerCore) (place : ℕ) (row new : ControllerRow) (counts : List ℕ) → IsPut core place row new counts → IsRising (rows_of (recounted_core core place new counts).catalog)
 put-rising core place row new counts put = subst IsRising (sym (rows-set core.catalog.rows place new)) put.sound.rising
 
 -- what follows of a refusal is so of any
@@ -275,7 +275,7 @@ on-err (results.Ok x) told = tt
 on-err (results.Err e) told = told
 
 -- the parts of a core that made room in its maps, and has forgotten what was deleted
-pub roomy-parts : (core after : Core) (catalog : Catalog) (session : ℕ) → IsSoundCore core → core.session < session → AreSameEntries core.catalog catalog
+pub roomy-parts : (core after : ControllerCore) (catalog : Catalog) (session : ℕ) → IsSoundCore core → core.session < session → AreSameEntries core.catalog catalog
     → HasForgotten session (record core { catalog = catalog }) after → parts_of after ≡ begun_with core session (live_rows (rows_of core.catalog))
 roomy-parts core after catalog session kept later same forgotten =
     forgotten.parts

@@ -14,7 +14,7 @@ use Rattle.csi_types.specs.Reply.{has_id_by_rule}
 use Rattle.csi_types.specs.Same.{same_text}
 use Rattle.csi_fence.specs.declared.answer.Answer.{Answer}
 use Rattle.csi_controller.specs.declared.row.ControllerRow.{ControllerRow}
-use Rattle.csi_controller.specs.declared.controller.core_parts.Core.{Core}
+use Rattle.csi_controller.specs.declared.controller.core_parts.ControllerCore.{ControllerCore}
 use Rattle.csi_controller.specs.Beginning.{live_rows, HasForgotten, HasMade}
 use Rattle.csi_controller.specs.Catalog.{rows_of, IsIndexed}
 use Rattle.csi_controller.specs.Core.{Parts, IsSound, IsCurrentRow, IsCurrent, next_shown}
@@ -43,11 +43,11 @@ unmade reply = record { kind = kinds.CreateVolume; reply = reply; row = None }
 -- ---- a volume is made
 
 -- the rules that the counts keep with a row that is held nowhere
-counted-more : (core : Core) (rows : List ControllerRow) (row : ControllerRow) → row.holdings.items ≡ [] → AreCounted core.config.nodes rows core.counts → AreCounted core.config.nodes (rows ++ row ∷ []) core.counts
+counted-more : (core : ControllerCore) (rows : List ControllerRow) (row : ControllerRow) → row.holdings.items ≡ [] → AreCounted core.config.nodes rows core.counts → AreCounted core.config.nodes (rows ++ row ∷ []) core.counts
 counted-more core rows row empty counted = counted-alike core.config.nodes rows (rows ++ row ∷ []) core.counts (λ node. added-one node rows row empty) counted
 
 -- in the present session
-pub made-now : (old new : Core) (number : Number) (id : ℕ) (name : List ℕ) (required limit capacity : ℕ) (wished : List Capability) → IsSoundCore old → number.session ≡ old.session
+pub made-now : (old new : ControllerCore) (number : Number) (id : ℕ) (name : List ℕ) (required limit capacity : ℕ) (wished : List Capability) → IsSoundCore old → number.session ≡ old.session
     → find (λ (r : ControllerRow). same_text r.name name) (rows_of old.catalog) ≡ None → argument_fault required limit wished ≡ None
     → new_line old.config.greatest (length (rows_of old.catalog)) (next_shown old.next_id) name required limit wished ≡ record { reply = ok_reply_with id; change = Makes name capacity wished }
     → id ≡ old.next_id → 0 < id → IsMade old new number id name capacity wished → IsIndexed new.catalog → new.counts ≡ old.counts
@@ -83,7 +83,7 @@ made-now old new number id name required limit capacity wished kept present none
     }
 
 -- where its session begins
-pub made-first : (old new : Core) (number : Number) (id : ℕ) (name : List ℕ) (required limit capacity : ℕ) (wished : List Capability) → IsSoundCore old → old.session < number.session
+pub made-first : (old new : ControllerCore) (number : Number) (id : ℕ) (name : List ℕ) (required limit capacity : ℕ) (wished : List Capability) → IsSoundCore old → old.session < number.session
     → find (λ (r : ControllerRow). same_text r.name name) (live_rows (rows_of old.catalog)) ≡ None → argument_fault required limit wished ≡ None
     → new_line old.config.greatest (length (live_rows (rows_of old.catalog))) (next_shown old.next_id) name required limit wished ≡ record { reply = ok_reply_with id; change = Makes name capacity wished }
     → id ≡ old.next_id → 0 < id → HasMade old new number id name capacity wished
@@ -126,7 +126,7 @@ made-first old new number id name required limit capacity wished kept later none
 -- ---- no volume is made
 
 -- what is wrong with the arguments, in the present session
-pub fault-now : (core : Core) (number : Number) (name : List ℕ) (required limit : ℕ) (wished : List Capability) (reply : Reply) → IsSoundCore core → number.session ≡ core.session
+pub fault-now : (core : ControllerCore) (number : Number) (name : List ℕ) (required limit : ℕ) (wished : List Capability) (reply : Reply) → IsSoundCore core → number.session ≡ core.session
     → find (λ (r : ControllerRow). same_text r.name name) (rows_of core.catalog) ≡ None → argument_fault required limit wished ≡ Some reply → IsTrue (has_id_by_rule kinds.CreateVolume reply)
     → IsAnswered core core number (CreateVolume name required limit wished) (unmade reply)
 fault-now core number name required limit wished reply kept present none fault rule =
@@ -134,7 +134,7 @@ fault-now core number name required limit wished reply kept present none fault r
     (λ state shown. fault-answers core.config core.next_id core.session (rows_of core.catalog) state number name required limit wished (answer_frame number (unmade reply)) reply shown none fault refl)
 
 -- and where the call begins a session
-pub fault-first : (core after : Core) (number : Number) (name : List ℕ) (required limit : ℕ) (wished : List Capability) (reply : Reply) → IsSoundCore core → core.session < number.session
+pub fault-first : (core after : ControllerCore) (number : Number) (name : List ℕ) (required limit : ℕ) (wished : List Capability) (reply : Reply) → IsSoundCore core → core.session < number.session
     → find (λ (r : ControllerRow). same_text r.name name) (live_rows (rows_of core.catalog)) ≡ None → argument_fault required limit wished ≡ Some reply → IsTrue (has_id_by_rule kinds.CreateVolume reply)
     → HasForgotten number.session core after → IsAnswered core after number (CreateVolume name required limit wished) (unmade reply)
 fault-first core after number name required limit wished reply kept later none fault rule forgotten =
@@ -142,7 +142,7 @@ fault-first core after number name required limit wished reply kept later none f
     (λ state shown. fault-answers core.config core.next_id number.session (live_rows (rows_of core.catalog)) state number name required limit wished (answer_frame number (unmade reply)) reply shown none fault refl)
 
 -- there is no room for it, in the present session
-pub refused-now : (core : Core) (number : Number) (name : List ℕ) (required limit : ℕ) (wished : List Capability) (reply : Reply) → IsSoundCore core → number.session ≡ core.session
+pub refused-now : (core : ControllerCore) (number : Number) (name : List ℕ) (required limit : ℕ) (wished : List Capability) (reply : Reply) → IsSoundCore core → number.session ≡ core.session
     → find (λ (r : ControllerRow). same_text r.name name) (rows_of core.catalog) ≡ None → argument_fault required limit wished ≡ None
     → new_line core.config.greatest (length (rows_of core.catalog)) (next_shown core.next_id) name required limit wished ≡ record { reply = reply; change = Stays }
     → IsTrue (has_id_by_rule kinds.CreateVolume reply) → IsAnswered core core number (CreateVolume name required limit wished) (unmade reply)
@@ -151,7 +151,7 @@ refused-now core number name required limit wished reply kept present none good 
     (λ state shown. refused-answers core.config core.next_id core.session (rows_of core.catalog) state number name required limit wished (answer_frame number (unmade reply)) reply shown none good line refl)
 
 -- and where the call begins a session
-pub refused-first : (core after : Core) (number : Number) (name : List ℕ) (required limit : ℕ) (wished : List Capability) (reply : Reply) → IsSoundCore core → core.session < number.session
+pub refused-first : (core after : ControllerCore) (number : Number) (name : List ℕ) (required limit : ℕ) (wished : List Capability) (reply : Reply) → IsSoundCore core → core.session < number.session
     → find (λ (r : ControllerRow). same_text r.name name) (live_rows (rows_of core.catalog)) ≡ None → argument_fault required limit wished ≡ None
     → new_line core.config.greatest (length (live_rows (rows_of core.catalog))) (next_shown core.next_id) name required limit wished ≡ record { reply = reply; change = Stays }
     → IsTrue (has_id_by_rule kinds.CreateVolume reply) → HasForgotten number.session core after → IsAnswered core after number (CreateVolume name required limit wished) (unmade reply)

@@ -22,7 +22,7 @@ use Rattle.csi_types.specs.Frame.{Frame}
 use Rattle.csi_types.specs.Same.{same_text}
 use Rattle.csi_controller.specs.declared.row.NodeHolding.{NodeHolding}
 use Rattle.csi_controller.specs.declared.row.ControllerRow.{ControllerRow}
-use Rattle.csi_controller.specs.declared.controller.core_parts.Core.{Core}
+use Rattle.csi_controller.specs.declared.controller.core_parts.ControllerCore.{ControllerCore}
 use Rattle.csi_controller.specs.Catalog.{rows_of}
 use Rattle.csi_controller.specs.Core.{Parts}
 use Rattle.csi_controller.specs.OneRow.{RowChange, RowStays, RowEnds, RowAttaches, RowDetaches, items_after, count_change_by}
@@ -262,7 +262,7 @@ added-one node [] row empty = count-cons (is_held node) row [] ∙ ap (λ (items
 added-one node (r ∷ rs) row empty = count-cons (is_held node) r (rs ++ row ∷ []) ∙ ap (λ n. cond (is_held node r) 1 0 + n) (added-one node rs row empty) ∙ sym (count-cons (is_held node) r rs)
 
 -- the counts stay right where a row without holdings is put at the end
-pub made-counted : (old new : Core) (row : ControllerRow) → new.config ≡ old.config → rows_of new.catalog ≡ rows_of old.catalog ++ row ∷ [] → row.holdings.items ≡ [] → new.counts ≡ old.counts
+pub made-counted : (old new : ControllerCore) (row : ControllerRow) → new.config ≡ old.config → rows_of new.catalog ≡ rows_of old.catalog ++ row ∷ [] → row.holdings.items ≡ [] → new.counts ≡ old.counts
     → AreCounted old.config.nodes (rows_of old.catalog) old.counts → AreCounted new.config.nodes (rows_of new.catalog) new.counts
 made-counted old new row config rows empty counts counted =
     subst (λ (k : Config). AreCounted k.nodes (rows_of new.catalog) new.counts) (sym config)
@@ -271,7 +271,7 @@ made-counted old new row config rows empty counts counted =
     (counted-alike old.config.nodes (rows_of old.catalog) (rows_of old.catalog ++ row ∷ []) old.counts (λ node. added-one node (rows_of old.catalog) row empty) counted)))
 
 -- the counts stay right where configuration and rows stay
-pub same-parts-counted : (old new : Core) → parts_of new ≡ parts_of old → new.counts ≡ old.counts → AreCounted old.config.nodes (rows_of old.catalog) old.counts → AreCounted new.config.nodes (rows_of new.catalog) new.counts
+pub same-parts-counted : (old new : ControllerCore) → parts_of new ≡ parts_of old → new.counts ≡ old.counts → AreCounted old.config.nodes (rows_of old.catalog) old.counts → AreCounted new.config.nodes (rows_of new.catalog) new.counts
 same-parts-counted old new parts counts counted =
     subst (λ (k : Parts). AreCounted k.config.nodes k.rows new.counts) (sym parts) (subst (AreCounted old.config.nodes (rows_of old.catalog)) (sym counts) counted)
 

@@ -34,11 +34,11 @@ use Rattle.csi_controller.specs.Safe.{IsExclusive}
 use Rattle.csi_controller.specs.View.{held_in, kept_in_row, live_named, view_of, key_of, IsThingOf, IsDeliveredTo}
 use Rattle.csi_controller.proofs.BegunThings.{among_row, has_begun, known_before}
 use Rattle.csi_controller.proofs.LastCalls.{row_of, kept_of_row, IsFreshFor, kept_later, kept_after, row_known}
-use Rattle.csi_controller.proofs.Moves.{Move, was_refused, was_found, was_made, was_ended, was_ended_before, was_attached, was_attached_before, was_detached, was_detached_before, moved}
+use Rattle.csi_controller.proofs.TableOutcomes.{IsOutcome, was_refused, was_found, was_made, was_ended, was_ended_before, was_attached, was_attached_before, was_detached, was_detached_before, is_outcome}
 use Rattle.csi_controller.proofs.OrderlyStates.{IsOrderly, begun_orderly, kept_same, keep_leaves, live_with_id, is_row}
 use Rattle.csi_controller.proofs.RememberedStates.{AreRecent, changed_session}
 use Rattle.csi_controller.proofs.SafeStates.{begun_keeps}
-use Rattle.csi_controller.proofs.ThingMoves.{does}
+use Rattle.csi_controller.proofs.ThingOutcomes.{does}
 
 -- a new controller has nothing
 pub empty_view : IsEmpty (view_of empty_controller)
@@ -79,7 +79,7 @@ known_kept : (state : ControllerState) (call : Call) (key : Key) → IsOrderly s
 known_kept state call key orderly is = kept_of_row state key ∙ ap (option_map (λ (v : Volume). v.kept)) (row_known state call key orderly is)
 
 -- an OK has an id where it is to CreateVolume
-with_id : (config : Config) (state : ControllerState) (call : Call) (outcome : Outcome) → Move config state call outcome → outcome.reply.status ≡ Ok → IsTrue (has_id_by_rule (kind_of call) outcome.reply)
+with_id : (config : Config) (state : ControllerState) (call : Call) (outcome : Outcome) → IsOutcome config state call outcome → outcome.reply.status ≡ Ok → IsTrue (has_id_by_rule (kind_of call) outcome.reply)
 with_id config state _ _ (was_refused call status detail not_ok) ok = absurd (not_ok ok)
 with_id config state _ _ (was_found name required limit first others volume range named live serving) ok = refl
 with_id config state _ _ (was_made name required limit first others range unnamed) ok = refl
@@ -91,22 +91,22 @@ with_id config state _ _ (was_detached id node held there) ok = refl
 with_id config state _ _ (was_detached_before id node free) ok = refl
 
 -- what a fresh call does to the things, and what is kept of it
-carries : (config : Config) (state : ControllerState) (number : Number) (call : Call) (key : Key) (outcome : Outcome) → IsOrderly state → key_of state call ≡ Some key → Move config state call outcome
+carries : (config : Config) (state : ControllerState) (number : Number) (call : Call) (key : Key) (outcome : Outcome) → IsOrderly state → key_of state call ≡ Some key → IsOutcome config state call outcome
     → is_spent (last_of (kept_for call state)) number ≡ false
     → Carries key (told number call outcome.reply) (held_in state) (held_in (carried_out state number call outcome).state) (kept_in_row state) (kept_in_row (carried_out state number call outcome).state)
-carries config state number call key outcome orderly is move fresh =
+carries config state number call key outcome orderly is given fresh =
     let kept : Kept = record { number = number; kind = kind_of call; reply = outcome.reply } in
     let next : ControllerState = changed state kept outcome.change in
-    let does_so = does config state key call outcome kept orderly is move in
+    let does_so = does config state key call outcome kept orderly is given in
     let same = λ (other : Key). held_keep call kept next other in
     record {
       of_its_kind = refl;
-      with_id = λ ok. with_id config state call outcome move ok;
+      with_id = λ ok. with_id config state call outcome given ok;
       was_fresh = ap (λ (o : Option Kept). is_spent (last_of o) number) (known_kept state call key orderly is) ∙ fresh;
       done = λ ok. same key ∙ does_so.done ok;
       refused = λ h. same key ∙ does_so.refused h;
       others = λ other h. same other ∙ does_so.others other h;
-      own = λ ok. kept_after config state key call outcome kept orderly is move ok rows;
+      own = λ ok. kept_after config state key call outcome kept orderly is given ok rows;
       later = λ other. kept_later call kept state outcome.change other (fresh_rows kept.kind kept.reply other);
     }
   where
@@ -139,7 +139,7 @@ held_known state id node held safe is none =
 
 -- the table changes nothing of a thing that isn't known
 unknown_stays : (config : Config) (state : ControllerState) (call : Call) (outcome : Outcome) → IsOrderly state → IsExclusive state → IsTrue (is_party_of (kind_of call) Controller) → row_for call state ≡ None
-    → key_of state call ≡ None → Move config state call outcome → outcome.change ≡ Stays
+    → key_of state call ≡ None → IsOutcome config state call outcome → outcome.change ≡ Stays
 unknown_stays config state call outcome orderly safe party none key (was_refused _ status detail not_ok) = refl
 unknown_stays config state call outcome orderly safe party none key (was_found name required limit first others volume range named live serving) = refl
 unknown_stays config state call outcome orderly safe party none key (was_made name required limit first others range unnamed) = absurd (none-some (Exists name) (sym key))
@@ -164,7 +164,7 @@ leaves state number call outcome none stays =
 
 -- a call of a thing that isn't known asks for nothing, where it gets an OK
 asks_nothing : (config : Config) (state : ControllerState) (call : Call) (outcome : Outcome) → IsOrderly state → row_for call state ≡ None → key_of state call ≡ None
-    → Move config state call outcome → outcome.reply.status ≡ Ok → asked call outcome.reply ≡ None
+    → IsOutcome config state call outcome → outcome.reply.status ≡ Ok → asked call outcome.reply ≡ None
 asks_nothing config state call outcome orderly none key (was_refused _ status detail not_ok) ok = absurd (not_ok ok)
 asks_nothing config state call outcome orderly none key (was_found name required limit first others volume range named live serving) ok = absurd (none-some (Exists name) (sym key))
 asks_nothing config state call outcome orderly none key (was_made name required limit first others range unnamed) ok = absurd (none-some (Exists name) (sym key))
@@ -179,12 +179,12 @@ asks_nothing config state call outcome orderly none key (was_detached_before id 
 
 -- a call of a thing that isn't known leaves the state, so it misses
 misses : (config : Config) (state : ControllerState) (number : Number) (call : Call) (outcome : Outcome) → IsOrderly state → row_for call state ≡ None → key_of state call ≡ None
-    → Move config state call outcome → Misses (told number call outcome.reply) (view_of state) (view_of state)
-misses config state number call outcome orderly none key move =
+    → IsOutcome config state call outcome → Misses (told number call outcome.reply) (view_of state) (view_of state)
+misses config state number call outcome orderly none key given =
     record {
       of_its_kind = refl;
-      with_id = λ ok. with_id config state call outcome move ok;
-      undoes = λ ok. asks_nothing config state call outcome orderly none key move ok;
+      with_id = λ ok. with_id config state call outcome given ok;
+      undoes = λ ok. asks_nothing config state call outcome orderly none key given ok;
       held = λ other. refl;
       stays_spent = λ other number spent. spent;
       keeps = λ other. inl refl;
@@ -195,7 +195,7 @@ unknown_leaves : (config : Config) (state : ControllerState) (number : Number) (
     → key_of state call ≡ None → (carried_out state number call (controller_row config state call)).state ≡ state
 unknown_leaves config state number call orderly safe party is =
     let none = row_unknown state call party is in
-    leaves state number call (controller_row config state call) none (unknown_stays config state call (controller_row config state call) orderly safe party none is (moved config state call))
+    leaves state number call (controller_row config state call) none (unknown_stays config state call (controller_row config state call) orderly safe party none is (is_outcome config state call))
 
 -- a call that is carried out, by its thing
 carried_becomes : (config : Config) (state : ControllerState) (number : Number) (call : Call) (o : Option Key) → IsOrderly state → IsExclusive state
@@ -207,11 +207,11 @@ carried_becomes config state number call (Some key) orderly safe party is not_ov
     let after : ControllerState = (carried_out state number call outcome).state in
     inl (subst (λ session. Acts key (told number call outcome.reply) (view_of state) (view_by session (held_in after) (kept_in_row after))) (sym (changed_session state kept outcome.change))
     (carried-acts state.session key (told number call outcome.reply) (held_in state) (held_in after) (kept_in_row state) (kept_in_row after) not_over
-    (carries config state number call key outcome orderly is (moved config state call) fresh)))
+    (carries config state number call key outcome orderly is (is_outcome config state call) fresh)))
 carried_becomes config state number call None orderly safe party is not_over fresh =
     subst (λ (after : ControllerState). Misses (told number call (controller_row config state call).reply) (view_of state) (view_of after))
     (sym (unknown_leaves config state number call orderly safe party is))
-    (misses config state number call (controller_row config state call) orderly (row_unknown state call party is) is (moved config state call))
+    (misses config state number call (controller_row config state call) orderly (row_unknown state call party is) is (is_outcome config state call))
 
 -- what is kept for a call is what is kept for its thing, if it has one
 is_kept_for : (state : ControllerState) (call : Call) (o : Option Key) → IsOrderly state → IsTrue (is_party_of (kind_of call) Controller) → key_of state call ≡ o → IsKeptFor o (kept_in_row state) (kept_for call state)

@@ -18,9 +18,9 @@ use Rattle.csi_controller.specs.State.{Volume, ControllerState, volume_named, vo
 use Rattle.csi_controller.specs.Table.{Outcome, Change, Stays, Makes, Ends, Attaches, Detaches, changed, ended}
 use Rattle.csi_controller.specs.Fenced.{kept_in, keep}
 use Rattle.csi_controller.specs.View.{kept_in_row, key_of}
-use Rattle.csi_controller.proofs.Moves.{Move, was_refused, was_found, was_made, was_ended, was_ended_before, was_attached, was_attached_before, was_detached, was_detached_before}
+use Rattle.csi_controller.proofs.TableOutcomes.{IsOutcome, was_refused, was_found, was_made, was_ended, was_ended_before, was_attached, was_attached_before, was_detached, was_detached_before}
 use Rattle.csi_controller.proofs.OrderlyStates.{IsOrderly, LeavesNames, keep_leaves, end_leaves, same_row, with_id_by_name}
-use Rattle.csi_controller.proofs.ThingMoves.{at_key, by_volume}
+use Rattle.csi_controller.proofs.ThingOutcomes.{at_key, by_volume}
 
 -- the row of a thing's volume
 abbrev pub row_of : ControllerState → Key → Option Volume
@@ -171,7 +171,7 @@ row_known state (calls.NodePublishVolume id target capability readonly) key orde
 row_known state (calls.NodeUnpublishVolume id target) key orderly is = absurd (none-some key is)
 
 -- a call that gets an OK, and has a thing, has a row then
-there_after : (config : Config) (state : ControllerState) (key : Key) (call : Call) (outcome : Outcome) (kept : Kept) → IsOrderly state → key_of state call ≡ Some key → Move config state call outcome
+there_after : (config : Config) (state : ControllerState) (key : Key) (call : Call) (outcome : Outcome) (kept : Kept) → IsOrderly state → key_of state call ≡ Some key → IsOutcome config state call outcome
     → outcome.reply.status ≡ Ok → row_of (changed state kept outcome.change) key ≡ None → ⊥
 there_after config state key call outcome kept orderly is (was_refused _ status detail not_ok) ok = absurd (not_ok ok)
 there_after config state key call outcome kept orderly is (was_found name required limit first others volume range named live serving) ok =
@@ -194,9 +194,9 @@ there_after config state key call outcome kept orderly is (was_detached_before i
     by_volume (λ k. row_of state k ≡ None → ⊥) (λ v. Attached id node) (volume_with_id id state) key is (λ v own gone. none-some v (sym gone ∙ own))
 
 -- then that row keeps the call
-pub kept_after : (config : Config) (state : ControllerState) (key : Key) (call : Call) (outcome : Outcome) (kept : Kept) → IsOrderly state → key_of state call ≡ Some key → Move config state call outcome
+pub kept_after : (config : Config) (state : ControllerState) (key : Key) (call : Call) (outcome : Outcome) (kept : Kept) → IsOrderly state → key_of state call ≡ Some key → IsOutcome config state call outcome
     → outcome.reply.status ≡ Ok → ((v : Volume) → row_of state key ≡ Some v → is_row_for call v ≡ true) → kept_in_row (keep call kept (changed state kept outcome.change)) key ≡ Some kept
-kept_after config state key call outcome kept orderly is move ok rows =
+kept_after config state key call outcome kept orderly is given ok rows =
     let next : ControllerState = changed state kept outcome.change in
     kept_of_row (keep call kept next) key ∙ ap (option_map (λ (v : Volume). v.kept)) (row_of-keep call kept next key)
-    ∙ comes_kept call kept (row_of state key) (row_of next key) (row_comes state kept outcome.change key) rows (there_after config state key call outcome kept orderly is move ok)
+    ∙ comes_kept call kept (row_of state key) (row_of next key) (row_comes state kept outcome.change key) rows (there_after config state key call outcome kept orderly is given ok)

@@ -21,12 +21,12 @@ pub mod HoldingsApart
 pub mod Exclusive
 pub mod Attached
 pub mod ShowingLaw
-pub mod Moves
+pub mod TableOutcomes
 pub mod SameText
 pub mod Forgotten
 pub mod OrderlyStates
 pub mod NamesLaw
-pub mod ThingMoves
+pub mod ThingOutcomes
 pub mod LastCalls
 pub mod BegunThings
 pub mod DeliveryLaw

@@ -8,7 +8,7 @@ use Rattle.csi_lists.proofs.Options.{some_is_not_none}
 use Rattle.csi_lists.proofs.Places.{AtMostOne-append}
 use Rattle.csi_lists.proofs.Searches.{find-of_map}
 use Rattle.csi_lists.specs.Places.{AtMostOne}
-use Rattle.csi_controller.specs.declared.controller.core_parts.Core.{Core}
+use Rattle.csi_controller.specs.declared.controller.core_parts.ControllerCore.{ControllerCore}
 use Rattle.csi_controller.specs.Catalog.{rows_of}
 use Rattle.csi_controller.specs.CoreParts.{parts_of}
 use Rattle.csi_controller.specs.Making.{IsMade, new_line, made_volume}
@@ -266,7 +266,7 @@ ok-both (results.Ok x) P S Q f p q = f x p q
 ok-both (results.Err e) P S Q f p q = tt
 
 -- the rows with the one that was made, and the next id after it, are the new core's parts
-pub parts-made : (old new : Core) (number : Number) (id : ℕ) (name : List ℕ) (capacity : ℕ) (wished : List Capability) (made : IsMade old new number id name capacity wished)
+pub parts-made : (old new : ControllerCore) (number : Number) (id : ℕ) (name : List ℕ) (capacity : ℕ) (wished : List Capability) (made : IsMade old new number id name capacity wished)
     → record { config = old.config; next_id = (old.next_id + 1) % 18446744073709551616; session = old.session; rows = rows_of old.catalog ++ made.row ∷ [] } ≡ parts_of new
 parts-made old new number id name capacity wished made =
     let config = sym made.config in let next = sym made.next in let rows = sym made.rows in let session = sym made.session in

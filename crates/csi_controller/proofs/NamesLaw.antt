@@ -19,9 +19,9 @@ use Rattle.csi_controller.specs.Table.{Outcome, Change, Stays, Makes, Ends, Atta
 use Rattle.csi_controller.specs.Fenced.{fenced, carried_out, kept_in, begun, controller_with, after_frames}
 use Rattle.csi_controller.specs.View.{AreNamed, live_named, HasVolume, WasMade, KeepsNames}
 use Rattle.csi_controller.proofs.Forgotten.{find-kept, found_live, live_named-begun}
-use Rattle.csi_controller.proofs.Moves.{Move, was_refused, was_found, was_made, was_ended, was_ended_before, was_attached, was_attached_before, was_detached, was_detached_before, moved}
+use Rattle.csi_controller.proofs.TableOutcomes.{IsOutcome, was_refused, was_found, was_made, was_ended, was_ended_before, was_attached, was_attached_before, was_detached, was_detached_before, is_outcome}
 use Rattle.csi_controller.proofs.OrderlyStates.{IsOrderly, begun_orderly, reached_orderly, named_by_id, with_id_by_name, is_named, is_with_id, LeavesNames, kept_same, keep_leaves, end_leaves}
-use Rattle.csi_controller.proofs.ThingMoves.{none_named}
+use Rattle.csi_controller.proofs.ThingOutcomes.{none_named}
 
 -- in an orderly state names and ids belong together
 are_named : (state : ControllerState) → IsOrderly state → AreNamed state
@@ -94,7 +94,7 @@ added_comes state made is_next live unnamed id w is = by (volume_with_id id stat
         (inr (record { has_next = is_next; is_live = live; was_free = none_named state made.name unnamed }))
 
 -- so it is after each change that the table makes
-changed_comes : (config : Config) (state : ControllerState) (call : Call) (outcome : Outcome) (kept : Kept) → Move config state call outcome
+changed_comes : (config : Config) (state : ControllerState) (call : Call) (outcome : Outcome) (kept : Kept) → IsOutcome config state call outcome
     → (id : ℕ) (w : Volume) → volume_with_id id (changed state kept outcome.change) ≡ Some w → Comes state w
 changed_comes config state call outcome kept (was_refused _ status detail not_ok) id w is = inl (was_there state id w is)
 changed_comes config state call outcome kept (was_found name required limit first others volume range named live serving) id w is = inl (was_there state id w is)
@@ -146,7 +146,7 @@ carried_names config state number call =
     record {
       grows = changed_grows state _ (controller_row config state call).change;
       comes = all_mapped state (changed state _ (controller_row config state call).change) (kept_in call _) (keep_leaves call _) (keep_lives call _)
-          (changed_comes config state call (controller_row config state call) _ (moved config state call));
+          (changed_comes config state call (controller_row config state call) _ (is_outcome config state call));
       stays = λ id volume is live. mapped_stays (changed state _ (controller_row config state call).change) (kept_in call _) (keep_leaves call _) volume
           (changed_stays state _ (controller_row config state call).change volume (was_there state id volume is));
     }

@@ -21,7 +21,7 @@ use Rattle.csi_controller.specs.Table.{Outcome, ended, changed, controller_row}
 use Rattle.csi_controller.specs.Fenced.{kept_in, carried_out, begun, controller_with, after_frames}
 use Rattle.csi_controller.specs.Laws.{keeping}
 use Rattle.csi_controller.proofs.Forgotten.{find-kept}
-use Rattle.csi_controller.proofs.Moves.{Move, was_refused, was_found, was_made, was_ended, was_ended_before, was_attached, was_attached_before, was_detached, was_detached_before, moved}
+use Rattle.csi_controller.proofs.TableOutcomes.{IsOutcome, was_refused, was_found, was_made, was_ended, was_ended_before, was_attached, was_attached_before, was_detached, was_detached_before, is_outcome}
 
 -- the volume is the one of its name and of its id
 pub record IsOwn (state : ControllerState) (volume : Volume) : Type 0 where
@@ -152,7 +152,7 @@ end_leaves id = record { ids = λ v. same_id v (v.id == id); names = λ v. same_
     same_name v false = refl
 
 -- each change that the table makes leaves a state orderly
-pub changed_orderly : (config : Config) (state : ControllerState) (call : Call) (outcome : Outcome) (kept : Kept) → Move config state call outcome → IsOrderly state → IsOrderly (changed state kept outcome.change)
+pub changed_orderly : (config : Config) (state : ControllerState) (call : Call) (outcome : Outcome) (kept : Kept) → IsOutcome config state call outcome → IsOrderly state → IsOrderly (changed state kept outcome.change)
 changed_orderly config state call outcome kept (was_refused _ status detail not_ok) orderly = orderly
 changed_orderly config state call outcome kept (was_found name required limit first others volume range is live serving) orderly = orderly
 changed_orderly config state call outcome kept (was_made name required limit first others range unnamed) orderly = made_orderly state _ refl unnamed orderly
@@ -168,7 +168,7 @@ changed_orderly config state call outcome kept (was_detached_before id node none
 -- so does a call that is carried out
 carried_orderly : (config : Config) (state : ControllerState) (number : Number) (call : Call) → IsOrderly state → IsOrderly (carried_out state number call (controller_row config state call)).state
 carried_orderly config state number call orderly =
-    map_orderly (kept_in call _) (keep_leaves call _) (changed state _ (controller_row config state call).change) (changed_orderly config state call (controller_row config state call) _ (moved config state call) orderly)
+    map_orderly (kept_in call _) (keep_leaves call _) (changed state _ (controller_row config state call).change) (changed_orderly config state call (controller_row config state call) _ (is_outcome config state call) orderly)
 
 -- and so does a session that begins
 pub begun_orderly : (session : ℕ) (state : ControllerState) → IsOrderly state → IsOrderly (begun session state)

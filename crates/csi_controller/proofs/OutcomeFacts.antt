@@ -23,7 +23,7 @@ use Rattle.csi_types.specs.Same.{same_text, same_capability, has_capability}
 use Rattle.csi_controller.specs.State.{Volume, ControllerState, volume_named, live_volume, is_held_at, holding_at, is_row_for}
 use Rattle.csi_controller.specs.Table.{Outcome, Stays, Makes, Ends, Attaches, Detaches, refused, met, done, serves, create_named, create, delete, publish_held, publish, unpublish, controller_row, ended, changed}
 use Rattle.csi_controller.specs.Laws.{IsDone, is_of_another}
-use Rattle.csi_controller.proofs.Moves.{Move, CanAttach, publish_call, was_refused, was_found, was_made, was_ended, was_ended_before, was_attached, was_attached_before, was_detached, was_detached_before, moved}
+use Rattle.csi_controller.proofs.TableOutcomes.{IsOutcome, CanAttach, publish_call, was_refused, was_found, was_made, was_ended, was_ended_before, was_attached, was_attached_before, was_detached, was_detached_before, is_outcome}
 use Rattle.csi_controller.proofs.OrderlyStates.{IsOrderly, named_by_id, made_orderly, end_leaves}
 
 -- what the call asks is so, and the table answers it so again and changes nothing
@@ -225,21 +225,21 @@ detached_facts config state id node =
       };
     }
 
--- of each move
-move_facts : (config : Config) (state : ControllerState) (call : Call) (outcome : Outcome) → IsOrderly state → Move config state call outcome → Facts config state call outcome
-move_facts config state call outcome orderly (was_refused _ status detail not_ok) = refused_facts config state call status detail not_ok
-move_facts config state call outcome orderly (was_found name required limit first others volume range is live serving) =
+-- of each outcome
+outcome_facts : (config : Config) (state : ControllerState) (call : Call) (outcome : Outcome) → IsOrderly state → IsOutcome config state call outcome → Facts config state call outcome
+outcome_facts config state call outcome orderly (was_refused _ status detail not_ok) = refused_facts config state call status detail not_ok
+outcome_facts config state call outcome orderly (was_found name required limit first others volume range is live serving) =
     same_facts config state call outcome.reply (create_ready config state name required limit first others volume range.ordered range.not_empty is live serving orderly)
-move_facts config state call outcome orderly (was_made name required limit first others range unnamed) =
+outcome_facts config state call outcome orderly (was_made name required limit first others range unnamed) =
     create_made config state name required limit first others range.ordered range.not_empty unnamed orderly
-move_facts config state call outcome orderly (was_ended id volume live free) = ended_facts config state id
-move_facts config state call outcome orderly (was_ended_before id none) = same_facts config state call ok_reply (delete_ready config state id none)
-move_facts config state call outcome orderly (was_attached holding volume can free fits) = attached_facts config state holding volume can free
-move_facts config state call outcome orderly (was_attached_before holding volume can held) =
+outcome_facts config state call outcome orderly (was_ended id volume live free) = ended_facts config state id
+outcome_facts config state call outcome orderly (was_ended_before id none) = same_facts config state call ok_reply (delete_ready config state id none)
+outcome_facts config state call outcome orderly (was_attached holding volume can free fits) = attached_facts config state holding volume can free
+outcome_facts config state call outcome orderly (was_attached_before holding volume can held) =
     same_facts config state call ok_reply (publish_ready config state holding volume can.live can.node can.capable held)
-move_facts config state call outcome orderly (was_detached id node held is) = detached_facts config state id node
-move_facts config state call outcome orderly (was_detached_before id node none) = same_facts config state call ok_reply (unpublish_ready config state id node none)
+outcome_facts config state call outcome orderly (was_detached id node held is) = detached_facts config state id node
+outcome_facts config state call outcome orderly (was_detached_before id node none) = same_facts config state call ok_reply (unpublish_ready config state id node none)
 
 -- what is so of the table's outcome for any call, in an orderly state
 pub row_facts : (config : Config) (state : ControllerState) (call : Call) → IsOrderly state → Facts config state call (controller_row config state call)
-row_facts config state call orderly = move_facts config state call (controller_row config state call) orderly (moved config state call)
+row_facts config state call orderly = outcome_facts config state call (controller_row config state call) orderly (is_outcome config state call)

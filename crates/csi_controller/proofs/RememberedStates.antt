@@ -19,7 +19,7 @@ use Rattle.csi_controller.specs.State.{Volume, ControllerState, empty_controller
 use Rattle.csi_controller.specs.Table.{Outcome, Change, Stays, Makes, Ends, Attaches, Detaches, changed, ended, controller_row}
 use Rattle.csi_controller.specs.Fenced.{kept_in, carried_out, begun, controller_with, after_frames}
 use Rattle.csi_controller.specs.Safe.{Remembers}
-use Rattle.csi_controller.proofs.Moves.{Move, was_refused, was_found, was_made, was_ended, was_ended_before, was_attached, was_attached_before, was_detached, was_detached_before, moved}
+use Rattle.csi_controller.proofs.TableOutcomes.{IsOutcome, was_refused, was_found, was_made, was_ended, was_ended_before, was_attached, was_attached_before, was_detached, was_detached_before, is_outcome}
 
 -- the volume is live, or its last call is of this session; and that is of no later one
 pub record IsRecent (session : ℕ) (volume : Volume) : Type 0 where
@@ -58,7 +58,7 @@ made_due call state made v live same recent (inr is) =
     subst (IsDue call state.session) (sym is) (inl (record { each = inl live; before = omega (arith, same) }))
 
 -- so is each volume after each change that the table makes
-changed_due : (config : Config) (state : ControllerState) (call : Call) (outcome : Outcome) (kept : Kept) → Move config state call outcome → kept.number.session ≡ state.session → AreRecent state
+changed_due : (config : Config) (state : ControllerState) (call : Call) (outcome : Outcome) (kept : Kept) → IsOutcome config state call outcome → kept.number.session ≡ state.session → AreRecent state
     → (volume : Volume) → IsAmong volume (changed state kept outcome.change).volumes → IsDue call state.session volume
 changed_due config state call outcome kept (was_refused _ status detail not_ok) same recent v among = inl (recent v among)
 changed_due config state call outcome kept (was_found name required limit first others volume range named live serving) same recent v among = inl (recent v among)
@@ -92,7 +92,7 @@ carried_recent config state number call same recent w among =
     let next : ControllerState = changed state kept outcome.change in
     let image = among-map (kept_in call kept) next.volumes w among in
     subst (λ session. IsRecent session w) (sym (changed_session state kept outcome.change))
-    (subst (IsRecent state.session) (sym image.2) (kept_recent call kept state.session image.0 same (changed_due config state call outcome kept (moved config state call) same recent image.0 image.1)))
+    (subst (IsRecent state.session) (sym image.2) (kept_recent call kept state.session image.0 same (changed_due config state call outcome kept (is_outcome config state call) same recent image.0 image.1)))
 
 -- and so does a session that begins
 pub begun_recent : (session : ℕ) (state : ControllerState) → nat_lt state.session session ≡ true → AreRecent state → AreRecent (begun session state)

@@ -18,7 +18,7 @@ use Rattle.csi_fence.specs.Fence.{verdict_of}
 use Rattle.csi_types.specs.Call.{kind_of, is_party_of}
 use Rattle.csi_types.specs.Frame.{Frame, IsAllowed}
 use Rattle.csi_controller.specs.declared.row.ControllerRow.{ControllerRow}
-use Rattle.csi_controller.specs.declared.controller.core_parts.Core.{Core}
+use Rattle.csi_controller.specs.declared.controller.core_parts.ControllerCore.{ControllerCore}
 use Rattle.csi_controller.specs.State.{Volume, is_row_for}
 use Rattle.csi_controller.specs.Shown.{volume_of_row}
 use Rattle.csi_controller.specs.Fenced.{fenced_call, kept_for}
@@ -41,23 +41,23 @@ use Rattle.csi_controller.proofs.Sessions.{answered-now, current-after, current-
 use Rattle.csi_controller.proofs.Sound.{rising-one}
 
 -- the core with this row at the place
-abbrev pub core_with : Core → ℕ → ControllerRow → Core
+abbrev pub core_with : ControllerCore → ℕ → ControllerRow → ControllerCore
 core_with core place new = record core { catalog = record core.catalog { rows = with_value_at core.catalog.rows place new } }
 
 -- and with these counts
-abbrev pub recounted_core : Core → ℕ → ControllerRow → List ℕ → Core
+abbrev pub recounted_core : ControllerCore → ℕ → ControllerRow → List ℕ → ControllerCore
 recounted_core core place new counts = record (core_with core place new) { counts = counts }
 
 -- the core's parts with these rows
-abbrev parts_with : Core → List ControllerRow → Parts
+abbrev parts_with : ControllerCore → List ControllerRow → Parts
 parts_with core rows = record { config = core.config; next_id = core.next_id; session = core.session; rows = rows }
 
 -- what is so of the parts with this row in the place is so of the core with it
-of-set : (P : Parts → Type 0) (core : Core) (place : ℕ) (new : ControllerRow) (counts : List ℕ) → P (parts_with core (set (rows_of core.catalog) place new)) → P (parts_of (recounted_core core place new counts))
+of-set : (P : Parts → Type 0) (core : ControllerCore) (place : ℕ) (new : ControllerRow) (counts : List ℕ) → P (parts_with core (set (rows_of core.catalog) place new)) → P (parts_of (recounted_core core place new counts))
 of-set P core place new counts told = subst (λ (rows : List ControllerRow). P (parts_with core rows)) (sym (rows-set core.catalog.rows place new)) told
 
 -- a core keeps its rules with another row of the same id and name at a place, where the rows do and the counts are right
-kept-set : (core : Core) (place : ℕ) (row new : ControllerRow) → IsSoundCore core → slice_get (rows_of core.catalog) place ≡ Some row → new.id ≡ row.id → new.name ≡ row.name
+kept-set : (core : ControllerCore) (place : ℕ) (row new : ControllerRow) → IsSoundCore core → slice_get (rows_of core.catalog) place ≡ Some row → new.id ≡ row.id → new.name ≡ row.name
     → IsSound core.next_id (set (rows_of core.catalog) place new) → IsCurrentRow core.session new → (counts : List ℕ) → AreCounted core.config.nodes (set (rows_of core.catalog) place new) counts
     → IsSoundCore (recounted_core core place new counts)
 kept-set core place row new kept at id name sound current counts counted =
@@ -69,14 +69,14 @@ kept-set core place row new kept at id name sound current counts counted =
     }
 
 -- after a row's answer, whatever its session is: its id and its name, the rules of the rows, and the counts
-pub record IsPut (core : Core) (place : ℕ) (row new : ControllerRow) (counts : List ℕ) : Type 0 where
+pub record IsPut (core : ControllerCore) (place : ℕ) (row new : ControllerRow) (counts : List ℕ) : Type 0 where
   pub id : new.id ≡ row.id
   pub name : new.name ≡ row.name
   pub sound : IsSound core.next_id (set (rows_of core.catalog) place new)
   pub counted : AreCounted core.config.nodes (set (rows_of core.catalog) place new) counts
 
 -- so it does with what a row answers to a call
-pub answered-put : (core : Core) (place : ℕ) (row new : ControllerRow) (counts : List ℕ) (number : Number) (call : Call) (verdict : Verdict) (frame : Frame)
+pub answered-put : (core : ControllerCore) (place : ℕ) (row new : ControllerRow) (counts : List ℕ) (number : Number) (call : Call) (verdict : Verdict) (frame : Frame)
     → IsSoundCore core → Some place ≡ position (λ (r : ControllerRow). is_row_for call (volume_of_row r)) (rows_of core.catalog) → slice_get (rows_of core.catalog) place ≡ Some row → IsTrue (is_party_of (kind_of call) Controller)
     → RowAnswers core.config.nodes row new core.counts counts number call verdict frame → IsPut core place row new counts
 answered-put core place row new counts number call verdict frame kept at stands party answered =
@@ -100,7 +100,7 @@ all-ok (results.Err e) P Q R S f p q s = tt
 -- ---- a call of the present session
 
 -- what a row's answer changes, by what the fence says
-changes-there : (core : Core) (place : ℕ) (row new : ControllerRow) (frame : Frame) (number : Number) (call : Call) (outcome : RowOutcome) → IsSoundCore core → number.session ≡ core.session
+changes-there : (core : ControllerCore) (place : ℕ) (row new : ControllerRow) (frame : Frame) (number : Number) (call : Call) (outcome : RowOutcome) → IsSoundCore core → number.session ≡ core.session
     → IsAt (rows_of core.catalog) place row → new.id ≡ row.id → (verdict : Verdict) → verdict_of (Some row.last) number ≡ verdict
     → RowGives new frame (row_after number (kind_of call) outcome row verdict)
     → Changes (row_named verdict row.id) number (parts_of core) (parts_with core (set (rows_of core.catalog) place new))
@@ -136,7 +136,7 @@ changes-there core place row new frame number call outcome kept present at id ve
         (λ same. stale-self number (ap (λ (last : Number). verdict_of (Some last) number) (sym same) ∙ is))
 
 -- a row answered a call of the present session
-pub answered-there : (core : Core) (place : ℕ) (row new : ControllerRow) (counts : List ℕ) (number : Number) (call : Call) (answer : Answer)
+pub answered-there : (core : ControllerCore) (place : ℕ) (row new : ControllerRow) (counts : List ℕ) (number : Number) (call : Call) (answer : Answer)
     → IsSoundCore core → number.session ≡ core.session → Some place ≡ position (λ (r : ControllerRow). is_row_for call (volume_of_row r)) (rows_of core.catalog)
     → slice_get (rows_of core.catalog) place ≡ Some row → IsTrue (is_party_of (kind_of call) Controller)
     → RowAnswers core.config.nodes row new core.counts counts number call (verdict_of (Some row.last) number) (answer_frame number answer)
@@ -164,7 +164,7 @@ answered-there core place row new counts number call answer kept present at stan
     }
 
 -- a row was refused memory for its answer
-pub left-there : (p : ControllerRow → Bool) (core : Core) (place : ℕ) (row new : ControllerRow) (counts : List ℕ) → IsSoundCore core → Some place ≡ position p (rows_of core.catalog)
+pub left-there : (p : ControllerRow → Bool) (core : ControllerCore) (place : ℕ) (row new : ControllerRow) (counts : List ℕ) → IsSoundCore core → Some place ≡ position p (rows_of core.catalog)
     → slice_get (rows_of core.catalog) place ≡ Some row → IsLeft row new core.counts counts → IsLeftSo core (recounted_core core place new counts)
 left-there p core place row new counts kept at stands left =
     let rows = rows_of core.catalog in

@@ -25,7 +25,7 @@ use Rattle.csi_controller.specs.Fenced.{kept_in, keep, carried_out, begun, contr
 use Rattle.csi_controller.specs.Safe.{AreExclusive, IsExclusive}
 use Rattle.csi_controller.proofs.Forgotten.{live_volume-begun}
 use Rattle.csi_controller.proofs.HoldingsApart.{apart}
-use Rattle.csi_controller.proofs.Moves.{Move, was_refused, was_found, was_made, was_ended, was_ended_before, was_attached, was_attached_before, was_detached, was_detached_before, moved}
+use Rattle.csi_controller.proofs.TableOutcomes.{IsOutcome, was_refused, was_found, was_made, was_ended, was_ended_before, was_attached, was_attached_before, was_detached, was_detached_before, is_outcome}
 
 -- a change keeps that
 abbrev Keeps : ControllerState → Change → Type 0
@@ -110,16 +110,16 @@ detaches_keeps state id node = λ kept safe. record {
 }
 
 -- each answer of the table keeps it
-move_keeps : (config : Config) (state : ControllerState) (call : Call) (outcome : Outcome) → Move config state call outcome → Keeps state outcome.change
-move_keeps config state call outcome (was_refused _ status detail not_ok) = stays state
-move_keeps config state call outcome (was_found name required limit first others volume range named live serving) = stays state
-move_keeps config state call outcome (was_made name required limit first others range unnamed) = makes_keeps state name (wanted required limit) (first ∷ others)
-move_keeps config state call outcome (was_ended id volume live free) = ends_keeps state id free
-move_keeps config state call outcome (was_ended_before id none) = stays state
-move_keeps config state call outcome (was_attached holding volume can free fits) = attaches_keeps state holding volume can.live free fits
-move_keeps config state call outcome (was_attached_before holding volume can held) = stays state
-move_keeps config state call outcome (was_detached id node held is) = detaches_keeps state id node
-move_keeps config state call outcome (was_detached_before id node none) = stays state
+outcome_keeps : (config : Config) (state : ControllerState) (call : Call) (outcome : Outcome) → IsOutcome config state call outcome → Keeps state outcome.change
+outcome_keeps config state call outcome (was_refused _ status detail not_ok) = stays state
+outcome_keeps config state call outcome (was_found name required limit first others volume range named live serving) = stays state
+outcome_keeps config state call outcome (was_made name required limit first others range unnamed) = makes_keeps state name (wanted required limit) (first ∷ others)
+outcome_keeps config state call outcome (was_ended id volume live free) = ends_keeps state id free
+outcome_keeps config state call outcome (was_ended_before id none) = stays state
+outcome_keeps config state call outcome (was_attached holding volume can free fits) = attaches_keeps state holding volume can.live free fits
+outcome_keeps config state call outcome (was_attached_before holding volume can held) = stays state
+outcome_keeps config state call outcome (was_detached id node held is) = detaches_keeps state id node
+outcome_keeps config state call outcome (was_detached_before id node none) = stays state
 
 -- what is kept touches neither holdings nor what is live
 kept_test : (call : Call) (kept : Kept) (n : ℕ) (volume : Volume) → (((kept_in call kept volume).id == n) && (kept_in call kept volume).is_live) ≡ ((volume.id == n) && volume.is_live)
@@ -140,7 +140,7 @@ keep_keeps call kept state safe = record {
 -- a call that is carried out keeps it
 carried_keeps : (config : Config) (state : ControllerState) (number : Number) (call : Call) → IsExclusive state → IsExclusive (carried_out state number call (controller_row config state call)).state
 carried_keeps config state number call safe =
-    keep_keeps call _ (changed state _ (controller_row config state call).change) (move_keeps config state call (controller_row config state call) (moved config state call) _ safe)
+    keep_keeps call _ (changed state _ (controller_row config state call).change) (outcome_keeps config state call (controller_row config state call) (is_outcome config state call) _ safe)
 
 -- and so does a session that begins, since what is held is live
 pub begun_keeps : (session : ℕ) (state : ControllerState) → IsExclusive state → IsExclusive (begun session state)

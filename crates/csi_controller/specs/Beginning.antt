@@ -3,7 +3,7 @@ use Rattle.std.specs.Prelude.{◌≡◌, ℕ, ◌+◌, ◌<◌, ◌%◌, ◌^◌
 use Rattle.csi_types.specs.declared.capability.Capability.{Capability}
 use Rattle.csi_types.specs.declared.number.Number.{Number}
 use Rattle.csi_controller.specs.declared.row.ControllerRow.{ControllerRow}
-use Rattle.csi_controller.specs.declared.controller.core_parts.Core.{Core}
+use Rattle.csi_controller.specs.declared.controller.core_parts.ControllerCore.{ControllerCore}
 use Rattle.csi_controller.specs.Shown.{volume_of_row}
 use Rattle.csi_controller.specs.Catalog.{rows_of, IsIndexed, HasRoom}
 use Rattle.csi_controller.specs.CoreParts.{parts_of}
@@ -15,14 +15,14 @@ abbrev pub live_rows : List ControllerRow → List ControllerRow
 live_rows rows = filter (λ row. row.live) rows
 
 -- the core is in this session, and of the volumes that were deleted it has those of that session alone
-pub record HasForgotten (session : ℕ) (old new : Core) : Type 0 where
+pub record HasForgotten (session : ℕ) (old new : ControllerCore) : Type 0 where
   pub parts : parts_of new ≡ record (parts_of old) { session = session; rows = filter (stays_in session) (rows_of old.catalog) }
   pub counts : new.counts ≡ old.counts
   pub indexed : IsIndexed new.catalog
   pub room : HasRoom old.catalog → HasRoom new.catalog
 
 -- the session of the number has begun, and then the volume was made, and stands last
-pub record HasMade (old new : Core) (number : Number) (id : ℕ) (name : List ℕ) (capacity : ℕ) (capabilities : List Capability) : Type 0 where
+pub record HasMade (old new : ControllerCore) (number : Number) (id : ℕ) (name : List ℕ) (capacity : ℕ) (capabilities : List Capability) : Type 0 where
   pub row : ControllerRow
   pub volume : volume_of_row row ≡ made_volume number id name capacity capabilities
   pub items : row.holdings.items ≡ []

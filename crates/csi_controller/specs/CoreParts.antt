@@ -1,15 +1,15 @@
 -- The parts of the controller's core.
-use Rattle.csi_controller.specs.declared.controller.core_parts.Core.{Core}
+use Rattle.csi_controller.specs.declared.controller.core_parts.ControllerCore.{ControllerCore}
 use Rattle.csi_controller.specs.Catalog.{rows_of, IsIndexed}
 use Rattle.csi_controller.specs.Counts.{AreCounted}
 use Rattle.csi_controller.specs.Core.{Parts, IsSound, IsCurrent}
 
 -- what is shown of it
-abbrev pub parts_of : Core → Parts
+abbrev pub parts_of : ControllerCore → Parts
 parts_of core = record { config = core.config; next_id = core.next_id; session = core.session; rows = rows_of core.catalog }
 
 -- the rules of its rows, those of its maps, and those of its counts
-pub record IsSoundCore (core : Core) : Type 0 where
+pub record IsSoundCore (core : ControllerCore) : Type 0 where
   pub sound : IsSound core.next_id (rows_of core.catalog)
   pub current : IsCurrent core.session (rows_of core.catalog)
   pub indexed : IsIndexed core.catalog

@@ -19,9 +19,9 @@ pub record IsFirstRefused (Rules : List ControllerRow → Type 0) (rows : List C
   pub refused : Rules (take place rows) → ⊥
 
 -- why these rows aren't made a record, where a record's keep these rules; an allocation may be refused for any
-abbrev pub IsRefusal : (List ControllerRow → Type 0) → List ControllerRow → RecordFault → Type 0
-IsRefusal Rules rows (BadRow place) = IsFirstRefused Rules rows place
-IsRefusal Rules rows NoMemory = Unit {0}
+abbrev pub IsRecordRefusal : (List ControllerRow → Type 0) → List ControllerRow → RecordFault → Type 0
+IsRecordRefusal Rules rows (BadRow place) = IsFirstRefused Rules rows place
+IsRecordRefusal Rules rows NoMemory = Unit {0}
 
 -- the row is one of this session
 abbrev pub is_current_row : ℕ → ControllerRow → Bool

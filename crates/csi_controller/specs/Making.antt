@@ -11,7 +11,7 @@ use Rattle.csi_controller.specs.declared.row.ControllerRow.{ControllerRow}
 use Rattle.csi_controller.specs.State.{Volume}
 use Rattle.csi_controller.specs.Table.{Outcome, Makes, refused}
 use Rattle.csi_controller.specs.Shown.{volume_of_row}
-use Rattle.csi_controller.specs.declared.controller.core_parts.Core.{Core}
+use Rattle.csi_controller.specs.declared.controller.core_parts.ControllerCore.{ControllerCore}
 use Rattle.csi_controller.specs.Catalog.{rows_of}
 
 -- a volume that was just made
@@ -31,7 +31,7 @@ new_line greatest count next name required limit capabilities =
     else record { reply = ok_reply_with next; change = Makes name (wanted required limit) capabilities }
 
 -- the volume was made in the present session, and stands last
-pub record IsMade (old new : Core) (number : Number) (id : ℕ) (name : List ℕ) (capacity : ℕ) (capabilities : List Capability) : Type 0 where
+pub record IsMade (old new : ControllerCore) (number : Number) (id : ℕ) (name : List ℕ) (capacity : ℕ) (capabilities : List Capability) : Type 0 where
   pub row : ControllerRow
   pub volume : volume_of_row row ≡ made_volume number id name capacity capabilities
   pub items : row.holdings.items ≡ []

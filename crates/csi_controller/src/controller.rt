@@ -32,7 +32,7 @@ use crate::catalog::Catalog;
 use crate::record::ControllerRecord;
 use crate::row::ControllerRow;
 use attached::attachments;
-use core_parts::Core;
+use core_parts::ControllerCore;
 use counts::counted;
 use csi_fence::{Answer, CoreFault};
 use csi_types::{Body, CallRef, Config, Frame, Holding, Name, Number, Party, VolumeId};
@@ -44,7 +44,7 @@ use std::marker::Model;
 /// sees its configuration, its next id, that session and its rows by rising id.
 #[derive(Drop)]
 pub struct Controller {
-    core: Core,
+    core: ControllerCore,
 }
 
 impl Model for Controller {
@@ -77,7 +77,7 @@ impl Controller {
         let catalog = Catalog::new(alloc);
         let counts = counted(config.nodes(), catalog.rows());
         Controller {
-            core: Core {
+            core: ControllerCore {
                 alloc,
                 config,
                 next_id: 1,
@@ -192,7 +192,7 @@ impl Controller {
         config.fit_law();
         let counts = counted(config.nodes(), catalog.rows());
         Ok(Controller {
-            core: Core {
+            core: ControllerCore {
                 alloc,
                 config,
                 next_id,

@@ -47,7 +47,7 @@ impl ControllerRecord {
     ghost use Rattle.csi_controller.specs.Catalog.{rows_of, IsIndexed};
     ghost use Rattle.csi_controller.specs.Core.{IsSound, IsCurrent};
     ghost use Rattle.csi_controller.specs.declared.row.ControllerRow.{ControllerRow as OneRow};
-    ghost use Rattle.csi_controller.specs.Judging.{AreRecorded, IsRefusal};
+    ghost use Rattle.csi_controller.specs.Judging.{AreRecorded, IsRecordRefusal};
     ghost use Rattle.csi_controller.specs.WithoutSession.{stays_in, without_session as kept_without};
     ghost use Rattle.csi_controller.specs.Views.{AreSameRows};
 
@@ -81,7 +81,7 @@ impl ControllerRecord {
         ensures value { IfOk result (λ made. made ≡ record { next_id = next_id; session = session; rows = rows.items }) }
         ensures sound { OnOk result (IsSound next_id rows.items) }
         ensures current { OnOk result (IsCurrent session rows.items) }
-        ensures refused { IfErr result (IsRefusal (AreRecorded next_id session) rows.items) }
+        ensures refused { IfErr result (IsRecordRefusal (AreRecorded next_id session) rows.items) }
         ensures accepted { AreRecorded next_id session rows.items → IfErr result (λ fault. fault ≡ RecordFault.NoMemory) }
         ensures copies { (kept : List OneRow) → AreRecorded next_id session kept → AreSameRows kept rows.items → IfErr result (λ fault. fault ≡ RecordFault.NoMemory) }
     {
@@ -110,7 +110,7 @@ impl ControllerRecord {
         ensures value { IfOk result (λ made. made ≡ kept_without next_id rows.items) }
         ensures sound { OnOk result (IsSound next_id rows.items) }
         ensures current { IfOk result (λ made. IsCurrent made.session made.rows) }
-        ensures refused { IfErr result (IsRefusal (IsSound next_id) rows.items) }
+        ensures refused { IfErr result (IsRecordRefusal (IsSound next_id) rows.items) }
         ensures accepted { IsSound next_id rows.items → IfErr result (λ fault. fault ≡ RecordFault.NoMemory) }
         ensures copies { (kept : List OneRow) → IsSound next_id kept → AreSameRows kept rows.items → IfErr result (λ fault. fault ≡ RecordFault.NoMemory) }
     {

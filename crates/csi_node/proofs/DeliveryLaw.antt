@@ -30,10 +30,10 @@ use Rattle.csi_node.specs.View.{held_on, kept_on, view_of, key_of, IsDeliveredTo
 use Rattle.csi_node.proofs.BegunSessions.{begun-held, begun-kept}
 use Rattle.csi_node.proofs.CarriedOut.{Carried, no_room, has_room, was_carried, kept_of, state_then}
 use Rattle.csi_node.proofs.LastCalls.{keep-own, keep-session, changed-rows, changed-session}
-use Rattle.csi_node.proofs.Moves.{Move, refuses, was_staged, stages, unstages, was_published, publishes, was_unpublished, unpublishes, lifecycle_moves}
+use Rattle.csi_node.proofs.TableOutcomes.{IsOutcome, refuses, was_staged, stages, unstages, was_published, publishes, was_unpublished, unpublishes, lifecycle_outcomes}
 use Rattle.csi_node.proofs.OwnFrames.{for_own}
 use Rattle.csi_node.proofs.SessionsLaw.{AreCurrent}
-use Rattle.csi_node.proofs.ThingMoves.{Effect, EffectAt, effect}
+use Rattle.csi_node.proofs.ThingOutcomes.{Effect, EffectAt, effect}
 use Rattle.csi_node.proofs.ThingRows.{row_id, kept_at, kept_on-at, IsFor, is_for, keep-held, kept_either, kept_none, held_none}
 
 -- ResourceExhausted isn't OK
@@ -45,7 +45,7 @@ no_key : (key : Key) → None ≡ Some key → ⊥
 no_key key h = cc
 
 -- no call of a node's is answered with an id
-reply_id : (state : NodeState) (call : Call) (outcome : Outcome) → Move state call outcome → outcome.reply.id ≡ None
+reply_id : (state : NodeState) (call : Call) (outcome : Outcome) → IsOutcome state call outcome → outcome.reply.id ≡ None
 reply_id state _ _ (refuses call status detail not_ok) = refl
 reply_id state _ _ (was_staged staged is) = refl
 reply_id state _ _ (stages staged none) = refl
@@ -68,7 +68,7 @@ without_id node (calls.ControllerUnpublishVolume id there) key reply is none = a
 
 -- what the table answers to a call has its effect on the call's thing, and none on others
 effect_for : (node : List ℕ) (state : NodeState) (call : Call) (key : Key) → key_of node call ≡ Some key → Effect node state call (lifecycle_row state call) key
-effect_for node state call key is = subst (EffectAt node state call (lifecycle_row state call)) is (effect node state call (lifecycle_row state call) (lifecycle_moves state call))
+effect_for node state call key is = subst (EffectAt node state call (lifecycle_row state call)) is (effect node state call (lifecycle_row state call) (lifecycle_outcomes state call))
 
 -- the thing of a call
 module _ (node : List ℕ) (state : NodeState) (number : Number) (call : Call) (key : Key) (for : IsFor node call key) where
@@ -160,7 +160,7 @@ module _ (node : List ℕ) (state : NodeState) (number : Number) (call : Call) (
           carried-acts state.session key (replied (kind_of call) (lifecycle_row state call).reply) (held_on node state) (held_on node after) (kept_on node state) (kept_on node after) not_over
           (record {
             of_its_kind = refl;
-            with_id = λ ok. without_id node call key (lifecycle_row state call).reply for.is_key (reply_id state call (lifecycle_row state call) (lifecycle_moves state call));
+            with_id = λ ok. without_id node call key (lifecycle_row state call).reply for.is_key (reply_id state call (lifecycle_row state call) (lifecycle_outcomes state call));
             was_fresh = spent_by number is_kept ∙ fresh;
             done = λ ok. held_after key ∙ does.done ok;
             refused = λ not_ok. held_after key ∙ does.refused not_ok;

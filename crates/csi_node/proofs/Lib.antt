@@ -1,10 +1,10 @@
-pub mod Moves
+pub mod TableOutcomes
 pub mod LastCalls
 pub mod CarriedOut
 pub mod BegunSessions
 pub mod SessionsLaw
 pub mod ForgottenRows
-pub mod ThingMoves
+pub mod ThingOutcomes
 pub mod ThingRows
 pub mod DeliveryLaw
 pub mod OutcomeFacts

@@ -13,7 +13,7 @@ use Rattle.csi_types.specs.Same.{same_text, same_flag, same_capability}
 use Rattle.csi_node.specs.State.{NodeState, Answered, StagedVolume, PublishedVolume, staged_of, published_of, published_at, is_published_at, volume_of}
 use Rattle.csi_node.specs.Table.{Outcome, Change, Stays, Stages, Unstages, Publishes, Unpublishes, refused, met, done, begins_with_slash, stage, unstage, publish_at_target, publish, unpublish, lifecycle_row, changed}
 use Rattle.csi_node.specs.Laws.{is_another, IsDone}
-use Rattle.csi_node.proofs.Moves.{Move, at_itself, refuses, was_staged, stages, unstages, was_published, publishes, was_unpublished, unpublishes, lifecycle_moves, stage_call, publish_call}
+use Rattle.csi_node.proofs.TableOutcomes.{IsOutcome, at_itself, refuses, was_staged, stages, unstages, was_published, publishes, was_unpublished, unpublishes, lifecycle_outcomes, stage_call, publish_call}
 use Rattle.csi_lists.proofs.Searches.{find-append_one, find-filter_not}
 use Rattle.csi_lists.proofs.Filters.{filter-append_one, filter-filter, filter-not_none}
 use Rattle.csi_lists.proofs.Options.{none-from_map}
@@ -68,27 +68,27 @@ not_at : (a b : Bool) → not a ≡ true → not (a && b) ≡ true
 not_at true b h = cc
 not_at false b h = refl
 
--- all that `Facts` says is so of each move
-move_facts : (state : NodeState) (call : Call) (outcome : Outcome) → Move state call outcome → Facts state call outcome
+-- all that `Facts` says is so of each outcome
+outcome_facts : (state : NodeState) (call : Call) (outcome : Outcome) → IsOutcome state call outcome → Facts state call outcome
 unfolding IsReady
-move_facts state _ _ (refuses call status detail not_ok) = refused_facts state call status detail not_ok
-move_facts state _ _ (was_staged staged is) = met_facts state (stage_call staged) is
-move_facts state _ _ (stages staged none) =
+outcome_facts state _ _ (refuses call status detail not_ok) = refused_facts state call status detail not_ok
+outcome_facts state _ _ (was_staged staged is) = met_facts state (stage_call staged) is
+outcome_facts state _ _ (stages staged none) =
     let free = none-from_map (λ (s : StagedVolume). s.capability) (find (λ (s : StagedVolume). s.volume == staged.volume) state.staged) none in
     let found = find-append_one (λ (s : StagedVolume). s.volume == staged.volume) state.staged staged (same_id staged.volume) free in
     done_facts state (stage_call staged) (Stages staged) (ap (option_map (λ (s : StagedVolume). s.capability)) found)
     (record { staged = filter-append_one (λ (s : StagedVolume). not (s.volume == staged.volume)) state.staged staged (not_another staged.volume); published = refl })
-move_facts state _ _ (unstages id none) =
+outcome_facts state _ _ (unstages id none) =
     done_facts state (calls.NodeUnstageVolume id) (Unstages id)
     (ap (option_map (λ (s : StagedVolume). s.capability)) (find-filter_not (λ (s : StagedVolume). s.volume == id) state.staged), none)
     (record { staged = filter-filter (λ (s : StagedVolume). not (s.volume == id)) (λ (s : StagedVolume). not (s.volume == id)) state.staged (λ s h. h); published = refl })
-move_facts state _ _ (was_published p slash is) = met_facts state (publish_call p) (is, slash)
-move_facts state _ _ (publishes p fits) =
+outcome_facts state _ _ (was_published p slash is) = met_facts state (publish_call p) (is, slash)
+outcome_facts state _ _ (publishes p fits) =
     done_facts state (publish_call p) (Publishes p)
     (find-append_one (is_published_at p.volume p.target) state.published p (at_itself p) fits.free, fits.slash)
     (record { staged = refl; published = filter-append_one (λ (q : PublishedVolume). not (q.volume == p.volume)) state.published p (not_another p.volume) })
-move_facts state _ _ (was_unpublished id target none) = met_facts state (calls.NodeUnpublishVolume id target) none
-move_facts state _ _ (unpublishes id target there is) =
+outcome_facts state _ _ (was_unpublished id target none) = met_facts state (calls.NodeUnpublishVolume id target) none
+outcome_facts state _ _ (unpublishes id target there is) =
     done_facts state (calls.NodeUnpublishVolume id target) (Unpublishes id target) (find-filter_not (is_published_at id target) state.published)
     (record {
       staged = refl;
@@ -97,7 +97,7 @@ move_facts state _ _ (unpublishes id target there is) =
 
 -- all that `Facts` says is so of what the table answers where there is room
 pub lifecycle_facts : (state : NodeState) (call : Call) → Facts state call (lifecycle_row state call)
-lifecycle_facts state call = move_facts state call (lifecycle_row state call) (lifecycle_moves state call)
+lifecycle_facts state call = outcome_facts state call (lifecycle_row state call) (lifecycle_outcomes state call)
 
 -- what is ready is answered OK, with a change that changes nothing
 pub record IsMet (state : NodeState) (outcome : Outcome) : Type 0 where

@@ -16,7 +16,7 @@ use Rattle.csi_node.specs.Table.{Outcome, Change, Stages, Unstages, Publishes, U
 use Rattle.csi_node.specs.Fenced.{keep, begun, carried_out, node_at, after_frames}
 use Rattle.csi_lists.specs.Members.{IsAmong}
 use Rattle.csi_node.specs.Safe.{AllowTwo, IsPublishedRight}
-use Rattle.csi_node.proofs.Moves.{Fits, Move, refuses, was_staged, stages, unstages, was_published, publishes, was_unpublished, unpublishes, lifecycle_moves}
+use Rattle.csi_node.proofs.TableOutcomes.{Fits, IsOutcome, refuses, was_staged, stages, unstages, was_published, publishes, was_unpublished, unpublishes, lifecycle_outcomes}
 use Rattle.csi_node.proofs.CarriedOut.{Carried, no_room, has_room, was_carried, kept_of}
 use Rattle.csi_lists.proofs.Members.{among-either, among-filter, none_kept}
 use Rattle.csi_lists.proofs.Searches.{find-filter}
@@ -83,15 +83,15 @@ unpublishes_keeps state id target right = record {
 }
 
 -- each outcome of the table keeps what is published right
-move_keeps : (state : NodeState) (call : Call) (outcome : Outcome) → Move state call outcome → Keeps state outcome.change
-move_keeps state _ _ (refuses call status detail not_ok) right = right
-move_keeps state _ _ (was_staged staged is) right = right
-move_keeps state _ _ (stages staged none) right = stages_keeps state staged right
-move_keeps state _ _ (unstages id none) right = unstages_keeps state id none right
-move_keeps state _ _ (was_published p slash is) right = right
-move_keeps state _ _ (publishes p fits) right = publishes_keeps state p fits right
-move_keeps state _ _ (was_unpublished id target none) right = right
-move_keeps state _ _ (unpublishes id target there is) right = unpublishes_keeps state id target right
+outcome_keeps : (state : NodeState) (call : Call) (outcome : Outcome) → IsOutcome state call outcome → Keeps state outcome.change
+outcome_keeps state _ _ (refuses call status detail not_ok) right = right
+outcome_keeps state _ _ (was_staged staged is) right = right
+outcome_keeps state _ _ (stages staged none) right = stages_keeps state staged right
+outcome_keeps state _ _ (unstages id none) right = unstages_keeps state id none right
+outcome_keeps state _ _ (was_published p slash is) right = right
+outcome_keeps state _ _ (publishes p fits) right = publishes_keeps state p fits right
+outcome_keeps state _ _ (was_unpublished id target none) right = right
+outcome_keeps state _ _ (unpublishes id target there is) right = unpublishes_keeps state id target right
 
 -- what is kept touches the rows alone
 keep_keeps : (volume : Option ℕ) (kept : Kept) (state : NodeState) → IsPublishedRight state → IsPublishedRight (keep volume kept state)
@@ -106,7 +106,7 @@ begun_keeps session state right = record { staged = right.staged; targets = righ
 carried_keeps : (node : List ℕ) (state : NodeState) (number : Number) (call : Call) (after : Fenced NodeState) → Carried node state number call after → IsPublishedRight state → IsPublishedRight after.state
 carried_keeps node state number call _ (no_room full) right = right
 carried_keeps node state number call _ (has_room room) right =
-    keep_keeps (volume_of call) (kept_of state number call) (changed state (lifecycle_row state call).change) (move_keeps state call (lifecycle_row state call) (lifecycle_moves state call) right)
+    keep_keeps (volume_of call) (kept_of state number call) (changed state (lifecycle_row state call).change) (outcome_keeps state call (lifecycle_row state call) (lifecycle_outcomes state call) right)
 
 -- so each frame does
 is_kept : (node : List ℕ) → IsKept (node_at node) IsPublishedRight

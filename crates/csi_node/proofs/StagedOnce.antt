@@ -18,7 +18,7 @@ use Rattle.csi_lists.proofs.Members.{passes-filter}
 use Rattle.csi_node.specs.State.{NodeState, StagedVolume, empty_node, staged_of, volume_of}
 use Rattle.csi_node.specs.Table.{Outcome, Stages, Unstages, lifecycle_row, node_row, changed}
 use Rattle.csi_node.specs.Fenced.{keep, carried_out, node_at, after_frames}
-use Rattle.csi_node.proofs.Moves.{Move, refuses, was_staged, stages, unstages, was_published, publishes, was_unpublished, unpublishes, lifecycle_moves}
+use Rattle.csi_node.proofs.TableOutcomes.{IsOutcome, refuses, was_staged, stages, unstages, was_published, publishes, was_unpublished, unpublishes, lifecycle_outcomes}
 use Rattle.csi_node.proofs.CarriedOut.{Carried, no_room, has_room, was_carried, kept_of}
 
 -- each staged volume is found as it is staged
@@ -61,15 +61,15 @@ unstages-found state id found staged among =
     left s same = ap (λ n. not (n == id)) (eqb-true s.volume staged.volume same) ∙ stays
 
 -- each outcome of the table leaves each staged volume found as it is staged
-move-found : (state : NodeState) (call : Call) (outcome : Outcome) → Move state call outcome → AreFound state → AreFound (changed state outcome.change)
-move-found state _ _ (refuses call status detail not_ok) found = found
-move-found state _ _ (was_staged staged is) found = found
-move-found state _ _ (stages staged none) found = stages-found state staged none found
-move-found state _ _ (unstages id none) found = unstages-found state id found
-move-found state _ _ (was_published p slash is) found = found
-move-found state _ _ (publishes p fits) found = found
-move-found state _ _ (was_unpublished id target none) found = found
-move-found state _ _ (unpublishes id target there is) found = found
+outcome-found : (state : NodeState) (call : Call) (outcome : Outcome) → IsOutcome state call outcome → AreFound state → AreFound (changed state outcome.change)
+outcome-found state _ _ (refuses call status detail not_ok) found = found
+outcome-found state _ _ (was_staged staged is) found = found
+outcome-found state _ _ (stages staged none) found = stages-found state staged none found
+outcome-found state _ _ (unstages id none) found = unstages-found state id found
+outcome-found state _ _ (was_published p slash is) found = found
+outcome-found state _ _ (publishes p fits) found = found
+outcome-found state _ _ (was_unpublished id target none) found = found
+outcome-found state _ _ (unpublishes id target there is) found = found
 
 -- what is kept touches the rows alone
 keep-found : (volume : Option ℕ) (kept : Kept) (state : NodeState) → AreFound state → AreFound (keep volume kept state)
@@ -80,7 +80,7 @@ keep-found (Some id) kept state found = found
 carried-found : (node : List ℕ) (state : NodeState) (number : Number) (call : Call) (after : Fenced NodeState) → Carried node state number call after → AreFound state → AreFound after.state
 carried-found node state number call _ (no_room full) found = found
 carried-found node state number call _ (has_room room) found =
-    keep-found (volume_of call) (kept_of state number call) (changed state (lifecycle_row state call).change) (move-found state call (lifecycle_row state call) (lifecycle_moves state call) found)
+    keep-found (volume_of call) (kept_of state number call) (changed state (lifecycle_row state call).change) (outcome-found state call (lifecycle_row state call) (lifecycle_outcomes state call) found)
 
 -- so does each frame; a session that begins touches the rows alone
 is_kept : (node : List ℕ) → IsKept (node_at node) AreFound

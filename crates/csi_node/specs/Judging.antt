@@ -20,9 +20,9 @@ pub record IsFirstRefused (session : Option ℕ) (rows : List NodeRow) (place : 
   pub refused : KeepRules session (parts (take place rows)) → ⊥
 
 -- why these rows aren't made a record; no memory is asked for
-abbrev pub IsRefusal : Option ℕ → List NodeRow → RecordFault → Type 0
-IsRefusal session rows (BadRow place) = IsFirstRefused session rows place
-IsRefusal session rows NoMemory = ⊥
+abbrev pub IsRecordRefusal : Option ℕ → List NodeRow → RecordFault → Type 0
+IsRecordRefusal session rows (BadRow place) = IsFirstRefused session rows place
+IsRecordRefusal session rows NoMemory = ⊥
 
 -- the row's last call is of a session that a record may have there
 abbrev pub is_current : Option ℕ → RowShown → Bool

@@ -42,7 +42,7 @@ impl NodeRecord {
     ghost use Rattle.csi_types.specs.Call.{kind_of, is_node_kind};
     ghost use Rattle.csi_types.specs.Lent.{lent_call};
     ghost use Rattle.csi_node.specs.Changes.{row_by_id};
-    ghost use Rattle.csi_node.specs.Judging.{IsRefusal};
+    ghost use Rattle.csi_node.specs.Judging.{IsRecordRefusal};
     ghost use Rattle.csi_node.specs.Record.{parts, IsSound, IsCurrent};
     ghost use Rattle.csi_node.specs.Shown.{row_in};
     ghost use Rattle.csi_node.specs.OneRow.{shown, IsSoundRow, IsNodeAnswer};
@@ -59,7 +59,7 @@ impl NodeRecord {
         ensures value { IfOk result (λ made. made ≡ record { id = id; session = session; rows = rows.items }) }
         ensures rules { OnOk result (IsSound (parts rows.items)) }
         ensures current { OnOk result (IsCurrent session (parts rows.items)) }
-        ensures refused { IfErr result (IsRefusal (Some session) rows.items) }
+        ensures refused { IfErr result (IsRecordRefusal (Some session) rows.items) }
         ensures accepted { IsSound (parts rows.items) → IsCurrent session (parts rows.items) → IsOk result }
     {
         match first_refused(Some(session), rows.as_slice()) {
@@ -76,7 +76,7 @@ impl NodeRecord {
         ensures value { IfOk result (λ made. made ≡ kept_without_session id rows.items) }
         ensures rules { OnOk result (IsSound (parts rows.items)) }
         ensures current { IfOk result (λ made. IsCurrent made.session (parts made.rows)) }
-        ensures refused { IfErr result (IsRefusal None rows.items) }
+        ensures refused { IfErr result (IsRecordRefusal None rows.items) }
         ensures accepted { IsSound (parts rows.items) → IsOk result }
     {
         match first_refused(None, rows.as_slice()) {

@@ -17,11 +17,11 @@ use Rattle.csi_types.specs.Same.{same_text}
 use Rattle.csi_types.proofs.Equality.{same_text-tells}
 use Rattle.csi_orchestrator.specs.declared.fault.Heard.TheVariants.{Ignored}
 use Rattle.csi_orchestrator.specs.declared.fault.OrchFault.{OrchFault}
-use Rattle.csi_orchestrator.specs.declared.state.Core.{Core}
+use Rattle.csi_orchestrator.specs.declared.state.OrchestratorCore.{OrchestratorCore}
 use Rattle.csi_orchestrator.specs.declared.row.Row.{Row}
 use Rattle.csi_orchestrator.specs.declared.step.Step.{Step}
 use Rattle.csi_orchestrator.specs.Catalog.{rows_of}
-use Rattle.csi_orchestrator.specs.Core.{parts_of}
+use Rattle.csi_orchestrator.specs.CoreParts.{parts_of}
 use Rattle.csi_orchestrator.specs.Hearing.{Fits}
 use Rattle.csi_orchestrator.specs.Moves.{Input, Comes, Answer, Hears, hears}
 use Rattle.csi_orchestrator.specs.Shown.{RowShown, Parts, row_shown, row_of, open_in_row}
@@ -54,14 +54,14 @@ received : (parts : Parts) (frame : Frame) (number : Number) (party : Party) (bo
 received parts frame number party body numbers parties is = cc
 
 -- the row at this index takes a step where the frame comes, and what is told of the frame is what is told by the step
-pub record IsDelivered (core : Core) (frame : Frame) (index : ℕ) (step : Step) : Type 0 where
+pub record IsDelivered (core : OrchestratorCore) (frame : Frame) (index : ℕ) (step : Step) : Type 0 where
   pub name : List ℕ
   pub named : position (λ (r : Row). same_text r.name name) (rows_of core.catalog) ≡ Some index
   pub fits : (row : Row) → slice_get (rows_of core.catalog) index ≡ Some row → Fits step (row_shown row)
   pub told : row_moves (parts_of core) (Comes frame) ≡ steps_at (parts_of core) hears step (row_of (map row_shown (rows_of core.catalog)) name)
 
 -- so it is with a reply to the open call of the row
-pub delivered : (core : Core) (frame : Frame) (number : Number) (party : Party) (kind : Kind) (reply : Reply) (index : ℕ) (step : Step) → number ≡ frame.number → party ≡ frame.party
+pub delivered : (core : OrchestratorCore) (frame : Frame) (number : Number) (party : Party) (kind : Kind) (reply : Reply) (index : ℕ) (step : Step) → number ≡ frame.number → party ≡ frame.party
     → frame.body ≡ bodies.Reply kind reply → IsSound (map row_shown (rows_of core.catalog))
     → position (λ (row : Row). is_issued_as number party kind (open_in_row (row_shown row))) (rows_of core.catalog) ≡ Some index → step ≡ step_heard kind reply → IsDelivered core frame index step
 delivered core frame number party kind reply index step numbers parties body kept at is =
@@ -84,7 +84,7 @@ delivered core frame number party kind reply index step numbers parties body kep
     }
 
 -- a reply to no row's open call
-pub undelivered : (core : Core) (frame : Frame) (number : Number) (party : Party) (kind : Kind) (reply : Reply) → number ≡ frame.number → party ≡ frame.party → frame.body ≡ bodies.Reply kind reply
+pub undelivered : (core : OrchestratorCore) (frame : Frame) (number : Number) (party : Party) (kind : Kind) (reply : Reply) → number ≡ frame.number → party ≡ frame.party → frame.body ≡ bodies.Reply kind reply
     → position (λ (row : Row). is_issued_as number party kind (open_in_row (row_shown row))) (rows_of core.catalog) ≡ None → row_moves (parts_of core) (Comes frame) ≡ moved_rows (parts_of core) (Hears Ignored)
 undelivered core frame number party kind reply numbers parties body none =
     received (parts_of core) frame number party (bodies.Reply kind reply) numbers parties body

@@ -12,9 +12,9 @@ use Rattle.csi_orchestrator.specs.Moves.{Restarts, Restarted}
 use Rattle.csi_orchestrator.specs.Agrees.{Agrees}
 use Rattle.csi_orchestrator.specs.Following.{after_started}
 use Rattle.csi_orchestrator.specs.Shown.{RowShown, Parts, row_of, mark_in, mark_of, goal_in, held_in, open_in_row, tries_in, closed, without_call, row_shown, view_of, Shows, in_session}
-use Rattle.csi_orchestrator.specs.declared.state.Core.{Core}
+use Rattle.csi_orchestrator.specs.declared.state.OrchestratorCore.{OrchestratorCore}
 use Rattle.csi_orchestrator.specs.Catalog.{rows_of}
-use Rattle.csi_orchestrator.specs.Core.{parts_of}
+use Rattle.csi_orchestrator.specs.CoreParts.{parts_of}
 use Rattle.csi_orchestrator.specs.RowMoves.{MovedRows, moved_rows, row_moves, IsRefusal, IsMoveOf}
 use Rattle.csi_orchestrator.proofs.ClosedRows.{shown-closed}
 use Rattle.csi_orchestrator.proofs.RowsAfterSending.{goals-same, mark-same}
@@ -51,18 +51,18 @@ same-parts : (a b : Parts) → a.nodes ≡ b.nodes → a.last ≡ b.last → a.r
 same-parts a b nodes last rows = λ i. record { nodes = nodes i; last = last i; rows = rows i }
 
 -- the parts that a restart leaves
-abbrev pub IsRestarted : Core → Core → Type 0
+abbrev pub IsRestarted : OrchestratorCore → OrchestratorCore → Type 0
 IsRestarted old new =
     IsTrue (nat_lt (old.last.session + 1) (2 ^ 64)) × (new.last ≡ record { session = old.last.session + 1; call = 0 }) × (rows_of new.catalog ≡ map without_call (rows_of old.catalog)) × (new.nodes.items ≡ old.nodes.items)
 
 -- such a change is the restart that the rows tell
-restarted : (old new : Core) → IsRestarted old new → row_moves (parts_of old) Restarts ≡ Ok (let t : MovedRows = record { answer = Restarted; parts = parts_of new } in t)
+restarted : (old new : OrchestratorCore) → IsRestarted old new → row_moves (parts_of old) Restarts ≡ Ok (let t : MovedRows = record { answer = Restarted; parts = parts_of new } in t)
 restarted old new facts =
     let is : parts_of new ≡ in_session (old.last.session + 1) (parts_of old) = same-parts (parts_of new) (in_session (old.last.session + 1) (parts_of old)) facts.3 facts.1 (ap (map row_shown) facts.2 ∙ shown-closed (rows_of old.catalog)) in
     ap (λ b. cond b (moved_rows (in_session (old.last.session + 1) (parts_of old)) Restarted) (Err faults.NumbersSpent)) facts.0 ∙ ap (λ (p : Parts). moved_rows p Restarted) (sym is)
 
 -- where no session is left the rows refuse it
-spent : (old : Core) (fault : OrchFault) → fault ≡ faults.NumbersSpent → IsTrue (not (nat_lt (old.last.session + 1) (2 ^ 64))) → IsRefusal (row_moves (parts_of old) Restarts) fault
+spent : (old : OrchestratorCore) (fault : OrchFault) → fault ≡ faults.NumbersSpent → IsTrue (not (nat_lt (old.last.session + 1) (2 ^ 64))) → IsRefusal (row_moves (parts_of old) Restarts) fault
 spent old fault is none = subst (λ (r : Result MovedRows OrchFault). IsRefusal r fault) (sym (by (nat_lt (old.last.session + 1) (2 ^ 64)) none)) is
   where
     by : (b : Bool) → not b ≡ true → cond b (moved_rows (in_session (old.last.session + 1) (parts_of old)) Restarted) (Err faults.NumbersSpent) ≡ Err faults.NumbersSpent
@@ -70,13 +70,13 @@ spent old fault is none = subst (λ (r : Result MovedRows OrchFault). IsRefusal 
     by false e = refl
 
 -- so is the call's result
-pub restart-told : {R : Type 0} (result : Result R OrchFault) (old new : Core) → OnOk result (IsRestarted old new) → IfErr result (λ fault. (fault ≡ faults.NumbersSpent) × IsTrue (not (nat_lt (old.last.session + 1) (2 ^ 64))))
+pub restart-told : {R : Type 0} (result : Result R OrchFault) (old new : OrchestratorCore) → OnOk result (IsRestarted old new) → IfErr result (λ fault. (fault ≡ faults.NumbersSpent) × IsTrue (not (nat_lt (old.last.session + 1) (2 ^ 64))))
     → OnErr result (parts_of new ≡ parts_of old) → IsMoveOf (parts_of old) (parts_of new) Restarts (λ r. Restarted) result
 restart-told (Ok r) old new facts refused stays = record { ok = restarted old new facts; err = tt; stays = tt }
 restart-told (Err fault) old new facts refused stays = record { ok = tt; err = spent old fault refused.0 refused.1; stays = stays }
 
 -- and nothing else refuses it
-pub only-spent : {R : Type 0} (result : Result R OrchFault) (old : Core) → IfErr result (λ fault. (fault ≡ faults.NumbersSpent) × IsTrue (not (nat_lt (old.last.session + 1) (2 ^ 64))))
+pub only-spent : {R : Type 0} (result : Result R OrchFault) (old : OrchestratorCore) → IfErr result (λ fault. (fault ≡ faults.NumbersSpent) × IsTrue (not (nat_lt (old.last.session + 1) (2 ^ 64))))
     → IfErr result (λ fault. fault ≡ faults.NumbersSpent)
 only-spent (Ok r) old facts = tt
 only-spent (Err fault) old facts = facts.0

@@ -10,13 +10,13 @@ use Rattle.csi_types.specs.declared.number.Number.{Number}
 use Rattle.csi_types.specs.Frame.{Frame}
 use Rattle.csi_types.specs.Same.{same_text}
 use Rattle.csi_orchestrator.specs.declared.fault.OrchFault.{OrchFault}
-use Rattle.csi_orchestrator.specs.declared.state.Core.{Core}
+use Rattle.csi_orchestrator.specs.declared.state.OrchestratorCore.{OrchestratorCore}
 use Rattle.csi_orchestrator.specs.declared.row.Row.{Row}
 use Rattle.csi_orchestrator.specs.declared.sending.Outgoing.{Outgoing}
 use Rattle.csi_orchestrator.specs.declared.step.Step.{Step}
 use Rattle.csi_orchestrator.specs.declared.step.Step.TheVariants as steps
 use Rattle.csi_orchestrator.specs.Catalog.{rows_of}
-use Rattle.csi_orchestrator.specs.Core.{parts_of}
+use Rattle.csi_orchestrator.specs.CoreParts.{parts_of}
 use Rattle.csi_orchestrator.specs.History.{Arguments}
 use Rattle.csi_orchestrator.specs.Moves.{Input, Answer, Sends}
 use Rattle.csi_orchestrator.specs.RowChanges.{new_row}
@@ -45,13 +45,13 @@ pub shown-there : (rows : List Row) (name : List ℕ) (i : ℕ) (r : Row) → po
 shown-there rows name i r at stands = find-place row_shown (λ (row : RowShown). same_text row.name name) rows i r at (read-at rows i r stands)
 
 -- a step is told by the row that stands there
-stepped-there : (core : Core) (answer : Option Frame → Answer) (step : Step) (name : List ℕ) (i : ℕ) (r : Row) → position (λ (row : Row). same_text row.name name) (rows_of core.catalog) ≡ Some i
+stepped-there : (core : OrchestratorCore) (answer : Option Frame → Answer) (step : Step) (name : List ℕ) (i : ℕ) (r : Row) → position (λ (row : Row). same_text row.name name) (rows_of core.catalog) ≡ Some i
     → slice_get (rows_of core.catalog) i ≡ Some r
     → steps_at (parts_of core) answer step (row_of (map row_shown (rows_of core.catalog)) name) ≡ placed (parts_of core) answer (row_step core.nodes.items core.last step (row_shown r))
 stepped-there core answer step name i r at stands = ap (steps_at (parts_of core) answer step) (shown-there (rows_of core.catalog) name i r at stands)
 
 -- where the row refuses it, it is refused
-pub step-refused : (core : Core) (answer : Option Frame → Answer) (step : Step) (name : List ℕ) (i : ℕ) (r : Row) (fault : OrchFault) → slice_get (rows_of core.catalog) i ≡ Some r
+pub step-refused : (core : OrchestratorCore) (answer : Option Frame → Answer) (step : Step) (name : List ℕ) (i : ℕ) (r : Row) (fault : OrchFault) → slice_get (rows_of core.catalog) i ≡ Some r
     → IsRefusal (row_step core.nodes.items core.last step (row_shown r)) fault → position (λ (row : Row). same_text row.name name) (rows_of core.catalog) ≡ Some i
     → IsRefusal (steps_at (parts_of core) answer step (row_of (map row_shown (rows_of core.catalog)) name)) fault
 step-refused core answer step name i r fault stands refused at =
@@ -62,7 +62,7 @@ step-refused core answer step name i r fault stands refused at =
     by (Err other) is = is
 
 -- where it is told that nothing is sent, the row sends nothing
-pub step-quiet : (core : Core) (answer : Option Frame → Answer) (step : Step) (name : List ℕ) (i : ℕ) (r : Row) → slice_get (rows_of core.catalog) i ≡ Some r
+pub step-quiet : (core : OrchestratorCore) (answer : Option Frame → Answer) (step : Step) (name : List ℕ) (i : ℕ) (r : Row) → slice_get (rows_of core.catalog) i ≡ Some r
     → position (λ (row : Row). same_text row.name name) (rows_of core.catalog) ≡ Some i
     → ((frame : Frame) → answer (Some frame) ≡ answer None → ⊥) → RowsAnswer (answer None) (steps_at (parts_of core) answer step (row_of (map row_shown (rows_of core.catalog)) name))
     → SendsNothing (row_step core.nodes.items core.last step (row_shown r))
@@ -78,7 +78,7 @@ step-quiet core answer step name i r stands at apart told =
     by (Err fault) is = is
 
 -- where the row takes it, its frame is answered, and the row is shown in its place
-pub step-told : (core : Core) (answer : Option Frame → Answer) (step : Step) (name : List ℕ) (i : ℕ) (r s : Row) (next : Option Outgoing) (sends : Option Frame) (after : Parts)
+pub step-told : (core : OrchestratorCore) (answer : Option Frame → Answer) (step : Step) (name : List ℕ) (i : ℕ) (r s : Row) (next : Option Outgoing) (sends : Option Frame) (after : Parts)
     → slice_get (rows_of core.catalog) i ≡ Some r
     → row_step core.nodes.items core.last step (row_shown r) ≡ Ok (record { outgoing = next; row = row_shown s }) → sends ≡ frame_in next
     → after ≡ record { nodes = core.nodes.items; last = last_after core.last next; rows = map row_shown (rows_of (catalog_with core.catalog i s)) }
@@ -94,7 +94,7 @@ step-told core answer step name i r s next sends after stands is frame then at =
     ∙ ap (λ p. moved_rows p (answer (frame_in next))) (sym (then ∙ parts-set core.nodes.items (last_after core.last next) core.catalog i s)) ∙ ap (λ f. moved_rows after (answer f)) (sym frame)
 
 -- a refusal leaves what is shown
-pub rows-stay : (core : Core) (i : ℕ) (r s : Row) → slice_get (rows_of core.catalog) i ≡ Some r → row_shown s ≡ row_shown r
+pub rows-stay : (core : OrchestratorCore) (i : ℕ) (r s : Row) → slice_get (rows_of core.catalog) i ≡ Some r → row_shown s ≡ row_shown r
     → (let then : Parts = record { nodes = core.nodes.items; last = core.last; rows = map row_shown (rows_of (catalog_with core.catalog i s)) } in then) ≡ parts_of core
 rows-stay core i r s stands same =
     parts-set core.nodes.items core.last core.catalog i s
@@ -112,7 +112,7 @@ asked parts name (steps.Succeed kind id) input is = absurd (none-some input is)
 asked parts name steps.Fail input is = absurd (none-some input is)
 
 -- what another create of a name is told by
-pub create-asked : (core : Core) (name : List ℕ) (arguments : Arguments) (i : ℕ) → position (λ (row : Row). same_text row.name name) (rows_of core.catalog) ≡ Some i
+pub create-asked : (core : OrchestratorCore) (name : List ℕ) (arguments : Arguments) (i : ℕ) → position (λ (row : Row). same_text row.name name) (rows_of core.catalog) ≡ Some i
     → steps_at (parts_of core) Sends (steps.Create arguments) (row_of (map row_shown (rows_of core.catalog)) name) ≡ creates (parts_of core) name arguments
     (row_of (map row_shown (rows_of core.catalog)) name)
 create-asked core name arguments i at =

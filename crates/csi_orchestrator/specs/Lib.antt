@@ -19,7 +19,7 @@ pub mod Steps
 pub mod Listing
 pub mod Promises
 pub mod Catalog
-pub mod Core
+pub mod CoreParts
 pub mod Found
 pub mod Hearing
 pub mod Laws

@@ -4,7 +4,7 @@ ghost use Rattle.indexmap.specs.IndexMap.{index_map_len};
 ghost use Rattle.csi_types.specs.Frame.{Frame as FrameShown};
 ghost use Rattle.csi_types.specs.Same.{same_text};
 ghost use Rattle.csi_orchestrator.specs.Catalog.{rows_of, IsReady, AreUpTo, call_in, IsAfter};
-ghost use Rattle.csi_orchestrator.specs.Core.{parts_of, IsFiled};
+ghost use Rattle.csi_orchestrator.specs.CoreParts.{parts_of, IsFiled};
 ghost use Rattle.csi_orchestrator.specs.Hearing.{Fits};
 ghost use Rattle.csi_orchestrator.specs.Moves.{Input, ToCreate, Answer, Sends};
 ghost use Rattle.csi_orchestrator.specs.RowMoves.{frame_in, last_after, steps_at, creates, row_moves, asked_by, IsRefusal, RowsAnswer, IsMoveOf};
@@ -17,11 +17,11 @@ use crate::refusals::first_fault;
 use crate::request::Arguments;
 use crate::row::Row;
 use crate::sending::{Outgoing, note_sent_or_drop, outgoing_for};
-use crate::state::Core;
+use crate::state::OrchestratorCore;
 use crate::step::{Step, take};
 use csi_types::{Frame, Name};
 
-impl Core {
+impl OrchestratorCore {
     // Makes the number of the call that is sent the last one, notes it for the row at this index, and gives its frame.
     fn issue(&mut self, index: usize, next: Option<Outgoing>) -> Option<Frame>
         requires ready { IsReady self.old.catalog index (call_in next) }

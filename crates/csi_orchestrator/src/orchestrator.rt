@@ -9,7 +9,7 @@ use crate::catalog::Catalog;
 use crate::fault::{Heard, OrchFault};
 use crate::listing::things_in;
 use crate::request::{Arguments, Usage};
-use crate::state::{Core, known_in};
+use crate::state::{OrchestratorCore, known_in};
 use crate::step::Step;
 use crate::thing::{Known, Thing};
 use csi_types::{Capability, CapabilityList, Frame, Name, NodeId, Number, Target};
@@ -21,12 +21,12 @@ use std::marker::Model;
 /// what they show agrees.
 #[derive(Drop)]
 pub struct Orchestrator {
-    core: Core,
+    core: OrchestratorCore,
 }
 
 impl Model for Orchestrator {
     ghost use Rattle.csi_orchestrator.specs.Shown.{Parts};
-    ghost use Rattle.csi_orchestrator.specs.Core.{parts_of, IsFiled};
+    ghost use Rattle.csi_orchestrator.specs.CoreParts.{parts_of, IsFiled};
     ghost use Rattle.csi_orchestrator.specs.Sound.{IsKept};
 
     ghost Value = { Parts };
@@ -76,7 +76,7 @@ impl Orchestrator {
         ensures agrees { Shows result (history_after last) }
     {
         Orchestrator {
-            core: Core {
+            core: OrchestratorCore {
                 alloc,
                 nodes,
                 last,

@@ -8,13 +8,13 @@ ghost use Rattle.csi_orchestrator.specs.Shown.{row_shown, open_in_row};
 ghost use Rattle.csi_orchestrator.specs.RowMoves.{is_issued_as, row_moves, step_heard, RowsAnswer, IsMoveOf};
 ghost use Rattle.csi_orchestrator.specs.Sound.{IsSound};
 ghost use Rattle.csi_orchestrator.specs.Catalog.{rows_of, IsIndexed};
-ghost use Rattle.csi_orchestrator.specs.Core.{parts_of, IsFiled};
+ghost use Rattle.csi_orchestrator.specs.CoreParts.{parts_of, IsFiled};
 
 use crate::catalog::Catalog;
 use crate::fault::{Heard, OrchFault};
 use crate::next_call::due_now;
 use crate::row::Row;
-use crate::state::Core;
+use crate::state::OrchestratorCore;
 use crate::step::Step;
 use csi_types::{Body, Frame, Kind, Number, Party, Reply, Status};
 
@@ -75,7 +75,7 @@ fn step_of(kind: Kind, reply: &Reply) -> Step
     }
 }
 
-impl Core {
+impl OrchestratorCore {
     /// What becomes of a frame: the reply to an open call tells what the call did, and the next call is
     /// sent; where none is sent it takes no memory. Whatever else comes is ignored, which takes none. An
     /// `Err` changes nothing, so that the frame can be delivered again.

@@ -5,7 +5,7 @@ ghost use Rattle.csi_orchestrator.specs.declared.fault.OrchFault.{OrchFault as F
 ghost use Rattle.csi_orchestrator.specs.Thing.{name_in};
 ghost use Rattle.csi_orchestrator.specs.Shown.{row_shown, node_entry_shown, row_of, node_entry_of, target_entry_of, mark_in, mark_of, published_in, without_call};
 ghost use Rattle.csi_orchestrator.specs.Catalog.{rows_of, IsIndexed};
-ghost use Rattle.csi_orchestrator.specs.Core.{parts_of, IsFiled};
+ghost use Rattle.csi_orchestrator.specs.CoreParts.{parts_of, IsFiled};
 
 use crate::catalog::Catalog;
 use crate::entries::{node_index, target_index};
@@ -17,7 +17,7 @@ use std::alloc::Global;
 
 /// An orchestrator's parts.
 #[derive(Drop)]
-pub(crate) struct Core {
+pub(crate) struct OrchestratorCore {
     pub alloc: Global,
     pub nodes: Vec<NodeId>,
     /// The number of the last call, or of call 0 of a session without one.
@@ -87,7 +87,7 @@ pub(crate) fn known_in(catalog: &Catalog, thing: &Thing) -> Known
     }
 }
 
-impl Core {
+impl OrchestratorCore {
     /// Starts the next session, or changes nothing where there is none.
     pub fn restart(&mut self) -> Result<(), OrchFault>
         requires { IsFiled self.old }

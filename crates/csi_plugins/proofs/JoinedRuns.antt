@@ -20,7 +20,7 @@ use Rattle.csi_serving.specs.declared.serving.fault.Served.{Served}
 use Rattle.csi_serving.specs.declared.serving.fault.ServeFault.{ServeFault}
 use Rattle.csi_serving.specs.declared.serving.fault.ServeFaultKind.{ServeFaultKind}
 use Rattle.csi_serving.specs.declared.serving.fault.ServeFaultKind.TheVariants as kinds
-use Rattle.csi_serving.specs.Serving.{Runs as FrameRuns, Serves, output_of}
+use Rattle.csi_serving.specs.Serving.{AnswersEach, Serves, output_of}
 use Rattle.csi_service.specs.Opening.{Records, OpensTo}
 use Rattle.csi_endings.specs.declared.ending.Ending.TheVariants.{Done}
 use Rattle.csi_plugins.specs.Ending.{ending_of_store, ending_of_kind, ending_of_serving}
@@ -73,7 +73,7 @@ both-streams a b fs gs one two = record {
 module _ {C : Type 0} (IsAsked : C → Type 0) (answers : C → Frame → Option Frame → C → Type 0) (parts_of : C → List StoredPart) where
   -- a run by one core is such a run
   again-of : ((old new : C) (frame : Frame) (reply : Option Frame) → answers old frame reply new → IsAsked old → IsAsked new)
-      → (core : C) (frames : List Frame) (replies : List (Option Frame)) (now : C) → IsAsked core → FrameRuns answers core frames replies now → RunsAgain IsAsked answers parts_of core frames replies now
+      → (core : C) (frames : List Frame) (replies : List (Option Frame)) (now : C) → IsAsked core → AnswersEach answers core frames replies now → RunsAgain IsAsked answers parts_of core frames replies now
   again-of keeps core [] [] now asked is = ap parts_of is
   again-of keeps core [] (r ∷ rs) now asked is = absurd is
   again-of keeps core (f ∷ fs) [] now asked is = absurd is
@@ -158,7 +158,7 @@ module _ {X C K : Type 0} (seen : K → Store) (records : Records X) (IsAsked : 
         stream = subst (λ (rest : List ℕ). FramesOf o.served.bytes s.frames rest) s.ends.1 s.stream;
         replies = s.replies;
         now = s.now;
-        runs = again-of IsAsked answers parts_of keeps o.core s.frames s.replies s.now o.asked (subst (λ (fs : List Frame). FrameRuns answers o.core fs s.replies s.now) all s.runs);
+        runs = again-of IsAsked answers parts_of keeps o.core s.frames s.replies s.now o.asked (subst (λ (fs : List Frame). AnswersEach answers o.core fs s.replies s.now) all s.runs);
         kept = s.ends.4.kept honest only_opened;
         written = s.ends.4.written;
       }

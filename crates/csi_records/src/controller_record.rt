@@ -1,6 +1,6 @@
 //! A controller's record and its parts.
 ghost use Rattle.std.specs.Prelude.{◌≡◌, Some, map, IfOk, IfErr, OnOk};
-ghost use Rattle.csi_controller.specs.Judging.{IsRefusal};
+ghost use Rattle.csi_controller.specs.Judging.{IsRecordRefusal};
 ghost use Rattle.csi_stores.specs.Part.{StoredPart, all_stored_in, change_of, put_all};
 ghost use Rattle.csi_records.specs.Spelling.{present, controller_parts, volume_row};
 ghost use Rattle.csi_records.specs.Records.{controller_layout, controller_of, AreControllerRows, AreParts, IsControllerOf, IsRecordOf};
@@ -25,7 +25,7 @@ fn record_of(
 ) -> Result<ControllerRecord, RecordFault>
     ensures made { IfOk result (λ made. made ≡ controller_of head.next_id head.session rows.items) }
     ensures rules { OnOk result (AreControllerRows head.next_id head.session rows.items) }
-    ensures refused { IfErr result (IsRefusal (AreControllerRows head.next_id head.session) rows.items) }
+    ensures refused { IfErr result (IsRecordRefusal (AreControllerRows head.next_id head.session) rows.items) }
 {
     match head.session {
         Some(session) => ControllerRecord::try_new(alloc, head.next_id, rows, session),

@@ -1,7 +1,7 @@
 //! A node's record and its parts.
 ghost use Rattle.std.specs.Prelude.{◌≡◌, ◌↔◌, Some, None, map, IfOk, IfErr, IfSome, IsTrue, OnOk};
 ghost use Rattle.std.specs.Option.{option_copied};
-ghost use Rattle.csi_node.specs.Judging.{IsRefusal, KeepRules};
+ghost use Rattle.csi_node.specs.Judging.{IsRecordRefusal, KeepRules};
 ghost use Rattle.csi_node.specs.OneRow.{shown};
 ghost use Rattle.csi_node.specs.Record.{parts as rows_shown};
 ghost use Rattle.csi_stores.specs.Part.{all_stored_in, change_of, put_all};
@@ -34,7 +34,7 @@ fn is_wanted(wanted: Option<&NodeId>, node: &NodeId) -> bool
 fn record_of(head: NodeHead, rows: Vec<NodeRow>) -> Result<NodeRecord, RecordFault>
     ensures made { IfOk result (λ made. made ≡ node_of head.id head.session rows.items) }
     ensures rules { OnOk result (KeepRules head.session (rows_shown rows.items)) }
-    ensures refused { IfErr result (IsRefusal head.session rows.items) }
+    ensures refused { IfErr result (IsRecordRefusal head.session rows.items) }
 {
     match head.session {
         Some(session) => NodeRecord::try_new(head.id, rows, session),

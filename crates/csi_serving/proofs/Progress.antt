@@ -16,13 +16,13 @@ use Rattle.csi_frames.specs.Cutting.{Splits, begins, feeds, asks}
 use Rattle.csi_frames.proofs.Bytes.{AreBytes-drop}
 use Rattle.csi_serving.specs.declared.serving.fault.Served.{Served}
 use Rattle.csi_stores.specs.Part.{StoredPart}
-use Rattle.csi_stores.specs.Stores.{Store, Follows, Rests}
-use Rattle.csi_serving.specs.Serving.{Setting, Runs, reply_bytes, output_of, reply_count}
+use Rattle.csi_stores.specs.Stores.{Store, Follows, LeavesOnly}
+use Rattle.csi_serving.specs.Serving.{Setting, AnswersEach, reply_bytes, output_of, reply_count}
 use Rattle.csi_serving.specs.Reading.{IsPiece, ReadsPiece}
 use Rattle.csi_serving.specs.Stopping.{AnswersNext, one_more_served}
-use Rattle.csi_serving.proofs.StoreCalls.{follows-same, follows-more, rests-same, rests-more}
+use Rattle.csi_serving.proofs.StoreCalls.{follows-same, follows-more, only-same, only-more}
 use Rattle.std.proofs.KnownBytes.{Appends-nil, Appends-trans}
-use Rattle.csi_serving.proofs.GrowingRuns.{runs-push, runs-length, count-push}
+use Rattle.csi_serving.proofs.GrowingAnswers.{answers-push, answers-length, count-push}
 use Rattle.csi_serving.proofs.StreamFrames.{AreBytes-append, spelling-not-empty, frames_few}
 
 -- what serving is judged by
@@ -54,8 +54,8 @@ pub record Progress {C : Type 0} (answers : C → Frame → Option Frame → C �
   pub few : length stream < 2 ^ 63 + 4096
   pub counted : served.frames ≡ length done
   pub replied : served.replies ≡ reply_count replies
-  pub runs : Runs answers core done replies now
-  pub kept : Rests before after (parts_of core) (parts_of now)
+  pub runs : AnswersEach answers core done replies now
+  pub kept : LeavesOnly before after (parts_of core) (parts_of now)
   pub written : Appends out_before out_after (output_of replies)
   pub follows : Follows before after
 
@@ -75,7 +75,7 @@ start answers parts_of core before out = record {
   counted = refl;
   replied = refl;
   runs = refl;
-  kept = rests-same before (parts_of core);
+  kept = only-same before (parts_of core);
   written = Appends-nil out;
   follows = follows-same before;
 }
@@ -113,7 +113,7 @@ module _ {C : Type 0} (answers : C → Frame → Option Frame → C → Type 0) 
 
   -- one more reply fits the count
   pub more_replies : Now → served.replies + 1 < 2 ^ 64
-  more_replies p = omega (arith, p.replied, count_by-le-length is_some p.replies, runs-length answers core p.done p.replies now p.runs, frames_few p.done, p.taken, p.total, p.few)
+  more_replies p = omega (arith, p.replied, count_by-le-length is_some p.replies, answers-length answers core p.done p.replies now p.runs, frames_few p.done, p.taken, p.total, p.few)
 
   -- ---- one frame more
 
@@ -145,8 +145,8 @@ module _ {C : Type 0} (answers : C → Frame → Option Frame → C → Type 0) 
         few = p.few;
         counted = omega (arith, p.counted, length-append p.done (frame ∷ []));
         replied = ap (λ k. k + cond replied 1 0) p.replied ∙ ap (λ b. reply_count p.replies + cond b 1 0) answer.2.2 ∙ sym (count-push p.replies reply);
-        runs = runs-push answers core p.done p.replies now frame reply new p.runs answer.2.1;
-        kept = rests-more before mid after (parts_of core) (parts_of now) (parts_of new) follows p.kept answer.2.3.kept;
+        runs = answers-push answers core p.done p.replies now frame reply new p.runs answer.2.1;
+        kept = only-more before mid after (parts_of core) (parts_of now) (parts_of new) follows p.kept answer.2.3.kept;
         written = written-more out0 out1 out2 p.replies (reply ∷ []) p.written answer.2.3.written;
         follows = follows-more before mid after p.follows follows;
       })
@@ -186,7 +186,7 @@ module _ {C : Type 0} (answers : C → Frame → Option Frame → C → Type 0) 
               counted = p.counted;
               replied = p.replied;
               runs = p.runs;
-              kept = rests-more before mid after (parts_of core) (parts_of now) (parts_of now) follows p.kept answer.2.kept;
+              kept = only-more before mid after (parts_of core) (parts_of now) (parts_of now) follows p.kept answer.2.kept;
               written = same-written out0 out1 out2 p.replies p.written answer.2.written;
               follows = follows-more before mid after p.follows follows;
             })),

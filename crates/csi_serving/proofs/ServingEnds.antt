@@ -24,13 +24,13 @@ use Rattle.csi_stores.specs.declared.keep.KeepFault.{KeepFault}
 use Rattle.csi_stores.specs.Part.{StoredPart}
 use Rattle.csi_counted.specs.Counting.{HasRisen}
 use Rattle.csi_stores.specs.Stores.{Store, Follows}
-use Rattle.csi_serving.specs.Serving.{Setting, Runs, reply_bytes, output_of, AllDone, LastUnwritten, NextRefused, Waits, Serves}
+use Rattle.csi_serving.specs.Serving.{Setting, AnswersEach, reply_bytes, output_of, AllDone, LastUnwritten, NextRefused, Waits, Serves}
 use Rattle.csi_serving.specs.Reading.{IsPiece, IsPieceStop, ReadsPiece}
 use Rattle.csi_serving.specs.Stopping.{AnswersNext, stopped_by}
 use Rattle.csi_serving.specs.Ending.{ended_by}
-use Rattle.csi_serving.proofs.StoreCalls.{rests-more, left-more, refusal-more}
+use Rattle.csi_serving.proofs.StoreCalls.{only-more, left-more, refusal-more}
 use Rattle.std.proofs.KnownBytes.{Appends-trans}
-use Rattle.csi_serving.proofs.GrowingRuns.{runs-push}
+use Rattle.csi_serving.proofs.GrowingAnswers.{answers-push}
 use Rattle.csi_serving.proofs.StreamFrames.{AreBytes-append, fault_of_something, frames_of, given_first}
 use Rattle.csi_serving.proofs.Progress.{setting_of, Progress, same-written, taken_front}
 
@@ -67,11 +67,11 @@ module _ {C : Type 0} (answers : C → Frame → Option Frame → C → Type 0) 
   -- ---- how much of the stream was answered
 
   -- the first frames were answered
-  runs_front : (p : Now) (frames later : List Frame) → frames ≡ p.done ++ later → Runs answers core (take served.frames frames) p.replies now
-  runs_front p frames later are = subst (λ fs. Runs answers core fs p.replies now) (sym (taken_front frames p.done later served.frames are p.counted)) p.runs
+  runs_front : (p : Now) (frames later : List Frame) → frames ≡ p.done ++ later → AnswersEach answers core (take served.frames frames) p.replies now
+  runs_front p frames later are = subst (λ fs. AnswersEach answers core fs p.replies now) (sym (taken_front frames p.done later served.frames are p.counted)) p.runs
 
   -- all frames were
-  runs_all : (p : Now) (frames : List Frame) → frames ≡ p.done → Runs answers core (take served.frames frames) p.replies now
+  runs_all : (p : Now) (frames : List Frame) → frames ≡ p.done → AnswersEach answers core (take served.frames frames) p.replies now
   runs_all p frames are = runs_front p frames [] (are ∙ sym (append-nil p.done))
 
   -- no frame is there: those that were answered are all, and the rest is kept
@@ -111,7 +111,7 @@ module _ {C : Type 0} (answers : C → Frame → Option Frame → C → Type 0) 
     -- what is done stays done where nothing more is
     done_still : (p : Now) → Follows mid after → AllDone Call [] now → AllDone Full p.replies now
     done_still p follows nothing = record {
-      kept = rests-more before mid after (parts_of core) (parts_of now) (parts_of now) follows p.kept nothing.kept;
+      kept = only-more before mid after (parts_of core) (parts_of now) (parts_of now) follows p.kept nothing.kept;
       written = same-written out0 out1 out2 p.replies p.written nothing.written;
     }
 
@@ -127,7 +127,7 @@ module _ {C : Type 0} (answers : C → Frame → Option Frame → C → Type 0) 
 
     unwritten_still : (p : Now) (reply : Option Frame) → Follows mid after → LastUnwritten Call (reply ∷ []) new → LastUnwritten Full (p.replies ++ reply ∷ []) new
     unwritten_still p reply follows last = record {
-      kept = rests-more before mid after (parts_of core) (parts_of now) (parts_of new) follows p.kept last.kept;
+      kept = only-more before mid after (parts_of core) (parts_of now) (parts_of new) follows p.kept last.kept;
       earlier = p.replies ++ last.earlier;
       last = last.last;
       are = ap (λ rs. p.replies ++ rs) last.are ∙ sym (append_assoc p.replies last.earlier (last.last ∷ []));
@@ -210,7 +210,7 @@ module _ {C : Type 0} (answers : C → Frame → Option Frame → C → Type 0) 
           within = omega (arith, counted, ap length are_frames, length-append done next.0);
           replies = p.replies ++ last.0 ∷ [];
           now = new;
-          runs = subst (λ fs. Runs answers core fs (p.replies ++ last.0 ∷ []) new) (sym (taken_front of.0 done next.0 (served.frames + 1) are_frames counted)) (runs-push answers core p.done p.replies now frame last.0 new p.runs last.1);
+          runs = subst (λ fs. AnswersEach answers core fs (p.replies ++ last.0 ∷ []) new) (sym (taken_front of.0 done next.0 (served.frames + 1) are_frames counted)) (answers-push answers core p.done p.replies now frame last.0 new p.runs last.1);
           ends = (risen last.2, unwritten_still p last.0 follows last.3);
         }
 

@@ -5,7 +5,7 @@ use Rattle.csi_stores.specs.declared.keep.KeepFault.{KeepFault}
 use Rattle.csi_stores.specs.declared.keep.KeepFault.TheVariants.{Device, NoMemory, BadRecord, Full}
 use Rattle.csi_stores.specs.Part.{StoredPart}
 use Rattle.csi_counted.specs.Counting.{HasRisen}
-use Rattle.csi_stores.specs.Stores.{Store, IsCommitFault, Follows, Rests, LeavesEither, IsRefusal}
+use Rattle.csi_stores.specs.Stores.{Store, IsCommitFault, Follows, LeavesOnly, LeavesEither, IsContentRefusal}
 
 -- ---- a commit that was refused
 pub refused-left : (before after : Store) (first next : List StoredPart) (change : List StoredPart → List StoredPart) → change first ≡ next
@@ -19,7 +19,7 @@ refused-left before after first next change leads refused = λ honest only other
 
 -- the cause of a commit's refusal is that of the content to which it was to lead
 pub refused-cause : (before after : Store) (first next : List StoredPart) (change : List StoredPart → List StoredPart) (fault : KeepFault) → change first ≡ next
-    → IsCommitFault before after change fault → IsRefusal before after first next fault
+    → IsCommitFault before after change fault → IsContentRefusal before after first next fault
 refused-cause before after first next change Device leads cause = cause
 refused-cause before after first next change NoMemory leads cause = tt
 refused-cause before after first next change (BadRecord place) leads cause = cause
@@ -39,15 +39,15 @@ follows-more a b c first second = record {
 }
 
 -- a store that isn't called has what it had
-pub rests-same : (now : Store) (content : List StoredPart) → Rests now now content content
-rests-same now content = λ honest only. only
+pub only-same : (now : Store) (content : List StoredPart) → LeavesOnly now now content content
+only-same now content = λ honest only. only
 
 -- where one call leads from a first content to a second, and the next to a third, both lead from the first to the third
-pub rests-more : (a b c : Store) (x y z : List StoredPart) → Follows b c → Rests a b x y → Rests b c y z → Rests a c x z
-rests-more a b c x y z follows first second = λ honest only. second honest (first (follows.honest honest) only)
+pub only-more : (a b c : Store) (x y z : List StoredPart) → Follows b c → LeavesOnly a b x y → LeavesOnly b c y z → LeavesOnly a c x z
+only-more a b c x y z follows first second = λ honest only. second honest (first (follows.honest honest) only)
 
 -- what a later call leaves of the content that an earlier one led to is left after both
-pub left-more : (a b c : Store) (x y p q : List StoredPart) → Follows b c → Rests a b x y → LeavesEither b c y p q → LeavesEither a c x p q
+pub left-more : (a b c : Store) (x y p q : List StoredPart) → Follows b c → LeavesOnly a b x y → LeavesEither b c y p q → LeavesEither a c x p q
 left-more a b c x y p q follows first second = λ honest only. second honest (first (follows.honest honest) only)
 
 -- a count of faults that rose later has risen since before
@@ -56,7 +56,7 @@ risen-more a b c least (inl less) = inl (omega arith)
 risen-more a b c least (inr top) = inr top
 
 -- the cause of a later call's refusal is its cause since an earlier call
-pub refusal-more : (a b c : Store) (x y next : List StoredPart) (fault : KeepFault) → Follows a b → Follows b c → Rests a b x y → IsRefusal b c y next fault → IsRefusal a c x next fault
+pub refusal-more : (a b c : Store) (x y next : List StoredPart) (fault : KeepFault) → Follows a b → Follows b c → LeavesOnly a b x y → IsContentRefusal b c y next fault → IsContentRefusal a c x next fault
 refusal-more a b c x y next Device before after first cause = risen-more a.faults b.faults c.faults before.faults cause
 refusal-more a b c x y next NoMemory before after first cause = tt
 refusal-more a b c x y next (BadRecord place) before after first cause = cause

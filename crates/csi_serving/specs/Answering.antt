@@ -7,7 +7,7 @@ use Rattle.csi_stores.specs.declared.keep.KeepFault.{KeepFault}
 use Rattle.csi_serving.specs.declared.serving.answering.FrameStop.{FrameStop}
 use Rattle.csi_serving.specs.declared.serving.answering.FrameStop.TheVariants.{NoMemory, Keep, Output}
 use Rattle.csi_stores.specs.Part.{StoredPart, bytes_in}
-use Rattle.csi_stores.specs.Stores.{Store, LeavesEither, IsRefusal}
+use Rattle.csi_stores.specs.Stores.{Store, LeavesEither, IsContentRefusal}
 use Rattle.csi_serving.specs.Serving.{Setting, AllDone, LastUnwritten, NextRefused}
 
 -- these bytes are the reply's, if there is one
@@ -25,7 +25,7 @@ pub record RefusedStep {C : Type 0} (answers : C → Frame → Option Frame → 
   pub reply : Option Frame
   pub answered : answers old frame reply new
   pub left : LeavesEither before after (parts_of old) (parts_of old) (parts_of new)
-  pub cause : IsRefusal before after (parts_of old) (parts_of new) fault
+  pub cause : IsContentRefusal before after (parts_of old) (parts_of new) fault
 
 -- where it stops before anything is written
 abbrev pub StopsUnwritten : {C : Type 0} → (C → Frame → Option Frame → C → Type 0) → (C → List StoredPart) → Store → Store → C → Frame → C → FrameStop → Type 0

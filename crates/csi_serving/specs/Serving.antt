@@ -14,14 +14,14 @@ use Rattle.csi_serving.specs.declared.serving.fault.ServeFaultKind.{ServeFaultKi
 use Rattle.csi_serving.specs.declared.serving.fault.ServeFaultKind.TheVariants as kinds
 use Rattle.csi_stores.specs.declared.keep.KeepFault.{KeepFault}
 use Rattle.csi_stores.specs.Part.{StoredPart}
-use Rattle.csi_stores.specs.Stores.{Store, Rests, LeavesEither, IsRefusal}
+use Rattle.csi_stores.specs.Stores.{Store, LeavesOnly, LeavesEither, IsContentRefusal}
 
 -- from one core to another, frame after frame: each frame got this reply
-abbrev pub Runs : {C : Type 0} → (C → Frame → Option Frame → C → Type 0) → C → List Frame → List (Option Frame) → C → Type 0
-Runs answers core [] [] now = now ≡ core
-Runs answers core [] (reply ∷ replies) now = ⊥
-Runs answers core (frame ∷ frames) [] now = ⊥
-Runs {C} answers core (frame ∷ frames) (reply ∷ replies) now = (next : C) × answers core frame reply next × Runs answers next frames replies now
+abbrev pub AnswersEach : {C : Type 0} → (C → Frame → Option Frame → C → Type 0) → C → List Frame → List (Option Frame) → C → Type 0
+AnswersEach answers core [] [] now = now ≡ core
+AnswersEach answers core [] (reply ∷ replies) now = ⊥
+AnswersEach answers core (frame ∷ frames) [] now = ⊥
+AnswersEach {C} answers core (frame ∷ frames) (reply ∷ replies) now = (next : C) × answers core frame reply next × AnswersEach answers next frames replies now
 
 -- a reply, as it is written
 abbrev pub reply_bytes : Option Frame → List ℕ
@@ -53,12 +53,12 @@ pub record Setting (C : Type 0) : Type 1 where
 
 -- the store has the core's parts, and all replies are written
 pub record AllDone {C : Type 0} (setting : Setting C) (replies : List (Option Frame)) (now : C) : Type 0 where
-  pub kept : Rests setting.before setting.after (setting.parts_of setting.core) (setting.parts_of now)
+  pub kept : LeavesOnly setting.before setting.after (setting.parts_of setting.core) (setting.parts_of now)
   pub written : Appends setting.written_before setting.written_after (output_of replies)
 
 -- the store has the core's parts, and all replies but the last are written, and of that one a front
 pub record LastUnwritten {C : Type 0} (setting : Setting C) (replies : List (Option Frame)) (now : C) : Type 0 where
-  pub kept : Rests setting.before setting.after (setting.parts_of setting.core) (setting.parts_of now)
+  pub kept : LeavesOnly setting.before setting.after (setting.parts_of setting.core) (setting.parts_of now)
   pub earlier : List (Option Frame)
   pub last : Option Frame
   pub are : replies ≡ earlier ++ last ∷ []
@@ -73,7 +73,7 @@ pub record NextRefused {C : Type 0} (setting : Setting C) (frame : Frame) (repli
   pub next : C
   pub answered : setting.answers now frame reply next
   pub left : LeavesEither setting.before setting.after (setting.parts_of setting.core) (setting.parts_of now) (setting.parts_of next)
-  pub cause : IsRefusal setting.before setting.after (setting.parts_of setting.core) (setting.parts_of next) fault
+  pub cause : IsContentRefusal setting.before setting.after (setting.parts_of setting.core) (setting.parts_of next) fault
   pub written : Appends setting.written_before setting.written_after (output_of replies)
 
 -- the first fault of the rest, which isn't empty; its place counts from the front of the input
@@ -115,5 +115,5 @@ pub record Serves {C : Type 0} (setting : Setting C) (bytes : List ℕ) (result 
   pub within : frames_counted result ≤ length frames
   pub replies : List (Option Frame)
   pub now : C
-  pub runs : Runs setting.answers setting.core (take (frames_counted result) frames) replies now
+  pub runs : AnswersEach setting.answers setting.core (take (frames_counted result) frames) replies now
   pub ends : EndsBy setting frames rest replies now result

@@ -53,8 +53,8 @@ pub record Follows (before after : Store) : Type 0 where
   pub faults : before.faults ≤ after.faults
 
 -- where it had the first content alone, it has the second alone
-abbrev pub Rests : Store → Store → List StoredPart → List StoredPart → Type 0
-Rests before after first second = after.honest → IsOnly before first → IsOnly after second
+abbrev pub LeavesOnly : Store → Store → List StoredPart → List StoredPart → Type 0
+LeavesOnly before after first second = after.honest → IsOnly before first → IsOnly after second
 
 -- where it had the first content alone, opening it again finds one of the two others
 abbrev pub LeavesEither : Store → Store → List StoredPart → List StoredPart → List StoredPart → Type 0
@@ -62,8 +62,8 @@ LeavesEither before after first old new = after.honest → IsOnly before first �
 
 -- Why a commit was refused that was to lead to this content: the device only where it failed meanwhile, Full only where the
 -- content doesn't fit.
-abbrev pub IsRefusal : Store → Store → List StoredPart → List StoredPart → KeepFault → Type 0
-IsRefusal before after first next Device = HasRisen before.faults after.faults
-IsRefusal before after first next NoMemory = Unit {0}
-IsRefusal before after first next (BadRecord place) = ⊥
-IsRefusal before after first next Full = after.honest → IsOnly before first → before.fits next → ⊥
+abbrev pub IsContentRefusal : Store → Store → List StoredPart → List StoredPart → KeepFault → Type 0
+IsContentRefusal before after first next Device = HasRisen before.faults after.faults
+IsContentRefusal before after first next NoMemory = Unit {0}
+IsContentRefusal before after first next (BadRecord place) = ⊥
+IsContentRefusal before after first next Full = after.honest → IsOnly before first → before.fits next → ⊥

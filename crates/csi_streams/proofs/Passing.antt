@@ -14,7 +14,7 @@ use Rattle.csi_streams.specs.declared.streaming.StreamFault.{StreamFault}
 use Rattle.csi_streams.specs.declared.streaming.StreamFault.TheVariants as stops
 use Rattle.csi_streams.specs.Handling.{HandlesAll, StopsIn, StopsBy}
 use Rattle.csi_streams.specs.Passing.{stream_fault, Passes, StopsWritten, StopsUnwritten, PassesOn, EndsStream}
-use Rattle.csi_streams.specs.Progress.{Progress, Rests}
+use Rattle.csi_streams.specs.Progress.{Progress, WaitsForMore}
 use Rattle.csi_streams.specs.Replay.{IsFaultOf, Grows}
 use Rattle.csi_counted.specs.Writing.{WritesFront}
 use Rattle.csi_streams.specs.Streaming.{Streams}
@@ -57,7 +57,7 @@ module _ {H : Type 0} (has_handled : H → List Frame → Type 0) (gives : List 
     more = on.0.more;
     written = subst (Appends had has) (fresh before after on.0.more bytes none on.0.appended is) written;
     progress = on.0.progress;
-    rests = on.1;
+    waits = on.1;
   }
 
   -- all that was given before it stopped was written
@@ -93,7 +93,7 @@ module _ {H : Type 0} (has_handled : H → List Frame → Type 0) (gives : List 
   }
 
   -- the reader is at its end
-  pub stream_ended : (fed given : List ℕ) (splitter : Splitting) (count : ℕ) (handler : H) (left now had has : Option (List ℕ)) (result : Result ℕ StreamFault) → Progress has_handled gives fed splitter count handler given → Rests splitter → Consumes left now fed → Appends had has given
+  pub stream_ended : (fed given : List ℕ) (splitter : Splitting) (count : ℕ) (handler : H) (left now had has : Option (List ℕ)) (result : Result ℕ StreamFault) → Progress has_handled gives fed splitter count handler given → WaitsForMore splitter → Consumes left now fed → Appends had has given
       → IsAtEnd now → EndsStream splitter count result → Streams gives left now had has result
   stream_ended fed given splitter count handler left now had has (Ok n) p waits consumed written at_end ends =
       let of = frames_of fed p.are in
@@ -109,14 +109,14 @@ module _ {H : Type 0} (has_handled : H → List Frame → Type 0) (gives : List 
   stream_ended fed given splitter count handler left now had has (Err stops.Endless) p waits consumed written at_end ends = absurd ends
 
   -- the reader failed
-  pub stream_failed : (fed given : List ℕ) (splitter : Splitting) (count : ℕ) (handler : H) (left now had has : Option (List ℕ)) → Progress has_handled gives fed splitter count handler given → Rests splitter → Consumes left now fed → Appends had has given
+  pub stream_failed : (fed given : List ℕ) (splitter : Splitting) (count : ℕ) (handler : H) (left now had has : Option (List ℕ)) → Progress has_handled gives fed splitter count handler given → WaitsForMore splitter → Consumes left now fed → Appends had has given
       → Streams gives left now had has (Err stops.Input)
   stream_failed fed given splitter count handler left now had has p waits consumed written =
       let of = frames_of fed p.are in
       record { read = fed; consumed = consumed; frames = of.0; rest = of.1; stream = of.2; out = given; written = written; ends = (waiting_rest has_handled gives fed given splitter count handler p waits of.0 of.1 of.2, gave_all has_handled gives fed given splitter count handler p waits of.0 of.1 of.2) }
 
   -- the reader gives no end
-  pub stream_endless : (fed given : List ℕ) (splitter : Splitting) (count : ℕ) (handler : H) (left now had has : Option (List ℕ)) → Progress has_handled gives fed splitter count handler given → Rests splitter → Consumes left now fed → Appends had has given
+  pub stream_endless : (fed given : List ℕ) (splitter : Splitting) (count : ℕ) (handler : H) (left now had has : Option (List ℕ)) → Progress has_handled gives fed splitter count handler given → WaitsForMore splitter → Consumes left now fed → Appends had has given
       → 2 ^ 63 ≤ length fed → Streams gives left now had has (Err stops.Endless)
   stream_endless fed given splitter count handler left now had has p waits consumed written many =
       let of = frames_of fed p.are in

@@ -19,7 +19,7 @@ use Rattle.csi_frames.proofs.Streams.{given_are}
 use Rattle.csi_streams.specs.declared.answers.AnswerFault.{AnswerFault}
 use Rattle.csi_streams.specs.declared.answers.AnswerFault.TheVariants as faults
 use Rattle.csi_streams.specs.Handling.{Handles, HandlesOn, HandlesNext, HandlesAll, StopsIn}
-use Rattle.csi_streams.specs.Progress.{Progress, Rests}
+use Rattle.csi_streams.specs.Progress.{Progress, WaitsForMore}
 use Rattle.csi_streams.proofs.FaultPlaces.{place_within}
 use Rattle.csi_streams.proofs.Streams.{AreBytes-both, spelling-not-empty, frames_few, splits_at, front_of, none_in_nothing}
 
@@ -43,8 +43,8 @@ kept-less splitter frame next =
     omega (arith, (begins_kept splitter.fault splitter.kept frame next).within, spelling-not-empty frame, length-drop (length (spelling frame)) splitter.kept)
 
 -- a new splitter waits for more, and has no frame to give
-pub rests-new : Rests new_splitting
-rests-new = (no_length (omega arith), λ frame next. none_in_nothing [] (omega arith) frame (length (spelling frame)) next)
+pub waits-new : WaitsForMore new_splitting
+waits-new = (no_length (omega arith), λ frame next. none_in_nothing [] (omega arith) frame (length (spelling frame)) next)
 
 -- bytes at fault, other than too few, are there
 faulty-something : (bytes : List ℕ) (kind : FaultKind) (place : ℕ) → kind ≢ Short → IsFaulty bytes kind place → bytes ≢ []
@@ -166,7 +166,7 @@ module _ {H : Type 0} (has_handled : H → List Frame → Type 0) (gives : List 
       (length p.done, omega (arith, ap length front.1, length-append p.done front.0), subst (λ (fs : List Frame). gives fs given) (sym (ap (take (length p.done)) front.1 ∙ take-append_seam p.done front.0)) p.gave)
 
   -- where the splitter waits, its frames are those of the stream
-  pub all_done : (fed given : List ℕ) (splitter : Splitting) (count : ℕ) (handler : H) (p : Progress has_handled gives fed splitter count handler given) → Rests splitter → (frames : List Frame) (rest : List ℕ) → FramesOf fed frames rest
+  pub all_done : (fed given : List ℕ) (splitter : Splitting) (count : ℕ) (handler : H) (p : Progress has_handled gives fed splitter count handler given) → WaitsForMore splitter → (frames : List Frame) (rest : List ℕ) → FramesOf fed frames rest
       → (p.done ≡ frames) × (splitter.kept ≡ rest)
   all_done fed given splitter count handler p waits frames rest of =
       let same = given_are fed rest p.done frames splitter p.are p.splits waits.1 of in
@@ -198,7 +198,7 @@ module _ {H : Type 0} (has_handled : H → List Frame → Type 0) (gives : List 
           subst (λ (s : Splitting). Progress has_handled gives fed s count handler' (given ++ on.more)) (sym next.1)
           (subst (λ (h : H). Progress has_handled gives fed splitter count h (given ++ on.more)) (sym next.2) on.progress);
     },
-    subst Rests (sym next.1) next.0,
+    subst WaitsForMore (sym next.1) next.0,
   )
 
   -- where the next frame isn't handled, it stops there, with what was given before

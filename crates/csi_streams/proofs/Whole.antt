@@ -12,31 +12,31 @@ use Rattle.csi_frames.specs.Stream.{FramesOf}
 use Rattle.csi_streams.specs.declared.answers.AnswerFault.{AnswerFault}
 use Rattle.csi_streams.specs.declared.answers.AnswerFault.TheVariants as faults
 use Rattle.csi_streams.specs.Handling.{HandlesWhole, StopsIn, EndsIn}
-use Rattle.csi_streams.specs.Progress.{Progress, Rests}
+use Rattle.csi_streams.specs.Progress.{Progress, WaitsForMore}
 use Rattle.csi_streams.specs.Replay.{IsFaultOf, Grows}
 use Rattle.csi_streams.proofs.Progress.{all_done, waits-open}
 
 module _ {H : Type 0} (has_handled : H → List Frame → Type 0) (gives : List Frame → List ℕ → Type 0) where
   -- all that was given is given for all frames
-  pub gave_all : (fed given : List ℕ) (splitter : Splitting) (count : ℕ) (handler : H) → Progress has_handled gives fed splitter count handler given → Rests splitter → (frames : List Frame) (rest : List ℕ) → FramesOf fed frames rest → gives frames given
+  pub gave_all : (fed given : List ℕ) (splitter : Splitting) (count : ℕ) (handler : H) → Progress has_handled gives fed splitter count handler given → WaitsForMore splitter → (frames : List Frame) (rest : List ℕ) → FramesOf fed frames rest → gives frames given
   gave_all fed given splitter count handler p waits frames rest of =
       subst (λ (fs : List Frame). gives fs given) (all_done has_handled gives fed given splitter count handler p waits frames rest of).0 p.gave
 
   -- no byte is left over
-  pub ended : (fed given : List ℕ) (splitter : Splitting) (count n : ℕ) (handler : H) → Progress has_handled gives fed splitter count handler given → Rests splitter → splitter.kept ≡ [] → n ≡ count
+  pub ended : (fed given : List ℕ) (splitter : Splitting) (count n : ℕ) (handler : H) → Progress has_handled gives fed splitter count handler given → WaitsForMore splitter → splitter.kept ≡ [] → n ≡ count
       → (frames : List Frame) (rest : List ℕ) → FramesOf fed frames rest → (rest ≡ []) × (n ≡ length frames)
   ended fed given splitter count n handler p waits none is frames rest of =
       let same = all_done has_handled gives fed given splitter count handler p waits frames rest of in
       (sym same.1 ∙ none, is ∙ p.counted ∙ ap length same.0)
 
   -- what is kept may be the beginning of a frame
-  pub waiting_rest : (fed given : List ℕ) (splitter : Splitting) (count : ℕ) (handler : H) → Progress has_handled gives fed splitter count handler given → Rests splitter
+  pub waiting_rest : (fed given : List ℕ) (splitter : Splitting) (count : ℕ) (handler : H) → Progress has_handled gives fed splitter count handler given → WaitsForMore splitter
       → (frames : List Frame) (rest : List ℕ) → FramesOf fed frames rest → IsFaulty rest Short (length rest)
   waiting_rest fed given splitter count handler p waits frames rest of =
       subst (λ (bytes : List ℕ). IsFaulty bytes Short (length bytes)) (all_done has_handled gives fed given splitter count handler p waits frames rest of).1 (waits-open splitter.fault splitter.kept p.no_fault waits.0)
 
   -- some bytes are left over
-  pub ended_short : (fed given : List ℕ) (splitter : Splitting) (count place : ℕ) (handler : H) → Progress has_handled gives fed splitter count handler given → Rests splitter → splitter.kept ≢ [] → place ≡ min (splitter.taken + length splitter.kept) (2 ^ 64 - 1)
+  pub ended_short : (fed given : List ℕ) (splitter : Splitting) (count place : ℕ) (handler : H) → Progress has_handled gives fed splitter count handler given → WaitsForMore splitter → splitter.kept ≢ [] → place ≡ min (splitter.taken + length splitter.kept) (2 ^ 64 - 1)
       → (frames : List Frame) (rest : List ℕ) → FramesOf fed frames rest → IsFaultOf frames rest Short place
   ended_short fed given splitter count place handler p waits some is frames rest of =
       let same = all_done has_handled gives fed given splitter count handler p waits frames rest of in
@@ -49,7 +49,7 @@ module _ {H : Type 0} (has_handled : H → List Frame → Type 0) (gives : List 
       }
 
   -- the end of bytes that are there whole
-  pub whole_ended : (fed given before after : List ℕ) (splitter : Splitting) (count : ℕ) (handler : H) (result : Result ℕ AnswerFault) → Progress has_handled gives fed splitter count handler given → Rests splitter → after ≡ before ++ given
+  pub whole_ended : (fed given before after : List ℕ) (splitter : Splitting) (count : ℕ) (handler : H) (result : Result ℕ AnswerFault) → Progress has_handled gives fed splitter count handler given → WaitsForMore splitter → after ≡ before ++ given
       → EndsIn splitter count result → (frames : List Frame) (rest : List ℕ) → FramesOf fed frames rest → HandlesWhole gives frames rest before after result
   whole_ended fed given before after splitter count handler (Ok n) p waits appended ends frames rest of =
       let nothing = ended fed given splitter count n handler p waits ends.0 ends.1 frames rest of in

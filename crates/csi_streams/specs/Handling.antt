@@ -8,7 +8,7 @@ use Rattle.csi_frames.specs.Stream.{FramesOf}
 use Rattle.csi_streams.specs.declared.answers.AnswerFault.{AnswerFault}
 use Rattle.csi_streams.specs.declared.answers.AnswerFault.TheVariants as faults
 use Rattle.csi_streams.specs.Replay.{IsFaultOf}
-use Rattle.csi_streams.specs.Progress.{Progress, Rests}
+use Rattle.csi_streams.specs.Progress.{Progress, WaitsForMore}
 
 -- one frame more was handled, and what is given for it was appended
 pub record Handles {H : Type 0} (has_handled : H → List Frame → Type 0) (gives : List Frame → List ℕ → Type 0) (frames : List Frame) (frame : Frame) (new : H) (before after : List ℕ) : Type 0 where
@@ -22,7 +22,7 @@ abbrev pub HandlesNext : {H : Type 0} → (H → List Frame → Type 0) → (Lis
 HandlesNext has_handled gives old new handler handler' before after (Ok true) =
     (frame : Frame) × IsNext old.fault old.kept (Ok (Some frame)) × (new ≡ after_next old (Ok (Some frame)))
     × ((frames : List Frame) → has_handled handler frames → Handles has_handled gives frames frame handler' before after)
-HandlesNext has_handled gives old new handler handler' before after (Ok false) = Rests old × (new ≡ old) × (handler' ≡ handler) × (after ≡ before)
+HandlesNext has_handled gives old new handler handler' before after (Ok false) = WaitsForMore old × (new ≡ old) × (handler' ≡ handler) × (after ≡ before)
 HandlesNext has_handled gives old new handler handler' before after (Err (faults.Frame kind place)) =
     (at : ℕ) × IsNext old.fault old.kept (Err (record { kind = kind; place = at })) × (place ≡ min (old.taken + at) (2 ^ 64 - 1)) × (after ≡ before)
 HandlesNext has_handled gives old new handler handler' before after (Err faults.NoMemory) = after ≡ before
@@ -44,7 +44,7 @@ pub record HandlesOn {H : Type 0} (has_handled : H → List Frame → Type 0) (g
 
 -- all frames that are there were handled; or it stopped
 abbrev pub HandlesAll : {H : Type 0} → (H → List Frame → Type 0) → (List Frame → List ℕ → Type 0) → List ℕ → List ℕ → Splitting → ℕ → H → List ℕ → List ℕ → Result (Unit {0}) AnswerFault → Type 0
-HandlesAll has_handled gives fed given splitter count handler before after (Ok done) = HandlesOn has_handled gives fed given splitter count handler before after × Rests splitter
+HandlesAll has_handled gives fed given splitter count handler before after (Ok done) = HandlesOn has_handled gives fed given splitter count handler before after × WaitsForMore splitter
 HandlesAll has_handled gives fed given splitter count handler before after (Err fault) = (more : List ℕ) × (after ≡ before ++ more) × StopsIn gives fed (given ++ more) fault
 
 -- nothing is kept; or what is kept ends too early

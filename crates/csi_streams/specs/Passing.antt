@@ -9,7 +9,7 @@ use Rattle.csi_streams.specs.declared.answers.AnswerFault.TheVariants as faults
 use Rattle.csi_streams.specs.declared.streaming.StreamFault.{StreamFault}
 use Rattle.csi_streams.specs.declared.streaming.StreamFault.TheVariants as stops
 use Rattle.csi_streams.specs.Handling.{StopsIn}
-use Rattle.csi_streams.specs.Progress.{Progress, Rests}
+use Rattle.csi_streams.specs.Progress.{Progress, WaitsForMore}
 use Rattle.csi_streams.specs.Replay.{Grows}
 
 -- a fault of the frames, as one of their stream
@@ -22,7 +22,7 @@ pub record Passes {H : Type 0} (has_handled : H → List Frame → Type 0) (give
   pub more : List ℕ
   pub written : Appends before after more
   pub progress : Progress has_handled gives fed splitter count handler (given ++ more)
-  pub rests : Rests splitter
+  pub waits : WaitsForMore splitter
 
 -- these bytes more were given, and written, before it stopped
 pub record StopsWritten (gives : List Frame → List ℕ → Type 0) (fed given : List ℕ) (before after : Option (List ℕ)) (fault : AnswerFault) : Type 0 where

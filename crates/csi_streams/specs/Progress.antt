@@ -23,5 +23,5 @@ pub record Progress {H : Type 0} (has_handled : H → List Frame → Type 0) (gi
   pub gave : gives done given
 
 -- the bytes that are kept wait for more
-abbrev pub Rests : Splitting → Type 0
-Rests splitter = IsNext splitter.fault splitter.kept (Ok None) × HasNoFrame splitter
+abbrev pub WaitsForMore : Splitting → Type 0
+WaitsForMore splitter = IsNext splitter.fault splitter.kept (Ok None) × HasNoFrame splitter

@@ -9,7 +9,7 @@ ghost use Rattle.csi_types.specs.Same.{same_text};
 ghost use Rattle.csi_controller.specs.declared.row.ControllerRow.{ControllerRow as OneRow};
 
 use super::at_row::answer_at_row;
-use super::core_parts::Core;
+use super::core_parts::ControllerCore;
 use super::create_lines::argument_fault;
 use super::making::{made, not_made};
 use super::new_row::new_row;
@@ -17,7 +17,7 @@ use super::without_row::reply_without_row;
 use csi_fence::{Answer, CoreFault};
 use csi_types::{Call, CallRef, CapabilityList, Number, VolumeId};
 
-impl Core {
+impl ControllerCore {
     ghost use Rattle.csi_controller.specs.State.{ControllerState, is_row_for};
     ghost use Rattle.csi_controller.specs.Shown.{volume_of_row};
     ghost use Rattle.csi_controller.specs.Catalog.{rows_of, IsIndexed, HasRoom};

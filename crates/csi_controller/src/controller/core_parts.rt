@@ -6,7 +6,7 @@ use std::alloc::Global;
 
 /// A controller's parts.
 #[derive(Drop)]
-pub struct Core {
+pub struct ControllerCore {
     pub alloc: Global,
     pub config: Config,
     // 0 once all ids are given

@@ -9,7 +9,7 @@ ghost use Rattle.csi_controller.specs.CoreParts.{IsSoundCore};
 ghost use Rattle.csi_controller.specs.Shown.{volume_of_row};
 ghost use Rattle.csi_controller.specs.State.{is_row_for};
 
-use super::core_parts::Core;
+use super::core_parts::ControllerCore;
 use csi_types::CallRef;
 
 /// Whether it is a call for the controller.
@@ -25,7 +25,7 @@ pub fn is_own(call: &CallRef<'_>) -> bool
     }
 }
 
-impl Core {
+impl ControllerCore {
     /// Where the row of this call is: that of the name for CreateVolume, and else that of the id.
     pub fn place_for(&self, call: &CallRef<'_>) -> Option<usize>
         requires { IsSoundCore self.now }

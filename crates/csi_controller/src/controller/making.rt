@@ -9,7 +9,7 @@ ghost use Rattle.csi_types.specs.Same.{same_text};
 ghost use Rattle.csi_controller.specs.Line.{line_told};
 ghost use Rattle.csi_controller.specs.Making.{made_answer};
 
-use super::core_parts::Core;
+use super::core_parts::ControllerCore;
 use super::create_lines::argument_fault;
 use super::line::{Line, refused};
 use super::new_row::new_row;
@@ -46,7 +46,7 @@ pub fn not_made(alloc: Global, line: &Line) -> Result<Answer, CoreFault>
     }
 }
 
-impl Core {
+impl ControllerCore {
     ghost use Rattle.csi_controller.specs.Table.{Makes, Stays};
     ghost use Rattle.csi_controller.specs.Core.{next_shown};
     ghost use Rattle.csi_controller.specs.CoreAnswers.{IsAnswered, IsLeftSo};

@@ -4,12 +4,12 @@ ghost use Rattle.csi_types.specs.Same.{same_text};
 ghost use Rattle.csi_controller.specs.Views.{row_if_live, IsCopyOf};
 
 use super::copies::copied_row;
-use super::core_parts::Core;
+use super::core_parts::ControllerCore;
 use crate::row::ControllerRow;
 use csi_fence::CoreFault;
 use csi_types::VolumeId;
 
-impl Core {
+impl ControllerCore {
     ghost use Rattle.csi_controller.specs.CoreParts.{parts_of, IsSoundCore};
 
     /// Id and capacity of the volume of this name, unless it was deleted.

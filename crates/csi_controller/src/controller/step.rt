@@ -11,7 +11,7 @@ ghost use Rattle.csi_types.specs.Lent.{lent_call};
 ghost use Rattle.csi_types.specs.Replies.{call_frame, reply_frame};
 
 use super::at_row::{answer_at_row, stale};
-use super::core_parts::Core;
+use super::core_parts::ControllerCore;
 use super::finding::is_own;
 use super::without_row::reply_without_row;
 use csi_fence::{Answer, CoreFault};
@@ -25,7 +25,7 @@ fn frame_of(number: Number, kind: Kind, reply: Reply) -> Frame
     Frame::reply(number, Party::Controller, kind, reply).unwrap()
 }
 
-impl Core {
+impl ControllerCore {
     ghost use Rattle.csi_controller.specs.State.{ControllerState, is_row_for};
     ghost use Rattle.csi_controller.specs.Fenced.{fenced, kept_for};
     ghost use Rattle.csi_controller.specs.Shown.{volume_of_row};

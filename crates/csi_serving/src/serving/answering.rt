@@ -2,7 +2,7 @@
 ghost use Rattle.std.specs.Prelude.{◌≡◌, ◌≤◌, IfOk, IfErr, OnOk, Err};
 ghost use Rattle.csi_counted.specs.Counting.{HasRisen};
 ghost use Rattle.csi_frames.specs.Lent.{lent};
-ghost use Rattle.csi_stores.specs.Stores.{Rests, Follows};
+ghost use Rattle.csi_stores.specs.Stores.{LeavesOnly, Follows};
 ghost use Rattle.csi_serving.specs.Answering.{Steps, StopsUnwritten, AnswersOne};
 ghost use Rattle.csi_serving.specs.Failing.{Stays, FrameStays};
 
@@ -39,7 +39,7 @@ fn carry_out<C: Core, K: Keep>(
     frame: &FrameRef<'_>,
 ) -> Result<Option<Vec<u8>>, FrameStop>
     ensures steps { IfOk result (Steps C.answers core.old (lent frame.now) core.new) }
-    ensures kept { OnOk result (Rests (K.store keep.old) (K.store keep.new) (C.parts_of core.old) (C.parts_of core.new)) }
+    ensures kept { OnOk result (LeavesOnly (K.store keep.old) (K.store keep.new) (C.parts_of core.old) (C.parts_of core.new)) }
     ensures err { IfErr result (StopsUnwritten C.answers C.parts_of (K.store keep.old) (K.store keep.new) core.old (lent frame.now) core.new) }
     ensures untouched { result ≡ Err FrameStop.NoMemory → keep.new ≡ keep.old }
     ensures follows { Follows (K.store keep.old) (K.store keep.new) }

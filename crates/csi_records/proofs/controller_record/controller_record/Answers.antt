@@ -1,5 +1,5 @@
 use Rattle.std.proofs.Common.{◌≡◌, ◌∙◌, ◌∷◌, ◌+◌, ◌-◌, ap, inr, refl, sym, subst, List, ℕ, map, take, drop, length, arith}
-use Rattle.csi_controller.specs.Judging.{IsFirstRefused, IsRefusal}
+use Rattle.csi_controller.specs.Judging.{IsFirstRefused, IsRecordRefusal}
 use Rattle.csi_stores.specs.Part.{StoredPart, all_stored_in}
 use Rattle.csi_records.specs.Spelling.{controller_head, volume_part, volume_row}
 use Rattle.csi_records.specs.Stopping.{AreRead}
@@ -28,7 +28,7 @@ returns-in-Err-BadRow c =
     let rows = c.in_ok-rows.field-0.rows.items in
     let split = stored-split c.args.parts.now c.first-item.result c.in-len1-up.len_at_least c.first-item.is in
     let is : all_stored_in c.args.parts.now ≡ controller_head c.args.version head.own head.session ∷ others = split ∙ ap (λ (h : StoredPart). h ∷ others) (sym c.in-Some.ensures.head) in
-    let first : IsFirstRefused (AreControllerRows head.own head.session) rows c.in-Err-BadRow.bad = subst (IsRefusal (AreControllerRows head.own head.session) rows) c.in-Err-BadRow.field-0-is c.in-Err-BadRow.ensures.refused in
+    let first : IsFirstRefused (AreControllerRows head.own head.session) rows c.in-Err-BadRow.bad = subst (IsRecordRefusal (AreControllerRows head.own head.session) rows) c.in-Err-BadRow.field-0-is c.in-Err-BadRow.ensures.refused in
     inr (subst (λ (ps : List StoredPart). IsRefusedAt (IsRecordOf (controller_layout c.args.version)) ps c.in-Err-BadRow.bad) (sym is)
     (rows-refused (controller_layout c.args.version) (controller_one c.args.version) volume_row head rows others c.in_ok-rows.field-0.all c.in-Err-BadRow.bad c.in-Some.ensures.fits c.in_ok-rows.ensures
     first.from first.to (_, refl, first.before) (λ are. first.refused (rules-shown head _ are))))

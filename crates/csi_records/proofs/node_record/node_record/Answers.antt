@@ -1,7 +1,7 @@
 use Rattle.std.proofs.Common.{◌≡◌, ◌∙◌, ◌∷◌, ◌+◌, ◌-◌, ap, inr, sym, subst, List, ℕ, map, take, drop, length, arith}
 use Rattle.std.specs.Option.{option_copied}
 use Rattle.csi_node.specs.OneRow.{shown}
-use Rattle.csi_node.specs.Judging.{IsFirstRefused, IsRefusal}
+use Rattle.csi_node.specs.Judging.{IsFirstRefused, IsRecordRefusal}
 use Rattle.csi_stores.specs.Part.{StoredPart, all_stored_in}
 use Rattle.csi_records.specs.Spelling.{node_head, answered_part}
 use Rattle.csi_records.specs.Stopping.{AreRead}
@@ -44,7 +44,7 @@ returns-in-Err-BadRow c =
     let rows = c.in_ok-rows.field-0.rows.items in
     let split = stored-split c.args.parts.now c.first-item.result c.in-len1-up.len_at_least c.first-item.is in
     let is : all_stored_in c.args.parts.now ≡ node_head c.args.version head.own head.session ∷ others = split ∙ ap (λ (h : StoredPart). h ∷ others) (sym c.in-Ok.ensures.head) in
-    let first : IsFirstRefused head.session rows c.in-Err-BadRow.bad = subst (IsRefusal head.session rows) c.in-Err-BadRow.field-0-is c.in-Err-BadRow.ensures.refused in
+    let first : IsFirstRefused head.session rows c.in-Err-BadRow.bad = subst (IsRecordRefusal head.session rows) c.in-Err-BadRow.field-0-is c.in-Err-BadRow.ensures.refused in
     inr (subst (λ (ps : List StoredPart). IsRefusedAt (IsRecordOf (node_layout c.args.version wanted)) ps c.in-Err-BadRow.bad) (sym is)
     (rows-refused (node_layout c.args.version wanted) (node_one c.args.version wanted) shown head rows others c.in_ok-rows.field-0.all c.in-Err-BadRow.bad fits c.in_ok-rows.ensures first.from first.to first.before first.refused))
 

@@ -4,8 +4,8 @@ use Rattle.std.proofs.lemmas.Bool.{eqb-true}
 use Rattle.std.proofs.lemmas.Result.{err_from_is_err_and}
 use Rattle.csi_frames.specs.Bytes.{AreBytes}
 use Rattle.csi_frames.specs.Stream.{FramesOf}
-use Rattle.csi_streams.specs.Progress.{Rests}
-use Rattle.csi_streams.proofs.Progress.{begun, rests-new}
+use Rattle.csi_streams.specs.Progress.{WaitsForMore}
+use Rattle.csi_streams.proofs.Progress.{begun, waits-new}
 use Rattle.csi_streams.proofs.Whole.{whole_ended, whole_stopped}
 use Rattle.csi_streams.proofs.slices.handle_slice.Goals as goal
 
@@ -16,7 +16,7 @@ loop-rest-init g c = record {
   parts = refl;
   appended = sym (append-nil c.args.out.now.items);
   progress = begun g.H.Handler.has_handled g.H.Handler.gives c.new-stream.result.splitter c.new-stream.result.count c.args.handler.now c.new-stream.ensures.splitter c.new-stream.ensures.count c.requires.handled c.requires.gave;
-  rests = subst Rests (sym c.new-stream.ensures.splitter) rests-new;
+  waits = subst WaitsForMore (sym c.new-stream.ensures.splitter) waits-new;
 }
 
 -- an input of what was fed and a rest is, once a piece of the rest was fed, what was fed, the piece and what is behind it
@@ -51,7 +51,7 @@ loop-rest-preserved g c =
       parts = is;
       appended = on.0.appended ∙ ap (λ (bytes : List ℕ). bytes ++ on.0.more) i.appended ∙ append_assoc c.args.out.now.items i.given on.0.more;
       progress = on.0.progress;
-      rests = on.1;
+      waits = on.1;
     }
 
 -- bytes whose count is 0 are none
@@ -64,5 +64,5 @@ returns g c = λ frames rest of.
     let i = c.loop-rest.invariant in
     let none : c.loop-rest.rest.now ≡ [] = nothing c.loop-rest.rest.now c.is_empty.result c.is_empty.ensures c.loop-rest-test.false in
     let is : c.args.input.now ≡ i.fed = i.parts ∙ ap (λ (bytes : List ℕ). i.fed ++ bytes) none ∙ append-nil i.fed in
-    whole_ended g.H.Handler.has_handled g.H.Handler.gives i.fed i.given c.args.out.now.items c.loop-rest.out.items c.loop-rest.stream.splitter c.loop-rest.stream.count c.loop-rest.handler c.end.result i.progress i.rests i.appended c.end.ensures
+    whole_ended g.H.Handler.has_handled g.H.Handler.gives i.fed i.given c.args.out.now.items c.loop-rest.out.items c.loop-rest.stream.splitter c.loop-rest.stream.count c.loop-rest.handler c.end.result i.progress i.waits i.appended c.end.ensures
     frames rest (subst (λ (bytes : List ℕ). FramesOf bytes frames rest) is of)

@@ -1,5 +1,5 @@
 use Rattle.std.proofs.Common.{◌≡◌, ◌++◌, ℕ, List, length}
-use Rattle.csi_streams.specs.Progress.{Progress, Rests}
+use Rattle.csi_streams.specs.Progress.{Progress, WaitsForMore}
 use Rattle.csi_streams.proofs.slices.handle_slice.Given as goal
 
 abbrev pub invariant-loop-rest : goal.invariant-loop-rest
@@ -9,7 +9,7 @@ invariant-loop-rest g l = record {
   parts : l.fn.input ≡ fed ++ l.rest;
   appended : l.out.items ≡ l.fn.out.items ++ given;
   progress : Progress g.H.Handler.has_handled g.H.Handler.gives fed l.stream.splitter l.stream.count l.handler given;
-  rests : Rests l.stream.splitter;
+  waits : WaitsForMore l.stream.splitter;
 }
 
 abbrev pub decreases-loop-rest : goal.decreases-loop-rest

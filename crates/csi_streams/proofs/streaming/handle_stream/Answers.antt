@@ -2,10 +2,10 @@ use Rattle.std.proofs.Common.{◌≡◌, ◌∙◌, sym, subst, refl, ◌++◌, 
 use Rattle.std.specs.Io.KnownBytes.{Consumes}
 use Rattle.std.proofs.KnownBytes.{Appends-nil, Appends-trans, Consumes-nil, Consumes-trans, Consumes-kept}
 use Rattle.std.proofs.lemmas.Result.{err_from_is_err_and}
-use Rattle.csi_streams.specs.Progress.{Rests}
+use Rattle.csi_streams.specs.Progress.{WaitsForMore}
 use Rattle.csi_streams.proofs.Passing.{nothing_read, stream_ended, stream_failed, stream_endless, stream_stopped}
 use Rattle.csi_streams.proofs.Failures.{ended-reader, ended-writer, passed-reader, told-since, risen-since}
-use Rattle.csi_streams.proofs.Progress.{begun, rests-new}
+use Rattle.csi_streams.proofs.Progress.{begun, waits-new}
 use Rattle.csi_streams.proofs.Streams.{AreBytes-both}
 use Rattle.csi_streams.proofs.streaming.handle_stream.Goals as goal
 
@@ -17,7 +17,7 @@ loop-read-init g c = record {
   consumed = Consumes-nil (g.R.Read.remaining c.args.reader.now.inner);
   written = Appends-nil (g.W.Write.contents c.args.writer.now.inner);
   progress = begun g.H.Handler.has_handled g.H.Handler.gives c.new-stream.result.splitter c.new-stream.result.count c.args.handler.now c.new-stream.ensures.splitter c.new-stream.ensures.count c.requires.handled c.requires.gave;
-  rests = subst Rests (sym c.new-stream.ensures.splitter) rests-new;
+  waits = subst WaitsForMore (sym c.new-stream.ensures.splitter) waits-new;
   readable = refl;
   writable = refl;
 }
@@ -31,7 +31,7 @@ returns-in-Ok-eq0-clause-streams g c =
     let consumed : Consumes (remaining c.args.reader.now.inner) (remaining c.read.new.self.inner) i.fed =
     nothing_read (remaining c.args.reader.now.inner) (remaining c.read.new.self.inner) i.fed c.read.new.buf c.in-Ok-eq0.field-0 none
     (Consumes-trans (remaining c.args.reader.now.inner) (remaining c.loop-read.reader.inner) (remaining c.read.new.self.inner) i.fed (take c.in-Ok-eq0.field-0 c.read.new.buf) i.consumed c.in-Ok-eq0.ensures.bytes.0) in
-    stream_ended g.H.Handler.has_handled g.H.Handler.gives i.fed i.given c.loop-read.stream.splitter c.loop-read.stream.count c.loop-read.handler (remaining c.args.reader.now.inner) (remaining c.read.new.self.inner) (contents c.args.writer.now.inner) (contents c.loop-read.writer.inner) c.count_at_end.result i.progress i.rests consumed i.written (c.in-Ok-eq0.ensures.bytes.1 none (omega arith)) c.count_at_end.ensures
+    stream_ended g.H.Handler.has_handled g.H.Handler.gives i.fed i.given c.loop-read.stream.splitter c.loop-read.stream.count c.loop-read.handler (remaining c.args.reader.now.inner) (remaining c.read.new.self.inner) (contents c.args.writer.now.inner) (contents c.loop-read.writer.inner) c.count_at_end.result i.progress i.waits consumed i.written (c.in-Ok-eq0.ensures.bytes.1 none (omega arith)) c.count_at_end.ensures
 
 pub returns-in_err-pass_on-in-Ok-clause-streams : goal.returns-in_err-pass_on-in-Ok-clause-streams
 returns-in_err-pass_on-in-Ok-clause-streams g c =
@@ -63,7 +63,7 @@ loop-read-preserved g c =
           (Consumes-trans (remaining c.args.reader.now.inner) (remaining c.loop-read.reader.inner) (remaining c.read.new.self.inner) i.fed (take c.in-Ok.n c.read.new.buf) i.consumed c.in-Ok.ensures.bytes.0);
       written = Appends-trans (contents c.args.writer.now.inner) (contents c.loop-read.writer.inner) (contents c.pass_on.new.writer.inner) i.given on.more i.written on.written;
       progress = on.progress;
-      rests = on.rests;
+      waits = on.waits;
       readable = c.in-Ok.ensures.faults ∙ i.readable;
       writable = c.in_ok-pass_on-in-Ok.ensures.writer ∙ i.writable;
     }
@@ -73,7 +73,7 @@ returns-in-Err-clause-streams g c =
     let remaining = g.R.Read.remaining in
     let contents = g.W.Write.contents in
     let i = c.loop-read.invariant in
-    stream_failed g.H.Handler.has_handled g.H.Handler.gives i.fed i.given c.loop-read.stream.splitter c.loop-read.stream.count c.loop-read.handler (remaining c.args.reader.now.inner) (remaining c.read.new.self.inner) (contents c.args.writer.now.inner) (contents c.loop-read.writer.inner) i.progress i.rests
+    stream_failed g.H.Handler.has_handled g.H.Handler.gives i.fed i.given c.loop-read.stream.splitter c.loop-read.stream.count c.loop-read.handler (remaining c.args.reader.now.inner) (remaining c.read.new.self.inner) (contents c.args.writer.now.inner) (contents c.loop-read.writer.inner) i.progress i.waits
     (Consumes-kept (remaining c.args.reader.now.inner) (remaining c.loop-read.reader.inner) (remaining c.read.new.self.inner) i.fed i.consumed c.in-Err.ensures.bytes) i.written
 
 pub returns-clause-streams : goal.returns-clause-streams
@@ -81,7 +81,7 @@ returns-clause-streams g c =
     let remaining = g.R.Read.remaining in
     let contents = g.W.Write.contents in
     let i = c.loop-read.invariant in
-    stream_endless g.H.Handler.has_handled g.H.Handler.gives i.fed i.given c.loop-read.stream.splitter c.loop-read.stream.count c.loop-read.handler (remaining c.args.reader.now.inner) (remaining c.loop-read.reader.inner) (contents c.args.writer.now.inner) (contents c.loop-read.writer.inner) i.progress i.rests
+    stream_endless g.H.Handler.has_handled g.H.Handler.gives i.fed i.given c.loop-read.stream.splitter c.loop-read.stream.count c.loop-read.handler (remaining c.args.reader.now.inner) (remaining c.loop-read.reader.inner) (contents c.args.writer.now.inner) (contents c.loop-read.writer.inner) i.progress i.waits
     i.consumed i.written (omega (arith, i.counted, c.loop-read-test.false))
 
 pub returns-in-Ok-eq0-clause-reader : goal.returns-in-Ok-eq0-clause-reader

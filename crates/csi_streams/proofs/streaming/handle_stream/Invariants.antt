@@ -1,6 +1,6 @@
 use Rattle.std.proofs.Common.{◌≡◌, ◌-◌, ◌^◌, ℕ, List, length}
 use Rattle.std.specs.Io.KnownBytes.{Appends, Consumes}
-use Rattle.csi_streams.specs.Progress.{Progress, Rests}
+use Rattle.csi_streams.specs.Progress.{Progress, WaitsForMore}
 use Rattle.csi_streams.proofs.streaming.handle_stream.Given as goal
 
 abbrev pub invariant-loop-read : goal.invariant-loop-read
@@ -11,7 +11,7 @@ invariant-loop-read g l = record {
   consumed : Consumes (g.R.Read.remaining l.fn.reader.inner) (g.R.Read.remaining l.reader.inner) fed;
   written : Appends (g.W.Write.contents l.fn.writer.inner) (g.W.Write.contents l.writer.inner) given;
   progress : Progress g.H.Handler.has_handled g.H.Handler.gives fed l.stream.splitter l.stream.count l.handler given;
-  rests : Rests l.stream.splitter;
+  waits : WaitsForMore l.stream.splitter;
   readable : l.reader.faults ≡ l.fn.reader.faults;
   writable : l.writer.faults ≡ l.fn.writer.faults;
 }

@@ -1,0 +1,173 @@
+-- The controller's table, opened once: each answer that it gives, and what is so where it gives it.
+use Rattle.std.proofs.Common.{◌≡◌, ℕ, ◌^◌, List, [], ◌∷◌, Bool, true, false, cond, not, refl, ◌∙◌, ap}
+use Rattle.std.specs.Prelude.{Option, Some, None, find, ◌||◌, nat_le, nat_lt, length, codes}
+use Rattle.std.proofs.lemmas.Bool.{not-false}
+use Rattle.csi_types.proofs.Equality.{same_holding-tells}
+use Rattle.csi_types.specs.declared.capability.Capability.{Capability}
+use Rattle.csi_types.specs.declared.holding.Holding.{Holding}
+use Rattle.csi_types.specs.declared.call.Call.{Call}
+use Rattle.csi_types.specs.declared.call.Call.TheVariants as calls
+use Rattle.csi_types.specs.declared.status.Status.{Status}
+use Rattle.csi_types.specs.declared.status.Status.TheVariants.{Ok, InvalidArgument, NotFound, AlreadyExists, ResourceExhausted, FailedPrecondition, OutOfRange, Unimplemented}
+use Rattle.csi_types.specs.Capacity.{is_bad_range, is_empty_range, wanted}
+use Rattle.csi_types.specs.Config.{Config, has_node}
+use Rattle.csi_types.specs.Holding.{same_holding, is_compatible}
+use Rattle.csi_types.specs.Replies.{ok_reply_with}
+use Rattle.csi_types.specs.Same.{has_capability}
+use Rattle.csi_controller.specs.State.{Volume, ControllerState, volume_named, live_volume, holdings_of, holding_at}
+use Rattle.csi_controller.specs.Table.{Outcome, Stays, Makes, Ends, Attaches, Detaches, refused, met, done, serves, create_named, create, delete_live, delete, is_full, attach, publish_held, publish, unpublish, controller_row}
+
+-- a range that can be met
+pub record IsRange (required limit : ℕ) : Type 0 where
+  pub ordered : is_bad_range required limit ≡ false
+  pub not_empty : is_empty_range required limit ≡ false
+
+-- a live volume, a node that is configured, and a capability that the volume has
+pub record CanAttach (config : Config) (state : ControllerState) (holding : Holding) (volume : Volume) : Type 0 where
+  pub live : live_volume holding.volume state ≡ Some volume
+  pub node : has_node holding.node config.nodes ≡ true
+  pub capable : has_capability volume.capabilities holding.capability ≡ true
+
+-- the call that asks for this holding
+abbrev pub publish_call : Holding → Call
+publish_call holding = calls.ControllerPublishVolume holding.volume holding.node holding.capability holding.readonly
+
+-- what the table answers to a call
+pub data IsOutcome (config : Config) (state : ControllerState) : Call → Outcome → Type 0 where
+  was_refused : (call : Call) (status : Status) (detail : List ℕ) → (status ≡ Ok → ⊥) → IsOutcome config state call (refused status detail)
+  was_found : (name : List ℕ) (required limit : ℕ) (first : Capability) (others : List Capability) (volume : Volume)
+      → IsRange required limit → volume_named name state ≡ Some volume → volume.is_live ≡ true → serves volume required limit (first ∷ others) ≡ true
+      → IsOutcome config state (calls.CreateVolume name required limit (first ∷ others)) (record { reply = ok_reply_with volume.id; change = Stays })
+  was_made : (name : List ℕ) (required limit : ℕ) (first : Capability) (others : List Capability)
+      → IsRange required limit → volume_named name state ≡ None
+      → IsOutcome config state (calls.CreateVolume name required limit (first ∷ others)) (record { reply = ok_reply_with state.next_id; change = Makes name (wanted required limit) (first ∷ others) })
+  was_ended : (id : ℕ) (volume : Volume) → live_volume id state ≡ Some volume → holdings_of id state ≡ [] → IsOutcome config state (calls.DeleteVolume id) (done (Ends id))
+  was_ended_before : (id : ℕ) → live_volume id state ≡ None → IsOutcome config state (calls.DeleteVolume id) met
+  was_attached : (holding : Holding) (volume : Volume) → CanAttach config state holding volume → holding_at holding.volume holding.node state ≡ None
+      → find (λ other. not (is_compatible holding other)) (holdings_of holding.volume state) ≡ None → IsOutcome config state (publish_call holding) (done (Attaches holding))
+  was_attached_before : (holding : Holding) (volume : Volume) → CanAttach config state holding volume → holding_at holding.volume holding.node state ≡ Some holding
+      → IsOutcome config state (publish_call holding) met
+  was_detached : (id : ℕ) (node : List ℕ) (held : Holding) → holding_at id node state ≡ Some held → IsOutcome config state (calls.ControllerUnpublishVolume id node) (done (Detaches id node))
+  was_detached_before : (id : ℕ) (node : List ℕ) → holding_at id node state ≡ None → IsOutcome config state (calls.ControllerUnpublishVolume id node) met
+
+-- an `if` gives one of these answers where each of its two ways does
+by_if : (config : Config) (state : ControllerState) (call : Call) (b : Bool) (x y : Outcome) → (b ≡ true → IsOutcome config state call x) → (b ≡ false → IsOutcome config state call y) → IsOutcome config state call (cond b x y)
+by_if config state call true x y f g = f refl
+by_if config state call false x y f g = g refl
+
+-- no refusal's status is OK
+invalid : InvalidArgument ≡ Ok → ⊥
+invalid h = cc
+
+-- the status NotFound isn't OK
+unfound : NotFound ≡ Ok → ⊥
+unfound h = cc
+
+-- the status AlreadyExists isn't OK
+exists : AlreadyExists ≡ Ok → ⊥
+exists h = cc
+
+-- the status ResourceExhausted isn't OK
+exhausted : ResourceExhausted ≡ Ok → ⊥
+exhausted h = cc
+
+-- the status FailedPrecondition isn't OK
+failed : FailedPrecondition ≡ Ok → ⊥
+failed h = cc
+
+-- the status OutOfRange isn't OK
+out_of_range : OutOfRange ≡ Ok → ⊥
+out_of_range h = cc
+
+-- the status Unimplemented isn't OK
+unimplemented : Unimplemented ≡ Ok → ⊥
+unimplemented h = cc
+
+-- each part of the table gives one of these answers, call by call
+create_named_outcomes : (config : Config) (state : ControllerState) (name : List ℕ) (required limit : ℕ) (first : Capability) (others : List Capability) (o : Option Volume)
+    → IsRange required limit → volume_named name state ≡ o
+    → IsOutcome config state (calls.CreateVolume name required limit (first ∷ others)) (create_named config state name required limit (first ∷ others) o)
+create_named_outcomes config state name required limit first others None range is =
+    let call = calls.CreateVolume name required limit (first ∷ others) in
+    by_if config state call (nat_lt config.greatest (wanted required limit)) (refused OutOfRange (codes "range")) _ (λ _. was_refused call OutOfRange (codes "range") out_of_range)
+    (λ _. by_if config state call (nat_le 4096 (length state.volumes) || nat_le (2 ^ 64) state.next_id) (refused ResourceExhausted (codes "volumes")) _
+    (λ _. was_refused call ResourceExhausted (codes "volumes") exhausted)
+    (λ _. was_made name required limit first others range is))
+create_named_outcomes config state name required limit first others (Some volume) range is =
+    let call = calls.CreateVolume name required limit (first ∷ others) in
+    by_if config state call (not volume.is_live) (refused AlreadyExists (codes "name")) _ (λ _. was_refused call AlreadyExists (codes "name") exists)
+    (λ live. by_if config state call (serves volume required limit (first ∷ others)) (record { reply = ok_reply_with volume.id; change = Stays }) (refused AlreadyExists (codes "name"))
+    (λ serving. was_found name required limit first others volume range is (not-false volume.is_live live) serving)
+    (λ _. was_refused call AlreadyExists (codes "name") exists))
+
+-- CreateVolume gets one of these answers
+create_outcomes : (config : Config) (state : ControllerState) (name : List ℕ) (required limit : ℕ) (capabilities : List Capability)
+    → IsOutcome config state (calls.CreateVolume name required limit capabilities) (create config state name required limit capabilities)
+create_outcomes config state name required limit [] = was_refused (calls.CreateVolume name required limit []) InvalidArgument (codes "capabilities") invalid
+create_outcomes config state name required limit (first ∷ others) =
+    let call = calls.CreateVolume name required limit (first ∷ others) in
+    by_if config state call (is_bad_range required limit) (refused InvalidArgument (codes "capacity")) _ (λ _. was_refused call InvalidArgument (codes "capacity") invalid)
+    (λ ordered. by_if config state call (is_empty_range required limit) (refused OutOfRange (codes "range")) (create_named config state name required limit (first ∷ others) (volume_named name state))
+    (λ _. was_refused call OutOfRange (codes "range") out_of_range)
+    (λ not_empty. create_named_outcomes config state name required limit first others (volume_named name state) (record { ordered = ordered; not_empty = not_empty }) refl))
+
+-- so does DeleteVolume of a live volume, by what is held of it
+delete_live_outcomes : (config : Config) (state : ControllerState) (id : ℕ) (volume : Volume) (held : List Holding) → live_volume id state ≡ Some volume → holdings_of id state ≡ held
+    → IsOutcome config state (calls.DeleteVolume id) (delete_live id held)
+delete_live_outcomes config state id volume [] live is = was_ended id volume live is
+delete_live_outcomes config state id volume (holding ∷ others) live is = was_refused (calls.DeleteVolume id) FailedPrecondition holding.node failed
+
+-- so does DeleteVolume
+delete_outcomes : (config : Config) (state : ControllerState) (id : ℕ) (o : Option Volume) → live_volume id state ≡ o → IsOutcome config state (calls.DeleteVolume id) (delete state id o)
+delete_outcomes config state id None is = was_ended_before id is
+delete_outcomes config state id (Some volume) is = delete_live_outcomes config state id volume (holdings_of id state) is refl
+
+-- so does ControllerPublishVolume where the node doesn't hold the volume, by the first holding that can't be beside it
+attach_outcomes : (config : Config) (state : ControllerState) (holding : Holding) (volume : Volume) (o : Option Holding) → CanAttach config state holding volume
+    → holding_at holding.volume holding.node state ≡ None → find (λ other. not (is_compatible holding other)) (holdings_of holding.volume state) ≡ o
+    → IsOutcome config state (publish_call holding) (attach config state holding o)
+attach_outcomes config state holding volume (Some other) can free is = was_refused (publish_call holding) FailedPrecondition other.node failed
+attach_outcomes config state holding volume None can free is =
+    by_if config state (publish_call holding) (is_full config state holding.volume holding.node) (refused ResourceExhausted (codes "slots")) (done (Attaches holding))
+    (λ _. was_refused (publish_call holding) ResourceExhausted (codes "slots") exhausted)
+    (λ _. was_attached holding volume can free is)
+
+-- so does ControllerPublishVolume of a volume that can be attached, by what the node holds of it
+publish_held_outcomes : (config : Config) (state : ControllerState) (holding : Holding) (volume : Volume) (o : Option Holding) → CanAttach config state holding volume
+    → holding_at holding.volume holding.node state ≡ o → IsOutcome config state (publish_call holding) (publish_held config state holding o)
+publish_held_outcomes config state holding volume None can is =
+    attach_outcomes config state holding volume (find (λ other. not (is_compatible holding other)) (holdings_of holding.volume state)) can is refl
+publish_held_outcomes config state holding volume (Some held) can is =
+    by_if config state (publish_call holding) (same_holding held holding) met (refused AlreadyExists (codes "held otherwise"))
+    (λ same. was_attached_before holding volume can (is ∙ ap Some ((same_holding-tells held holding).0 same)))
+    (λ _. was_refused (publish_call holding) AlreadyExists (codes "held otherwise") exists)
+
+-- so does ControllerPublishVolume
+publish_outcomes : (config : Config) (state : ControllerState) (holding : Holding) (o : Option Volume) → live_volume holding.volume state ≡ o
+    → IsOutcome config state (publish_call holding) (publish config state holding o)
+publish_outcomes config state holding None is = was_refused (publish_call holding) NotFound (codes "volume") unfound
+publish_outcomes config state holding (Some volume) is =
+    let call = publish_call holding in
+    by_if config state call (not (has_node holding.node config.nodes)) (refused NotFound (codes "node")) _ (λ _. was_refused call NotFound (codes "node") unfound)
+    (λ node. by_if config state call (not (has_capability volume.capabilities holding.capability)) (refused InvalidArgument (codes "capability")) (publish_held config state holding (holding_at holding.volume holding.node state))
+    (λ _. was_refused call InvalidArgument (codes "capability") invalid)
+    (λ capable. publish_held_outcomes config state holding volume (holding_at holding.volume holding.node state)
+    (record { live = is; node = not-false (has_node holding.node config.nodes) node; capable = not-false (has_capability volume.capabilities holding.capability) capable }) refl))
+
+-- so does ControllerUnpublishVolume
+unpublish_outcomes : (config : Config) (state : ControllerState) (id : ℕ) (node : List ℕ) (o : Option Holding) → holding_at id node state ≡ o
+    → IsOutcome config state (calls.ControllerUnpublishVolume id node) (unpublish id node o)
+unpublish_outcomes config state id node None is = was_detached_before id node is
+unpublish_outcomes config state id node (Some held) is = was_detached id node held is
+
+-- every answer of the table is one of these
+pub is_outcome : (config : Config) (state : ControllerState) (call : Call) → IsOutcome config state call (controller_row config state call)
+is_outcome config state (calls.CreateVolume name required limit capabilities) = create_outcomes config state name required limit capabilities
+is_outcome config state (calls.DeleteVolume id) = delete_outcomes config state id (live_volume id state) refl
+is_outcome config state (calls.ControllerPublishVolume id node capability readonly) =
+    publish_outcomes config state (record { volume = id; node = node; capability = capability; readonly = readonly }) (live_volume id state) refl
+is_outcome config state (calls.ControllerUnpublishVolume id node) = unpublish_outcomes config state id node (holding_at id node state) refl
+is_outcome config state (calls.NodeStageVolume id capability) = was_refused (calls.NodeStageVolume id capability) Unimplemented [] unimplemented
+is_outcome config state (calls.NodeUnstageVolume id) = was_refused (calls.NodeUnstageVolume id) Unimplemented [] unimplemented
+is_outcome config state (calls.NodePublishVolume id target capability readonly) = was_refused (calls.NodePublishVolume id target capability readonly) Unimplemented [] unimplemented
+is_outcome config state (calls.NodeUnpublishVolume id target) = was_refused (calls.NodeUnpublishVolume id target) Unimplemented [] unimplemented

@@ -1,0 +1,17 @@
+-- Nothing changes.
+use Rattle.std.proofs.Common.{Bool}
+use Rattle.csi_types.specs.Lent.{lent_call}
+use Rattle.csi_controller.specs.declared.row.ControllerRow.{ControllerRow}
+use Rattle.csi_controller.specs.Catalog.{rows_of}
+use Rattle.csi_controller.specs.Shown.{volume_of_row}
+use Rattle.csi_controller.specs.State.{is_row_for}
+use Rattle.csi_controller.proofs.AtRow.{nowhere}
+use Rattle.csi_controller.proofs.CoreAnswered.{nowhere-now}
+use Rattle.csi_controller.proofs.controller.core_parts.ControllerCore.answer_nowhere.Goals as goal
+
+pub returns-clause-ok : goal.returns-clause-ok
+returns-clause-ok c = λ number present.
+    let core = c.args.self.now in
+    let call = lent_call c.args.call.now in
+    let p : ControllerRow → Bool = λ r. is_row_for (lent_call c.args.call.now) (volume_of_row r) in
+    nowhere-now core number call c.kind.result c.in_ok-reply.reply c.requires.kept present (nowhere p (rows_of core.catalog) c.requires.none) c.requires.party c.requires.other c.kind.ensures c.in_ok-reply.ensures.reply

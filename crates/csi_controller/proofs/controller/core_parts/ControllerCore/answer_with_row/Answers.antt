@@ -1,0 +1,67 @@
+-- A call at its row.
+use Rattle.std.proofs.Common.{◌∙◌, List, Bool, subst}
+use Rattle.std.proofs.lemmas.Result.{on_err_weaker}
+use Rattle.std.specs.Prelude.{Some, IfOk}
+use Rattle.csi_types.specs.declared.config.NodeSlots.{NodeSlots}
+use Rattle.csi_fence.specs.Fence.{verdict_of}
+use Rattle.csi_types.specs.Lent.{lent_call}
+use Rattle.csi_controller.specs.declared.row.ControllerRow.{ControllerRow}
+use Rattle.csi_controller.specs.Catalog.{rows_of}
+use Rattle.csi_controller.specs.AtRow.{RowAnswers}
+use Rattle.csi_controller.specs.Shown.{volume_of_row}
+use Rattle.csi_controller.specs.State.{is_row_for}
+use Rattle.csi_controller.specs.Step.{answer_frame}
+use Rattle.csi_controller.proofs.AtRow.{at-place, sound-at, let_through, repeat-there}
+use Rattle.csi_controller.proofs.CatalogMaps.{read-at}
+use Rattle.csi_controller.proofs.RowReplaced.{all-ok, answered-there, left-there}
+use Rattle.csi_controller.proofs.Sessions.{through-now}
+use Rattle.csi_controller.proofs.controller.core_parts.ControllerCore.answer_with_row.Goals as goal
+
+pub answer_at_row-requires-clause-sound : goal.answer_at_row-requires-clause-sound
+answer_at_row-requires-clause-sound c =
+    let core = c.args.self.now in
+    let p : ControllerRow → Bool = λ r. is_row_for (lent_call c.args.call.now) (volume_of_row r) in
+    let row = c.index_mut-row.result.now in
+    (core.next_id, sound-at p core.next_id (rows_of core.catalog) c.args.place row c.requires.kept.sound c.requires.place (read-at (rows_of core.catalog) c.args.place row c.index_mut-row.ensures.value))
+
+pub returns-clause-ok : goal.returns-clause-ok
+returns-clause-ok c =
+    let core = c.args.self.now in
+    let row = c.index_mut-row.result.now in
+    let new = c.answer_at_row.new.row in
+    let counts = c.answer_at_row.new.counts in
+    all-ok c.answer_at_row.result _ _ _ _
+    (λ answer answered names allowed.
+    answered-there core c.args.place row new counts c.args.number (lent_call c.args.call.now) answer c.requires.kept c.requires.present c.requires.place c.index_mut-row.ensures.value c.requires.party answered names allowed)
+    (subst (λ (nodes : List NodeSlots). IfOk c.answer_at_row.result (λ answer. RowAnswers nodes row new core.counts counts c.args.number (lent_call c.args.call.now) (verdict_of (Some row.last) c.args.number) (answer_frame c.args.number answer))) c.nodes-nodes.ensures c.answer_at_row.ensures.ok)
+    c.answer_at_row.ensures.row c.answer_at_row.ensures.allowed
+
+pub returns-clause-err : goal.returns-clause-err
+returns-clause-err c =
+    let core = c.args.self.now in
+    let p : ControllerRow → Bool = λ r. is_row_for (lent_call c.args.call.now) (volume_of_row r) in
+    on_err_weaker c.answer_at_row.result
+    (left-there p core c.args.place c.index_mut-row.result.now c.answer_at_row.new.row c.answer_at_row.new.counts c.requires.kept c.requires.place c.index_mut-row.ensures.value)
+    c.answer_at_row.ensures.err
+
+pub returns-clause-repeated : goal.returns-clause-repeated
+returns-clause-repeated c = λ state shown repeat.
+    let core = c.args.self.now in
+    let rows = rows_of core.catalog in
+    let p : ControllerRow → Bool = λ r. is_row_for (lent_call c.args.call.now) (volume_of_row r) in
+    let row = c.index_mut-row.result.now in
+    let first = at-place p rows c.args.place row c.requires.place (read-at rows c.args.place row c.index_mut-row.ensures.value) in
+    let told = repeat-there core.config core.next_id core.session rows state c.args.number (lent_call c.args.call.now) c.args.place row shown first repeat in
+    c.answer_at_row.ensures.repeated told.0 told.1
+
+pub returns-clause-undone : goal.returns-clause-undone
+returns-clause-undone c = λ state shown undoing answered.
+    let core = c.args.self.now in
+    let rows = rows_of core.catalog in
+    let p : ControllerRow → Bool = λ r. is_row_for (lent_call c.args.call.now) (volume_of_row r) in
+    let row = c.index_mut-row.result.now in
+    let first = at-place p rows c.args.place row c.requires.place (read-at rows c.args.place row c.index_mut-row.ensures.value) in
+    let there = through-now core.config state c.args.number (lent_call c.args.call.now) (c.requires.present ∙ shown.session) answered in
+    let through = let_through core.config core.next_id core.session rows core.counts state c.args.number (lent_call c.args.call.now) c.args.place row c.requires.kept.sound c.requires.kept.counted shown first there.0 there.1 in
+    c.answer_at_row.ensures.undone undoing through.0
+    (rw c.nodes-nodes.ensures through.1)

@@ -1,0 +1,32 @@
+-- At the row of the name, or with a new one.
+use Rattle.std.proofs.Common.{◌≡◌, sym, subst}
+use Rattle.std.specs.Prelude.{Option, Result, IfOk, IfErr}
+use Rattle.csi_orchestrator.specs.declared.fault.OrchFault.{OrchFault}
+use Rattle.csi_orchestrator.specs.Catalog.{rows_of}
+use Rattle.csi_orchestrator.specs.CoreParts.{parts_of}
+use Rattle.csi_orchestrator.specs.Moves.{Sends}
+use Rattle.csi_orchestrator.specs.RowMoves.{MovedRows, moved_rows, creates, IsRefusal}
+use Rattle.csi_orchestrator.specs.Shown.{RowShown}
+use Rattle.csi_orchestrator.proofs.RowsByName.{shown-nowhere, create-asked}
+use Rattle.csi_orchestrator.proofs.state.OrchestratorCore.create.Goals as goal
+
+pub returns-in-Some-clause-told : goal.returns-in-Some-clause-told
+returns-in-Some-clause-told c =
+    let at = sym c.in-Some.ensures.index in
+    let same = create-asked c.args.self.now c.args.name c.args.arguments c.in-Some.index at in
+    record {
+      ok = subst (λ (t : Result MovedRows OrchFault). IfOk c.step.result (λ sent. t ≡ moved_rows (parts_of c.step.new.self) (Sends sent))) same (c.step.ensures.ok c.args.name Sends at);
+      err = subst (λ (t : Result MovedRows OrchFault). IfErr c.step.result (IsRefusal t)) same (c.step.ensures.err c.args.name Sends at);
+      stays = c.step.ensures.stays;
+    }
+
+pub returns-in-None-clause-told : goal.returns-in-None-clause-told
+returns-in-None-clause-told c =
+    let core = c.args.self.now in
+    let new = sym (shown-nowhere (rows_of core.catalog) c.args.name (sym c.in-None.ensures.index)) in
+    record {
+      ok = subst (λ (row : Option RowShown). IfOk c.create_first.result (λ sent. creates (parts_of core) c.args.name c.args.arguments row ≡ moved_rows (parts_of c.create_first.new.self)
+          (Sends sent))) new c.create_first.ensures.ok;
+      err = subst (λ (row : Option RowShown). IfErr c.create_first.result (IsRefusal (creates (parts_of core) c.args.name c.args.arguments row))) new c.create_first.ensures.err;
+      stays = c.create_first.ensures.stays;
+    }
