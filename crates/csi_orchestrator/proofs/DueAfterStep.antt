@@ -1,11 +1,12 @@
 -- What is due for a row once it took a step, by what is found before the row is changed.
 use Rattle.std.proofs.Common.{◌≡◌, ◌++◌, ℕ, List, [], ◌∷◌, Bool, true, false, cond, not, refl, sym, ◌∙◌, ap, subst}
-use Rattle.std.specs.Prelude.{Option, Some, None, find, is_some, is_none, ◌&&◌, ◌||◌, Result, Ok, Err, IfErr, OnErr, IsErrAnd}
+use Rattle.std.specs.Prelude.{Option, Some, None, find, is_some, is_none, option_and_then, ◌&&◌, ◌||◌, Result, Ok, Err, IfErr, OnErr, IsErrAnd}
 use Rattle.std.specs.List.{list_any}
 use Rattle.std.proofs.lemmas.Bool.{false≢true}
 use Rattle.std.proofs.lemmas.List.Folds.{list_any-append}
 use Rattle.csi_types.specs.declared.number.Number.{Number}
 use Rattle.csi_types.specs.Same.{same_text}
+use Rattle.csi_orchestrator.specs.declared.decision.Decision.TheVariants.{Send}
 use Rattle.csi_orchestrator.specs.declared.sending.Outgoing.{Outgoing}
 use Rattle.csi_orchestrator.specs.declared.row.Goal.TheVariants.{Use}
 use Rattle.csi_orchestrator.specs.declared.row.TargetEntry.{TargetEntry}
@@ -17,9 +18,10 @@ use Rattle.csi_orchestrator.specs.Thing.{is_no}
 use Rattle.csi_orchestrator.specs.Commands.{next_number}
 use Rattle.csi_orchestrator.specs.Due.{Due}
 use Rattle.csi_orchestrator.specs.RowChanges.{wanted, with_entry, entry_for, with_target, new_target_entry}
-use Rattle.csi_orchestrator.specs.Shown.{NodeEntryShown, RowShown, node_entry_of, others_in, marks_at, due_with, due_in, closed}
-use Rattle.csi_orchestrator.specs.RowRefusals.{step_refusal, late_refusal}
-use Rattle.csi_orchestrator.specs.RowSteps.{outgoing_by, row_after, row_sends_due, row_rests, row_unless, due_for_use, is_met, waits, needs_entry, changed, row_takes, row_step, SendsNothing}
+use Rattle.csi_orchestrator.specs.Shown.{NodeEntryShown, RowShown, node_entry_of, others_in, marks_at, use_due, due_with, due_in}
+use Rattle.csi_orchestrator.specs.Decisions.{decided}
+use Rattle.csi_orchestrator.specs.RowSteps.{outgoing_by, row_after, row_sends_due, due_for_use, is_met, needs_entry, changed, row_step, SendsNothing}
+use Rattle.csi_orchestrator.proofs.DecisionsTold.{decision-tells, sends-unmet}
 use Rattle.csi_orchestrator.proofs.TextLists.{text-same}
 use Rattle.csi_orchestrator.proofs.RowsAfterNotes.{mark-with-entry, entry-there}
 
@@ -82,6 +84,11 @@ marks-with-entry usage row =
 pub due-used : (usage : Usage) (row : RowShown) → due_in (wanted (Use usage) (with_entry usage row)) ≡ due_for_use usage row
 due-used usage row = ap (λ marks. due_with row.name row.arguments row.id marks (Use usage)) (marks-with-entry usage row)
 
+-- the same, by the volume's id
+pub due-used-by : (usage : Usage) (row : RowShown) (id : Option ℕ) → row.id ≡ id
+    → option_and_then (use_due usage (marks_at row usage.node usage.target)) id ≡ due_in (wanted (Use usage) (with_entry usage row))
+due-used-by usage row id is = ap (option_and_then (use_due usage (marks_at row usage.node usage.target))) (sym is) ∙ sym (due-used usage row)
+
 -- where a call is due, one is sent
 sends-due : (row : RowShown) (due : Option Due) (number : Option Number) → SendsNothing (row_after row (outgoing_by due number)) → is_none due ≡ true
 sends-due row None number nothing = refl
@@ -97,15 +104,9 @@ needs-none last (steps.Use usage) row unmet nothing =
     absurd (false≢true (sym unmet ∙ ap is_none (sym (due-used usage row)) ∙ sends-due (changed (steps.Use usage) row) (due_in (changed (steps.Use usage) row)) (next_number last) nothing))
 needs-none last step row unmet nothing = refl
 
--- where nothing refuses a step, it isn't met yet and its call doesn't wait, but nothing is sent for it, no entry is needed, and nothing is due
-pub goes-quietly : (nodes : List (List ℕ)) (last : Number) (step : Step) (row : RowShown) → step_refusal nodes last step row ≡ None → is_met step row ≡ false → waits step row ≡ false → late_refusal last step row ≡ None
-    → SendsNothing (row_step nodes last step row)
+-- where a call is to be sent for a step, but nothing is sent, no entry is needed, and nothing is due
+pub goes-quietly : (nodes : List (List ℕ)) (last : Number) (step : Step) (row : RowShown) → Send ≡ decided nodes last step row → SendsNothing (row_step nodes last step row)
     → (needs_entry step ≡ false) × SendsNothing (row_sends_due last (changed step row))
-goes-quietly nodes last step row free unmet on late nothing =
-    let goes = row_sends_due last (changed step row) in
-    let is : row_step nodes last step row ≡ goes =
-    ap (λ f. row_unless f (row_takes last step row)) free
-    ∙ ap (λ b. cond b (row_rests row) (cond (waits step row) (row_rests (closed row)) (row_unless (late_refusal last step row) goes))) unmet
-    ∙ ap (λ b. cond b (row_rests (closed row)) (row_unless (late_refusal last step row) goes)) on ∙ ap (λ f. row_unless f goes) late in
-    let quiet = subst SendsNothing is nothing in
-    (needs-none last step row unmet quiet, quiet)
+goes-quietly nodes last step row is nothing =
+    let quiet = subst SendsNothing (sym (decision-tells nodes last step row Send is)) nothing in
+    (needs-none last step row (sends-unmet nodes last step row is) quiet, quiet)

@@ -30,6 +30,7 @@ pub mod StepsAllowed
 pub mod PromisesTold
 pub mod ChangedEntries
 pub mod UseEntries
+pub mod DecisionsTold
 pub mod DueAfterStep
 pub mod ThingOrder
 pub mod JoinedLists

@@ -26,3 +26,4 @@ pub mod Laws
 pub mod Worked
 pub mod RowSteps
 pub mod Refusals
+pub mod Decisions

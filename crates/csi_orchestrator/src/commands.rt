@@ -11,9 +11,9 @@ ghost use Rattle.csi_orchestrator.specs.RowMoves.{frame_in, last_after, steps_at
 ghost use Rattle.csi_orchestrator.specs.Shown.{RowShown, row_shown, row_of};
 
 use crate::changes::new_row;
+use crate::decision::first_fault;
 use crate::fault::OrchFault;
 use crate::next_call::due_now;
-use crate::refusals::first_fault;
 use crate::request::Arguments;
 use crate::row::Row;
 use crate::sending::{Outgoing, note_sent_or_drop, outgoing_for};

@@ -2,7 +2,7 @@
 ghost use Rattle.std.specs.Prelude.{◌≡◌, Some, option_map};
 ghost use Rattle.csi_orchestrator.specs.Shown.{row_shown, due_by, due_in};
 ghost use Rattle.csi_orchestrator.specs.RowChanges.{succeeded};
-ghost use Rattle.csi_orchestrator.specs.RowSteps.{due_for_use, is_given_up as gives_up, timed_out, failed, changed};
+ghost use Rattle.csi_orchestrator.specs.RowSteps.{is_given_up as gives_up, timed_out, failed, changed};
 ghost use Rattle.csi_orchestrator.specs.Found.{due_shown, kind_due};
 ghost use Rattle.csi_orchestrator.specs.Hearing.{marks_heard, Fits};
 ghost use Rattle.csi_orchestrator.specs.Sound.{IsSoundRow};
@@ -21,14 +21,6 @@ pub(crate) fn due_now(row: &Row) -> Option<Due<'_>>
 {
     let goal = row.goal.as_ref()?;
     due_for(row, goal, row.id, known_for(row, goal))
-}
-
-/// The call that is due for a use of the row's volume; where none is, it is used so.
-pub(crate) fn due_to_use<'a>(row: &'a Row, usage: &'a Usage) -> Option<Due<'a>>
-    ensures { option_map due_shown result ≡ due_for_use usage.now (row_shown row.now) }
-{
-    let id = row.id?;
-    use_due(id, marks_in(row, &usage.node, &usage.target), usage)
 }
 
 // The call that is due for a stop of the row's use at this node and target.
@@ -118,7 +110,7 @@ pub(crate) fn due_then<'a>(row: &'a Row, step: &'a Step) -> Option<Due<'a>>
 {
     match step {
         Step::Create(arguments) => create_due(&row.name, arguments, of_volume(row)),
-        Step::Use(usage) => due_to_use(row, usage),
+        Step::Use(usage) => use_due(row.id?, marks_in(row, &usage.node, &usage.target), usage),
         Step::Stop { node, target } => due_to_stop(row, node, target),
         Step::Delete => delete_due(row.id?, of_volume(row)),
         Step::TimeOut => due_timed_out(row),

@@ -1,17 +1,15 @@
 //! Whether a use can be beside what a volume is used for already.
-ghost use Rattle.std.specs.Prelude.{◌≡◌, Some, map, not, ◌&&◌, ◌||◌};
+ghost use Rattle.std.specs.Prelude.{◌≡◌, Some, map, not, ◌&&◌};
 ghost use Rattle.std.specs.List.{list_any};
 ghost use Rattle.csi_types.specs.Same.{same_text};
 ghost use Rattle.csi_orchestrator.specs.Thing.{is_no};
-ghost use Rattle.csi_orchestrator.specs.Commands.{is_for_one_node as is_one_node, is_second_writer as is_second, is_otherwise as is_other};
-ghost use Rattle.csi_orchestrator.specs.Shown.{row_shown, node_entry_shown, node_entry_of, held_at};
-ghost use Rattle.csi_orchestrator.specs.RowRefusals.{is_so_elsewhere, is_entry_otherwise, others_count as count_others};
+ghost use Rattle.csi_orchestrator.specs.Commands.{is_for_one_node as is_one_node, is_second_writer as is_second};
+ghost use Rattle.csi_orchestrator.specs.Shown.{node_entry_shown};
+ghost use Rattle.csi_orchestrator.specs.RowRefusals.{is_so_elsewhere, is_entry_otherwise};
 
-use crate::marks::others_of;
 use crate::request::Usage;
-use crate::row::{NodeEntry, Row};
-use crate::state::node_entry_at;
-use csi_types::{NodeId, Target, same_way, single_node, two_writers};
+use crate::row::NodeEntry;
+use csi_types::{NodeId, same_way, single_node, two_writers};
 
 /// Whether the node is one of these.
 pub(crate) fn has_node(nodes: &[NodeId], node: &NodeId) -> bool
@@ -79,36 +77,17 @@ pub(crate) fn is_written_elsewhere(entries: &[NodeEntry], usage: &Usage) -> bool
     false
 }
 
-// Whether the volume is held so by the entry.
-fn is_so(usage: &Usage, entry: &NodeEntry) -> bool
-    ensures { not result ≡ is_other usage.now (Some (held_at (node_entry_shown entry.now))) }
+/// Whether the volume may be attached by this entry with another capability or flag than the use has.
+pub(crate) fn is_held_otherwise(entry: &NodeEntry, usage: &Usage) -> bool
+    ensures { result ≡ is_entry_otherwise usage.now (Some (node_entry_shown entry.now)) }
 {
-    same_way(
-        entry.capability.lend(),
-        entry.readonly,
-        usage.capability.lend(),
-        usage.readonly,
-    )
-}
-
-/// Whether the volume may be attached at this node with another capability or flag.
-pub(crate) fn is_held_otherwise(row: &Row, usage: &Usage) -> bool
-    ensures { result ≡ is_entry_otherwise usage.now (node_entry_of (row_shown row.now) usage.now.node) }
-{
-    match node_entry_at(row, &usage.node) {
-        Some(entry) => !entry.attached.is_no() && !is_so(usage, entry),
-        None => false,
-    }
-}
-
-/// At how many other targets of the node the volume may be published.
-pub(crate) fn others_count(row: &Row, node: &NodeId, target: &Target) -> usize
-    ensures { result ≡ count_others target.now (node_entry_of (row_shown row.now) node.now) }
-{
-    match node_entry_at(row, node) {
-        Some(entry) => others_of(&entry.target_entries, target),
-        None => 0,
-    }
+    !entry.attached.is_no()
+        && !same_way(
+            entry.capability.lend(),
+            entry.readonly,
+            usage.capability.lend(),
+            usage.readonly,
+        )
 }
 
 /// Whether the volume may be attached at the node of one of these entries.

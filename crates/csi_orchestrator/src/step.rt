@@ -1,15 +1,15 @@
 //! What is asked of a volume or comes for it, and what becomes of its row.
 ghost use Rattle.std.specs.Prelude.{◌≡◌, false, Ok, Some, IfOk, IfErr, IsOk, OnOk, OnErr};
 ghost use Rattle.csi_orchestrator.specs.RowMoves.{IsRefusal};
-ghost use Rattle.csi_orchestrator.specs.RowSteps.{is_met as is_so, waits as is_left, timed_out, failed, changed, needs_entry, row_sends_due, row_step, SendsNothing};
+ghost use Rattle.csi_orchestrator.specs.RowSteps.{timed_out, failed, changed, needs_entry, row_sends_due, row_step, SendsNothing};
 ghost use Rattle.csi_orchestrator.specs.Hearing.{Fits};
 ghost use Rattle.csi_orchestrator.specs.Shown.{row_shown};
 
 use crate::changes::{stop_use, succeed, want};
+use crate::decision::{Decision, decide};
 use crate::entries::add_node;
 use crate::fault::OrchFault;
-use crate::next_call::{due_then, due_to_use, is_given_up};
-use crate::refusals::{late_fault, step_fault};
+use crate::next_call::{due_then, is_given_up};
 use crate::request::{Arguments, Usage};
 use crate::row::{Goal, Row};
 use crate::sending::{Outgoing, note_sent_or_drop, outgoing_for};
@@ -33,27 +33,6 @@ pub(crate) enum Step {
     Succeed { kind: Kind, id: Option<VolumeId> },
     /// Its open call had another status.
     Fail,
-}
-
-// Whether it is so already.
-fn is_met(row: &Row, step: &Step) -> bool
-    ensures { result ≡ is_so step.now (row_shown row.now) }
-{
-    match step {
-        Step::Use(usage) => due_to_use(row, usage).is_none(),
-        Step::Delete => row.exists.is_no(),
-        _ => false,
-    }
-}
-
-// Whether the row's call failed and is sent again only once it times out.
-fn waits(row: &Row, step: &Step) -> bool
-    ensures { result ≡ is_left step.now (row_shown row.now) }
-{
-    match step {
-        Step::Fail => !matches!(row.goal, Some(Goal::Create | Goal::Use(_))),
-        _ => false,
-    }
 }
 
 // The open call timed out: it is given up, and after three tries the use that it is for is too.
@@ -145,22 +124,20 @@ pub(crate) fn take(
     ensures quiet { SendsNothing (row_step nodes.now last step (row_shown row.old)) → IsOk result }
     ensures delete { step ≡ Step.Delete → IfErr result (λ fault. fault ≡ OrchFault.NoMemory → ⊥) }
 {
-    if let Some(fault) = step_fault(nodes, last, row, &step) {
-        drop(step);
-        return Err(fault);
+    match decide(nodes, last, row, &step) {
+        Decision::Refuse(fault) => {
+            drop(step);
+            Err(fault)
+        }
+        Decision::Met => {
+            drop(step);
+            Ok(None)
+        }
+        Decision::Wait => {
+            drop(step);
+            row.open_number = None;
+            Ok(None)
+        }
+        Decision::Send => send_due(alloc, row, last, step),
     }
-    if is_met(row, &step) {
-        drop(step);
-        return Ok(None);
-    }
-    if waits(row, &step) {
-        drop(step);
-        row.open_number = None;
-        return Ok(None);
-    }
-    if let Some(fault) = late_fault(last, row, &step) {
-        drop(step);
-        return Err(fault);
-    }
-    send_due(alloc, row, last, step)
 }

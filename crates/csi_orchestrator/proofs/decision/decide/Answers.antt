@@ -1,5 +1,5 @@
 use Rattle.std.proofs.Common.{rules}
-use Rattle.csi_orchestrator.proofs.refusals.step_fault.Goals as goal
+use Rattle.csi_orchestrator.proofs.decision.decide.Goals as goal
 
 pub returns-in-Create : goal.returns-in-Create
 returns-in-Create c = search rules

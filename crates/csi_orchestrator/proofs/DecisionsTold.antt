@@ -1,0 +1,145 @@
+-- What a decision makes of a row is what the step makes of it, and what a use comes to is told by the entry of its node.
+use Rattle.std.proofs.Common.{◌≡◌, ℕ, List, Bool, true, false, cond, not, refl, sym, ◌∙◌, ap}
+use Rattle.std.specs.Prelude.{Option, Some, None, is_some, is_none, option_and_then, ◌&&◌, ◌||◌, nat_lt, nat_le, Result, Err}
+use Rattle.std.specs.List.{list_any}
+use Rattle.csi_types.specs.declared.number.Number.{Number}
+use Rattle.csi_types.specs.Same.{same_text, has_capability}
+use Rattle.csi_types.specs.Sharing.{allows_one_target}
+use Rattle.csi_lists.proofs.Counts.{any-counted}
+use Rattle.csi_orchestrator.specs.declared.decision.Decision.{Decision}
+use Rattle.csi_orchestrator.specs.declared.decision.Decision.TheVariants.{Refuse, Met, Wait, Send}
+use Rattle.csi_orchestrator.specs.declared.fault.OrchFault.{OrchFault}
+use Rattle.csi_orchestrator.specs.declared.fault.OrchFault.TheVariants as faults
+use Rattle.csi_orchestrator.specs.declared.marks.Marks.{Marks}
+use Rattle.csi_orchestrator.specs.declared.request.Usage.{Usage}
+use Rattle.csi_orchestrator.specs.declared.row.TargetEntry.{TargetEntry}
+use Rattle.csi_orchestrator.specs.declared.step.Step.{Step}
+use Rattle.csi_orchestrator.specs.declared.step.Step.TheVariants as steps
+use Rattle.csi_orchestrator.specs.Thing.{is_yes, is_no}
+use Rattle.csi_orchestrator.specs.Commands.{is_for_one_node, is_second_writer}
+use Rattle.csi_orchestrator.specs.Decisions.{refused_or, decided_then, decided, is_used_at, decided_at}
+use Rattle.csi_orchestrator.specs.RowRefusals.{is_last, has_elsewhere, is_entry_otherwise, others_count, use_refusal, is_attached_somewhere, step_refusal, late_refusal}
+use Rattle.csi_orchestrator.specs.RowSteps.{MovedRow, row_sends_due, row_rests, row_unless, is_met, waits, changed, row_step}
+use Rattle.csi_orchestrator.specs.Shown.{NodeEntryShown, RowShown, node_entry_of, others_in, marks_at, use_due, closed}
+use Rattle.csi_orchestrator.proofs.DueCases.{attaching, staging, publishing}
+
+-- ---- what becomes of the row
+
+-- what a decision makes of a row
+abbrev pub row_decided : Decision → Number → Step → RowShown → Result MovedRow OrchFault
+row_decided (Refuse fault) last step row = Err fault
+row_decided Met last step row = row_rests row
+row_decided Wait last step row = row_rests (closed row)
+row_decided Send last step row = row_sends_due last (changed step row)
+
+-- the step makes the same of it
+pub decision-tells : (nodes : List (List ℕ)) (last : Number) (step : Step) (row : RowShown) (decision : Decision) → decision ≡ decided nodes last step row
+    → row_decided decision last step row ≡ row_step nodes last step row
+decision-tells nodes last step row decision is =
+    ap (λ (d : Decision). row_decided d last step row) is ∙ by (step_refusal nodes last step row) (is_met step row) (waits step row) (late_refusal last step row)
+  where
+    by : (fault : Option OrchFault) (met waiting : Bool) (late : Option OrchFault)
+        → row_decided (refused_or fault (cond met Met (cond waiting Wait (refused_or late Send)))) last step row
+        ≡ row_unless fault (cond met (row_rests row) (cond waiting (row_rests (closed row)) (row_unless late (row_sends_due last (changed step row)))))
+    by (Some fault) met waiting late = refl
+    by None true waiting late = refl
+    by None false true late = refl
+    by None false false (Some fault) = refl
+    by None false false None = refl
+
+-- a step for which a call is sent isn't met yet
+pub sends-unmet : (nodes : List (List ℕ)) (last : Number) (step : Step) (row : RowShown) → Send ≡ decided nodes last step row → is_met step row ≡ false
+sends-unmet nodes last step row is = by (step_refusal nodes last step row) (is_met step row) is
+  where
+    by : (fault : Option OrchFault) (met : Bool) → Send ≡ refused_or fault (cond met Met (cond (waits step row) Wait (refused_or (late_refusal last step row) Send))) → met ≡ false
+    by (Some fault) met e = cc
+    by None true e = cc
+    by None false e = refl
+
+-- no delete is refused for want of memory
+pub deletes-without : (nodes : List (List ℕ)) (last : Number) (row : RowShown) → Refuse faults.NoMemory ≡ decided nodes last steps.Delete row → ⊥
+deletes-without nodes last row is = by (is_none row.id) (is_attached_somewhere row) (is_no row.exists) (is_some row.goal) (is_last last) is
+  where
+    by : (unknown attached gone busy spent : Bool)
+        → Refuse faults.NoMemory
+        ≡ refused_or (cond unknown (Some faults.NotCreated) (cond attached (Some faults.InUse) None))
+        (cond gone Met (refused_or (cond busy (Some faults.Busy) (cond spent (Some faults.NumbersSpent) None)) Send))
+        → ⊥
+    by true attached gone busy spent e = cc
+    by false true gone busy spent e = cc
+    by false false true busy spent e = cc
+    by false false false true spent e = cc
+    by false false false false true e = cc
+    by false false false false false e = cc
+
+-- ---- a use, by the entry of its node
+
+-- others are there where some are counted
+others-told : (target : List ℕ) (entry : Option NodeEntryShown) → nat_lt 0 (others_count target entry) ≡ others_in target entry
+others-told target None = refl
+others-told target (Some entry) = any-counted (λ (target_entry : TargetEntry). not (same_text target_entry.target target) && not (is_no target_entry.published)) entry.target_entries
+
+-- no call is due for it where the volume has no id, or is used so already
+none-due : (usage : Usage) (marks : Marks) (id : Option ℕ)
+    → is_none (option_and_then (use_due usage marks) id) ≡ (is_none id || (is_yes marks.attached && is_yes marks.staged && is_yes marks.published))
+none-due usage marks None = refl
+none-due usage marks (Some id) = by (is_yes marks.attached) (is_yes marks.staged) (is_yes marks.published)
+  where
+    by : (attached staged published : Bool)
+        → is_none (cond (not attached) (Some (attaching usage id)) (cond (not staged) (Some (staging usage id)) (cond (not published) (Some (publishing usage id)) None)))
+        ≡ (attached && staged && published)
+    by false staged published = refl
+    by true false published = refl
+    by true true false = refl
+    by true true true = refl
+
+-- its tests, one after another
+abbrev tested : Bool → Bool → Bool → Bool → Bool → Decision
+tested otherwise taken met spent full =
+    cond otherwise (Refuse faults.HeldOtherwise) (cond taken (Refuse faults.TargetTaken) (cond met Met (cond spent (Refuse faults.NumbersSpent) (cond full (Refuse faults.Full) Send))))
+
+-- the first reason that holds is the first of all
+tests-first : (otherwise taken met spent full : Bool)
+    → tested otherwise taken met spent full
+    ≡ refused_or (cond otherwise (Some faults.HeldOtherwise) (cond taken (Some faults.TargetTaken) None))
+    (cond met Met (refused_or (cond spent (Some faults.NumbersSpent) (cond full (Some faults.Full) None)) Send))
+tests-first true taken met spent full = refl
+tests-first false true met spent full = refl
+tests-first false false true spent full = refl
+tests-first false false false true full = refl
+tests-first false false false false true = refl
+tests-first false false false false false = refl
+
+-- what none of these reasons refuses is refused for the others, or not
+none-holds : (made busy known able elsewhere written : Bool) (rest : Option OrchFault) → made ≡ true → busy ≡ false → known ≡ true → able ≡ true → elsewhere ≡ false → written ≡ false
+    → rest
+    ≡ cond (not made) (Some faults.NotCreated)
+    (cond busy (Some faults.Busy)
+    (cond (not known) (Some faults.NoSuchNode)
+    (cond (not able) (Some faults.NotCapable)
+    (cond elsewhere (Some faults.HeldElsewhere)
+    (cond written (Some faults.WriterElsewhere) rest)))))
+none-holds made busy known able elsewhere written rest a b c d e f = rw (a, b, c, d, e, f) refl
+
+-- what a use comes to that nothing else refuses
+pub use-decided : (nodes : List (List ℕ)) (last : Number) (usage : Usage) (row : RowShown) (entry : Option NodeEntryShown)
+    → is_yes row.exists ≡ true → is_some row.goal ≡ false → list_any (same_text usage.node) nodes ≡ true → has_capability row.arguments.capabilities usage.capability ≡ true
+    → has_elsewhere (is_for_one_node usage) usage.node row ≡ false → has_elsewhere (is_second_writer usage) usage.node row ≡ false → node_entry_of row usage.node ≡ entry
+    → decided_at last usage row.id entry ≡ refused_or (use_refusal nodes usage row) (decided_then last (steps.Use usage) row)
+use-decided nodes last usage row entry made idle known able alone single is =
+    let here = node_entry_of row usage.node in
+    ap (decided_at last usage row.id) (sym is)
+    ∙ ap
+    (λ (taken : Bool).
+    tested (is_entry_otherwise usage here) (allows_one_target usage.capability.mode && taken) (is_none row.id || is_used_at usage.target here) (is_last last) (nat_le 16 (others_count usage.target here)))
+    (others-told usage.target here)
+    ∙ ap
+    (λ (met : Bool).
+    tested (is_entry_otherwise usage here) (allows_one_target usage.capability.mode && others_in usage.target here) met (is_last last) (nat_le 16 (others_count usage.target here)))
+    (sym (none-due usage (marks_at row usage.node usage.target) row.id))
+    ∙ tests-first (is_entry_otherwise usage here) (allows_one_target usage.capability.mode && others_in usage.target here) (is_met (steps.Use usage) row) (is_last last) (nat_le 16 (others_count usage.target here))
+    ∙ ap (λ (fault : Option OrchFault). refused_or fault (decided_then last (steps.Use usage) row))
+    (none-holds (is_yes row.exists) (is_some row.goal) (list_any (same_text usage.node) nodes) (has_capability row.arguments.capabilities usage.capability)
+    (has_elsewhere (is_for_one_node usage) usage.node row) (has_elsewhere (is_second_writer usage) usage.node row)
+    (cond (is_entry_otherwise usage here) (Some faults.HeldOtherwise) (cond (allows_one_target usage.capability.mode && others_in usage.target here) (Some faults.TargetTaken) None))
+    made idle known able alone single)
