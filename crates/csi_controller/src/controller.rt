@@ -115,6 +115,7 @@ impl Controller {
     /// kept, where the call comes again), and says which volume's row it changed or made. Another plugin's call, and a call with a text outside its limits, which no frame has, get no
     /// answer, change nothing and take no memory. Beyond that it takes memory where `step` does. A refusal for want of memory leaves
     /// the controller as it was.
+    #[inline(always)]
     pub fn answer(
         &mut self,
         number: Number,

@@ -43,6 +43,7 @@ pub fn number_at(fields: &mut Fields<'_>) -> Result<Number, Stop>
 }
 
 // The party: 0 for the controller's kinds, and 1 and the node's id for a node's.
+#[inline(always)]
 #[tactic(auto, unfolding(crate::specs::Reading::byte_at, crate::specs::Reading::party_at))]
 fn party_at<'a>(fields: &mut Fields<'a>, kind: BodyKind) -> Result<PartyRef<'a>, Stop>
     ensures { Gives owned_party result fields.new (party_at kind fields.old.bytes.now) }
@@ -109,6 +110,7 @@ fn first_fields_at<'a>(fields: &mut Fields<'a>, kind: BodyKind) -> Result<Fields
 }
 
 // The same in either version.
+#[inline(always)]
 fn fields_of_version<'a>(
     fields: &mut Fields<'a>,
     version: Version,
@@ -140,6 +142,7 @@ pub(crate) fn body_of(from: FieldsRef<'_>) -> BodyRef<'_>
     }
 }
 
+#[inline(always)]
 #[tactic(auto, unfolding(crate::specs::Reading::frame_at))]
 fn frame_at<'a>(fields: &mut Fields<'a>) -> Result<BorrowedFrame<'a>, Stop>
     ensures { Gives owned result fields.new (frame_at fields.old.bytes.now) }
@@ -157,6 +160,7 @@ fn frame_at<'a>(fields: &mut Fields<'a>) -> Result<BorrowedFrame<'a>, Stop>
 }
 
 /// The frame whose body these bytes are, all of them.
+#[inline(always)]
 fn whole_body(bytes: &[u8]) -> Result<BorrowedFrame<'_>, Stop>
     ensures read { Answers owned result (all_of (frame_at bytes.now)) }
     ensures within { IfErr result (λ stop. stop.left ≤ length bytes.now) }

@@ -87,7 +87,7 @@ impl<'a> FrameRef<'a> {
 
     /// The call, with texts that lie in the bytes that the frame was read from and are within their limits; a CreateVolume has the
     /// capabilities that are given, and is the frame's own with those of `capabilities`. `None` for a reply. It takes no memory.
-    #[inline]
+    #[inline(always)]
     pub fn call<'b>(&'b self, capabilities: &'b CapabilityList) -> Option<CallRef<'b>>
         ensures given { option_map lent_call result ≡ option_map (with_capabilities capabilities.now) (call_of (lent self.now)) }
         ensures value { capabilities.now ≡ capabilities_of (lent self.now) → option_map lent_call result ≡ call_of (lent self.now) }

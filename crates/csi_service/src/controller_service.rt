@@ -70,7 +70,10 @@ impl Opens for ControllerService {
         match ControllerRecord::of_parts(alloc, parts) {
             Ok(Stored { kept, version }) => {
                 let changed = renewal(alloc, version, parts, &kept)?;
-                Ok((ControllerService::from_record(alloc, config, kept)?, changed))
+                Ok((
+                    ControllerService::from_record(alloc, config, kept)?,
+                    changed,
+                ))
             }
             Err(stop) => Err(stop),
         }

@@ -1,8 +1,6 @@
 //! Frames as text, one line each. This profile's own.
 
-use csi_types::{
-    Access, Body, Call, Capability, CapabilityList, Frame, Party, Reply, VolumeId,
-};
+use csi_types::{Access, Body, Call, Capability, CapabilityList, Frame, Party, Reply, VolumeId};
 use std::fmt;
 use std::fmt::Write;
 

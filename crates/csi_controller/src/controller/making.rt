@@ -84,8 +84,6 @@ impl ControllerCore {
     }
 
     // Makes the volume that has the next id. A refusal changes nothing.
-    // It is apart, so that the other calls' way stays short.
-    #[inline(never)]
     fn make(
         &mut self,
         number: Number,
