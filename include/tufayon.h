@@ -14,21 +14,21 @@
  *     }
  *     tufayon_free(&plugin);
  *
- * Every call but tufayon_free gives a number, below. Where it is another than TUFAYON_DONE, TUFAYON_RENEWED or TUFAYON_TAKE_OUT the plugin, and
- * what it has changed, are as they were: no call leaves anything half done, and a call that wanted memory may be made again.
+ * Every call but tufayon_free returns a number, below. Unless it is TUFAYON_DONE, TUFAYON_RENEWED or TUFAYON_TAKE_OUT, the plugin and its changes
+ * stay as they were: no call leaves anything half done, and after TUFAYON_NO_MEMORY it may be made again.
  *
  * What is proved of each call stands at crates/csi_embedded/src/exports.rt, where it is checked. It supposes of the calling program:
  *
- *   Pointers. None is null, also where a size is 0. Each leads to as many bytes as its size says, or to one value, and the call alone uses them
- *     while it runs: no two of them overlap, but bytes that are only read.
+ *   Pointers. None is null, even if a size is 0. Each points to as many bytes as its size says, or to one value. Nothing else uses these during
+ *     the call, and only bytes that it reads may overlap.
  *   Handles. A tufayon_plugin is made of zeros, and only these calls write to it. It isn't copied: a copy that is used after the call of another
  *     copy leads to memory that isn't there any more, and nothing tells. It is freed once; freeing an empty one does nothing.
  *   Threads. One call at a time for each handle, and all from the thread that made it. Handles have nothing in common with one another.
  *   Memory. malloc, realloc and free are of one allocator, and align to 16 bytes. No call is made from a signal handler, or in the forked child of
  *     a process with threads.
  *
- * The library and the kit's liblibc_c.a, which is linked with it, want these three of the C library, memcpy, memmove and memset, and nothing else: no
- * file, no clock, no thread, no output.
+ * The library and the kit's liblibc_c.a, which is linked with it, need malloc, realloc, free, memcpy, memmove and memset of the C library, and
+ * nothing else: no file, no clock, no thread, no output.
  */
 #ifndef TUFAYON_H
 #define TUFAYON_H
@@ -68,16 +68,16 @@ typedef struct tufayon_plugin {
 /*
  * A new plugin, in an empty handle: a controller under a configuration, which is the JSON that csi-replay reads of a CONFIG file, or the node of
  * an id. Its changes are the first part of its record, which the store has to be given before anything is answered.
- * TUFAYON_NO_MEMORY, TUFAYON_FULL, TUFAYON_BAD_NAME.
+ * Fails with TUFAYON_NO_MEMORY, TUFAYON_FULL or TUFAYON_BAD_NAME.
  */
 uint32_t tufayon_controller_new(const uint8_t *config, size_t config_size, tufayon_plugin *plugin);
 uint32_t tufayon_node_new(const uint8_t *id, size_t id_size, tufayon_plugin *plugin);
 
 /*
  * The plugin of a whole record, in any version, in an empty handle. Its configuration need not be the one that the record was made under. After
- * TUFAYON_DONE the store stays as it is. After TUFAYON_RENEWED all that the store has is taken out, and the changes, which are the whole record in
- * the present version, are put in, in one commit, before anything is answered.
- * TUFAYON_NO_MEMORY, TUFAYON_FULL, TUFAYON_BAD_NAME, TUFAYON_BAD_RECORD, also where the record is another node's.
+ * TUFAYON_DONE the store stays as it is. After TUFAYON_RENEWED the program deletes all that the store has and puts in the changes, which are the
+ * whole record in the present version, in one commit, before anything is answered.
+ * Fails with TUFAYON_NO_MEMORY, TUFAYON_FULL, TUFAYON_BAD_NAME, or TUFAYON_BAD_RECORD (also if the record is another node's).
  */
 uint32_t tufayon_controller_from_record(const uint8_t *config, size_t config_size, const uint8_t *record, size_t record_size,
                                         tufayon_plugin *plugin);
@@ -85,27 +85,27 @@ uint32_t tufayon_node_from_record(const uint8_t *id, size_t id_size, const uint8
 
 /*
  * Answers the frame that the bytes begin with. `used` says how many of them it took, and `written` how many bytes the reply has: 0 where it has
- * none, since the frame is a reply, or another plugin's. The room is at least TUFAYON_REPLY_ROOM. Of more bytes than TUFAYON_FRAME_ROOM those
- * behind are not looked at, so that a whole buffer may be given, and what is left of it again.
- * TUFAYON_NO_MEMORY, TUFAYON_EMPTY, TUFAYON_SHORT, TUFAYON_BAD_FRAME, TUFAYON_NO_ROOM.
+ * none, since the frame is a reply, or another plugin's. The room is at least TUFAYON_REPLY_ROOM. Bytes after the first TUFAYON_FRAME_ROOM aren't
+ * looked at: give the whole buffer, and then what is left of it.
+ * Fails with TUFAYON_NO_MEMORY, TUFAYON_EMPTY, TUFAYON_SHORT, TUFAYON_BAD_FRAME or TUFAYON_NO_ROOM.
  */
 uint32_t tufayon_answer(tufayon_plugin *plugin, const uint8_t *frame, size_t frame_size, size_t *used, uint8_t *reply, size_t reply_room,
                         size_t *written);
 
 /*
- * The change at this place, from 0, of what the last frame that was answered changed, or of what making the plugin did. The store is given all of
- * them, one after another, in one commit, before the reply is sent. TUFAYON_DONE: the `written` bytes of the value are put in under the key, in
+ * The change of index `place`, from 0, among those of the last answered frame, or of making the plugin. The program puts all of them into the
+ * store, in order, in one commit, before it sends the reply. TUFAYON_DONE: the `written` bytes of the value are put in under the key, in
  * place of what is there. TUFAYON_TAKE_OUT: what is under the key is taken out. TUFAYON_NO_MORE: there are not so many. They stay until the next
  * frame is answered, and may be asked for again.
- * TUFAYON_NO_MEMORY, TUFAYON_EMPTY, TUFAYON_NO_ROOM: then `written` says how many bytes the value has.
+ * Fails with TUFAYON_NO_MEMORY, TUFAYON_EMPTY, or TUFAYON_NO_ROOM: then `written` says how many bytes the value has.
  */
 uint32_t tufayon_changed(tufayon_plugin *plugin, size_t place, uint64_t *key, uint8_t *value, size_t value_room, size_t *written);
 
 /*
- * The plugin's whole record, in the present version: what the store has, as bytes, if each change was put in. A store's parts by rising key are
- * such bytes too: the version, which is the first byte of the first part's value, the number of parts in 4 bytes, and of each the key in 8, the
- * size of its value in 4, and the value; the greatest byte of a number comes first.
- * TUFAYON_NO_MEMORY, TUFAYON_EMPTY, TUFAYON_NO_ROOM: then `written` says how many bytes it has.
+ * The plugin's whole record, in the present version: what the store has, as bytes, if each change was put in. To make such bytes of a store's
+ * parts, by rising key, write the version (the first byte of the first part's value), the number of parts in 4 bytes, and for each part its key
+ * in 8, the size of its value in 4, and the value. Numbers are big-endian.
+ * Fails with TUFAYON_NO_MEMORY, TUFAYON_EMPTY, or TUFAYON_NO_ROOM: then `written` says how many bytes it has.
  */
 uint32_t tufayon_record(tufayon_plugin *plugin, uint8_t *record, size_t record_room, size_t *written);
 

@@ -1,4 +1,4 @@
-/* A plugin in C: what `csi-replay controller DB CONFIG` and `csi-replay node DB ID` do, over the same file, with the library and SQLite.
+/* A plugin in C: the replies and the file of `csi-replay controller DB CONFIG` and `csi-replay node DB ID`, with messages of its own.
  *     plugin controller DB CONFIG < FRAMES > REPLIES        plugin node DB ID < FRAMES > REPLIES */
 #include "tufayon.h"
 #include <sqlite3.h>
@@ -81,7 +81,7 @@ int main(int count, char **words) {
                        : (controller ? tufayon_controller_from_record : tufayon_node_from_record)(name, name_size, record, size, &plugin);
     must(ending == TUFAYON_DONE || ending == TUFAYON_RENEWED, "no record of this plugin");
     commit(ending == TUFAYON_RENEWED ? "DELETE FROM parts" : "");
-    for (;;) {
+    for (ssize_t got = 1; got != 0;) {
         ending = tufayon_answer(&plugin, bytes + at, have - at, &used, reply, sizeof reply, &written);
         must(ending == TUFAYON_DONE || ending == TUFAYON_SHORT, ending == TUFAYON_BAD_FRAME ? "no frame" : "memory");
         if (ending == TUFAYON_DONE) {
@@ -89,9 +89,9 @@ int main(int count, char **words) {
             must(write(1, reply, written) == (ssize_t)written, "no output");
             at += used;
         } else { /* more of the input, behind what is left */
-            memmove(bytes, bytes + at, have -= at);
-            if ((size = (size_t)read(0, bytes + have, sizeof bytes - have)) == 0 || size > sizeof bytes) break;
-            have += size, at = 0;
+            memmove(bytes, bytes + at, have -= at), at = 0;
+            must((got = read(0, bytes + have, sizeof bytes - have)) >= 0, "no input");
+            have += (size_t)got;
         }
     }
     tufayon_free(&plugin), free(record);
