@@ -124,6 +124,18 @@ fn fields_of_version<'a>(
     }
 }
 
+// `fields_at` in a function of its own, so that what reads a call again is short enough to be inlined.
+#[inline(never)]
+fn fields_apart<'a>(
+    fields: &mut Fields<'a>,
+    version: Version,
+    kind: BodyKind,
+) -> Result<BodyRef<'a>, Stop>
+    ensures { Gives owned_body result fields.new (fields_at version kind fields.old.bytes.now) }
+{
+    fields_at(fields, version, kind)
+}
+
 /// The body that has these fields. They were read before, so that reading them again stops nowhere.
 #[inline(always)]
 pub(crate) fn body_of(from: FieldsRef<'_>) -> BodyRef<'_>
@@ -136,7 +148,7 @@ pub(crate) fn body_of(from: FieldsRef<'_>) -> BodyRef<'_>
             Err(_) => unreachable!(),
         };
     }
-    match fields_at(&mut fields, from.version, from.kind) {
+    match fields_apart(&mut fields, from.version, from.kind) {
         Ok(body) => body,
         Err(_) => unreachable!(),
     }
