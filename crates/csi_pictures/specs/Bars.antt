@@ -9,9 +9,9 @@ use Rattle.csi_types.specs.declared.frame.Body.{Body}
 use Rattle.csi_types.specs.declared.frame.Body.TheVariants as bodies
 use Rattle.csi_types.specs.Frame.{Frame}
 use Rattle.csi_types.specs.Same.{same_text}
-use Rattle.csi_world.specs.declared.event.Event.{Event}
-use Rattle.csi_world.specs.declared.event.Event.TheVariants as happens
-use Rattle.csi_world.specs.declared.event.Outcome.{Outcome}
+use Rattle.csi_types.specs.declared.event.Event.{Event}
+use Rattle.csi_types.specs.declared.event.Event.TheVariants as happens
+use Rattle.csi_world.specs.declared.outcomes.Outcome.{Outcome}
 use Rattle.csi_world.specs.Simulated.{WorldParts}
 use Rattle.csi_world.specs.Simulating.{numbered}
 use Rattle.csi_pictures.specs.declared.bars.Bar.{Bar}

@@ -3,9 +3,9 @@ use Rattle.std.specs.Prelude.{◌≡◌, ℕ, ◌+◌, Bool, List, [], ◌++◌,
 use Rattle.std.specs.List.{flat_map}
 use Rattle.csi_types.specs.Frame.{Frame}
 use Rattle.csi_orchestrator.specs.Shown.{view_of}
-use Rattle.csi_world.specs.declared.event.Event.{Event}
-use Rattle.csi_world.specs.declared.event.Event.TheVariants as events
-use Rattle.csi_world.specs.declared.event.Outcome.{Outcome}
+use Rattle.csi_types.specs.declared.event.Event.{Event}
+use Rattle.csi_types.specs.declared.event.Event.TheVariants as events
+use Rattle.csi_world.specs.declared.outcomes.Outcome.{Outcome}
 use Rattle.csi_world.specs.declared.violation.Violation.{Violation}
 use Rattle.csi_world.specs.World.{World}
 use Rattle.csi_world.specs.Simulated.{WorldParts}

@@ -10,10 +10,10 @@ use Rattle.csi_types.specs.declared.status.Status.{Status}
 use Rattle.csi_types.specs.Call.{kind_of}
 use Rattle.csi_types.specs.Frame.{Frame}
 use Rattle.csi_node.specs.Record.{NodeParts}
-use Rattle.csi_world.specs.declared.event.Event.{Event}
-use Rattle.csi_world.specs.declared.event.Event.TheVariants as events
-use Rattle.csi_world.specs.declared.event.Outcome.{Outcome}
-use Rattle.csi_world.specs.declared.event.Outcome.TheVariants as outcomes
+use Rattle.csi_types.specs.declared.event.Event.{Event}
+use Rattle.csi_types.specs.declared.event.Event.TheVariants as events
+use Rattle.csi_world.specs.declared.outcomes.Outcome.{Outcome}
+use Rattle.csi_world.specs.declared.outcomes.Outcome.TheVariants as outcomes
 use Rattle.csi_world.specs.Outcomes.{outcome_text}
 use Rattle.csi_pictures.specs.Pieces.{pieces}
 use Rattle.csi_pictures.specs.Escaping.{escaped}

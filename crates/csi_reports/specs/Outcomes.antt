@@ -1,6 +1,6 @@
 -- What came of an event, as a report has it. This profile's own.
 use Rattle.serde_json.specs.Data.{Data, string}
-use Rattle.csi_world.specs.declared.event.Outcome.{Outcome}
+use Rattle.csi_world.specs.declared.outcomes.Outcome.{Outcome}
 use Rattle.csi_world.specs.Outcomes.{outcome_text}
 
 -- an outcome, as a text

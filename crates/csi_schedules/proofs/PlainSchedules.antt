@@ -13,8 +13,8 @@ use Rattle.json.proofs.Trees.{view-Array, view-Object}
 use Rattle.serde_json.specs.Data.{Data, Items, no_items, item, number, array, unsigned}
 use Rattle.serde_json.specs.Read.{number_of as number_in, of_json, of_items, of_members, read}
 use Rattle.csi_types.specs.Config.{Config}
-use Rattle.csi_world.specs.declared.event.Event.{Event}
-use Rattle.csi_world.specs.declared.event.Event.TheVariants.{Deliver}
+use Rattle.csi_types.specs.declared.event.Event.{Event}
+use Rattle.csi_types.specs.declared.event.Event.TheVariants.{Deliver}
 use Rattle.csi_json.specs.Json.{number_of, sized_object, list_of, items_in, read_all}
 use Rattle.csi_json.specs.Configs.{config_of}
 use Rattle.csi_schedules.specs.Events.{event_of, event_at, deliver_of}

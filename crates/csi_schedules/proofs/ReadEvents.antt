@@ -3,7 +3,7 @@ use Rattle.std.proofs.Common.{◌≡◌, ℕ, ◌<◌, ◌+◌, List, [], ◌∷
 use Rattle.std.specs.Prelude.{option_map, Ok, Err}
 use Rattle.serde_json.specs.View.{view}
 use Rattle.serde_json.specs.declared.value.Value.{Value}
-use Rattle.csi_world.specs.declared.event.Event.{Event}
+use Rattle.csi_types.specs.declared.event.Event.{Event}
 use Rattle.csi_json.specs.declared.values.Flaw.{Flaw}
 use Rattle.csi_json.specs.declared.values.Flaw.TheVariants.{Bad, NoMemory}
 use Rattle.csi_json.specs.Json.{read_all, Reads}

@@ -11,8 +11,8 @@ use Rattle.json.proofs.Trees.{view-Object}
 use Rattle.serde_json.specs.Data.{Data}
 use Rattle.serde_json.specs.Read.{of_json}
 use Rattle.csi_types.specs.declared.capability.Capability.{Capability}
-use Rattle.csi_world.specs.declared.event.Event.{Event}
-use Rattle.csi_world.specs.declared.event.Event.TheVariants.{Use, Stop}
+use Rattle.csi_types.specs.declared.event.Event.{Event}
+use Rattle.csi_types.specs.declared.event.Event.TheVariants.{Use, Stop}
 use Rattle.csi_json.specs.declared.values.Flaw.{Flaw}
 use Rattle.csi_json.specs.Json.{name_of, node_id_of, target_of, sized_object}
 use Rattle.csi_json.specs.Capabilities.{capability_of}

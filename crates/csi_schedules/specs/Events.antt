@@ -2,8 +2,8 @@
 use Rattle.std.specs.Prelude.{ℕ, if◌then◌else◌, List, Option, Some, None, codes, bytes_eq}
 use Rattle.serde_json.specs.Data.{Data}
 use Rattle.serde_json.specs.Find.{get, as_str, as_bool}
-use Rattle.csi_world.specs.declared.event.Event.{Event}
-use Rattle.csi_world.specs.declared.event.Event.TheVariants as events
+use Rattle.csi_types.specs.declared.event.Event.{Event}
+use Rattle.csi_types.specs.declared.event.Event.TheVariants as events
 use Rattle.csi_json.specs.Json.{◌>>=◌, number_of, name_of, node_id_of, target_of, sized_object, only_member}
 use Rattle.csi_json.specs.Capabilities.{capability_of, capabilities_of}
 

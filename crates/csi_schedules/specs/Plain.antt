@@ -7,7 +7,7 @@ use Rattle.serde_json.specs.Data.{Data}
 use Rattle.serde_json.specs.Read.{of_json}
 use Rattle.csi_types.specs.Config.{Config}
 use Rattle.csi_json.specs.Configs.{config_of}
-use Rattle.csi_world.specs.declared.event.Event.{Event}
+use Rattle.csi_types.specs.declared.event.Event.{Event}
 use Rattle.csi_schedules.specs.Events.{event_of}
 
 -- the event that a value is

@@ -4,7 +4,7 @@ use Rattle.serde_json.specs.Data.{Data}
 use Rattle.serde_json.specs.Read.{read}
 use Rattle.serde_json.specs.Find.{get}
 use Rattle.csi_types.specs.Config.{Config}
-use Rattle.csi_world.specs.declared.event.Event.{Event}
+use Rattle.csi_types.specs.declared.event.Event.{Event}
 use Rattle.csi_json.specs.declared.fault.ScheduleFault.{ScheduleFault}
 use Rattle.csi_json.specs.declared.fault.ScheduleFault.TheVariants.{NotJson, BadSchedule, TooMany}
 use Rattle.csi_json.specs.Json.{◌>>=◌, sized_object, list_of, read_all}

@@ -8,7 +8,7 @@ use csi_json::{
     Flaw, capabilities, capability, flag, member, name, node_id, number, only_member, sized_object,
     target, text,
 };
-use csi_world::Event;
+use csi_types::Event;
 use serde_json::Value;
 use std::alloc::Global;
 

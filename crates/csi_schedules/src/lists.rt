@@ -8,7 +8,7 @@ ghost use Rattle.csi_schedules.specs.Schedule.{events_or_fault};
 
 use crate::events::event;
 use csi_json::{Flaw, ScheduleFault};
-use csi_world::Event;
+use csi_types::Event;
 use serde_json::Value;
 use std::alloc::Global;
 

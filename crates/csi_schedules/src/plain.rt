@@ -5,14 +5,13 @@ ghost use Rattle.json.specs.Value.{value_view};
 ghost use Rattle.serde_json.specs.Read.{of_json};
 ghost use Rattle.csi_schedules.specs.Plain.{event_in, config_in};
 ghost use Rattle.csi_schedules.specs.Schedule.{schedule_read, text_schedule};
-ghost use Rattle.csi_world.specs.declared.event.Event.TheVariants as events;
+ghost use Rattle.csi_types.specs.declared.event.Event.TheVariants as events;
 
 use crate::events::event;
 use crate::schedule::MAX_EVENTS;
 use crate::usual::usual_command;
 use csi_json::{Flaw, config, owned, plain_number};
-use csi_types::Config;
-use csi_world::Event;
+use csi_types::{Config, Event};
 use json::{Error, Reader, Scratch, Value};
 use std::alloc::Global;
 

@@ -7,8 +7,7 @@ ghost use Rattle.csi_schedules.specs.Schedule.{events_of, schedule_of, text_sche
 use crate::lists::read_events;
 use crate::plain::read_plain;
 use csi_json::{Flaw, ScheduleFault, config, list, member, sized_object};
-use csi_types::Config;
-use csi_world::Event;
+use csi_types::{Config, Event};
 use serde_json::Value;
 use std::alloc::Global;
 

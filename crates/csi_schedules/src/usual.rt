@@ -7,8 +7,7 @@ ghost use Rattle.csi_schedules.specs.Events.{use_of, stop_of};
 ghost use Rattle.csi_schedules.specs.Plain.{event_in, seen_as};
 
 use csi_json::{Flaw, capability, owned, plain_number};
-use csi_types::{Access, Capability, Mode, Name, NodeId, Target, TextFault};
-use csi_world::Event;
+use csi_types::{Access, Capability, Event, Mode, Name, NodeId, Target, TextFault};
 use json::Value;
 use std::alloc::Global;
 

@@ -1,11 +1,13 @@
 //! The values of the volume lifecycle of the Container Storage Interface (CSI), as plugins and the
-//! orchestrator pass them to one another. Each type keeps its limits: no value outside them can be made.
+//! orchestrator pass them to one another, and the events of a run. Each type keeps its limits: no value
+//! outside them can be made.
 #![tactic(auto)]
 
 mod call;
 mod capability;
 mod capacity;
 mod config;
+mod event;
 mod frame;
 mod holding;
 mod lent;
@@ -26,6 +28,7 @@ pub use capacity::{
     DEFAULT_CAPACITY, MAX_CAPACITY, grant, is_bad_range, is_empty_range, wanted_capacity,
 };
 pub use config::{Config, ConfigFault, NodeSlots};
+pub use event::Event;
 pub use frame::{Body, Frame};
 pub use holding::{Holding, can_hold_both};
 pub use lent::{AccessRef, CallRef, CapabilityRef};

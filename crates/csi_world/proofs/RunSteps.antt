@@ -16,9 +16,9 @@ use Rattle.csi_orchestrator.specs.History.{Item, Started, Sent, Accepted, Closed
 use Rattle.csi_orchestrator.specs.Readings.{issued_in}
 use Rattle.csi_orchestrator.specs.Moves as orchestrator
 use Rattle.csi_orchestrator.specs.Steps as stepwise
-use Rattle.csi_world.specs.declared.event.Event.{Event}
-use Rattle.csi_world.specs.declared.event.Event.TheVariants as events
-use Rattle.csi_world.specs.declared.event.Outcome.TheVariants as outcomes
+use Rattle.csi_types.specs.declared.event.Event.{Event}
+use Rattle.csi_types.specs.declared.event.Event.TheVariants as events
+use Rattle.csi_world.specs.declared.outcomes.Outcome.TheVariants as outcomes
 use Rattle.csi_world.specs.World.{World, empty_world, with_history}
 use Rattle.csi_world.specs.Step.{Choice, Sends, Closes, Takes, Notes, Starts, Answers, frame_of, answered, chosen, MayChooseAll, chosen_all}
 use Rattle.csi_world.specs.After.{Occurred, by_answer, by_result, node_id, orchestrated, called, delivered_body, delivered, next_frame, occurs, after_from}

@@ -5,7 +5,7 @@ use Rattle.csi_controller.specs.Core.{Shows as ControllerShows}
 use Rattle.csi_controller.specs.State.{empty_controller}
 use Rattle.csi_orchestrator.specs.History.{new_history}
 use Rattle.csi_orchestrator.specs.Shown.{Shows as OrchestratorShows}
-use Rattle.csi_world.specs.declared.event.Event.{Event}
+use Rattle.csi_types.specs.declared.event.Event.{Event}
 use Rattle.csi_world.specs.World.{World, empty_world}
 use Rattle.csi_world.specs.After.{Occurred, Run, node_id, occurs, after_from, after}
 use Rattle.csi_world.specs.Simulated.{WorldParts, ShowsWorld, ShowsRun, AreNodesShown}

@@ -14,8 +14,8 @@ use Rattle.csi_node.specs.Record.{NodeParts}
 use Rattle.csi_node.specs.Record.{Shows as NodeShows}
 use Rattle.csi_fence.specs.Fenced.{Fenced}
 use Rattle.csi_node.specs.Fenced as node
-use Rattle.csi_world.specs.declared.event.Outcome.{Outcome}
-use Rattle.csi_world.specs.declared.event.Outcome.TheVariants as outcomes
+use Rattle.csi_world.specs.declared.outcomes.Outcome.{Outcome}
+use Rattle.csi_world.specs.declared.outcomes.Outcome.TheVariants as outcomes
 use Rattle.csi_world.specs.World.{World, with_frame, with_node}
 use Rattle.csi_world.specs.Step.{answered, answered_by, answered_by_node}
 use Rattle.csi_world.specs.After.{Occurred, node_id, next_frame, called}

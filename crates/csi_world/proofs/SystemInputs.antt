@@ -10,8 +10,8 @@ use Rattle.csi_orchestrator.specs.Laws.{MovesKeepForm}
 use Rattle.csi_orchestrator.specs.Promises.{IsDone}
 use Rattle.csi_orchestrator.specs.RowMoves.{IsRefusal}
 use Rattle.csi_orchestrator.specs.Shown.{Shows as OrchestratorShows, Parts}
-use Rattle.csi_world.specs.declared.event.Outcome.{Outcome}
-use Rattle.csi_world.specs.declared.event.Outcome.TheVariants as outcomes
+use Rattle.csi_world.specs.declared.outcomes.Outcome.{Outcome}
+use Rattle.csi_world.specs.declared.outcomes.Outcome.TheVariants as outcomes
 use Rattle.csi_world.specs.World.{World, with_history}
 use Rattle.csi_world.specs.After.{Occurred, by_answer, by_result, node_id, orchestrated}
 use Rattle.csi_world.specs.Simulated.{WorldParts}

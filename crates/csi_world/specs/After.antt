@@ -10,10 +10,10 @@ use Rattle.csi_types.specs.Frame.{Frame}
 use Rattle.csi_orchestrator.specs.declared.fault.Heard.TheVariants as heard
 use Rattle.csi_orchestrator.specs.declared.fault.OrchFault.{OrchFault}
 use Rattle.csi_orchestrator.specs.Moves as orchestrator
-use Rattle.csi_world.specs.declared.event.Event.{Event}
-use Rattle.csi_world.specs.declared.event.Event.TheVariants as events
-use Rattle.csi_world.specs.declared.event.Outcome.{Outcome}
-use Rattle.csi_world.specs.declared.event.Outcome.TheVariants as outcomes
+use Rattle.csi_types.specs.declared.event.Event.{Event}
+use Rattle.csi_types.specs.declared.event.Event.TheVariants as events
+use Rattle.csi_world.specs.declared.outcomes.Outcome.{Outcome}
+use Rattle.csi_world.specs.declared.outcomes.Outcome.TheVariants as outcomes
 use Rattle.csi_world.specs.World.{World, empty_world, with_frame, with_history}
 use Rattle.csi_world.specs.Step.{answered}
 

@@ -3,7 +3,7 @@ use Rattle.std.specs.Prelude.{◌≡◌, ℕ, ◌*◌, ◌≤◌, List, length, 
 use Rattle.csi_types.specs.Config.{Config}
 use Rattle.csi_controller.specs.Laws.{ControllerTableLaw}
 use Rattle.csi_node.specs.Laws.{NodeTableLaw}
-use Rattle.csi_world.specs.declared.event.Event.{Event}
+use Rattle.csi_types.specs.declared.event.Event.{Event}
 use Rattle.csi_world.specs.World.{World, empty_world}
 use Rattle.csi_world.specs.Step.{Choice, MayChoose, chosen, Step, MayChooseAll, chosen_all}
 use Rattle.csi_world.specs.Safe.{Safe}

@@ -9,7 +9,7 @@ use Rattle.csi_node.specs.Record.{Shows as NodeShows}
 use Rattle.csi_orchestrator.specs.WellFormed.{IsWellFormed}
 use Rattle.csi_orchestrator.specs.Shown.{Shows as OrchestratorShows}
 use Rattle.csi_orchestrator.specs.Shown.{Parts as OrchestratorParts}
-use Rattle.csi_world.specs.declared.event.Outcome.{Outcome}
+use Rattle.csi_world.specs.declared.outcomes.Outcome.{Outcome}
 use Rattle.csi_world.specs.World.{NodeAt, World}
 use Rattle.csi_world.specs.After.{Run, node_id}
 

@@ -15,9 +15,9 @@ use Rattle.csi_controller.specs.Fenced as controller
 use Rattle.csi_orchestrator.specs.declared.fault.OrchFault.{OrchFault}
 use Rattle.csi_orchestrator.specs.declared.fault.OrchFault.TheVariants.{NoMemory}
 use Rattle.csi_orchestrator.specs.Moves.{Answer}
-use Rattle.csi_world.specs.declared.event.Event.{Event}
-use Rattle.csi_world.specs.declared.event.Outcome.{Outcome}
-use Rattle.csi_world.specs.declared.event.Outcome.TheVariants as outcomes
+use Rattle.csi_types.specs.declared.event.Event.{Event}
+use Rattle.csi_world.specs.declared.outcomes.Outcome.{Outcome}
+use Rattle.csi_world.specs.declared.outcomes.Outcome.TheVariants as outcomes
 use Rattle.csi_world.specs.World.{World}
 use Rattle.csi_world.specs.After.{Occurred, by_answer, node_id, after}
 use Rattle.csi_world.specs.Simulated.{WorldParts, ShowsWorld, ShowsRun}

@@ -15,10 +15,10 @@ use Rattle.csi_orchestrator.specs.declared.thing.Thing.TheVariants as things
 use Rattle.csi_orchestrator.specs.declared.thing.Known.{Known}
 use Rattle.csi_orchestrator.specs.declared.thing.Known.TheVariants.{Yes, Maybe}
 use Rattle.csi_orchestrator.specs.Readings.{known, last_number}
-use Rattle.csi_world.specs.declared.event.Event.{Event}
-use Rattle.csi_world.specs.declared.event.Event.TheVariants.{Create, Use, Stop, Delete, Timeout, Deliver, RestartOrchestrator}
-use Rattle.csi_world.specs.declared.event.Outcome.{Outcome}
-use Rattle.csi_world.specs.declared.event.Outcome.TheVariants.{Sent, Refused, Answered, Taken, Ignored, NoSuchFrame, Restarted}
+use Rattle.csi_types.specs.declared.event.Event.{Event}
+use Rattle.csi_types.specs.declared.event.Event.TheVariants.{Create, Use, Stop, Delete, Timeout, Deliver, RestartOrchestrator}
+use Rattle.csi_world.specs.declared.outcomes.Outcome.{Outcome}
+use Rattle.csi_world.specs.declared.outcomes.Outcome.TheVariants.{Sent, Refused, Answered, Taken, Ignored, NoSuchFrame, Restarted}
 use Rattle.csi_world.specs.World.{World, empty_world}
 use Rattle.csi_world.specs.Safe.{IsExclusive, IsStagedWhereAttached, IsPublishedWhereStaged, IsAttachedWhileLive, IsRecordedRight, holds}
 use Rattle.csi_world.specs.After.{after}

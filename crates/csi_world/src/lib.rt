@@ -5,7 +5,6 @@
 mod assembling;
 mod auditing;
 mod carrying;
-mod event;
 mod laws;
 mod occurring;
 mod outcomes;
@@ -19,9 +18,9 @@ mod world;
 
 pub use assembling::AssembleFault;
 pub use auditing::audit;
-pub use event::{Event, Outcome};
+pub use csi_types::Event;
 pub use laws::{audit_law, runs_law, safety_law, table_law};
-pub use outcomes::text_of;
+pub use outcomes::{Outcome, text_of};
 pub use simulation::simulate;
 pub use violation::Violation;
 pub use world::World;

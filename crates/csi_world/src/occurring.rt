@@ -6,14 +6,14 @@ ghost use Rattle.csi_world.specs.After.{called, delivered, delivered_body, frame
 ghost use Rattle.csi_world.specs.Simulated.{ShowsWorld};
 ghost use Rattle.csi_world.specs.Simulating.{IsSound, Does, IsLogged};
 ghost use Rattle.csi_world.specs.System.{parts_of};
-ghost use Rattle.csi_world.specs.declared.event.Outcome.TheVariants as outcomes;
+ghost use Rattle.csi_world.specs.declared.outcomes.Outcome.TheVariants as outcomes;
 
 use crate::carrying::carried;
-use crate::event::{Event, Outcome};
+use crate::outcomes::Outcome;
 use crate::plugins::{place_of, restarted_controller, restarted_node, step_controller, step_node};
 use crate::sending::{answered, frame_of, settled, settled_reply, settled_restart};
 use crate::system::System;
-use csi_types::{Body, CapabilityList, Frame, NoMemory, NodeId, Party};
+use csi_types::{Body, CapabilityList, Event, Frame, NoMemory, NodeId, Party};
 
 // A copy of these capabilities.
 fn copied(capabilities: &CapabilityList) -> Result<CapabilityList, NoMemory>

@@ -1,10 +1,32 @@
-//! What came of an event, as text.
+//! What comes of an event, and its text.
 ghost use Rattle.std.specs.Prelude.{◌≡◌, IfOk, string_bytes};
 ghost use Rattle.csi_world.specs.Outcomes.{refused_text as text_of_refusal, outcome_text};
 
-use crate::event::Outcome;
 use csi_orchestrator::OrchFault;
 use std::alloc::{AllocError, Global};
+
+/// What came of an event.
+#[derive(Clone, Copy, Debug, PartialEq, Eq)]
+pub enum Outcome {
+    /// A command or a timeout sent the frame of this number.
+    Sent(u64),
+    /// What was asked is so already.
+    Met,
+    /// The orchestrator refused, and nothing changed.
+    Refused(OrchFault),
+    /// A call came to its plugin, which replied by the frame of this number.
+    Answered(u64),
+    /// A reply was taken, and the frame of this number was sent, if there is one.
+    Taken(Option<u64>),
+    /// A reply was ignored.
+    Ignored,
+    /// There is no frame of that number.
+    NoSuchFrame,
+    /// A part of the system restarted.
+    Restarted,
+    /// There is no node of that id.
+    NoSuchNode,
+}
 
 fn refused_text(alloc: Global, fault: OrchFault) -> Result<String, AllocError>
     ensures { IfOk result (λ text. string_bytes text ≡ text_of_refusal fault) }

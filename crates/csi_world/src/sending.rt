@@ -5,7 +5,7 @@ ghost use Rattle.csi_types.specs.Frame.{Frame as FrameParts};
 ghost use Rattle.csi_orchestrator.specs.Moves.{Sends, Hears, Restarted};
 ghost use Rattle.csi_world.specs.Simulating.{IsSent, IsRefused, IsSettled, IsAnswered, numbered};
 
-use crate::event::Outcome;
+use crate::outcomes::Outcome;
 use csi_orchestrator::{Heard, OrchFault};
 use csi_types::{Frame, NoMemory};
 

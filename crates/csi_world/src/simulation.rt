@@ -6,14 +6,13 @@ ghost use Rattle.csi_world.specs.Simulated.{ShowsRun};
 ghost use Rattle.csi_world.specs.Simulating.{IsRun};
 ghost use Rattle.csi_world.specs.System.{parts_of};
 
-use crate::event::Event;
 use crate::laws::runs_law;
 use crate::plugins::{copied_config, ids_of, new_nodes};
 use crate::system::System;
 use crate::world::World;
 use csi_controller::Controller;
 use csi_orchestrator::Orchestrator;
-use csi_types::{Config, NoMemory};
+use csi_types::{Config, Event, NoMemory};
 use std::alloc::Global;
 
 // A system in which nothing happened.

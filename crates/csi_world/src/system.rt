@@ -1,5 +1,5 @@
 //! The parts of a world.
-use crate::event::Outcome;
+use crate::outcomes::Outcome;
 use csi_controller::Controller;
 use csi_node::Node;
 use csi_orchestrator::Orchestrator;

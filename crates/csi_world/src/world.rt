@@ -7,7 +7,7 @@ ghost use Rattle.csi_world.specs.Simulated.{ShowsWorld};
 ghost use Rattle.csi_world.specs.Simulating.{numbered, IsSound, ShowsNode};
 ghost use Rattle.csi_world.specs.System.{parts_of};
 
-use crate::event::Outcome;
+use crate::outcomes::Outcome;
 use crate::plugins::node_of;
 use crate::sending::frame_of;
 use crate::system::System;

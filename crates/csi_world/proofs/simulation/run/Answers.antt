@@ -1,7 +1,7 @@
 -- One event more.
 use Rattle.std.proofs.Common.{◌≡◌, ◌+◌, ◌++◌, ◌∷◌, [], List, take, sym, ◌∙◌, ap, subst}
 use Rattle.std.proofs.lemmas.List.{take_more}
-use Rattle.csi_world.specs.declared.event.Event.{Event}
+use Rattle.csi_types.specs.declared.event.Event.{Event}
 use Rattle.csi_world.specs.After.{after}
 use Rattle.csi_world.specs.Simulating.{IsRun}
 use Rattle.csi_world.specs.System.{parts_of}

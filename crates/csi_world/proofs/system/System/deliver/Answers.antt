@@ -2,7 +2,7 @@
 use Rattle.std.proofs.Common.{◌≡◌, Option, Some, None, IfOk, refl, sym, ◌∙◌, ap, subst}
 use Rattle.std.specs.Option.{option_copied}
 use Rattle.csi_types.specs.Frame.{Frame}
-use Rattle.csi_world.specs.declared.event.Outcome.TheVariants as outcomes
+use Rattle.csi_world.specs.declared.outcomes.Outcome.TheVariants as outcomes
 use Rattle.csi_world.specs.After.{delivered, frame_at}
 use Rattle.csi_world.specs.Simulating.{numbered, Becomes}
 use Rattle.csi_world.specs.System.{parts_of}

@@ -1,7 +1,7 @@
 -- Each input comes to the orchestrator.
 use Rattle.std.proofs.Common.{◌≡◌, rules, sym, ◌∙◌, ap}
 use Rattle.csi_orchestrator.specs.Moves.{ToCreate, ToUse, ToStop, ToDelete, TimesOut, Restarts, Sends, Restarted}
-use Rattle.csi_world.specs.declared.event.Event.TheVariants as events
+use Rattle.csi_types.specs.declared.event.Event.TheVariants as events
 use Rattle.csi_world.specs.After.{occurs}
 use Rattle.csi_world.specs.System.{parts_of}
 use Rattle.csi_world.proofs.SystemInputs.{input-becomes}

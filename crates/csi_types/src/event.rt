@@ -1,6 +1,6 @@
-//! What happens in a world, and what comes of it.
-use csi_orchestrator::OrchFault;
-use csi_types::{Capability, CapabilityList, Name, NodeId, Target};
+//! What happens in a run.
+use crate::capability::{Capability, CapabilityList};
+use crate::text::{Name, NodeId, Target};
 
 /// Something that happens.
 #[derive(Clone, Debug, PartialEq, Eq, Drop)]
@@ -39,27 +39,4 @@ pub enum Event {
     RestartController,
     /// A node restarts, from its record.
     RestartNode(NodeId),
-}
-
-/// What came of an event.
-#[derive(Clone, Copy, Debug, PartialEq, Eq)]
-pub enum Outcome {
-    /// A command or a timeout sent the frame of this number.
-    Sent(u64),
-    /// What was asked is so already.
-    Met,
-    /// The orchestrator refused, and nothing changed.
-    Refused(OrchFault),
-    /// A call came to its plugin, which replied by the frame of this number.
-    Answered(u64),
-    /// A reply was taken, and the frame of this number was sent, if there is one.
-    Taken(Option<u64>),
-    /// A reply was ignored.
-    Ignored,
-    /// There is no frame of that number.
-    NoSuchFrame,
-    /// A part of the system restarted.
-    Restarted,
-    /// There is no node of that id.
-    NoSuchNode,
 }
