@@ -1,6 +1,6 @@
 -- What a command gives of the world to which a schedule's events lead.
 use Rattle.std.proofs.Common.{◌≡◌, ℕ, List, Result, Ok, Err, IfOk}
-use Rattle.csi_schedules.specs.Schedule.{Schedule}
+use Rattle.csi_json.specs.Schedule.{Schedule}
 use Rattle.csi_world.specs.After.{after}
 use Rattle.csi_world.specs.Simulated.{WorldParts, ShowsRun}
 use Rattle.csi_endings.specs.declared.command.ScheduleCommand.{ScheduleCommand}

@@ -3,7 +3,7 @@ use Rattle.std.specs.Prelude.{◌≡◌, ℕ, List, [], ◌∷◌, ◌++◌, Ok,
 use Rattle.std.specs.List.{flat_map}
 use Rattle.std.specs.Str.{IsUtf8}
 use Rattle.csi_frames.specs.Spelling.{spelling}
-use Rattle.csi_schedules.specs.Schedule.{Schedule, text_schedule}
+use Rattle.csi_json.specs.Schedule.{Schedule, text_schedule}
 use Rattle.csi_types.specs.declared.event.Event.{Event}
 use Rattle.csi_world.specs.After.{after}
 use Rattle.csi_world.specs.Simulated.{WorldParts, ShowsRun}

@@ -3,14 +3,14 @@ ghost use Rattle.std.specs.Prelude.{◌≡◌, IfOk, IfErr, OnOk, OnErr};
 ghost use Rattle.std.specs.List.{flat_map};
 ghost use Rattle.std.specs.Str.{IsUtf8};
 ghost use Rattle.csi_frames.specs.Spelling.{spelling};
-ghost use Rattle.csi_schedules.specs.Schedule.{text_schedule};
+ghost use Rattle.csi_json.specs.Schedule.{text_schedule};
 ghost use Rattle.csi_commands.specs.Running.{IsReportLine, IsGivenOf, IsGiven, Plays, IsRefused, refusal_of as refusal};
 
 use crate::drawing::Draws;
 use csi_endings::{Ending, ScheduleCommand};
 use csi_frames::encode;
+use csi_json::{ScheduleFault, read_schedule};
 use csi_reports::report;
-use csi_schedules::{ScheduleFault, read_schedule};
 use csi_types::{Config, NoMemory};
 use csi_world::{Event, World, simulate};
 use std::alloc::Global;

@@ -1,18 +1,18 @@
-//! What schedules and configurations have in JSON: numbers, texts within their limits, capabilities, and a configuration, each read
-//! exactly by the format. This profile's own.
+//! Configurations and schedules, read from JSON exactly as the format has them. This profile's own.
 #![tactic(auto)]
 
 mod access;
 mod borrowed;
 mod configs;
+mod events;
 mod fault;
 mod lists;
+mod plain;
+mod schedule;
 mod texts;
+mod usual;
 mod values;
 
-pub use access::{capabilities, capability};
-pub use borrowed::{owned, plain_number};
-pub use configs::{config, read_config};
+pub use configs::read_config;
 pub use fault::ScheduleFault;
-pub use texts::{name, node_id, target};
-pub use values::{Flaw, flag, list, member, number, only_member, sized_object, text};
+pub use schedule::{MAX_EVENTS, read_schedule};

@@ -1,14 +1,19 @@
 //! Lists in JSON, read item by item.
-ghost use Rattle.std.specs.Prelude.{◌≡◌, ◌∷◌, [], ◌++◌, option_map, map};
+ghost use Rattle.std.specs.Prelude.{◌≡◌, ◌∷◌, [], ◌++◌, option_map, map, IfOk, IfErr};
 ghost use Rattle.serde_json.specs.View.{view};
 ghost use Rattle.csi_json.specs.Json.{Reads, WantsOnly, HasItems, read_all, unless_bad};
 ghost use Rattle.csi_json.specs.Capabilities.{capability_of};
 ghost use Rattle.csi_json.specs.Configs.{node_of};
+ghost use Rattle.csi_json.specs.Events.{event_of};
+ghost use Rattle.csi_json.specs.Faults.{event_fault, IsFaultOf};
+ghost use Rattle.csi_json.specs.Schedule.{events_or_fault};
 
 use crate::access::capability;
 use crate::configs::node;
+use crate::events::event;
+use crate::fault::ScheduleFault;
 use crate::values::Flaw;
-use csi_types::{Capability, NodeSlots};
+use csi_types::{Capability, Event, NodeSlots};
 use serde_json::Value;
 use std::alloc::Global;
 
@@ -49,6 +54,39 @@ pub fn read_nodes(alloc: Global, items: &[Value]) -> Result<Vec<NodeSlots>, Flaw
     let mut list = Vec::new(alloc);
     for item in items {
         push_node(alloc, item, &mut list)?;
+    }
+    Ok(list)
+}
+
+// Reads an event, and appends it. An `Err` appends nothing.
+fn push_event(alloc: Global, value: &Value, list: &mut Vec<Event>) -> Result<(), Flaw>
+    ensures { Reads (λ _. list.new.items) result (option_map (λ read. list.old.items ++ read ∷ []) (event_of (view value.now))) }
+{
+    let event = event(alloc, value)?;
+    list.push(event)?;
+    Ok(())
+}
+
+// The fault where the event of this place has a flaw.
+fn fault_at(flaw: Flaw, place: u64) -> ScheduleFault
+    ensures { result ≡ event_fault flaw place }
+{
+    match flaw {
+        Flaw::Bad => ScheduleFault::BadSchedule { place },
+        Flaw::NoMemory => ScheduleFault::NoMemory,
+    }
+}
+
+/// The events that the items are read as, or the place of the first that is read as none, counted from 1.
+pub fn read_events(alloc: Global, items: &[Value]) -> Result<Vec<Event>, ScheduleFault>
+    ensures read { IfOk result (λ list. events_or_fault (read_all event_of 1 (map view items.now)) ≡ Ok list.items) }
+    ensures fault { IfErr result (IsFaultOf (events_or_fault (read_all event_of 1 (map view items.now)))) }
+{
+    let mut list = Vec::new(alloc);
+    for (index, item) in items.iter().enumerate() {
+        if let Err(flaw) = push_event(alloc, item, &mut list) {
+            return Err(fault_at(flaw, index as u64 + 1));
+        }
     }
     Ok(list)
 }

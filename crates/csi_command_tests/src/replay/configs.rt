@@ -1,6 +1,6 @@
 //! Texts that are read as a configuration alone, or have a fault, which want of memory never hides: each is read the second time where
 //! memory was refused.
-use csi_schedules::{ScheduleFault, read_config};
+use csi_json::{ScheduleFault, read_config};
 use std::alloc::Global;
 
 fn fault_once(alloc: Global, text: &str) -> Result<(), ScheduleFault> {

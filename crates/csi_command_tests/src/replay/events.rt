@@ -1,6 +1,6 @@
 //! Events that are read from a schedule.
 use super::schedules::with_events;
-use csi_schedules::read_schedule;
+use csi_json::read_schedule;
 use csi_types::{Access, Capability, Mode, Name, NodeId, Target};
 use csi_world::Event;
 use std::alloc::Global;

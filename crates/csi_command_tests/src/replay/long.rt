@@ -3,7 +3,7 @@ use super::listed::Listed;
 use super::running::gives;
 use super::scripts::{Place, Script};
 use csi_endings::{Ending, FileCommand, ScheduleCommand};
-use csi_schedules::read_schedule;
+use csi_json::read_schedule;
 use csi_types::Config;
 use csi_world::{Event, audit, simulate};
 use std::alloc::{AllocError, Global};

@@ -3,7 +3,7 @@ use super::Case;
 use super::examples::LATE_DETACH;
 use super::running::run_all;
 use csi_endings::Ending;
-use csi_schedules::ScheduleFault;
+use csi_json::ScheduleFault;
 
 // As `docs/late_detach.svg`.
 const LATE_DETACH_PICTURE: &str =

@@ -3,7 +3,7 @@ use super::running::{gives, run_all};
 use super::schedules::with_objects;
 use super::{CREATE, CREATE_SIX, CREATED, Case};
 use csi_endings::{Ending, FileCommand, ScheduleCommand};
-use csi_schedules::{MAX_EVENTS, ScheduleFault};
+use csi_json::{MAX_EVENTS, ScheduleFault};
 
 const DONE: Ending = Ending::Done;
 

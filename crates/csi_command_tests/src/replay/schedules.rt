@@ -1,5 +1,5 @@
 //! Texts that are read as schedules, or have a fault.
-use csi_schedules::{MAX_EVENTS, ScheduleFault, read_schedule};
+use csi_json::{MAX_EVENTS, ScheduleFault, read_schedule};
 use std::alloc::{AllocError, Global};
 use std::process::Abort;
 

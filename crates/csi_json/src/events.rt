@@ -1,0 +1,131 @@
+//! Events, in JSON.
+ghost use Rattle.std.specs.Prelude.{◌≡◌};
+ghost use Rattle.serde_json.specs.View.{view};
+ghost use Rattle.csi_json.specs.Json.{Reads};
+ghost use Rattle.csi_json.specs.Events.{create_of, use_of, stop_of, delete_of, timeout_of, deliver_of, restart_of, restart_node_of, event_at as at_key, event_of};
+
+use crate::access::{capabilities, capability};
+use crate::texts::{name, node_id, target};
+use crate::values::{Flaw, flag, member, number, only_member, sized_object, text};
+use csi_types::Event;
+use serde_json::Value;
+use std::alloc::Global;
+
+#[tactic(auto, unfolding(crate::specs::Events::create_of))]
+fn create_event(alloc: Global, value: &Value) -> Result<Event, Flaw>
+    ensures { Reads (λ event. event) result (create_of (view value.now)) }
+{
+    let object = sized_object(value, 4)?;
+    let name = name(alloc, member(object, "name")?)?;
+    let required = number(member(object, "required")?)?;
+    let limit = number(member(object, "limit")?)?;
+    let capabilities = capabilities(alloc, member(object, "capabilities")?)?;
+    Ok(Event::Create {
+        name,
+        required,
+        limit,
+        capabilities,
+    })
+}
+
+#[tactic(auto, unfolding(crate::specs::Events::use_of))]
+fn use_event(alloc: Global, value: &Value) -> Result<Event, Flaw>
+    ensures { Reads (λ event. event) result (use_of (view value.now)) }
+{
+    let object = sized_object(value, 5)?;
+    let name = name(alloc, member(object, "name")?)?;
+    let node = node_id(alloc, member(object, "node")?)?;
+    let target = target(alloc, member(object, "target")?)?;
+    let capability = capability(alloc, member(object, "capability")?)?;
+    let readonly = flag(member(object, "readonly")?)?;
+    Ok(Event::Use {
+        name,
+        node,
+        target,
+        capability,
+        readonly,
+    })
+}
+
+#[tactic(auto, unfolding(crate::specs::Events::stop_of))]
+fn stop_event(alloc: Global, value: &Value) -> Result<Event, Flaw>
+    ensures { Reads (λ event. event) result (stop_of (view value.now)) }
+{
+    let object = sized_object(value, 3)?;
+    let name = name(alloc, member(object, "name")?)?;
+    let node = node_id(alloc, member(object, "node")?)?;
+    let target = target(alloc, member(object, "target")?)?;
+    Ok(Event::Stop { name, node, target })
+}
+
+#[tactic(auto, unfolding(crate::specs::Events::delete_of))]
+fn delete_event(alloc: Global, value: &Value) -> Result<Event, Flaw>
+    ensures { Reads (λ event. event) result (delete_of (view value.now)) }
+{
+    let name = name(alloc, value)?;
+    Ok(Event::Delete(name))
+}
+
+#[tactic(auto, unfolding(crate::specs::Events::timeout_of))]
+fn timeout_event(alloc: Global, value: &Value) -> Result<Event, Flaw>
+    ensures { Reads (λ event. event) result (timeout_of (view value.now)) }
+{
+    let name = name(alloc, value)?;
+    Ok(Event::Timeout(name))
+}
+
+#[tactic(auto, unfolding(crate::specs::Events::deliver_of))]
+fn deliver_event(value: &Value) -> Result<Event, Flaw>
+    ensures { Reads (λ event. event) result (deliver_of (view value.now)) }
+{
+    let number = number(value)?;
+    Ok(Event::Deliver(number))
+}
+
+#[tactic(auto, unfolding(crate::specs::Events::restart_of))]
+fn restart_event(value: &Value) -> Result<Event, Flaw>
+    ensures { Reads (λ event. event) result (restart_of (view value.now)) }
+{
+    match text(value)? {
+        "orchestrator" => Ok(Event::RestartOrchestrator),
+        "controller" => Ok(Event::RestartController),
+        _ => Err(Flaw::Bad),
+    }
+}
+
+#[tactic(auto, unfolding(crate::specs::Events::restart_node_of))]
+fn restart_node_event(alloc: Global, value: &Value) -> Result<Event, Flaw>
+    ensures { Reads (λ event. event) result (restart_node_of (view value.now)) }
+{
+    let id = node_id(alloc, value)?;
+    Ok(Event::RestartNode(id))
+}
+
+// The event at this key of an object.
+#[tactic(auto, unfolding(crate::specs::Events::event_at))]
+fn event_at(alloc: Global, key: &str, value: &Value) -> Result<Event, Flaw>
+    ensures { Reads (λ event. event) result (at_key key.now (view value.now)) }
+{
+    match key {
+        "create" => create_event(alloc, value),
+        "use" => use_event(alloc, value),
+        "stop" => stop_event(alloc, value),
+        "delete" => delete_event(alloc, value),
+        "timeout" => timeout_event(alloc, value),
+        "deliver" => deliver_event(value),
+        "restart" => restart_event(value),
+        "restart_node" => restart_node_event(alloc, value),
+        _ => Err(Flaw::Bad),
+    }
+}
+
+/// An event.
+#[tactic(auto, unfolding(crate::specs::Events::event_of))]
+pub fn event(alloc: Global, value: &Value) -> Result<Event, Flaw>
+    ensures { Reads (λ event. event) result (event_of (view value.now)) }
+{
+    match only_member(value) {
+        Some((key, value)) => event_at(alloc, key, value),
+        None => Err(Flaw::Bad),
+    }
+}

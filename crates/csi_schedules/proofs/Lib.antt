@@ -1,4 +1,0 @@
-pub mod PlainSchedules
-pub mod ReadEvents
-pub mod UsualCommands
-pub mod PlainTexts

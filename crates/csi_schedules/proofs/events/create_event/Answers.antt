@@ -1,7 +1,0 @@
-use Rattle.std.proofs.Common.{rules}
-use Rattle.csi_schedules.specs.Events.{create_of}
-use Rattle.csi_schedules.proofs.events.create_event.Goals as goal
-
-pub returns : goal.returns
-unfolding create_of
-returns c = search rules
