@@ -1,5 +1,5 @@
 -- Why what an orchestrator keeps stays within its bounds.
-use Rattle.std.proofs.Common.{◌≡◌, ◌<◌, ◌≤◌, ◌+◌, ◌^◌, ℕ, suc, List, [], ◌∷◌, ◌++◌, Bool, true, false, cond, not, length, map, filter, refl, sym, ◌∙◌, ap, subst, inl, inr, arith}
+use Rattle.std.proofs.Common.{◌≡◌, ◌<◌, ◌≤◌, ◌+◌, ◌^◌, ℕ, suc, List, [], ◌∷◌, ◌++◌, Bool, true, false, cond, not, length, map, refl, sym, ◌∙◌, ap, subst, inl, inr, arith}
 use Rattle.std.specs.Prelude.{◌≢◌, ◌⊎◌, ◌&&◌, Option, Some, None, is_some, find, count_by, nat_le, nat_lt, Result, Ok, Err}
 use Rattle.std.specs.List.{AllByRecursion, list_any}
 use Rattle.std.proofs.lemmas.Bool.{false≢true}
@@ -11,21 +11,20 @@ use Rattle.csi_types.specs.declared.call.Party.{Party}
 use Rattle.csi_types.specs.declared.frame.Body.{Body}
 use Rattle.csi_types.specs.declared.frame.Body.TheVariants as bodies
 use Rattle.csi_types.specs.declared.number.Number.{Number}
-use Rattle.csi_types.specs.declared.reply.Reply.{Reply}
 use Rattle.csi_types.specs.Frame.{Frame}
-use Rattle.csi_types.specs.Same.{same_text, has_capability}
+use Rattle.csi_types.specs.Same.{same_text}
 use Rattle.csi_types.proofs.Equality.{same_text-tells}
 use Rattle.csi_lists.specs.Members.{IsAmong, EachTwo}
 use Rattle.csi_lists.proofs.Counts.{count-cons}
 use Rattle.csi_lists.proofs.Each.{each-filter, each-map, each-weaker}
 use Rattle.csi_lists.proofs.Filters.{filter-no_longer}
-use Rattle.csi_lists.proofs.Members.{each_of, all_of, among-find}
+use Rattle.csi_lists.proofs.Members.{each_of, among-find}
 use Rattle.csi_lists.proofs.Pairs.{two-map}
 use Rattle.csi_lists.proofs.Tests.{any-then}
 use Rattle.csi_orchestrator.specs.declared.fault.OrchFault.{OrchFault}
 use Rattle.csi_orchestrator.specs.declared.fault.OrchFault.TheVariants as faults
 use Rattle.csi_orchestrator.specs.declared.row.Goal.{Goal}
-use Rattle.csi_orchestrator.specs.declared.row.Goal.TheVariants.{Create, Use, Stop, Delete}
+use Rattle.csi_orchestrator.specs.declared.row.Goal.TheVariants.{Create, Use, Stop}
 use Rattle.csi_orchestrator.specs.declared.row.TargetEntry.{TargetEntry}
 use Rattle.csi_orchestrator.specs.declared.sending.Outgoing.{Outgoing}
 use Rattle.csi_orchestrator.specs.declared.step.Step.{Step}
@@ -36,16 +35,14 @@ use Rattle.csi_orchestrator.specs.Thing.{is_no, is_yes}
 use Rattle.csi_orchestrator.specs.History.{Arguments, Usage}
 use Rattle.csi_orchestrator.specs.Moves.{Input, ToCreate, ToUse, ToStop, ToDelete, TimesOut, Comes, Restarts, Answer, Sends, Restarted, hears}
 use Rattle.csi_orchestrator.specs.Shown.{NodeEntryShown, RowShown, Parts, row_of, node_entry_of, due_in, open_in_row, closed, in_session}
-use Rattle.csi_orchestrator.specs.RowChanges.{Aspect, Existence, Attachment, Staging, Publication, aspect_of, target_marked, node_marked, marked_at, at_goal, nodes_marked, marked, is_target_kept, with_kept_targets, is_node_kept, tidied, new_row, new_target_entry, with_target, held_as, entry_for, with_entry, stopped_goal, wanted, told_of}
+use Rattle.csi_orchestrator.specs.RowChanges.{Aspect, Existence, Attachment, Staging, Publication, aspect_of, node_marked, marked_at, at_goal, nodes_marked, marked, is_target_kept, with_kept_targets, is_node_kept, tidied, new_row, new_target_entry, with_target, held_as, entry_for, with_entry, stopped_goal, wanted, told_of}
 use Rattle.csi_orchestrator.specs.RowRefusals.{is_last, first_fault, others_count, use_refusal, room_refusal, step_refusal, late_refusal}
-use Rattle.csi_orchestrator.specs.RowSteps.{MovedRow, outgoing_by, row_after, row_sends_due, row_rests, row_unless, is_met, waits, is_given_up, timed_out, failed, changed, row_takes, row_step}
-use Rattle.csi_orchestrator.specs.RowMoves.{MovedRows, moved_rows, put, placed, steps_at, creates, is_issued_as, row_replied, step_heard, hears_reply, receives, starts_again, row_moves}
+use Rattle.csi_orchestrator.specs.RowSteps.{MovedRow, outgoing_by, row_after, row_sends_due, row_rests, row_unless, is_met, waits, is_given_up, timed_out, failed, changed, row_step}
+use Rattle.csi_orchestrator.specs.RowMoves.{MovedRows, moved_rows, placed, steps_at, creates, is_issued_as, row_replied, step_heard, hears_reply, receives, starts_again, row_moves}
 use Rattle.csi_orchestrator.specs.Keyed.{change_by, put_by}
 use Rattle.csi_orchestrator.specs.Bounds.{HasFewTargets, HasFewNodes, IsBounded, IsEntryWithin, AreWithin, IsWithin}
 use Rattle.csi_orchestrator.specs.Commands.{next_number}
-use Rattle.csi_orchestrator.specs.Due.{Due}
 use Rattle.csi_orchestrator.specs.Sound.{IsNeeded, IsSoundRow, IsSound, AreNodesApart}
-use Rattle.csi_orchestrator.proofs.TextLists.{text-same}
 use Rattle.csi_orchestrator.proofs.EntryRules.{by_if, each-change, each-put}
 use Rattle.csi_orchestrator.proofs.OpenCalls.{GoesOn, step-goes}
 use Rattle.csi_orchestrator.proofs.RulesStay.{found-kept}

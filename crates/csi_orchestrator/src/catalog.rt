@@ -22,13 +22,6 @@ pub(crate) struct Catalog {
     pub calls: IndexMap<u64, usize>,
 }
 
-// The same name again.
-fn copied_name(name: &Name) -> Result<Name, AllocError>
-    ensures { IfOk result (λ copy. copy ≡ name.now) }
-{
-    name.clone()
-}
-
 impl Catalog {
     /// No rows. It takes no memory.
     pub fn new(alloc: Global) -> Catalog
@@ -143,6 +136,19 @@ impl Catalog {
         self.calls.reserve(wanted)
     }
 
+    // Makes room for the call of one more row, and copies its name. The rows stay as they are.
+    fn prepare(&mut self, name: &Name) -> Result<Name, AllocError>
+        requires { IsIndexed self.old }
+        ensures rows { self.new.rows ≡ self.old.rows }
+        ensures indexed { IsIndexed self.new }
+        ensures room { OnOk result (length (rows_of self.old) + 2 ≤ spare self.new.calls) }
+        ensures kept { AreNotedBefore self.old self.new }
+        ensures name { IfOk result (λ copy. copy ≡ name.now) }
+    {
+        self.make_room()?;
+        name.clone()
+    }
+
     /// Adds the row of a name that has none, as the last one. A refusal changes nothing.
     pub fn add(&mut self, row: Row) -> Result<(), OrchFault>
         requires indexed { IsIndexed self.old }
@@ -154,8 +160,13 @@ impl Catalog {
         ensures ready { OnOk result ((next : Option ℕ) → IsNextFor self.old row.open_number next → IsReady self.new (length (rows_of self.old)) next) }
         ensures kept { AreNotedBefore self.old self.new }
     {
-        self.make_room()?;
-        let name = copied_name(&row.name)?;
+        let name = match self.prepare(&row.name) {
+            Ok(name) => name,
+            Err(_) => {
+                drop(row);
+                return Err(OrchFault::NoMemory);
+            }
+        };
         self.rows.insert(name, row)?;
         Ok(())
     }
