@@ -31,7 +31,7 @@ pub enum Party {
 }
 
 /// A call with its arguments: "RPC Interface" of CSI's spec.md, without what this profile leaves out.
-#[derive(Clone, Debug, PartialEq, Eq, Drop)]
+#[derive(Debug, PartialEq, Eq, Drop)]
 pub enum Call {
     /// Makes a volume of this name, with a capacity in bytes of at least `required` and, unless `limit`
     /// is 0, at most `limit`, that can be used with each of these capabilities.

@@ -3,7 +3,7 @@ use crate::capability::{Capability, CapabilityList};
 use crate::text::{Name, NodeId, Target};
 
 /// Something that happens.
-#[derive(Clone, Debug, PartialEq, Eq, Drop)]
+#[derive(Debug, PartialEq, Eq, Drop)]
 pub enum Event {
     /// The orchestrator is asked to create a volume, with a capacity range in bytes.
     Create {
