@@ -2,6 +2,7 @@
 ghost use Rattle.std.specs.Prelude.{◌≡◌, ◌⊎◌, List, IsTrue, IfOk, IfErr};
 ghost use Rattle.sqlite_disk.specs.Memory.{memory_bytes, memory_is_usable};
 ghost use Rattle.sqlite_trees.specs.Tree.{Trees};
+ghost use Rattle.sqlite.specs.Held.{state};
 ghost use Rattle.sqlite.specs.State.{HasCleanDisk};
 ghost use Rattle.sqlite.specs.Files.{file_state, image_of, Finds, HoldsDatabase};
 ghost use Rattle.csi_stores.specs.Part.{StoredPart};
@@ -11,12 +12,30 @@ use crate::sqlite_keep::{SqliteKeep, is_memory};
 use csi_stores::KeepFault;
 use csi_tables::has_table;
 use csi_types::NoMemory;
-use sqlite::{Connection, FileStore, Files, Options};
+use sqlite::{Alter, Connection, FileStore, Files, Options};
 use sqlite_disk::{Disk, Memory};
 use std::alloc::Global;
 use std::fs;
 use std::io::ErrorKind;
 use std::rt::Files as Reads;
+
+// The store in this database, where it lists the table `parts` alone; it is as it was then.
+fn listed<S: Alter + Drop>(
+    alloc: Global,
+    connection: Connection<S>,
+) -> Result<SqliteKeep<S>, KeepFault>
+    ensures found { IfOk result (λ keep. (keep.connection ≡ connection) × (HasCleanDisk (state S.Store keep.connection) → (content : List StoredPart) → IsTrue (state S.Store connection).is_open → StoresParts (state S.Store connection).now.trees content → HoldsParts (state S.Store keep.connection) content)) }
+    ensures faults { IfOk result (λ keep. keep.faults ≡ 0) }
+    ensures cause { IfErr result (λ fault. (fault ≡ KeepFault.Device) ⊎ (fault ≡ KeepFault.NoMemory)) }
+{
+    if !has_table(&connection) {
+        return Err(KeepFault::Device);
+    }
+    match SqliteKeep::new(alloc, connection) {
+        Ok(keep) => Ok(keep),
+        Err((fault, _connection)) => Err(fault),
+    }
+}
 
 impl<D: Disk + Drop> SqliteKeep<FileStore<D>> {
     /// The store that these two files have, a database file and its log, where they are a database that lists the table `parts` alone;
@@ -34,13 +53,7 @@ impl<D: Disk + Drop> SqliteKeep<FileStore<D>> {
             Err((error, _left)) if is_memory(&error) => return Err(KeepFault::NoMemory),
             Err(_) => return Err(KeepFault::Device),
         };
-        if !has_table(&connection) {
-            return Err(KeepFault::Device);
-        }
-        match SqliteKeep::new(alloc, connection) {
-            Ok(keep) => Ok(keep),
-            Err((fault, _connection)) => Err(fault),
-        }
+        listed(alloc, connection)
     }
 }
 
