@@ -1,19 +1,36 @@
 //! A store in a file.
-ghost use Rattle.std.specs.Prelude.{◌≡◌, ◌⊎◌, List, IfOk, IfErr};
+ghost use Rattle.std.specs.Prelude.{◌≡◌, ◌⊎◌, List, IsTrue, IfOk, IfErr};
 ghost use Rattle.sqlite_wal.specs.Files.{image_at};
 ghost use Rattle.sqlite_wal.specs.Reads.{AreClean};
 ghost use Rattle.sqlite_trees.specs.Tree.{Trees};
 ghost use Rattle.sqlite_store.specs.FileStore.{recovers};
+ghost use Rattle.sqlite.specs.Held.{state};
 ghost use Rattle.sqlite.specs.State.{HasCleanDisk};
 ghost use Rattle.sqlite.specs.Files.{file_state, HoldsDatabase};
 ghost use Rattle.csi_stores.specs.Part.{StoredPart};
-ghost use Rattle.csi_sqlite.specs.Tables.{StoresParts, HoldsParts};
+ghost use Rattle.csi_sqlite.specs.Tables.{StoresParts, HoldsParts, OpensOver};
 ghost use Rattle.csi_sqlite.specs.Closing.{AreWhole};
 
 use crate::sqlite_keep::{SqliteKeep, is_memory};
 use csi_stores::KeepFault;
-use sqlite::{Connection, FileFrom, FileStore, Files, Start, Unknown};
+use sqlite::{Alter, Connection, FileFrom, FileStore, Files, Start, Unknown};
 use sqlite_disk::Disk;
+use std::alloc::Global;
+
+// The store in this database; at a refusal the database is closed.
+fn kept<S: Alter + Drop>(
+    alloc: Global,
+    connection: Connection<S>,
+) -> Result<SqliteKeep<S>, KeepFault>
+    ensures found { IfOk result (λ keep. OpensOver (state S.Store connection) (state S.Store keep.connection) × (HasCleanDisk (state S.Store keep.connection) → (content : List StoredPart) → IsTrue (state S.Store connection).is_open → StoresParts (state S.Store connection).now.trees content → HoldsParts (state S.Store keep.connection) content)) }
+    ensures faults { IfOk result (λ keep. keep.faults ≡ 0) }
+    ensures cause { IfErr result (λ fault. (fault ≡ KeepFault.Device) ⊎ (fault ≡ KeepFault.NoMemory)) }
+{
+    match SqliteKeep::new(alloc, connection) {
+        Ok(keep) => Ok(keep),
+        Err((fault, _connection)) => Err(fault),
+    }
+}
 
 impl<S: Start> SqliteKeep<FileStore<FileFrom<S>>> {
     /// The store in the SQLite file at this path, which is made where there is none, as is the table `parts`. `S` stands for what the
@@ -33,10 +50,7 @@ impl<S: Start> SqliteKeep<FileStore<FileFrom<S>>> {
             Err((error, _left)) if is_memory(&error) => return Err(KeepFault::NoMemory),
             Err(_) => return Err(KeepFault::Device),
         };
-        match SqliteKeep::new(rt.alloc(), connection) {
-            Ok(keep) => Ok(keep),
-            Err((fault, _connection)) => Err(fault),
-        }
+        kept(rt.alloc(), connection)
     }
 }
 

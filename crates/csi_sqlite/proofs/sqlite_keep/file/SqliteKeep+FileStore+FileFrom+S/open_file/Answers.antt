@@ -1,5 +1,6 @@
 -- What the file held is what the connection has, and so what the keeper finds.
 use Rattle.std.proofs.Common.{◌≡◌, ◌∙◌, sym, ap, subst}
+use Rattle.std.proofs.lemmas.Result.{IfOk-weaker}
 use Rattle.sqlite_trees.specs.Tree.{Trees}
 use Rattle.sqlite.specs.Effect.{Database}
 use Rattle.sqlite.specs.State.{HasCleanDisk}
@@ -7,10 +8,11 @@ use Rattle.sqlite.specs.Files.{file_state}
 use Rattle.csi_sqlite.specs.Tables.{StoresParts}
 use Rattle.csi_sqlite.proofs.sqlite_keep.file.SqliteKeep+FileStore+FileFrom+S.open_file.Goals as goal
 
-pub returns-in-Ok-new-clause-found : goal.returns-in-Ok-new-clause-found
-returns-in-Ok-new-clause-found g c clean db content held stored =
+pub returns-clause-found : goal.returns-clause-found
+returns-clause-found g c =
+    IfOk-weaker c.kept.result _ _ (λ keep found clean db content held stored.
     let was = c.in-Ok.connection in
-    let early : HasCleanDisk (file_state was) = c.in-Ok-new.ensures.left.honest clean in
+    let early : HasCleanDisk (file_state was) = found.0.honest clean in
     let opened = (c.in-Ok.ensures.opened early).0 in
     let trees : (file_state was).now.trees ≡ db = ap (λ (d : Database). d.trees) opened.clean ∙ (c.in-Ok.ensures.found early).holds db held in
-    c.in-Ok-new.ensures.found clean content opened.is_open (subst (λ (t : Trees). StoresParts t content) (sym trees) stored)
+    found.1 clean content opened.is_open (subst (λ (t : Trees). StoresParts t content) (sym trees) stored)) c.kept.ensures.found
