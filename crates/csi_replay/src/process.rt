@@ -6,7 +6,7 @@ use csi_plugins::{Plugin, ending_unopened, plugin, record};
 use csi_service::Counted;
 use csi_sqlite::{SqliteKeep, close_file, close_found, find_at};
 use csi_words::{CommandLine, parse};
-use sqlite::Unknown;
+use sqlite::{Alter, Unknown};
 use std::process::ExitCode;
 use std::rt::Files;
 use std::{fs, io};
@@ -33,17 +33,28 @@ fn controller_of(rt: &(impl Files + AllocGlobal), path: &str) -> Result<Plugin, 
     }
 }
 
-// Serves standard input to standard output, by the plugin of the store in this file.
+// Serves standard input to standard output, by the plugin of this store.
+fn served<S: Alter>(rt: &HostRuntime, asked: Plugin, keep: &mut SqliteKeep<S>) -> Ending {
+    let mut reader = Counted::new(rt.stdin());
+    let mut writer = Counted::new(rt.stdout());
+    plugin(rt.alloc(), asked, keep, &mut reader, &mut writer)
+}
+
+// Serves by the plugin of the store in this file.
 fn from_store(rt: &HostRuntime, path: &str, asked: Plugin) -> Ending {
     let mut keep = match SqliteKeep::open_file(rt, path, Unknown) {
         Ok(keep) => keep,
         Err(fault) => return asked.unopened(fault),
     };
-    let mut reader = Counted::new(rt.stdin());
-    let mut writer = Counted::new(rt.stdout());
-    let ending = plugin(rt.alloc(), asked, &mut keep, &mut reader, &mut writer);
+    let ending = served(rt, asked, &mut keep);
     close_file(keep);
     ending
+}
+
+// Tells what this store has.
+fn told_of<S: Alter>(rt: &HostRuntime, keep: &mut SqliteKeep<S>) -> Ending {
+    let mut out = Counted::new(io::writer(rt));
+    record(rt.alloc(), keep, &mut out)
 }
 
 // Tells what the store in this file has, which is only read.
@@ -52,8 +63,7 @@ fn told(rt: &HostRuntime, path: &str) -> Ending {
         Ok(keep) => keep,
         Err(fault) => return ending_unopened(fault),
     };
-    let mut out = Counted::new(io::writer(rt));
-    let ending = record(rt.alloc(), &mut keep, &mut out);
+    let ending = told_of(rt, &mut keep);
     close_found(keep);
     ending
 }
