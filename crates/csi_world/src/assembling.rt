@@ -1,9 +1,9 @@
 //! Worlds that are made of their parts.
 ghost use Rattle.std.specs.Prelude.{◌≡◌, ◌↔◌, IfOk, IsTrue, Err};
 ghost use Rattle.csi_world.specs.Assembled.{AreOfNodes, assembled};
-ghost use Rattle.csi_world.specs.System.{parts_of};
+ghost use Rattle.csi_world.specs.declared.assembling.AssembleFault.TheVariants.{OtherNodes};
 
-use crate::plugins::copied_config;
+use crate::plugins::controller_of_record;
 use crate::system::System;
 use crate::world::World;
 use csi_controller::{Controller, ControllerRecord};
@@ -57,33 +57,47 @@ fn nodes_of_records(alloc: Global, kept: Vec<NodeRecord>) -> Result<Vec<Node>, N
     Ok(nodes)
 }
 
-// The parts of the world, in which nothing happened.
-fn assembled_system(
+// The nodes of these records, which must be of these nodes, in their order.
+fn nodes_as_configured(
     alloc: Global,
-    config: Config,
+    nodes: &[NodeSlots],
+    kept: Vec<NodeRecord>,
+) -> Result<Vec<Node>, AssembleFault>
+    ensures ok { IfOk result (λ made. made.items ≡ kept.items) }
+    ensures own { IfOk result (λ made. AreOfNodes kept.items nodes.now) }
+    ensures other { (result ≡ Err OtherNodes) ↔ (AreOfNodes kept.items nodes.now → ⊥) }
+{
+    if !are_of_nodes(&kept, nodes) {
+        return Err(AssembleFault::OtherNodes);
+    }
+    match nodes_of_records(alloc, kept) {
+        Ok(made) => Ok(made),
+        Err(NoMemory) => Err(AssembleFault::NoMemory),
+    }
+}
+
+// The plugins of these records.
+fn plugins_of_records(
+    alloc: Global,
+    config: &Config,
     controller: ControllerRecord,
     nodes: Vec<NodeRecord>,
-    orchestrator: Orchestrator,
-) -> Result<System, NoMemory>
-    ensures { IfOk result (λ system. parts_of system ≡ assembled config controller nodes.items orchestrator) }
+) -> Result<(Controller, Vec<Node>), AssembleFault>
+    ensures controller { IfOk result (λ made. made.0 ≡ record { config = config.now; next_id = controller.next_id; session = controller.session; rows = controller.rows }) }
+    ensures nodes { IfOk result (λ made. made.1.items ≡ nodes.items) }
+    ensures own { IfOk result (λ made. AreOfNodes nodes.items config.now.nodes) }
+    ensures other { (result ≡ Err OtherNodes) ↔ (AreOfNodes nodes.items config.now.nodes → ⊥) }
 {
-    let own = copied_config(&config)?;
-    let nodes = nodes_of_records(alloc, nodes)?;
-    let controller = Controller::from_record(alloc, own, controller).unwrap();
-    Ok(System {
-        alloc,
-        config,
-        frames: Vec::new(alloc),
-        outcomes: Vec::new(alloc),
-        controller,
-        nodes,
-        orchestrator,
-    })
+    match nodes_as_configured(alloc, config.nodes(), nodes) {
+        Ok(nodes) => match controller_of_record(alloc, config, controller) {
+            Ok(controller) => Ok((controller, nodes)),
+            Err(NoMemory) => Err(AssembleFault::NoMemory),
+        },
+        Err(fault) => Err(fault),
+    }
 }
 
 impl World {
-    ghost use Rattle.csi_world.specs.declared.assembling.AssembleFault.TheVariants.{OtherNodes};
-
     /// The world of these parts, in which no frame was sent and no event came: the controller and the nodes are those of the
     /// records, and the orchestrator is the one that is given. It may be any orchestrator, so that the world need not be one
     /// to which events lead, nor a safe one: `audit` tells. It is refused with `OtherNodes` exactly where the node records
@@ -99,12 +113,17 @@ impl World {
         ensures ok { IfOk result (λ world. world ≡ assembled config controller nodes.items orchestrator) }
         ensures other { (result ≡ Err OtherNodes) ↔ (AreOfNodes nodes.items config.nodes → ⊥) }
     {
-        if !are_of_nodes(&nodes, config.nodes()) {
-            return Err(AssembleFault::OtherNodes);
-        }
-        match assembled_system(alloc, config, controller, nodes, orchestrator) {
-            Ok(system) => Ok(World::of(system)),
-            Err(NoMemory) => Err(AssembleFault::NoMemory),
+        match plugins_of_records(alloc, &config, controller, nodes) {
+            Ok((controller, nodes)) => Ok(World::of(System {
+                alloc,
+                config,
+                frames: Vec::new(alloc),
+                outcomes: Vec::new(alloc),
+                controller,
+                nodes,
+                orchestrator,
+            })),
+            Err(fault) => Err(fault),
         }
     }
 }

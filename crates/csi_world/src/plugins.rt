@@ -5,7 +5,7 @@ ghost use Rattle.csi_types.specs.Same.{same_text};
 ghost use Rattle.csi_world.specs.After.{node_id};
 ghost use Rattle.csi_world.specs.Simulating.{ControllerDoes, NodeDoes, IsSameController, IsSameNode, new_node_parts};
 
-use csi_controller::Controller;
+use csi_controller::{Controller, ControllerRecord};
 use csi_node::Node;
 use csi_types::{Config, Frame, NoMemory, NodeId, NodeSlots};
 use std::alloc::Global;
@@ -92,6 +92,18 @@ pub(crate) fn step_node(node: &mut Node, frame: &Frame) -> Result<Option<Frame>,
     }
 }
 
+/// The controller of this record, under a copy of the configuration.
+pub(crate) fn controller_of_record(
+    alloc: Global,
+    config: &Config,
+    kept: ControllerRecord,
+) -> Result<Controller, NoMemory>
+    ensures { IfOk result (λ made. made ≡ record { config = config.now; next_id = kept.next_id; session = kept.session; rows = kept.rows }) }
+{
+    let own = copied_config(config)?;
+    Ok(Controller::from_record(alloc, own, kept).unwrap())
+}
+
 /// The controller that has the record of this one.
 pub(crate) fn restarted_controller(
     alloc: Global,
@@ -100,9 +112,8 @@ pub(crate) fn restarted_controller(
 ) -> Result<Controller, NoMemory>
     ensures { config.now ≡ controller.now.config → IfOk result (IsSameController controller.now) }
 {
-    let config = copied_config(config)?;
     match controller.record() {
-        Ok(kept) => Ok(Controller::from_record(alloc, config, kept).unwrap()),
+        Ok(kept) => controller_of_record(alloc, config, kept),
         Err(_) => Err(NoMemory),
     }
 }

@@ -1,5 +1,6 @@
 //! Runs of events.
-ghost use Rattle.std.specs.Prelude.{◌≡◌, ℕ, [], take, IfOk};
+ghost use Rattle.std.specs.Prelude.{◌≡◌, ℕ, [], take, IfOk, OnOk};
+ghost use Rattle.csi_types.specs.Config.{Config};
 ghost use Rattle.csi_world.specs.Safe.{Safe};
 ghost use Rattle.csi_world.specs.After.{after};
 ghost use Rattle.csi_world.specs.Simulated.{ShowsRun};
@@ -37,16 +38,15 @@ fn new_system(alloc: Global, config: &Config) -> Result<System, NoMemory>
     })
 }
 
-// The system after these events.
-fn run(alloc: Global, config: &Config, events: &[Event]) -> Result<System, NoMemory>
-    ensures { IfOk result (λ system. IsRun config.now events.now (parts_of system)) }
+// Lets these events happen, one after another.
+fn occur_all(alloc: Global, system: &mut System, events: &[Event]) -> Result<(), NoMemory>
+    ensures { (config : Config) → IsRun config [] (parts_of system.old) → OnOk result (IsRun config events.now (parts_of system.new)) }
 {
-    let mut system = new_system(alloc, config)?;
     let mut bytes = Vec::new(alloc);
     for event in events {
         system.occur(&mut bytes, event)?;
     }
-    Ok(system)
+    Ok(())
 }
 
 /// The world after these events, one after another, from an empty one of this configuration. An event that can't happen
@@ -59,6 +59,9 @@ pub fn simulate(alloc: Global, config: &Config, events: &[Event]) -> Result<Worl
     ensures safe { (count : ℕ) → Safe (after config.now (take count events.now)).world }
 {
     runs_law();
-    let system = run(alloc, config, events)?;
-    Ok(World::of(system))
+    let mut system = new_system(alloc, config)?;
+    match occur_all(alloc, &mut system, events) {
+        Ok(()) => Ok(World::of(system)),
+        Err(NoMemory) => Err(NoMemory),
+    }
 }

@@ -6,15 +6,15 @@ use Rattle.csi_world.specs.After.{after}
 use Rattle.csi_world.specs.Simulating.{IsRun}
 use Rattle.csi_world.specs.System.{parts_of}
 use Rattle.csi_world.proofs.SimulatedRuns.{run-more}
-use Rattle.csi_world.proofs.simulation.run.Goals as goal
+use Rattle.csi_world.proofs.simulation.occur_all.Goals as goal
 
 pub loop-event-preserved : goal.loop-event-preserved
-loop-event-preserved c =
+loop-event-preserved c = λ config began.
     let events = c.args.events.now in
     let index = c.loop-event.event-index in
     let event = c.event-item.result in
-    let before = c.loop-event.invariant in
+    let before = c.loop-event.invariant config began in
     let more : take (index + 1) events ≡ take index events ++ event ∷ []
     = take_more events index event c.loop-event-test.true ∙ ap (λ (e : Event). take index events ++ e ∷ []) (sym c.event-item.is) in
-    subst (λ (es : List Event). IsRun c.args.config.now es (parts_of c.occur.new.self)) (sym more)
-    (run-more c.args.config.now (take index events) event (parts_of c.loop-event.system) (parts_of c.occur.new.self) before (c.in_ok-occur.ensures (after c.args.config.now (take index events)).world before.own before.shows.world))
+    subst (λ (es : List Event). IsRun config es (parts_of c.occur.new.self)) (sym more)
+    (run-more config (take index events) event (parts_of c.loop-event.system) (parts_of c.occur.new.self) before (c.in_ok-occur.ensures (after config (take index events)).world before.own before.shows.world))
