@@ -1,5 +1,6 @@
 //! Copies of what a borrowed frame stands for.
 ghost use Rattle.std.specs.Prelude.{◌≡◌, ◌≤◌, [], length, IfOk, IsOk, IfSome};
+ghost use Rattle.csi_types.specs.declared.call.Call.TheVariants as calls;
 ghost use Rattle.csi_types.specs.Lent.{lent_access, lent_capability};
 ghost use Rattle.csi_types.specs.Text.{IsName, IsFsType, IsNodeId, IsTarget, IsDetail};
 ghost use Rattle.csi_types.specs.VolumeId.{IsVolumeId};
@@ -152,63 +153,122 @@ fn party(alloc: Global, from: &PartyRef<'_>) -> Result<Party, NoMemory>
     }
 }
 
+// A CreateVolume, with texts of its own.
+fn create_call(
+    alloc: Global,
+    text: &str,
+    required: u64,
+    limit: u64,
+    list: &CapabilitiesRef<'_>,
+) -> Result<Call, NoMemory>
+    requires name { IsName text.now }
+    requires list { IsCapabilityList (owned_capabilities list.now) }
+    ensures { IfOk result (λ call. call ≡ calls.CreateVolume text.now required limit (owned_capabilities list.now)) }
+{
+    let name = name(alloc, text)?;
+    let capabilities = capabilities(alloc, list)?;
+    Ok(Call::CreateVolume {
+        name,
+        required,
+        limit,
+        capabilities,
+    })
+}
+
+// A ControllerPublishVolume, with texts of its own.
+fn controller_publish_call(
+    alloc: Global,
+    id: u64,
+    text: &str,
+    usage: &CapabilityRef<'_>,
+    readonly: bool,
+) -> Result<Call, NoMemory>
+    requires id { IsVolumeId id }
+    requires node { IsNodeId text.now }
+    requires usage { IsCapability (lent_capability usage.now) }
+    ensures { IfOk result (λ call. call ≡ calls.ControllerPublishVolume id text.now (lent_capability usage.now) readonly) }
+{
+    let id = volume_id(id);
+    let node = node_id(alloc, text)?;
+    let capability = capability(alloc, usage)?;
+    Ok(Call::ControllerPublishVolume {
+        id,
+        node,
+        capability,
+        readonly,
+    })
+}
+
+// A NodePublishVolume, with texts of its own.
+fn node_publish_call(
+    alloc: Global,
+    id: u64,
+    text: &str,
+    usage: &CapabilityRef<'_>,
+    readonly: bool,
+) -> Result<Call, NoMemory>
+    requires id { IsVolumeId id }
+    requires target { IsTarget text.now }
+    requires usage { IsCapability (lent_capability usage.now) }
+    ensures { IfOk result (λ call. call ≡ calls.NodePublishVolume id text.now (lent_capability usage.now) readonly) }
+{
+    let id = volume_id(id);
+    let target = target(alloc, text)?;
+    let capability = capability(alloc, usage)?;
+    Ok(Call::NodePublishVolume {
+        id,
+        target,
+        capability,
+        readonly,
+    })
+}
+
 fn call(alloc: Global, from: &BorrowedCall<'_>) -> Result<Call, NoMemory>
     requires { IsCall (owned_call from.now) }
     ensures value { IfOk result (λ call. call ≡ owned_call from.now) }
     ensures textless { AreEmpty (call_texts (owned_call from.now)) → IsOk result }
 {
-    Ok(match from {
+    match from {
         BorrowedCall::CreateVolume {
-            name: text,
+            name,
             required,
             limit,
-            capabilities: list,
-        } => Call::CreateVolume {
-            name: name(alloc, text)?,
-            required: *required,
-            limit: *limit,
-            capabilities: capabilities(alloc, list)?,
-        },
-        BorrowedCall::DeleteVolume { id } => Call::DeleteVolume { id: volume_id(*id) },
+            capabilities,
+        } => create_call(alloc, name, *required, *limit, capabilities),
+        BorrowedCall::DeleteVolume { id } => Ok(Call::DeleteVolume { id: volume_id(*id) }),
         BorrowedCall::ControllerPublishVolume {
             id,
             node,
-            capability: usage,
+            capability,
             readonly,
-        } => Call::ControllerPublishVolume {
-            id: volume_id(*id),
-            node: node_id(alloc, node)?,
-            capability: capability(alloc, usage)?,
-            readonly: *readonly,
-        },
-        BorrowedCall::ControllerUnpublishVolume { id, node } => Call::ControllerUnpublishVolume {
-            id: volume_id(*id),
-            node: node_id(alloc, node)?,
-        },
+        } => controller_publish_call(alloc, *id, node, capability, *readonly),
+        BorrowedCall::ControllerUnpublishVolume { id, node } => Ok(
+            Call::ControllerUnpublishVolume {
+                id: volume_id(*id),
+                node: node_id(alloc, node)?,
+            },
+        ),
         BorrowedCall::NodeStageVolume {
             id,
             capability: usage,
-        } => Call::NodeStageVolume {
+        } => Ok(Call::NodeStageVolume {
             id: volume_id(*id),
             capability: capability(alloc, usage)?,
-        },
-        BorrowedCall::NodeUnstageVolume { id } => Call::NodeUnstageVolume { id: volume_id(*id) },
+        }),
+        BorrowedCall::NodeUnstageVolume { id } => Ok(Call::NodeUnstageVolume {
+            id: volume_id(*id),
+        }),
         BorrowedCall::NodePublishVolume {
             id,
-            target: text,
-            capability: usage,
+            target,
+            capability,
             readonly,
-        } => Call::NodePublishVolume {
+        } => node_publish_call(alloc, *id, target, capability, *readonly),
+        BorrowedCall::NodeUnpublishVolume { id, target: text } => Ok(Call::NodeUnpublishVolume {
             id: volume_id(*id),
             target: target(alloc, text)?,
-            capability: capability(alloc, usage)?,
-            readonly: *readonly,
-        },
-        BorrowedCall::NodeUnpublishVolume { id, target: text } => Call::NodeUnpublishVolume {
-            id: volume_id(*id),
-            target: target(alloc, text)?,
-        },
-    })
+        }),
+    }
 }
 
 fn body(alloc: Global, from: &BodyRef<'_>) -> Result<Body, NoMemory>
