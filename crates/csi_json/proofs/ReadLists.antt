@@ -7,7 +7,7 @@ use Rattle.serde_json.specs.View.{view}
 use Rattle.serde_json.specs.declared.value.Value.{Value}
 use Rattle.csi_json.specs.declared.values.Flaw.{Flaw}
 use Rattle.csi_json.specs.declared.values.Flaw.TheVariants.{Bad, NoMemory}
-use Rattle.csi_json.specs.Json.{read_all, read_first, unless_bad, Reads}
+use Rattle.csi_json.specs.Json.{read_all, read_first, unless_bad, Reads, WantsOnly, HasItems}
 
 -- one more item is read behind an item, where it is read behind those after it
 more_after : {A : Type 0} (r : Option A) (a b : Result (List A) ℕ) (place : ℕ) (old : List A) (x : A) → ((ys : List A) → a ≡ Ok ys → b ≡ Ok (ys ++ x ∷ []))
@@ -81,3 +81,10 @@ pub refuses : {A B : Type 0} (shown : B → List A) (read : Data → Option A) (
     → Reads {A = B} {B = List A} shown (Err flaw) (unless_bad (read_all read 1 (map view xs)))
 refuses shown read xs i x old new Bad h e one was = ap unless_bad (stops read xs i x old h e one was)
 refuses shown read xs i x old new NoMemory h e one was = tt
+
+-- a list that has an item may want memory, whatever is answered
+pub wants : {A : Type 0} (answer : Result A Flaw) (xs : List Value) (i : ℕ) → i < length xs → WantsOnly answer (HasItems (Some (map view xs)))
+wants (Ok value) xs i h = tt
+wants (Err Bad) xs i h = tt
+wants (Err NoMemory) [] i h = absurd (omega arith)
+wants (Err NoMemory) (x ∷ xs) i h = tt

@@ -1,22 +1,23 @@
 //! Capabilities, in JSON: how a volume is accessed, and in which mode.
-ghost use Rattle.std.specs.Prelude.{◌≡◌};
+ghost use Rattle.std.specs.Prelude.{◌≡◌, option_and_then, codes};
+ghost use Rattle.serde_json.specs.Find.{get};
 ghost use Rattle.serde_json.specs.View.{view};
 ghost use Rattle.csi_json.specs.Json.{Reads};
 ghost use Rattle.csi_json.specs.Capabilities.{mode_of, block_of, mount_of, access_of, capability_of, capabilities_of};
 
 use crate::lists::read_capabilities;
 use crate::texts::fs_type;
-use crate::values::{Flaw, list, member, number, sized_object, text};
+use crate::values::{Flaw, list, member, number_at, sized_object, text};
 use csi_types::{Access, Capability, CapabilityList, Mode};
 use serde_json::Value;
 use std::alloc::Global;
 
-// An access mode, by its number.
+// The access mode of an object, by its number.
 #[tactic(auto, using(crate::proofs::Items::no_mode), unfolding(crate::specs::Capabilities::mode_of))]
-fn mode(value: &Value) -> Result<Mode, Flaw>
-    ensures { Reads (λ mode. mode) result (mode_of (view value.now)) }
+fn mode(object: &Value) -> Result<Mode, Flaw>
+    ensures { Reads (λ mode. mode) result (option_and_then mode_of (get (codes "mode") (view object.now))) }
 {
-    let number = number(value)?;
+    let number = number_at(object, "mode")?;
     if number > u8::MAX as u64 {
         return Err(Flaw::Bad);
     }
@@ -57,16 +58,16 @@ pub fn capability(alloc: Global, value: &Value) -> Result<Capability, Flaw>
     ensures { Reads (λ capability. capability) result (capability_of (view value.now)) }
 {
     let access = access(alloc, value)?;
-    let mode = mode(member(value, "mode")?)?;
+    let mode = mode(value)?;
     Ok(Capability { access, mode })
 }
 
-/// At most eight capabilities.
+/// At most eight capabilities, at a key of an object.
 #[tactic(auto, unfolding(crate::specs::Capabilities::capabilities_of, crate::specs::Json::all_of))]
-pub fn capabilities(alloc: Global, value: &Value) -> Result<CapabilityList, Flaw>
-    ensures { Reads (λ list. list) result (capabilities_of (view value.now)) }
+pub fn capabilities_at(alloc: Global, object: &Value, key: &str) -> Result<CapabilityList, Flaw>
+    ensures { Reads (λ list. list) result (option_and_then capabilities_of (get key.now (view object.now))) }
 {
-    let items = list(value)?;
+    let items = list(member(object, key)?)?;
     let capabilities = read_capabilities(alloc, items)?;
     CapabilityList::try_new(capabilities).ok_or(Flaw::Bad)
 }

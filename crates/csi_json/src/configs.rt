@@ -7,8 +7,8 @@ ghost use Rattle.csi_json.specs.Faults.{IsFaultOf};
 
 use crate::fault::ScheduleFault;
 use crate::lists::read_nodes;
-use crate::texts::node_id;
-use crate::values::{Flaw, list, member, number, sized_object};
+use crate::texts::node_id_at;
+use crate::values::{Flaw, list, member, number_at, sized_object};
 use csi_types::{Config, NodeSlots};
 use serde_json::Value;
 use std::alloc::Global;
@@ -19,8 +19,8 @@ pub fn node(alloc: Global, value: &Value) -> Result<NodeSlots, Flaw>
     ensures { Reads (λ node. node) result (node_of (view value.now)) }
 {
     let object = sized_object(value, 2)?;
-    let id = node_id(alloc, member(object, "id")?)?;
-    let slots = number(member(object, "slots")?)?;
+    let id = node_id_at(alloc, object, "id")?;
+    let slots = number_at(object, "slots")?;
     Ok(NodeSlots { id, slots })
 }
 
@@ -40,7 +40,7 @@ pub fn config(alloc: Global, value: &Value) -> Result<Config, Flaw>
     ensures memory { WantsOnly result (HasItems (nodes_in (view value.now))) }
 {
     let object = sized_object(value, 2)?;
-    let greatest = number(member(object, "greatest")?)?;
+    let greatest = number_at(object, "greatest")?;
     let nodes = nodes(alloc, member(object, "nodes")?)?;
     match Config::try_new(alloc, greatest, nodes) {
         Ok(config) => Ok(config),

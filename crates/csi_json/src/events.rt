@@ -4,9 +4,9 @@ ghost use Rattle.serde_json.specs.View.{view};
 ghost use Rattle.csi_json.specs.Json.{Reads};
 ghost use Rattle.csi_json.specs.Events.{create_of, use_of, stop_of, delete_of, timeout_of, deliver_of, restart_of, restart_node_of, event_at as at_key, event_of};
 
-use crate::access::{capabilities, capability};
-use crate::texts::{name, node_id, target};
-use crate::values::{Flaw, flag, member, number, only_member, sized_object, text};
+use crate::access::{capabilities_at, capability};
+use crate::texts::{name, name_at, node_id, node_id_at, target_at};
+use crate::values::{Flaw, flag_at, member, number, number_at, only_member, sized_object, text};
 use csi_types::Event;
 use serde_json::Value;
 use std::alloc::Global;
@@ -16,10 +16,10 @@ fn create_event(alloc: Global, value: &Value) -> Result<Event, Flaw>
     ensures { Reads (λ event. event) result (create_of (view value.now)) }
 {
     let object = sized_object(value, 4)?;
-    let name = name(alloc, member(object, "name")?)?;
-    let required = number(member(object, "required")?)?;
-    let limit = number(member(object, "limit")?)?;
-    let capabilities = capabilities(alloc, member(object, "capabilities")?)?;
+    let name = name_at(alloc, object, "name")?;
+    let required = number_at(object, "required")?;
+    let limit = number_at(object, "limit")?;
+    let capabilities = capabilities_at(alloc, object, "capabilities")?;
     Ok(Event::Create {
         name,
         required,
@@ -33,11 +33,11 @@ fn use_event(alloc: Global, value: &Value) -> Result<Event, Flaw>
     ensures { Reads (λ event. event) result (use_of (view value.now)) }
 {
     let object = sized_object(value, 5)?;
-    let name = name(alloc, member(object, "name")?)?;
-    let node = node_id(alloc, member(object, "node")?)?;
-    let target = target(alloc, member(object, "target")?)?;
+    let name = name_at(alloc, object, "name")?;
+    let node = node_id_at(alloc, object, "node")?;
+    let target = target_at(alloc, object, "target")?;
     let capability = capability(alloc, member(object, "capability")?)?;
-    let readonly = flag(member(object, "readonly")?)?;
+    let readonly = flag_at(object, "readonly")?;
     Ok(Event::Use {
         name,
         node,
@@ -52,9 +52,9 @@ fn stop_event(alloc: Global, value: &Value) -> Result<Event, Flaw>
     ensures { Reads (λ event. event) result (stop_of (view value.now)) }
 {
     let object = sized_object(value, 3)?;
-    let name = name(alloc, member(object, "name")?)?;
-    let node = node_id(alloc, member(object, "node")?)?;
-    let target = target(alloc, member(object, "target")?)?;
+    let name = name_at(alloc, object, "name")?;
+    let node = node_id_at(alloc, object, "node")?;
+    let target = target_at(alloc, object, "target")?;
     Ok(Event::Stop { name, node, target })
 }
 

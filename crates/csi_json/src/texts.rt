@@ -1,9 +1,10 @@
 //! Texts within their limits, in JSON.
-ghost use Rattle.std.specs.Prelude.{◌≡◌, is_some, true};
+ghost use Rattle.std.specs.Prelude.{◌≡◌, option_and_then, is_some, true};
+ghost use Rattle.serde_json.specs.Find.{get};
 ghost use Rattle.serde_json.specs.View.{view};
 ghost use Rattle.csi_json.specs.Json.{Reads, WantsOnly, name_of, node_id_of, target_of, fs_type_of};
 
-use crate::values::{Flaw, text};
+use crate::values::{Flaw, member, text};
 use csi_types::{FsType, Name, NodeId, Target, TextFault};
 use serde_json::Value;
 use std::alloc::Global;
@@ -22,6 +23,13 @@ pub fn name(alloc: Global, value: &Value) -> Result<Name, Flaw>
     }
 }
 
+/// The volume's name at a key of an object.
+pub fn name_at(alloc: Global, object: &Value, key: &str) -> Result<Name, Flaw>
+    ensures { Reads (λ name. name) result (option_and_then name_of (get key.now (view object.now))) }
+{
+    name(alloc, member(object, key)?)
+}
+
 /// A node's id.
 #[tactic(auto, unfolding(crate::specs::Json::text_of))]
 pub fn node_id(alloc: Global, value: &Value) -> Result<NodeId, Flaw>
@@ -36,13 +44,19 @@ pub fn node_id(alloc: Global, value: &Value) -> Result<NodeId, Flaw>
     }
 }
 
-/// A target.
-#[tactic(auto, unfolding(crate::specs::Json::text_of))]
-pub fn target(alloc: Global, value: &Value) -> Result<Target, Flaw>
-    ensures read { Reads (λ target. target) result (target_of (view value.now)) }
-    ensures memory { WantsOnly result (is_some (target_of (view value.now)) ≡ true) }
+/// The node's id at a key of an object.
+pub fn node_id_at(alloc: Global, object: &Value, key: &str) -> Result<NodeId, Flaw>
+    ensures { Reads (λ id. id) result (option_and_then node_id_of (get key.now (view object.now))) }
 {
-    let text = text(value)?;
+    node_id(alloc, member(object, key)?)
+}
+
+/// The target at a key of an object.
+#[tactic(auto, unfolding(crate::specs::Json::text_of))]
+pub fn target_at(alloc: Global, object: &Value, key: &str) -> Result<Target, Flaw>
+    ensures { Reads (λ target. target) result (option_and_then target_of (get key.now (view object.now))) }
+{
+    let text = text(member(object, key)?)?;
     match Target::try_new(alloc, text) {
         Ok(target) => Ok(target),
         Err(TextFault::NoMemory) => Err(Flaw::NoMemory),

@@ -1,5 +1,5 @@
 //! Values of JSON, read as numbers, texts and objects.
-ghost use Rattle.std.specs.Prelude.{◌≡◌, option_map, map};
+ghost use Rattle.std.specs.Prelude.{◌≡◌, option_and_then, option_map, map};
 ghost use Rattle.serde_json.specs.Find.{get, as_str, as_bool};
 ghost use Rattle.serde_json.specs.View.{view};
 ghost use Rattle.csi_json.specs.Json.{Reads, WantsOnly, number_of, list_of, only_member as sole, sized_object as object_of};
@@ -55,6 +55,14 @@ pub fn number(value: &Value) -> Result<u64, Flaw>
     value.as_u64().ok_or(Flaw::Bad)
 }
 
+/// The whole number at a key of an object.
+pub fn number_at(object: &Value, key: &str) -> Result<u64, Flaw>
+    ensures read { Reads (λ number. number) result (option_and_then number_of (get key.now (view object.now))) }
+    ensures memory { WantsOnly result ⊥ }
+{
+    number(member(object, key)?)
+}
+
 /// A text of any length.
 pub fn text(value: &Value) -> Result<&str, Flaw>
     ensures read { Reads (λ text. text.now) result (as_str (view value.now)) }
@@ -63,12 +71,12 @@ pub fn text(value: &Value) -> Result<&str, Flaw>
     value.as_str().ok_or(Flaw::Bad)
 }
 
-/// `true` or `false`.
-pub fn flag(value: &Value) -> Result<bool, Flaw>
-    ensures read { Reads (λ flag. flag) result (as_bool (view value.now)) }
+/// The `true` or `false` at a key of an object.
+pub fn flag_at(object: &Value, key: &str) -> Result<bool, Flaw>
+    ensures read { Reads (λ flag. flag) result (option_and_then as_bool (get key.now (view object.now))) }
     ensures memory { WantsOnly result ⊥ }
 {
-    value.as_bool().ok_or(Flaw::Bad)
+    member(object, key)?.as_bool().ok_or(Flaw::Bad)
 }
 
 /// The items of an array.
