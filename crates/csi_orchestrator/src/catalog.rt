@@ -167,7 +167,7 @@ impl Catalog {
                 return Err(OrchFault::NoMemory);
             }
         };
-        self.rows.insert(name, row)?;
+        drop(self.rows.insert(name, row)?);
         Ok(())
     }
 

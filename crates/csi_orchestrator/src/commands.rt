@@ -1,14 +1,17 @@
 //! What is asked of a volume, and what comes for it, is done at the row of its name.
-ghost use Rattle.std.specs.Prelude.{◌≡◌, ◌<◌, ℕ, List, map, position, slice_get, Option, Some, None, Ok, IfOk, IfErr, IsOk, OnErr};
+ghost use Rattle.std.specs.Prelude.{◌≡◌, ◌<◌, ℕ, List, map, position, slice_get, Option, Some, None, Ok, IfOk, IfErr, IsOk, OnOk, OnErr};
 ghost use Rattle.indexmap.specs.IndexMap.{index_map_len};
 ghost use Rattle.csi_types.specs.Frame.{Frame as FrameShown};
 ghost use Rattle.csi_types.specs.Same.{same_text};
 ghost use Rattle.csi_orchestrator.specs.Catalog.{rows_of, IsReady, AreUpTo, call_in, IsAfter};
+ghost use Rattle.csi_orchestrator.specs.Commands.{next_number};
 ghost use Rattle.csi_orchestrator.specs.CoreParts.{parts_of, IsFiled};
 ghost use Rattle.csi_orchestrator.specs.Hearing.{Fits};
 ghost use Rattle.csi_orchestrator.specs.Moves.{Input, ToCreate, Answer, Sends};
 ghost use Rattle.csi_orchestrator.specs.RowMoves.{frame_in, last_after, steps_at, creates, row_moves, asked_by, IsRefusal, RowsAnswer, IsMoveOf};
-ghost use Rattle.csi_orchestrator.specs.Shown.{RowShown, row_shown, row_of};
+ghost use Rattle.csi_orchestrator.specs.RowRefusals.{first_fault as first_refusal};
+ghost use Rattle.csi_orchestrator.specs.RowSteps.{outgoing_by, row_sends_due, row_unless};
+ghost use Rattle.csi_orchestrator.specs.Shown.{RowShown, due_in, row_shown, row_of};
 
 use crate::changes::new_row;
 use crate::decision::first_fault;
@@ -79,6 +82,18 @@ impl OrchestratorCore {
         }
     }
 
+    // The call to send for this new row, unless its create is refused.
+    fn first_outgoing(&self, row: &Row) -> Result<Option<Outgoing>, OrchFault>
+        ensures fits { OnOk result (first_refusal self.now.last (map row_shown (rows_of self.now.catalog)) ≡ None) }
+        ensures ok { IfOk result (λ next. outgoing_by (due_in (row_shown row.now)) (next_number self.now.last) ≡ Ok next) }
+        ensures err { IfErr result (IsRefusal (row_unless (first_refusal self.now.last (map row_shown (rows_of self.now.catalog))) (row_sends_due self.now.last (row_shown row.now)))) }
+    {
+        match first_fault(self.catalog.rows(), self.last) {
+            Some(fault) => Err(fault),
+            None => outgoing_for(self.last, &due_now(row)),
+        }
+    }
+
     // The first create of a name.
     fn create_first(&mut self, name: Name, arguments: Arguments) -> Result<Option<Frame>, OrchFault>
         requires new_name { position (λ row. same_text row.name name) (rows_of self.old.catalog) ≡ None }
@@ -88,12 +103,14 @@ impl OrchestratorCore {
         ensures stays { OnErr result (parts_of self.new ≡ parts_of self.old) }
         ensures filed { IsFiled self.new }
     {
-        if let Some(fault) = first_fault(self.catalog.rows(), self.last) {
-            drop((name, arguments));
-            return Err(fault);
-        }
         let mut row = new_row(self.alloc, name, arguments);
-        let next = outgoing_for(self.last, &due_now(&row))?;
+        let next = match self.first_outgoing(&row) {
+            Ok(next) => next,
+            Err(fault) => {
+                drop(row);
+                return Err(fault);
+            }
+        };
         note_sent_or_drop(&mut row, &next);
         let index = self.catalog.rows.len();
         match self.catalog.add(row) {

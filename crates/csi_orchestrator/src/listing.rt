@@ -1,5 +1,5 @@
 //! What an orchestrator knows, as a list of things.
-ghost use Rattle.std.specs.Prelude.{◌≡◌, ◌++◌, [], map, IfOk, IsOk, OnOk, IfErr};
+ghost use Rattle.std.specs.Prelude.{◌≡◌, ◌++◌, ◌∷◌, [], map, IfOk, IsOk, OnOk, IfErr};
 ghost use Rattle.std.specs.List.{flat_map};
 ghost use Rattle.csi_orchestrator.specs.declared.fault.OrchFault.{OrchFault as Fault};
 ghost use Rattle.csi_orchestrator.specs.Shown.{node_entry_shown, row_shown};
@@ -9,9 +9,18 @@ ghost use Rattle.csi_orchestrator.specs.Listing.{known_by_rows, ListsKnown, IsIn
 use crate::fault::OrchFault;
 use crate::row::{NodeEntry, Row, TargetEntry};
 use crate::sorting::put_in_order;
-use crate::thing::{Known, Thing};
+use crate::thing::{Known, Thing, attached, exists, published, staged};
 use csi_types::{Name, NodeId};
 use std::alloc::Global;
+
+// Adds a thing, with what is known of it.
+fn add_thing(things: &mut Vec<(Thing, Known)>, thing: Thing, known: Known) -> Result<(), OrchFault>
+    ensures ok { OnOk result (things.new.items ≡ things.old.items ++ (thing, known) ∷ []) }
+    ensures err { IfErr result (λ fault. fault ≡ Fault.NoMemory) }
+{
+    things.push((thing, known))?;
+    Ok(())
+}
 
 // Adds that the volume is made, where it may be. Where nothing is added, here and below, no memory is taken.
 fn add_exists(things: &mut Vec<(Thing, Known)>, row: &Row) -> Result<(), OrchFault>
@@ -20,8 +29,7 @@ fn add_exists(things: &mut Vec<(Thing, Known)>, row: &Row) -> Result<(), OrchFau
     ensures empty { noted (Thing.Exists row.now.name) row.now.exists ≡ [] → IsOk result }
 {
     if !row.exists.is_no() {
-        let name = row.name.clone()?;
-        things.push((Thing::Exists { name }, row.exists))?;
+        add_thing(things, exists(&row.name)?, row.exists)?;
     }
     Ok(())
 }
@@ -37,9 +45,7 @@ fn add_attached(
     ensures empty { noted (Thing.Attached name.now entry.now.node) entry.now.attached ≡ [] → IsOk result }
 {
     if !entry.attached.is_no() {
-        let name = name.clone()?;
-        let node = entry.node.clone()?;
-        things.push((Thing::Attached { name, node }, entry.attached))?;
+        add_thing(things, attached(name, &entry.node)?, entry.attached)?;
     }
     Ok(())
 }
@@ -55,9 +61,7 @@ fn add_staged(
     ensures empty { noted (Thing.Staged name.now entry.now.node) entry.now.staged ≡ [] → IsOk result }
 {
     if !entry.staged.is_no() {
-        let name = name.clone()?;
-        let node = entry.node.clone()?;
-        things.push((Thing::Staged { name, node }, entry.staged))?;
+        add_thing(things, staged(name, &entry.node)?, entry.staged)?;
     }
     Ok(())
 }
@@ -74,13 +78,8 @@ fn add_target(
     ensures empty { noted_of_target name.now node.now target_entry.now ≡ [] → IsOk result }
 {
     if !target_entry.published.is_no() {
-        let name = name.clone()?;
-        let node = node.clone()?;
-        let target = target_entry.target.clone()?;
-        things.push((
-            Thing::Published { name, node, target },
-            target_entry.published,
-        ))?;
+        let thing = published(name, node, &target_entry.target)?;
+        add_thing(things, thing, target_entry.published)?;
     }
     Ok(())
 }

@@ -1,12 +1,14 @@
 //! What an orchestrator does and undoes.
-ghost use Rattle.std.specs.Prelude.{◌≡◌};
+ghost use Rattle.std.specs.Prelude.{◌≡◌, IfOk};
+ghost use Rattle.csi_orchestrator.specs.declared.thing.Thing.TheVariants as things;
 ghost use Rattle.csi_orchestrator.specs.Thing.{name_in, is_yes, is_no};
 
 use csi_types::{Name, NodeId, Target};
+use std::alloc::AllocError;
 
 /// A state of a volume that a call brings about and another call ends (CSI's spec.md, "Volume
 /// Lifecycle"), by the name that the orchestrator gave the volume.
-#[derive(Clone, Debug, PartialEq, Eq, Drop)]
+#[derive(Debug, PartialEq, Eq, Drop)]
 pub enum Thing {
     /// The volume is made: CREATED.
     Exists {
@@ -69,4 +71,53 @@ impl Thing {
             Thing::Published { name, .. } => name,
         }
     }
+}
+
+impl Clone for Thing {
+    ghost is_clone = { λ thing copy. copy ≡ thing };
+
+    fn clone(&self) -> Result<Thing, AllocError> {
+        match self {
+            Thing::Exists { name } => exists(name),
+            Thing::Attached { name, node } => attached(name, node),
+            Thing::Staged { name, node } => staged(name, node),
+            Thing::Published { name, node, target } => published(name, node, target),
+        }
+    }
+}
+
+/// That the volume is made.
+pub(crate) fn exists(name: &Name) -> Result<Thing, AllocError>
+    ensures { IfOk result (λ thing. thing ≡ things.Exists name.now) }
+{
+    let name = name.clone()?;
+    Ok(Thing::Exists { name })
+}
+
+/// That it is attached to the node.
+pub(crate) fn attached(name: &Name, node: &NodeId) -> Result<Thing, AllocError>
+    ensures { IfOk result (λ thing. thing ≡ things.Attached name.now node.now) }
+{
+    let name = name.clone()?;
+    let node = node.clone()?;
+    Ok(Thing::Attached { name, node })
+}
+
+/// That it is staged there.
+pub(crate) fn staged(name: &Name, node: &NodeId) -> Result<Thing, AllocError>
+    ensures { IfOk result (λ thing. thing ≡ things.Staged name.now node.now) }
+{
+    let name = name.clone()?;
+    let node = node.clone()?;
+    Ok(Thing::Staged { name, node })
+}
+
+/// That it is published at the target there.
+pub(crate) fn published(name: &Name, node: &NodeId, target: &Target) -> Result<Thing, AllocError>
+    ensures { IfOk result (λ thing. thing ≡ things.Published name.now node.now target.now) }
+{
+    let name = name.clone()?;
+    let node = node.clone()?;
+    let target = target.clone()?;
+    Ok(Thing::Published { name, node, target })
 }

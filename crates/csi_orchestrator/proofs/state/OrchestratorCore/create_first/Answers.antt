@@ -1,6 +1,6 @@
 -- The new row comes last.
 use Rattle.std.proofs.Common.{◌≡◌, ℕ, List, length, map, sym, ◌∙◌, ap, subst}
-use Rattle.std.specs.Prelude.{Option, Ok, option_map}
+use Rattle.std.specs.Prelude.{Option, Ok}
 use Rattle.std.proofs.lemmas.List.{length-map}
 use Rattle.csi_types.specs.declared.number.Number.{Number}
 use Rattle.csi_orchestrator.specs.declared.row.Row.{Row}
@@ -9,10 +9,7 @@ use Rattle.csi_orchestrator.specs.Catalog.{rows_of, IsReady, call_in}
 use Rattle.csi_orchestrator.specs.Commands.{next_number}
 use Rattle.csi_orchestrator.specs.CoreParts.{parts_of}
 use Rattle.csi_orchestrator.specs.RowSteps.{MovedRow, outgoing_by, sent_or_dropped, row_after, row_sends_due}
-use Rattle.csi_orchestrator.specs.Due.{Due}
-use Rattle.csi_orchestrator.specs.Found.{due_shown}
 use Rattle.csi_orchestrator.specs.RowChanges.{new_row}
-use Rattle.csi_orchestrator.specs.RowRefusals.{first_fault}
 use Rattle.csi_orchestrator.specs.RowMoves.{last_after}
 use Rattle.csi_orchestrator.specs.Shown.{RowShown, Parts, row_shown, due_in}
 use Rattle.csi_orchestrator.proofs.RowsByName.{first-told}
@@ -20,35 +17,34 @@ use Rattle.csi_orchestrator.proofs.OpenCalls.{next-created}
 use Rattle.csi_orchestrator.proofs.state.OrchestratorCore.create_first.Goals as goal
 
 -- the row's due call is sent, by what is found of the one that was made
-sends-due : (last : Number) (row made sent : RowShown) (due : Option Due) (next : Option Outgoing) → made ≡ row → due ≡ due_in made → outgoing_by due (next_number last) ≡ Ok next
+sends-due : (last : Number) (row made sent : RowShown) (next : Option Outgoing) → made ≡ row → outgoing_by (due_in made) (next_number last) ≡ Ok next
     → sent ≡ sent_or_dropped next made
     → row_sends_due last row ≡ Ok (record { outgoing = next; row = sent })
-sends-due last row made sent due next same is found then =
-    ap (row_after row) (ap (λ d. outgoing_by d (next_number last)) (ap due_in (sym same) ∙ sym is) ∙ found)
+sends-due last row made sent next same found then =
+    ap (row_after row) (ap (λ d. outgoing_by d (next_number last)) (ap due_in (sym same)) ∙ found)
     ∙ ap (λ r. let moved_row : MovedRow = record { outgoing = next; row = r } in Ok moved_row) (ap (sent_or_dropped next) (sym same) ∙ sym then)
 
 pub issue-requires-clause-ready : goal.issue-requires-clause-ready
 issue-requires-clause-ready c =
     let core = c.args.self.now in
-    let next = c.in_ok-next.next in
+    let next = c.in-Ok.next in
     let sent = c.note_sent_or_drop.new.row in
-    let on = sends-due core.last (new_row c.args.name c.args.arguments) (row_shown c.new_row-row.result) (row_shown sent) (option_map due_shown c.due_now.result) next
-    c.new_row-row.ensures c.due_now.ensures c.in_ok-next.ensures.ok c.note_sent_or_drop.ensures in
+    let on = sends-due core.last (new_row c.args.name c.args.arguments) (row_shown c.new_row-row.result) (row_shown sent) next
+    c.new_row-row.ensures c.in-Ok.ensures.ok c.note_sent_or_drop.ensures in
     let long : length (rows_of core.catalog) ≡ c.len-index.result = length-map core.catalog.rows.entries (λ (e : List ℕ × Row). e.1) ∙ sym c.len-index.ensures.len in
     subst (λ (n : ℕ). IsReady c.add.new.self n (call_in next)) long
-    (c.in-Ok.ensures.ready (call_in next) (next-created core.catalog core.last c.args.name c.args.arguments sent next c.requires.filed.known on).0)
+    (c.in-Ok-add.ensures.ready (call_in next) (next-created core.catalog core.last c.args.name c.args.arguments sent next c.requires.filed.known on).0)
 
-pub returns-in-Ok-clause-ok : goal.returns-in-Ok-clause-ok
-returns-in-Ok-clause-ok c =
+pub returns-in-Ok-add-clause-ok : goal.returns-in-Ok-add-clause-ok
+returns-in-Ok-add-clause-ok c =
     let core = c.args.self.now in
-    let next = c.in_ok-next.next in
+    let next = c.in-Ok.next in
     let sent = c.note_sent_or_drop.new.row in
-    let on = sends-due core.last (new_row c.args.name c.args.arguments) (row_shown c.new_row-row.result) (row_shown sent) (option_map due_shown c.due_now.result) next
-    c.new_row-row.ensures c.due_now.ensures c.in_ok-next.ensures.ok c.note_sent_or_drop.ensures in
+    let on = sends-due core.last (new_row c.args.name c.args.arguments) (row_shown c.new_row-row.result) (row_shown sent) next
+    c.new_row-row.ensures c.in-Ok.ensures.ok c.note_sent_or_drop.ensures in
     let made = next-created core.catalog core.last c.args.name c.args.arguments sent next c.requires.filed.known on in
-    let fits = ap (λ (rows : List Row). first_fault core.last (map row_shown rows)) (sym c.rows.ensures) ∙ sym c.first_fault.ensures ∙ c.in_default.is in
     first-told core.nodes.items core.last (rows_of core.catalog) c.args.name c.args.arguments sent next c.issue.result (parts_of c.issue.new.self)
-    c.requires.new_name fits on made.1 c.issue.ensures.frame
+    c.requires.new_name c.in-Ok.ensures.fits on made.1 c.issue.ensures.frame
     (c.issue.ensures.parts
     ∙ ap (λ (rows : List Row). let parts : Parts = record { nodes = core.nodes.items; last = last_after core.last next; rows = map row_shown rows } in parts)
-    c.in-Ok.ensures.added)
+    c.in-Ok-add.ensures.added)
