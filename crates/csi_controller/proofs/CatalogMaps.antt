@@ -1,16 +1,15 @@
 -- The two maps of a catalog, kept in the order of its rows: what a look-up finds, and what stays after a change.
 use Rattle.std.proofs.Common.{◌≡◌, ◌<◌, ◌+◌, ℕ, zero, suc, Bool, true, false, cond, not, List, [], ◌∷◌, ◌++◌, length, get_or, map, set, refl, sym, ◌∙◌, ap, arith, Global}
-use Rattle.std.specs.Prelude.{Option, Some, None, IsSome, IfSome, IsOk, OnOk, Result, option_map, find, position, slice_get, nat_lt, nat_eq, ◌==◌, String}
+use Rattle.std.specs.Prelude.{Option, Some, None, IfSome, IsOk, OnOk, Result, option_map, find, position, slice_get, nat_lt, nat_eq, ◌==◌, String}
 use Rattle.std.specs.Cmp.Lexicographic.{pointwise}
 use Rattle.std.specs.String.{string_bytes, string_eq}
 use Rattle.std.specs.declared.result.Result.TheVariants as results
-use Rattle.std.specs.Option.{option_to_list}
 use Rattle.std.specs.List.{position_or_len}
 use Rattle.std.specs.Map.{keys_of, values_of, lookup}
 use Rattle.std.proofs.Math.Seq.{map-set_same}
 use Rattle.std.proofs.lemmas.Bool.{false≢true}
 use Rattle.std.proofs.lemmas.Bool.Decides.{nat_tests}
-use Rattle.std.proofs.lemmas.List.{length-map, map_push, same_from_push, length_push}
+use Rattle.std.proofs.lemmas.List.{length-map, map_push}
 use Rattle.std.proofs.lemmas.Option.{get_or_from_slice_get}
 use Rattle.indexmap.proofs.CallerLemmas.{insert_entry-new, index_map_len-with_value_at}
 use Rattle.indexmap.specs.IndexMap.{IndexMap, values, with_value_at, insert_entry}
@@ -131,11 +130,6 @@ pub rows-within : {S : Type 0} (map_ : IndexMap ℕ ControllerRow S) (i : ℕ) �
 rows-within map_ i inside = let long = length-map map_.entries (λ (e : ℕ × ControllerRow). e.1) in omega (arith, long, inside)
 
 -- ---- one more
-
--- what was put last is taken out again
-pub popped : {X : Type 0} (was old new : List X) (x : X) (out : Option X) → was ≡ old ++ x ∷ [] → was ≡ new ++ option_to_list out → (0 < length was → IsSome out) → new ≡ old
-popped was old new x (Some y) put taken some = sym (same_from_push old new x y (sym put ∙ taken)).0
-popped was old new x None put taken some = absurd (false≢true (some (let long = length_push old x in let same = ap length put in omega (arith, long, same))))
 
 -- what follows from a success, where there is one
 pub of-ok : {T E P : Type 0} (r : Result T E) → IsOk r → OnOk r P → P

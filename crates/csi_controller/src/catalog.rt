@@ -1,11 +1,11 @@
 //! A controller's rows by id and by name. No look-up walks them.
-ghost use Rattle.std.specs.Prelude.{◌≡◌, ◌==◌, ◌++◌, ◌∷◌, [], None, Some, length, map, filter, find, position, option_map, OnOk, OnErr, IfOk, IfSome, ◌<◌};
+ghost use Rattle.std.specs.Prelude.{◌≡◌, ◌==◌, ◌++◌, ◌∷◌, [], List, None, Some, length, map, filter, find, position, option_map, OnOk, OnErr, IfOk, IfSome, ◌<◌};
 ghost use Rattle.std.specs.Option.{option_copied};
 ghost use Rattle.std.specs.String.{string_bytes};
 ghost use Rattle.indexmap.specs.IndexMap.{index_map_len, values};
 ghost use Rattle.csi_types.specs.Same.{same_text};
 ghost use Rattle.csi_controller.specs.Catalog.{rows_of, by_id, is_kept, IsIndexed, HasRoom, AreSameEntries};
-ghost use Rattle.csi_controller.specs.Core.{IsSound, IsRising};
+ghost use Rattle.csi_controller.specs.Core.{IsSound, IsSameRow, IsRising};
 ghost use Rattle.csi_controller.specs.WithoutSession.{stays_in};
 ghost use Rattle.csi_controller.specs.Views.{AreSameRows};
 
@@ -188,14 +188,14 @@ impl Catalog {
         ensures err { OnErr result (rows_of self.new ≡ rows_of self.old) }
         ensures indexed { IsIndexed self.new }
     {
-        let id = row.id;
-        let name = text_of(alloc, &row.name)?;
-        self.ids.insert(name, id)?;
-        match self.rows.insert(id, row) {
-            Ok(_) => Ok(()),
-            Err(_) => {
-                self.ids.pop();
-                Err(CoreFault::NoMemory)
+        match self.make_room(alloc, &row.name) {
+            Ok(text) => {
+                self.put(text, row);
+                Ok(())
+            }
+            Err(fault) => {
+                drop(row);
+                Err(fault)
             }
         }
     }
@@ -214,6 +214,18 @@ impl Catalog {
         self.rows.retain(|_id, row| stays(row, session));
     }
 
+    // Adds a copy of a row, the last one. A refusal changes nothing.
+    fn add_copy(&mut self, alloc: Global, row: &ControllerRow) -> Result<(), CoreFault>
+        requires indexed { IsIndexed self.old }
+        requires new_id { (copy : ControllerRow) → IsSameRow row.now copy → find (λ other. other.id == copy.id) (rows_of self.old) ≡ None }
+        requires new_name { (copy : ControllerRow) → IsSameRow row.now copy → find (λ other. same_text other.name copy.name) (rows_of self.old) ≡ None }
+        ensures added { (rows : List ControllerRow) → AreSameRows rows (rows_of self.old) → OnOk result (AreSameRows (rows ++ row.now ∷ []) (rows_of self.new)) }
+        ensures indexed { IsIndexed self.new }
+    {
+        let copy = copied_row(row)?;
+        self.add(alloc, copy)
+    }
+
     /// The same rows again.
     pub fn copied(&self, alloc: Global, next_id: u64) -> Result<Catalog, CoreFault>
         requires { IsSound next_id (rows_of self.now) }
@@ -222,7 +234,7 @@ impl Catalog {
     {
         let mut copies = Catalog::new(alloc);
         for row in self.rows() {
-            copies.add(alloc, copied_row(row)?)?;
+            copies.add_copy(alloc, row)?;
         }
         Ok(copies)
     }

@@ -6,26 +6,26 @@ use Rattle.csi_lists.specs.Places.{IsAt}
 use Rattle.csi_controller.specs.declared.row.ControllerRow.{ControllerRow}
 use Rattle.csi_controller.specs.Catalog.{rows_of}
 use Rattle.csi_controller.specs.Views.{AreSameRows}
-use Rattle.csi_controller.proofs.Copies.{AreSameRows-append, copied_id-before, copied_name-before}
+use Rattle.csi_controller.proofs.Copies.{copied_id-before, copied_name-before}
 use Rattle.csi_controller.proofs.catalog.Catalog.copied.Goals as goal
 
-pub add-requires-clause-new_id : goal.add-requires-clause-new_id
-add-requires-clause-new_id c =
+pub add_copy-requires-clause-new_id : goal.add_copy-requires-clause-new_id
+add_copy-requires-clause-new_id c copy same =
     let rows = rows_of c.args.self.now in
     let row = c.row-item.result in
     let inside : c.loop-row.row-index < length rows = omega (arith, ap length c.rows-row-items.ensures) in
     let is : row ≡ get_or rows c.loop-row.row-index row = c.row-item.is ∙ ap (λ (xs : List ControllerRow). get_or xs c.loop-row.row-index row) c.rows-row-items.ensures in
     let at : IsAt rows c.loop-row.row-index row = subst (IsAt rows c.loop-row.row-index) (sym is) (at-index rows c.loop-row.row-index row inside) in
-    copied_id-before c.args.next_id rows (rows_of c.loop-row.copies) c.loop-row.row-index row c.in_ok-copied_row.field-0 c.requires at c.loop-row.invariant.0 c.in_ok-copied_row.ensures
+    copied_id-before c.args.next_id rows (rows_of c.loop-row.copies) c.loop-row.row-index row copy c.requires at c.loop-row.invariant.0 same
 
-pub add-requires-clause-new_name : goal.add-requires-clause-new_name
-add-requires-clause-new_name c =
+pub add_copy-requires-clause-new_name : goal.add_copy-requires-clause-new_name
+add_copy-requires-clause-new_name c copy same =
     let rows = rows_of c.args.self.now in
     let row = c.row-item.result in
     let inside : c.loop-row.row-index < length rows = omega (arith, ap length c.rows-row-items.ensures) in
     let is : row ≡ get_or rows c.loop-row.row-index row = c.row-item.is ∙ ap (λ (xs : List ControllerRow). get_or xs c.loop-row.row-index row) c.rows-row-items.ensures in
     let at : IsAt rows c.loop-row.row-index row = subst (IsAt rows c.loop-row.row-index) (sym is) (at-index rows c.loop-row.row-index row inside) in
-    copied_name-before c.args.next_id rows (rows_of c.loop-row.copies) c.loop-row.row-index row c.in_ok-copied_row.field-0 c.requires at c.loop-row.invariant.0 c.in_ok-copied_row.ensures
+    copied_name-before c.args.next_id rows (rows_of c.loop-row.copies) c.loop-row.row-index row copy c.requires at c.loop-row.invariant.0 same
 
 pub loop-row-preserved : goal.loop-row-preserved
 loop-row-preserved c =
@@ -35,8 +35,7 @@ loop-row-preserved c =
     let is : row ≡ get_or rows c.loop-row.row-index row = c.row-item.is ∙ ap (λ (xs : List ControllerRow). get_or xs c.loop-row.row-index row) c.rows-row-items.ensures in
     let more : take (c.loop-row.row-index + 1) rows ≡ take c.loop-row.row-index rows ++ row ∷ []
     = take_more rows c.loop-row.row-index row inside ∙ ap (λ (x : ControllerRow). take c.loop-row.row-index rows ++ x ∷ []) (sym is) in (
-      subst (λ (xs : List ControllerRow). AreSameRows xs (rows_of c.add.new.self)) (sym more)
-          (subst (λ (xs : List ControllerRow). AreSameRows (take c.loop-row.row-index rows ++ row ∷ []) xs) (sym c.in_ok-add.ensures.added)
-          (AreSameRows-append (take c.loop-row.row-index rows) (rows_of c.loop-row.copies) row c.in_ok-copied_row.field-0 c.loop-row.invariant.0 c.in_ok-copied_row.ensures)),
-      c.add.ensures.indexed,
+      subst (λ (xs : List ControllerRow). AreSameRows xs (rows_of c.add_copy.new.self)) (sym more)
+          (c.in_ok-add_copy.ensures.added (take c.loop-row.row-index rows) c.loop-row.invariant.0),
+      c.add_copy.ensures.indexed,
     )
