@@ -1,6 +1,7 @@
 -- The words of the command line, over what `clap` reads of them. This profile's own.
-use Rattle.std.specs.Prelude.{ℕ, List, Option, None, option_map, option_and_then, codes, bytes_eq, if◌then◌else◌, true}
-use Rattle.clap.specs.Words.{App, Row, first_of, new_app, new_rule, subcommand_of, with_rule, with_subcommand}
+use Rattle.std.specs.Prelude.{◌≡◌, ℕ, List, [], ◌∷◌, Option, None, option_map, option_and_then, codes, bytes_eq, if◌then◌else◌, true}
+use Rattle.clap.specs.Words.{AddsSubcommand, App, Row, Shape, app_of, first_of, new_app, new_rule, subcommand_of, with_rule, with_subcommand}
+use Rattle.clap.specs.declared.builder.command.Command.{Command}
 use Rattle.clap.specs.declared.error.kind.ErrorKind.{ErrorKind}
 use Rattle.clap.specs.declared.error.kind.ErrorKind.TheVariants.{OutOfMemory}
 use Rattle.csi_endings.specs.declared.command.FileCommand.{FileCommand}
@@ -29,6 +30,10 @@ named_by (lines.Record store) = Record store.now
 abbrev pub with_word : App → List ℕ → App
 with_word app id = with_rule app (record (new_rule id) { required = true })
 
+-- where this command is added, the program has it so
+abbrev pub IsAddedAs : Shape → Command → Type 0
+IsAddedAs shape command = (old new : Command) → AddsSubcommand old command new → app_of new ≡ with_subcommand (app_of old) shape
+
 -- a command of this name, with one word more, which is called so
 abbrev pub with_one_word : App → List ℕ → List ℕ → App
 with_one_word app name word = with_subcommand app (with_word (new_app name) word).top
@@ -36,6 +41,11 @@ with_one_word app name word = with_subcommand app (with_word (new_app name) word
 -- a command on a file
 abbrev pub with_file_command : App → List ℕ → App
 with_file_command app name = with_one_word app name (codes "FILE")
+
+-- a command on a file for each of these names
+unfoldable pub with_file_commands : App → List (List ℕ) → App
+with_file_commands app [] = app
+with_file_commands app (name ∷ names) = with_file_commands (with_file_command app name) names
 
 -- a command of this name, with two words more, of which the second is called so
 abbrev pub with_store_command : App → List ℕ → List ℕ → App

@@ -1,8 +1,8 @@
 //! The words of the command line.
-ghost use Rattle.std.specs.Prelude.{◌≡◌, IfOk, IfErr, map, option_map, is_some, string_bytes, true};
-ghost use Rattle.clap.specs.Words.{app_of, first_of, found_of, kind_of, rows_of, subcommand_of, subcommand_rows_of, takes};
+ghost use Rattle.std.specs.Prelude.{◌≡◌, IfOk, IfErr, map, option_map, is_some, string_bytes, codes, true};
+ghost use Rattle.clap.specs.Words.{Shape, app_of, first_of, found_of, kind_of, new_app, rows_of, subcommand_of, subcommand_rows_of, takes, with_subcommand};
 ghost use Rattle.clap.specs.declared.error.kind.ErrorKind.TheVariants.{OutOfMemory};
-ghost use Rattle.csi_words.specs.Words.{command_entered, command_in as named_in, controller_in, node_in, record_in, on_file_in, ending_of as ending_by, named_by, on_files, read, EndsWords, program as all_words, with_one_word as with_one_more, with_store_command as with_two_more};
+ghost use Rattle.csi_words.specs.Words.{command_entered, IsAddedAs, command_in as named_in, controller_in, node_in, record_in, on_file_in, ending_of as ending_by, named_by, read, EndsWords, program as all_words, with_word, with_file_commands as with_files};
 
 use clap::error::ErrorKind;
 use clap::{Arg, ArgMatches, Command, Error};
@@ -22,46 +22,72 @@ pub enum CommandLine<'a> {
     Record(&'a str),
 }
 
-// The program with one command more, which takes one word.
-fn with_one_word<'a>(
+// A command of this name, which takes one word.
+fn one_word_command<'a>(
     alloc: Global,
-    program: Command<'a>,
     name: &'a str,
     word: &'a str,
 ) -> Result<Command<'a>, AllocError>
-    ensures { IfOk result (λ command. app_of command ≡ with_one_more (app_of program.entry) name.entry.now word.entry.now) }
+    ensures { IfOk result (IsAddedAs (with_word (new_app name.entry.now) word.entry.now).top) }
 {
     let only = Arg::new(alloc, word).required(true);
-    let command = Command::new(alloc, name).arg(only)?;
-    program.subcommand(command)
+    Command::new(alloc, name).arg(only)
 }
 
-// The program with one command more, which serves a plugin: its store, and another word.
-fn with_store_command<'a>(
+// A command of this name, which serves a plugin: its store, and another word.
+fn store_command<'a>(
     alloc: Global,
-    program: Command<'a>,
     name: &'a str,
     second: &'a str,
 ) -> Result<Command<'a>, AllocError>
-    ensures { IfOk result (λ command. app_of command ≡ with_two_more (app_of program.entry) name.entry.now second.entry.now) }
+    ensures { IfOk result (IsAddedAs (with_word (with_word (new_app name.entry.now) (codes "DB")) second.entry.now).top) }
 {
     let store = Arg::new(alloc, "DB").required(true);
+    let command = Command::new(alloc, name).arg(store)?;
     let other = Arg::new(alloc, second).required(true);
-    let one = Command::new(alloc, name).arg(store)?;
-    let command = one.arg(other)?;
-    program.subcommand(command)
+    command.arg(other)
 }
 
-// The program with its commands on a file.
-fn with_file_commands<'a>(alloc: Global) -> Result<Command<'a>, AllocError>
-    ensures { IfOk result (λ command. app_of command ≡ on_files) }
+// The program with this command more, if there was memory to make it.
+fn with_command<'a>(
+    program: Command<'a>,
+    command: Result<Command<'a>, AllocError>,
+) -> Result<Command<'a>, AllocError>
+    ensures { (shape : Shape) → IfOk command.entry (IsAddedAs shape) → IfOk result (λ all. app_of all ≡ with_subcommand (app_of program.entry) shape) }
+{
+    match command {
+        Ok(command) => program.subcommand(command),
+        Err(error) => {
+            drop(program);
+            Err(error)
+        }
+    }
+}
+
+// The program with a command on a file for each of these names.
+fn with_file_commands<'a>(
+    alloc: Global,
+    mut program: Command<'a>,
+    names: &[&'a str],
+) -> Result<Command<'a>, AllocError>
+    ensures { IfOk result (λ command. app_of command ≡ with_files (app_of program.entry) (map (λ name. name.now) names.entry.now)) }
+{
+    for name in names {
+        program = with_command(program, one_word_command(alloc, name, "FILE"))?;
+    }
+    Ok(program)
+}
+
+// The program with all its commands.
+fn with_all_commands<'a>(alloc: Global) -> Result<Command<'a>, AllocError>
+    ensures { IfOk result (λ command. app_of command ≡ all_words) }
 {
     let bare = Command::new(alloc, "csi-replay").subcommand_required(true);
-    let one = with_one_word(alloc, bare, "answer", "FILE")?;
-    let two = with_one_word(alloc, one, "show", "FILE")?;
-    let three = with_one_word(alloc, two, "run", "FILE")?;
-    let four = with_one_word(alloc, three, "frames", "FILE")?;
-    with_one_word(alloc, four, "draw", "FILE")
+    let names = ["answer", "show", "run", "frames", "draw"];
+    let three = with_file_commands(alloc, bare, &names)?;
+    let four = with_command(three, store_command(alloc, "controller", "CONFIG"))?;
+    let five = with_command(four, store_command(alloc, "node", "ID"))?;
+    with_command(five, one_word_command(alloc, "record", "DB"))
 }
 
 // What the words mean to `clap`.
@@ -69,10 +95,7 @@ fn matches_of<'a>(alloc: Global, words: &'a [String]) -> Result<ArgMatches<'a>, 
     ensures read { IfOk result (λ matches. subcommand_rows_of matches ≡ subcommand_of all_words (map string_bytes words.entry.now)) }
     ensures refused { IfErr result (λ error. takes all_words (map string_bytes words.entry.now) ≡ true → kind_of error ≡ OutOfMemory) }
 {
-    let three = with_file_commands(alloc)?;
-    let four = with_store_command(alloc, three, "controller", "CONFIG")?;
-    let five = with_store_command(alloc, four, "node", "ID")?;
-    let program = with_one_word(alloc, five, "record", "DB")?;
+    let program = with_all_commands(alloc)?;
     program.try_get_matches_from(words)
 }
 
