@@ -1,6 +1,6 @@
 -- A core after a CreateVolume of a name that no volume has, in the present session and where it begins one.
 use Rattle.std.proofs.Common.{◌≡◌, ◌<◌, ℕ, List, [], ◌∷◌, ◌++◌, length, refl, sym, ◌∙◌, ap, subst}
-use Rattle.std.specs.Prelude.{Some, None, find, ◌==◌, IsTrue}
+use Rattle.std.specs.Prelude.{Option, Some, None, find, ◌==◌, IsTrue}
 use Rattle.csi_lists.proofs.Each.{each-append_one}
 use Rattle.csi_lists.proofs.Searches.{find-none_in_filter}
 use Rattle.csi_types.specs.declared.capability.Capability.{Capability}
@@ -22,12 +22,12 @@ use Rattle.csi_controller.specs.CoreAnswers.{IsAnswered}
 use Rattle.csi_controller.specs.CoreParts.{parts_of, IsSoundCore}
 use Rattle.csi_controller.specs.Counts.{AreCounted}
 use Rattle.csi_controller.specs.Fenced.{begun, fenced_call, kept_for}
-use Rattle.csi_controller.specs.Making.{IsMade, made_answer, new_line}
+use Rattle.csi_controller.specs.Making.{IsMade, made_answer, made_line, new_line}
 use Rattle.csi_controller.specs.RowTable.{argument_fault}
 use Rattle.csi_controller.specs.RowsLaw.{Changes, row_by_id}
 use Rattle.csi_controller.specs.State.{Volume}
 use Rattle.csi_controller.specs.Step.{Answers, answer_frame}
-use Rattle.csi_controller.specs.Table.{Makes, Stays}
+use Rattle.csi_controller.specs.Table.{Outcome, Makes, Stays}
 use Rattle.csi_controller.proofs.ChangesTold.{row-made, session-first, session-now, staying-first, staying-now}
 use Rattle.csi_controller.proofs.CoreAnswered.{same-answered}
 use Rattle.csi_controller.proofs.CoreBegun.{begun-only, current-begun, shown-begun, sound-live, told-begun}
@@ -126,7 +126,7 @@ made-first old new number id name required limit capacity wished kept later none
 -- ---- no volume is made
 
 -- what is wrong with the arguments, in the present session
-pub fault-now : (core : ControllerCore) (number : Number) (name : List ℕ) (required limit : ℕ) (wished : List Capability) (reply : Reply) → IsSoundCore core → number.session ≡ core.session
+fault-now : (core : ControllerCore) (number : Number) (name : List ℕ) (required limit : ℕ) (wished : List Capability) (reply : Reply) → IsSoundCore core → number.session ≡ core.session
     → find (λ (r : ControllerRow). same_text r.name name) (rows_of core.catalog) ≡ None → argument_fault required limit wished ≡ Some reply → IsTrue (has_id_by_rule kinds.CreateVolume reply)
     → IsAnswered core core number (CreateVolume name required limit wished) (unmade reply)
 fault-now core number name required limit wished reply kept present none fault rule =
@@ -134,7 +134,7 @@ fault-now core number name required limit wished reply kept present none fault r
     (λ state shown. fault-answers core.config core.next_id core.session (rows_of core.catalog) state number name required limit wished (answer_frame number (unmade reply)) reply shown none fault refl)
 
 -- and where the call begins a session
-pub fault-first : (core after : ControllerCore) (number : Number) (name : List ℕ) (required limit : ℕ) (wished : List Capability) (reply : Reply) → IsSoundCore core → core.session < number.session
+fault-first : (core after : ControllerCore) (number : Number) (name : List ℕ) (required limit : ℕ) (wished : List Capability) (reply : Reply) → IsSoundCore core → core.session < number.session
     → find (λ (r : ControllerRow). same_text r.name name) (live_rows (rows_of core.catalog)) ≡ None → argument_fault required limit wished ≡ Some reply → IsTrue (has_id_by_rule kinds.CreateVolume reply)
     → HasForgotten number.session core after → IsAnswered core after number (CreateVolume name required limit wished) (unmade reply)
 fault-first core after number name required limit wished reply kept later none fault rule forgotten =
@@ -142,7 +142,7 @@ fault-first core after number name required limit wished reply kept later none f
     (λ state shown. fault-answers core.config core.next_id number.session (live_rows (rows_of core.catalog)) state number name required limit wished (answer_frame number (unmade reply)) reply shown none fault refl)
 
 -- there is no room for it, in the present session
-pub refused-now : (core : ControllerCore) (number : Number) (name : List ℕ) (required limit : ℕ) (wished : List Capability) (reply : Reply) → IsSoundCore core → number.session ≡ core.session
+refused-now : (core : ControllerCore) (number : Number) (name : List ℕ) (required limit : ℕ) (wished : List Capability) (reply : Reply) → IsSoundCore core → number.session ≡ core.session
     → find (λ (r : ControllerRow). same_text r.name name) (rows_of core.catalog) ≡ None → argument_fault required limit wished ≡ None
     → new_line core.config.greatest (length (rows_of core.catalog)) (next_shown core.next_id) name required limit wished ≡ record { reply = reply; change = Stays }
     → IsTrue (has_id_by_rule kinds.CreateVolume reply) → IsAnswered core core number (CreateVolume name required limit wished) (unmade reply)
@@ -151,10 +151,45 @@ refused-now core number name required limit wished reply kept present none good 
     (λ state shown. refused-answers core.config core.next_id core.session (rows_of core.catalog) state number name required limit wished (answer_frame number (unmade reply)) reply shown none good line refl)
 
 -- and where the call begins a session
-pub refused-first : (core after : ControllerCore) (number : Number) (name : List ℕ) (required limit : ℕ) (wished : List Capability) (reply : Reply) → IsSoundCore core → core.session < number.session
+refused-first : (core after : ControllerCore) (number : Number) (name : List ℕ) (required limit : ℕ) (wished : List Capability) (reply : Reply) → IsSoundCore core → core.session < number.session
     → find (λ (r : ControllerRow). same_text r.name name) (live_rows (rows_of core.catalog)) ≡ None → argument_fault required limit wished ≡ None
     → new_line core.config.greatest (length (live_rows (rows_of core.catalog))) (next_shown core.next_id) name required limit wished ≡ record { reply = reply; change = Stays }
     → IsTrue (has_id_by_rule kinds.CreateVolume reply) → HasForgotten number.session core after → IsAnswered core after number (CreateVolume name required limit wished) (unmade reply)
 refused-first core after number name required limit wished reply kept later none good line rule forgotten =
     begun-only core after number (CreateVolume name required limit wished) (unmade reply) kept later forgotten refl (refl, rule)
     (λ state shown. refused-answers core.config core.next_id number.session (live_rows (rows_of core.catalog)) state number name required limit wished (answer_frame number (unmade reply)) reply shown none good line refl)
+
+-- where a volume is made nothing is wrong with the arguments
+pub good-where_made : (fault : Option Reply) (new : Outcome) (reply : Reply) (name : List ℕ) (capacity : ℕ) (wished : List Capability) → made_line fault new ≡ record { reply = reply; change = Makes name capacity wished }
+    → (fault ≡ None) × (new ≡ record { reply = reply; change = Makes name capacity wished })
+good-where_made None new reply name capacity wished line = (refl, line)
+good-where_made (Some own) new reply name capacity wished line = absurd (stays_or_makes (ap (λ (o : Outcome). o.change) line))
+  where
+    stays_or_makes : Stays ≡ Makes name capacity wished → ⊥
+    stays_or_makes h = cc
+
+-- either way no volume is made, in the present session
+pub unmade-now : (core : ControllerCore) (number : Number) (name : List ℕ) (required limit : ℕ) (wished : List Capability) (reply : Reply) → IsSoundCore core → number.session ≡ core.session
+    → find (λ (r : ControllerRow). same_text r.name name) (rows_of core.catalog) ≡ None
+    → made_line (argument_fault required limit wished) (new_line core.config.greatest (length (rows_of core.catalog)) (next_shown core.next_id) name required limit wished) ≡ record { reply = reply; change = Stays }
+    → IsTrue (has_id_by_rule kinds.CreateVolume reply) → IsAnswered core core number (CreateVolume name required limit wished) (unmade reply)
+unmade-now core number name required limit wished reply kept present none line rule = by (argument_fault required limit wished) refl line
+  where
+    by : (fault : Option Reply) → argument_fault required limit wished ≡ fault
+        → made_line fault (new_line core.config.greatest (length (rows_of core.catalog)) (next_shown core.next_id) name required limit wished) ≡ record { reply = reply; change = Stays }
+        → IsAnswered core core number (CreateVolume name required limit wished) (unmade reply)
+    by None good line = refused-now core number name required limit wished reply kept present none good line rule
+    by (Some own) fault line = fault-now core number name required limit wished reply kept present none (fault ∙ ap Some (ap (λ (o : Outcome). o.reply) line)) rule
+
+-- and where the call begins a session
+pub unmade-first : (core after : ControllerCore) (number : Number) (name : List ℕ) (required limit : ℕ) (wished : List Capability) (reply : Reply) → IsSoundCore core → core.session < number.session
+    → find (λ (r : ControllerRow). same_text r.name name) (live_rows (rows_of core.catalog)) ≡ None
+    → made_line (argument_fault required limit wished) (new_line core.config.greatest (length (live_rows (rows_of core.catalog))) (next_shown core.next_id) name required limit wished) ≡ record { reply = reply; change = Stays }
+    → IsTrue (has_id_by_rule kinds.CreateVolume reply) → HasForgotten number.session core after → IsAnswered core after number (CreateVolume name required limit wished) (unmade reply)
+unmade-first core after number name required limit wished reply kept later none line rule forgotten = by (argument_fault required limit wished) refl line
+  where
+    by : (fault : Option Reply) → argument_fault required limit wished ≡ fault
+        → made_line fault (new_line core.config.greatest (length (live_rows (rows_of core.catalog))) (next_shown core.next_id) name required limit wished) ≡ record { reply = reply; change = Stays }
+        → IsAnswered core after number (CreateVolume name required limit wished) (unmade reply)
+    by None good line = refused-first core after number name required limit wished reply kept later none good line rule forgotten
+    by (Some own) fault line = fault-first core after number name required limit wished reply kept later none (fault ∙ ap Some (ap (λ (o : Outcome). o.reply) line)) rule forgotten

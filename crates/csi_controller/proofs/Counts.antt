@@ -1,8 +1,8 @@
 -- The counts of the configured nodes after a row changed.
 use Rattle.std.proofs.Common.{◌≡◌, ◌≢◌, ◌≤◌, ◌<◌, ◌+◌, ℕ, Bool, true, false, cond, not, filter, List, [], ◌∷◌, ◌++◌, length, get_or, set, refl, sym, ◌∙◌, ap, subst, slice_index, arith}
-use Rattle.std.specs.Prelude.{Option, Some, None, ◌==◌, ◌||◌, ◌&&◌, nat_le}
+use Rattle.std.specs.Prelude.{Option, Some, None, find, is_some, ◌==◌, ◌||◌, ◌&&◌, nat_le}
 use Rattle.std.specs.List.{list_any, position_or_len}
-use Rattle.std.proofs.lemmas.Bool.{true≢false, eq-eqb, eqb-true}
+use Rattle.std.proofs.lemmas.Bool.{true≢false, eq-eqb, eqb-true, or_parts}
 use Rattle.std.proofs.lemmas.Bool.Decides.{nat_tests}
 use Rattle.std.proofs.lemmas.Grind.{get_or-set_at}
 use Rattle.std.proofs.lemmas.List.{get_or-set_other, length-set}
@@ -10,14 +10,16 @@ use Rattle.std.proofs.lemmas.List.Quantifiers.{position-Some}
 use Rattle.std.proofs.lemmas.List.Sums.{sum_by-set, count_by-le-length}
 use Rattle.std.proofs.lemmas.Map.Views.{any-filter_same}
 use Rattle.csi_lists.proofs.Counts.{count-cons}
-use Rattle.csi_lists.proofs.Options.{some_is_not_none}
+use Rattle.csi_lists.proofs.Options.{none-from_is_some, some_is_not_none}
+use Rattle.csi_lists.proofs.Places.{FirstAt-find, FirstAt-position}
+use Rattle.csi_lists.proofs.Tests.{any-find}
 use Rattle.csi_types.proofs.Equality.{same_text-tells}
 use Rattle.csi_types.specs.declared.number.Number.{Number}
 use Rattle.csi_types.specs.declared.call.Call.{Call}
 use Rattle.csi_types.specs.declared.config.NodeSlots.{NodeSlots}
 use Rattle.csi_fence.specs.declared.fence.Verdict.{Verdict}
 use Rattle.csi_fence.specs.declared.fence.Verdict.TheVariants.{Stale, Repeated, Fresh}
-use Rattle.csi_types.specs.Config.{Config}
+use Rattle.csi_types.specs.Config.{Config, has_node, has_same_node}
 use Rattle.csi_types.specs.Frame.{Frame}
 use Rattle.csi_types.specs.Same.{same_text}
 use Rattle.csi_controller.specs.declared.row.NodeHolding.{NodeHolding}
@@ -29,7 +31,8 @@ use Rattle.csi_controller.specs.OneRow.{RowChange, RowStays, RowEnds, RowAttache
 use Rattle.csi_controller.specs.AtRow.{RowAnswers}
 use Rattle.csi_controller.specs.RowTable.{row_line}
 use Rattle.csi_controller.specs.CoreParts.{parts_of}
-use Rattle.csi_controller.specs.Counts.{is_held, count_held, place_of, AreCounted, count_at, is_node_full, count_after, counted_at, recounted}
+use Rattle.csi_controller.specs.Counts.{is_held, count_held, place_of, AreCounted, count_at, is_full_with, is_node_full, count_after, counted_at, recounted}
+use Rattle.csi_controller.proofs.SameText.{text-turned}
 
 -- ---- where a node is configured
 
@@ -68,12 +71,12 @@ counted-more nodes rows counts i entry count inside is told before node place at
 
 -- rows that are held alike are counted alike
 pub counted-alike : (nodes : List NodeSlots) (rows after : List ControllerRow) (counts : List ℕ) → ((node : List ℕ) → count_held node after ≡ count_held node rows) → AreCounted nodes rows counts → AreCounted nodes after counts
-counted-alike nodes rows after counts alike counted = record { few = counted.few; fits = counted.fits; each = λ node place at. counted.each node place at ∙ sym (alike node) }
+counted-alike nodes rows after counts alike counted = record { few = counted.few; distinct = counted.distinct; fits = counted.fits; each = λ node place at. counted.each node place at ∙ sym (alike node) }
 
 -- the counts are right once one node's went up or down by one, where no other node's changes
 at-node : (nodes : List NodeSlots) (rows after : List ControllerRow) (node : List ℕ) (is : Bool) (counts : List ℕ) → AreCounted nodes rows counts → count_after is (count_held node rows) ≡ count_held node after
     → ((other : List ℕ) → same_text node other ≡ false → count_held other after ≡ count_held other rows) → (found : Option ℕ) → place_of node nodes ≡ found → AreCounted nodes after (counted_at found is counts)
-at-node nodes rows after node is counts counted own others None none = record { few = counted.few; fits = counted.fits; each = each }
+at-node nodes rows after node is counts counted own others None none = record { few = counted.few; distinct = counted.distinct; fits = counted.fits; each = each }
   where
     other_node : (other : List ℕ) (place : ℕ) → place_of other nodes ≡ Some place → (b : Bool) → same_text node other ≡ b → same_text node other ≡ false
     other_node other place at true e = absurd (some_is_not_none place (sym (ap (λ n. place_of n nodes) ((same_text-tells node other).0 e) ∙ at) ∙ none))
@@ -82,7 +85,7 @@ at-node nodes rows after node is counts counted own others None none = record { 
     each : (other : List ℕ) (place : ℕ) → place_of other nodes ≡ Some place → slice_index counts place ≡ count_held other after
     each other place at = counted.each other place at ∙ sym (others other (other_node other place at (same_text node other) refl))
 at-node nodes rows after node is counts counted own others (Some found) here =
-    record { few = counted.few; fits = let long = length-set counts found value in let fits = counted.fits in omega (arith, long, fits); each = λ other place at. each other place at (same_text node other) refl }
+    record { few = counted.few; distinct = counted.distinct; fits = let long = length-set counts found value in let fits = counted.fits in omega (arith, long, fits); each = λ other place at. each other place at (same_text node other) refl }
   where
     value : ℕ
     value = count_after is (slice_index counts found)
@@ -152,21 +155,41 @@ same-counted nodes rows place row new counts counted inside is same =
 -- ---- all nodes
 
 -- the counts are right once each configured node was counted
-pub all-counted : (nodes : List NodeSlots) (rows : List ControllerRow) (counts : List ℕ) (count : ℕ) → length nodes ≤ 64 → length counts ≡ 64 → length nodes ≤ count
+pub all-counted : (nodes : List NodeSlots) (rows : List ControllerRow) (counts : List ℕ) (count : ℕ) → length nodes ≤ 64 → has_same_node nodes ≡ false → length counts ≡ 64 → length nodes ≤ count
     → ((node : List ℕ) (place : ℕ) → place_of node nodes ≡ Some place → place < count → slice_index counts place ≡ count_held node rows) → AreCounted nodes rows counts
-all-counted nodes rows counts count few long all each =
-    record { few = few; fits = omega (arith, few, long); each = λ node place at. each node place at (let inside = (stands node nodes place some_node at).0 in omega (arith, inside, all)) }
+all-counted nodes rows counts count few distinct long all each =
+    record { few = few; distinct = distinct; fits = omega (arith, few, long); each = λ node place at. each node place at (let inside = (stands node nodes place some_node at).0 in omega (arith, inside, all)) }
 
 -- where the place of the first one that passes is past the end, none passes
 past-none : {X : Type 0} (p : X → Bool) (xs : List X) → length xs ≤ position_or_len p xs → list_any p xs ≡ false
 past-none p [] past = refl
 past-none p (x ∷ xs) past = grind (arith, past-none p xs)
 
--- a node that isn't found isn't configured
+-- no entry is that of a node that isn't found
 not-configured : (node : List ℕ) (nodes : List NodeSlots) → None ≡ place_of node nodes → list_any (λ (entry : NodeSlots). same_text entry.id node) nodes ≡ false
 not-configured node nodes none =
     let past : length nodes ≤ position_or_len (λ (entry : NodeSlots). same_text entry.id node) nodes = grind (arith, nat_tests) in
     past-none (λ (entry : NodeSlots). same_text entry.id node) nodes past
+
+-- a node is configured exactly where an entry is its
+has_node-any : (node : List ℕ) (nodes : List NodeSlots) → has_node node nodes ≡ list_any (λ (entry : NodeSlots). same_text entry.id node) nodes
+has_node-any node [] = refl
+has_node-any node (e ∷ es) = (λ i. text-turned node e.id i || has_node-any node es i)
+
+-- the first entry of a node is at its place
+pub entry-found : (node : List ℕ) (nodes : List NodeSlots) (place : ℕ) (entry : NodeSlots) → Some place ≡ place_of node nodes → entry ≡ get_or nodes place entry → find (λ (e : NodeSlots). same_text e.id node) nodes ≡ Some entry
+entry-found node nodes place entry at is =
+    let p : NodeSlots → Bool = λ e. same_text e.id node in
+    FirstAt-find p nodes place entry (FirstAt-position p nodes place entry (sym at) is)
+
+-- and then the node is configured
+pub found-configured : (node : List ℕ) (nodes : List NodeSlots) (place : ℕ) (entry : NodeSlots) → Some place ≡ place_of node nodes → entry ≡ get_or nodes place entry → true ≡ has_node node nodes
+found-configured node nodes place entry at is =
+    sym (has_node-any node nodes ∙ any-find (λ (e : NodeSlots). same_text e.id node) nodes ∙ ap is_some (entry-found node nodes place entry at is))
+
+-- a node that isn't found isn't configured
+pub lost-configured : (node : List ℕ) (nodes : List NodeSlots) → None ≡ place_of node nodes → false ≡ has_node node nodes
+lost-configured node nodes none = sym (has_node-any node nodes ∙ not-configured node nodes none)
 
 -- ---- what is taken out of a row
 
@@ -277,26 +300,47 @@ same-parts-counted old new parts counts counted =
 
 -- ---- whether a node is full
 
--- an entry's slots are compared with the right count wherever one is compared
-full-counted : (nodes : List NodeSlots) (node : List ℕ) (count held : ℕ) → (list_any (λ (entry : NodeSlots). same_text entry.id node) nodes ≡ true → count ≡ held)
-    → list_any (λ (entry : NodeSlots). same_text entry.id node && nat_le entry.slots count) nodes ≡ list_any (λ (entry : NodeSlots). same_text entry.id node && nat_le entry.slots held) nodes
-full-counted [] node count held told = refl
-full-counted (e ∷ es) node count held told = by (same_text e.id node) told (full-counted es node count held)
+-- a node that is none of these is found by none of them, whatever else is asked
+others-fail : (id node : List ℕ) (nodes : List NodeSlots) (count : ℕ) → same_text id node ≡ true → has_node id nodes ≡ false → list_any (λ (entry : NodeSlots). same_text entry.id node && nat_le entry.slots count) nodes ≡ false
+others-fail id node [] count same none = refl
+others-fail id node (e ∷ es) count same none =
+    let parts = or_parts (same_text id e.id) (has_node id es) none in
+    let differ : same_text e.id node ≡ false = text-turned e.id node ∙ subst (λ n. same_text n e.id ≡ false) ((same_text-tells id node).0 same) parts.0 in
+    rw differ (others-fail id node es count same parts.1)
+
+-- where no two nodes are one, the first that is the node tells whether any of them takes no more than so many volumes
+full-first : (nodes : List NodeSlots) (node : List ℕ) (count : ℕ) → has_same_node nodes ≡ false
+    → list_any (λ (entry : NodeSlots). same_text entry.id node && nat_le entry.slots count) nodes ≡ is_full_with count (find (λ (entry : NodeSlots). same_text entry.id node) nodes)
+full-first [] node count distinct = refl
+full-first (e ∷ es) node count distinct = by (same_text e.id node) refl (full-first es node count parts.1)
   where
-    by : (b : Bool) → ((b || list_any (λ (entry : NodeSlots). same_text entry.id node) es) ≡ true → count ≡ held)
-        → ((list_any (λ (entry : NodeSlots). same_text entry.id node) es ≡ true → count ≡ held)
-        → list_any (λ (entry : NodeSlots). same_text entry.id node && nat_le entry.slots count) es ≡ list_any (λ (entry : NodeSlots). same_text entry.id node && nat_le entry.slots held) es)
-        → ((b && nat_le e.slots count) || list_any (λ (entry : NodeSlots). same_text entry.id node && nat_le entry.slots count) es)
-        ≡ ((b && nat_le e.slots held) || list_any (λ (entry : NodeSlots). same_text entry.id node && nat_le entry.slots held) es)
-    by true told rest = let same = told refl in ap (λ n. nat_le e.slots n || list_any (λ (entry : NodeSlots). same_text entry.id node && nat_le entry.slots n) es) same
-    by false told rest = rest told
+    parts : (has_node e.id es ≡ false) × (has_same_node es ≡ false)
+    parts = or_parts (has_node e.id es) (has_same_node es) distinct
+
+    by : (b : Bool) → same_text e.id node ≡ b
+        → list_any (λ (entry : NodeSlots). same_text entry.id node && nat_le entry.slots count) es ≡ is_full_with count (find (λ (entry : NodeSlots). same_text entry.id node) es)
+        → list_any (λ (entry : NodeSlots). same_text entry.id node && nat_le entry.slots count) (e ∷ es) ≡ is_full_with count (find (λ (entry : NodeSlots). same_text entry.id node) (e ∷ es))
+    by true same rest = rw same (ap (λ b. nat_le e.slots count || b) (others-fail e.id node es count same parts.0) ∙ or_false (nat_le e.slots count))
+    by false differ rest = rw differ rest
+
+-- a node that isn't found isn't full
+none-full : (nodes : List NodeSlots) (node : List ℕ) (count held : ℕ) → list_any (λ (entry : NodeSlots). same_text entry.id node) nodes ≡ false
+    → is_full_with held (find (λ (entry : NodeSlots). same_text entry.id node) nodes) ≡ is_full_with count (find (λ (entry : NodeSlots). same_text entry.id node) nodes)
+none-full nodes node count held none =
+    let absent = any_none (λ (entry : NodeSlots). same_text entry.id node) nodes none in
+    ap (is_full_with held) absent ∙ sym (ap (is_full_with count) absent)
+  where
+    any_none : (p : NodeSlots → Bool) (xs : List NodeSlots) → list_any p xs ≡ false → find p xs ≡ None
+    any_none p xs h = none-from_is_some (find p xs) (sym (any-find p xs) ∙ h)
 
 -- the count at a configured node's place is the count of its volumes
 pub full-told : (nodes : List NodeSlots) (rows : List ControllerRow) (counts : List ℕ) (node : List ℕ) → AreCounted nodes rows counts
     → list_any (λ (entry : NodeSlots). same_text entry.id node && nat_le entry.slots (count_held node rows)) nodes ≡ is_node_full nodes counts node
-full-told nodes rows counts node counted =
-    sym (full-counted nodes node (count_at (place_of node nodes) counts) (count_held node rows) (by (place_of node nodes) refl))
+full-told nodes rows counts node counted = full-first nodes node (count_held node rows) counted.distinct ∙ by (place_of node nodes) refl
   where
-    by : (found : Option ℕ) → place_of node nodes ≡ found → list_any (λ (entry : NodeSlots). same_text entry.id node) nodes ≡ true → count_at found counts ≡ count_held node rows
-    by None none any = absurd (true≢false (sym any ∙ not-configured node nodes (sym none)))
-    by (Some place) at any = counted.each node place at
+    found : Option NodeSlots
+    found = find (λ (entry : NodeSlots). same_text entry.id node) nodes
+
+    by : (place : Option ℕ) → place_of node nodes ≡ place → is_full_with (count_held node rows) found ≡ is_full_with (count_at place counts) found
+    by None none = none-full nodes node 0 (count_held node rows) (not-configured node nodes (sym none))
+    by (Some place) at = ap (λ n. is_full_with n found) (sym (counted.each node place at))

@@ -1,5 +1,5 @@
 -- The tests of a row are passed exactly where it keeps the rules.
-use Rattle.std.proofs.Common.{◌≡◌, ◌≤◌, ℕ, length, Bool, true, false, not, List, [], ◌∷◌, refl, ap, subst, arith}
+use Rattle.std.proofs.Common.{◌≡◌, ◌≤◌, ℕ, length, Bool, true, false, not, List, [], ◌∷◌, refl, sym, ◌∙◌, ap, subst, arith}
 use Rattle.std.specs.Prelude.{None, find, ◌==◌, ◌&&◌, ◌||◌, nat_le, nat_lt}
 use Rattle.std.specs.List.{AllByRecursion, list_all}
 use Rattle.std.proofs.lemmas.Bool.{and_from, and_parts, eq-eqb, eqb-false, eqb-true, le-leb, leb-true, lt-ltb, ltb-true, ne_eqb, not-true, not_from_false, true≢false}
@@ -9,6 +9,7 @@ use Rattle.csi_lists.proofs.Tests.{all-then, then-all}
 use Rattle.csi_lists.specs.Places.{AtMostOne}
 use Rattle.csi_types.proofs.Equality.{same_text-tells}
 use Rattle.csi_types.specs.declared.call.Party.TheVariants.{Controller}
+use Rattle.csi_types.specs.declared.capability.Capability.{Capability}
 use Rattle.csi_types.specs.Call.{is_party_of}
 use Rattle.csi_types.specs.Holding.{is_compatible}
 use Rattle.csi_types.specs.Reply.{has_id_by_rule}
@@ -16,7 +17,7 @@ use Rattle.csi_types.specs.Same.{same_text, has_capability}
 use Rattle.csi_controller.specs.declared.row.NodeHolding.{NodeHolding}
 use Rattle.csi_controller.specs.declared.row.ControllerRow.{ControllerRow}
 use Rattle.csi_controller.specs.Core.{AreCompatible, IsSoundRow, held_by, next_shown}
-use Rattle.csi_controller.specs.SoundRow.{has_fit_numbers, has_own_reply, are_beside, are_all_beside, has_fit_holdings, is_sound_row}
+use Rattle.csi_controller.specs.SoundRow.{has_fit_numbers, has_own_reply, are_beside, are_fit, has_fit_holdings, is_sound_row}
 use Rattle.csi_controller.proofs.Exclusive.{other_nodes}
 
 -- ---- a test of each
@@ -30,6 +31,24 @@ test-from_each : {X : Type 0} (p : X → Bool) (xs : List X) → AllByRecursion 
 test-from_each p xs all = then-all p xs (λ x among. each_of (λ y. p y ≡ true) xs x all among)
 
 -- ---- the holdings
+
+-- whether each two are beside one another
+abbrev are_all_beside : List NodeHolding → Bool
+are_all_beside [] = true
+are_all_beside (held ∷ later) = list_all (are_beside held) later && are_all_beside later
+
+-- holdings are fit where each is listed, and each two are beside one another
+fit-both : (capabilities : List Capability) (items : List NodeHolding) → are_fit capabilities items ≡ (list_all (λ (held : NodeHolding). has_capability capabilities held.capability) items && are_all_beside items)
+fit-both capabilities [] = refl
+fit-both capabilities (held ∷ later) =
+    ap (λ b. has_capability capabilities held.capability && list_all (are_beside held) later && b) (fit-both capabilities later)
+    ∙ turned (has_capability capabilities held.capability) (list_all (are_beside held) later) (list_all (λ (h : NodeHolding). has_capability capabilities h.capability) later) (are_all_beside later)
+  where
+    turned : (a b c d : Bool) → (a && b && (c && d)) ≡ ((a && c) && (b && d))
+    turned true true c d = refl
+    turned true false true d = refl
+    turned true false false d = refl
+    turned false b c d = refl
 
 -- none of those beside a holding is at its node
 none-at_node : (held : NodeHolding) (later : List NodeHolding) (node : List ℕ) → same_text held.node node ≡ true → list_all (are_beside held) later ≡ true
@@ -104,9 +123,9 @@ sound-row n row h =
     let numbers = and_parts (nat_lt row.id (next_shown n) && nat_le 1 row.capacity) (nat_le row.capacity 9223372036854775807) two.0 in
     let low = and_parts (nat_lt row.id (next_shown n)) (nat_le 1 row.capacity) numbers.0 in
     let reply = and_parts (is_party_of row.kind Controller) (has_id_by_rule row.kind row.reply) two.1 in
-    let holdings = and_parts (nat_le (length items) 64 && (row.live || (length items == 0)) && list_all (is_listed row) items) (are_all_beside items) all.1 in
-    let listed = and_parts (nat_le (length items) 64 && (row.live || (length items == 0))) (list_all (is_listed row) items) holdings.0 in
-    let few = and_parts (nat_le (length items) 64) (row.live || (length items == 0)) listed.0 in
+    let fit = and_parts (nat_le (length items) 64 && (row.live || (length items == 0))) (are_fit row.capabilities items) all.1 in
+    let holdings = and_parts (list_all (is_listed row) items) (are_all_beside items) (sym (fit-both row.capabilities items) ∙ fit.1) in
+    let few = and_parts (nat_le (length items) 64) (row.live || (length items == 0)) fit.0 in
     record {
       below = ltb-true row.id (next_shown n) low.0;
       party = reply.0;
@@ -117,7 +136,7 @@ sound-row n row h =
       capacity_from = leb-true 1 row.capacity low.1;
       capacity_to = let most : row.capacity ≤ 9223372036854775807 = leb-true row.capacity 9223372036854775807 numbers.1 in omega (arith, most);
       capable = let some : length row.capabilities ≡ 0 → ⊥ = eqb-false (length row.capabilities) 0 (not-true (length row.capabilities == 0) three.1) in omega (arith, some);
-      listed = each-from_test (is_listed row) items listed.1;
+      listed = each-from_test (is_listed row) items holdings.0;
       limit = leb-true (length items) 64 few.0;
     }
 
@@ -135,8 +154,7 @@ row-sound n row sound =
     (le-leb row.capacity 9223372036854775807 most))
     (and_from (is_party_of row.kind Controller) (has_id_by_rule row.kind row.reply) sound.party sound.reply))
     (not_from_false (length row.capabilities == 0) (ne_eqb (length row.capabilities) 0 some)))
-    (and_from (nat_le (length items) 64 && (row.live || (length items == 0)) && list_all (is_listed row) items) (are_all_beside items)
-    (and_from (nat_le (length items) 64 && (row.live || (length items == 0))) (list_all (is_listed row) items)
+    (and_from (nat_le (length items) 64 && (row.live || (length items == 0))) (are_fit row.capabilities items)
     (and_from (nat_le (length items) 64) (row.live || (length items == 0)) (le-leb (length items) 64 sound.limit) (held-while_live row.live items sound.gone))
-    (test-from_each (is_listed row) items sound.listed))
-    (beside-from items sound.apart sound.compatible))
+    (fit-both row.capabilities items
+    ∙ and_from (list_all (is_listed row) items) (are_all_beside items) (test-from_each (is_listed row) items sound.listed) (beside-from items sound.apart sound.compatible)))

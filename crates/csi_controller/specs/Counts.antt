@@ -1,9 +1,9 @@
 -- How many volumes are held at each configured node, as a core keeps it.
-use Rattle.std.specs.Prelude.{◌≡◌, ℕ, ◌+◌, ◌%◌, ◌^◌, ◌≤◌, List, length, Bool, ◌&&◌, nat_le, Option, Some, None, position, count_by, if◌then◌else◌, slice_index, slice_set}
+use Rattle.std.specs.Prelude.{◌≡◌, ℕ, ◌+◌, ◌%◌, ◌^◌, ◌≤◌, List, length, Bool, nat_le, Option, Some, None, position, count_by, find, false, if◌then◌else◌, slice_index, slice_set}
 use Rattle.std.specs.List.{list_any}
 use Rattle.csi_types.specs.declared.config.NodeSlots.{NodeSlots}
+use Rattle.csi_types.specs.Config.{has_same_node}
 use Rattle.csi_types.specs.Same.{same_text}
-use Rattle.csi_controller.specs.declared.controller.counts.CountChange.{CountChange}
 use Rattle.csi_controller.specs.declared.row.NodeHolding.{NodeHolding}
 use Rattle.csi_controller.specs.declared.row.ControllerRow.{ControllerRow}
 
@@ -22,6 +22,7 @@ place_of node nodes = position (λ (entry : NodeSlots). same_text entry.id node)
 -- each configured node has its count, at its place
 pub record AreCounted (nodes : List NodeSlots) (rows : List ControllerRow) (counts : List ℕ) : Type 0 where
   pub few : length nodes ≤ 64
+  pub distinct : has_same_node nodes ≡ false
   pub fits : length nodes ≤ length counts
   pub each : (node : List ℕ) (place : ℕ) → place_of node nodes ≡ Some place → slice_index counts place ≡ count_held node rows
 
@@ -30,9 +31,14 @@ abbrev pub count_at : Option ℕ → List ℕ → ℕ
 count_at None counts = 0
 count_at (Some place) counts = slice_index counts place
 
+-- a node that is configured so takes no more than so many volumes
+abbrev pub is_full_with : ℕ → Option NodeSlots → Bool
+is_full_with count None = false
+is_full_with count (Some entry) = nat_le entry.slots count
+
 -- by these counts the node is configured, and takes no more volumes
 abbrev pub is_node_full : List NodeSlots → List ℕ → List ℕ → Bool
-is_node_full nodes counts node = list_any (λ (entry : NodeSlots). same_text entry.id node && nat_le entry.slots (count_at (place_of node nodes) counts)) nodes
+is_node_full nodes counts node = is_full_with (count_at (place_of node nodes) counts) (find (λ (entry : NodeSlots). same_text entry.id node) nodes)
 
 -- one more or one less at a place, as 64 bits count
 abbrev pub count_after : Bool → ℕ → ℕ
@@ -43,12 +49,7 @@ abbrev pub counted_at : Option ℕ → Bool → List ℕ → List ℕ
 counted_at None is counts = counts
 counted_at (Some place) is counts = slice_set counts place (count_after is (slice_index counts place))
 
--- a node, and whether a volume came to be held there, or ceases to be
-abbrev pub count_change_told : Option CountChange → Option (List ℕ × Bool)
-count_change_told None = None
-count_change_told (Some change) = Some (change.node.now, change.is_held)
-
--- the counts after that
+-- the counts after a volume came to be held at a node, or ceased to be, if one did
 abbrev pub recounted : List NodeSlots → Option (List ℕ × Bool) → List ℕ → List ℕ
 recounted nodes None counts = counts
 recounted nodes (Some (node, is)) counts = counted_at (place_of node nodes) is counts

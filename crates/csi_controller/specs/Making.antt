@@ -1,15 +1,16 @@
 -- A volume that is made: what a new name is answered, and what a core is then. Only private functions cite it.
-use Rattle.std.specs.Prelude.{◌≡◌, ℕ, ◌<◌, ◌^◌, List, [], ◌∷◌, ◌++◌, Some, true, ◌||◌, nat_le, nat_lt, if◌then◌else◌, codes, ◌+◌, ◌%◌}
+use Rattle.std.specs.Prelude.{◌≡◌, ℕ, ◌<◌, ◌^◌, List, [], ◌∷◌, ◌++◌, Option, Some, None, true, ◌||◌, nat_le, nat_lt, if◌then◌else◌, codes, ◌+◌, ◌%◌}
 use Rattle.csi_types.specs.declared.capability.Capability.{Capability}
 use Rattle.csi_types.specs.declared.number.Number.{Number}
 use Rattle.csi_fence.specs.declared.answer.Answer.{Answer}
 use Rattle.csi_types.specs.declared.call.Kind.TheVariants.{CreateVolume}
+use Rattle.csi_types.specs.declared.reply.Reply.{Reply}
 use Rattle.csi_types.specs.declared.status.Status.TheVariants.{ResourceExhausted, OutOfRange}
 use Rattle.csi_types.specs.Capacity.{wanted}
 use Rattle.csi_types.specs.Replies.{ok_reply_with}
 use Rattle.csi_controller.specs.declared.row.ControllerRow.{ControllerRow}
 use Rattle.csi_controller.specs.State.{Volume}
-use Rattle.csi_controller.specs.Table.{Outcome, Makes, refused}
+use Rattle.csi_controller.specs.Table.{Outcome, Makes, Stays, refused}
 use Rattle.csi_controller.specs.Shown.{volume_of_row}
 use Rattle.csi_controller.specs.declared.controller.core_parts.ControllerCore.{ControllerCore}
 use Rattle.csi_controller.specs.Catalog.{rows_of}
@@ -29,6 +30,11 @@ new_line greatest count next name required limit capabilities =
     if nat_lt greatest (wanted required limit) then refused OutOfRange (codes "range")
     else if nat_le 4096 count || nat_le (2 ^ 64) next then refused ResourceExhausted (codes "volumes")
     else record { reply = ok_reply_with next; change = Makes name (wanted required limit) capabilities }
+
+-- the same, by what is wrong with the arguments, if anything is
+abbrev pub made_line : Option Reply → Outcome → Outcome
+made_line None new = new
+made_line (Some reply) new = record { reply = reply; change = Stays }
 
 -- the volume was made in the present session, and stands last
 pub record IsMade (old new : ControllerCore) (number : Number) (id : ℕ) (name : List ℕ) (capacity : ℕ) (capabilities : List Capability) : Type 0 where

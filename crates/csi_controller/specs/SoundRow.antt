@@ -2,6 +2,7 @@
 use Rattle.std.specs.Prelude.{ℕ, ◌==◌, List, [], ◌∷◌, length, Bool, true, not, ◌&&◌, ◌||◌, nat_le, nat_lt}
 use Rattle.std.specs.List.{list_all}
 use Rattle.csi_types.specs.declared.call.Party.TheVariants.{Controller}
+use Rattle.csi_types.specs.declared.capability.Capability.{Capability}
 use Rattle.csi_types.specs.Call.{is_party_of}
 use Rattle.csi_types.specs.Holding.{is_compatible}
 use Rattle.csi_types.specs.Reply.{has_id_by_rule}
@@ -22,16 +23,15 @@ has_own_reply row = is_party_of row.kind Controller && has_id_by_rule row.kind r
 abbrev pub are_beside : NodeHolding → NodeHolding → Bool
 are_beside held later = not (same_text later.node held.node) && is_compatible (held_by 1 later) (held_by 1 held)
 
--- so are each two of them
-abbrev pub are_all_beside : List NodeHolding → Bool
-are_all_beside [] = true
-are_all_beside (held ∷ later) = list_all (are_beside held) later && are_all_beside later
+-- each is in one of these capabilities, and beside each later one
+abbrev pub are_fit : List Capability → List NodeHolding → Bool
+are_fit capabilities [] = true
+are_fit capabilities (held ∷ later) = has_capability capabilities held.capability && list_all (are_beside held) later && are_fit capabilities later
 
 -- at most 64 holdings, none of a volume that was deleted, each in a capability of the volume's, and each two beside one another
 abbrev pub has_fit_holdings : ControllerRow → Bool
 has_fit_holdings row =
-    nat_le (length row.holdings.items) 64 && (row.live || (length row.holdings.items == 0))
-    && list_all (λ held. has_capability row.capabilities held.capability) row.holdings.items && are_all_beside row.holdings.items
+    nat_le (length row.holdings.items) 64 && (row.live || (length row.holdings.items == 0)) && are_fit row.capabilities row.holdings.items
 
 -- all of them
 abbrev pub is_sound_row : ℕ → ControllerRow → Bool

@@ -9,25 +9,22 @@ ghost use Rattle.csi_controller.specs.Core.{IsSound, IsSameRow, IsRising};
 ghost use Rattle.csi_controller.specs.WithoutSession.{stays_in};
 ghost use Rattle.csi_controller.specs.Views.{AreSameRows};
 
-use crate::controller::copies::copied_row;
 use crate::row::ControllerRow;
 use csi_fence::CoreFault;
 use csi_types::{Name, VolumeId};
 use indexmap::IndexMap;
-use std::alloc::{AllocError, Global};
+use std::alloc::Global;
 
 /// The rows, each under its id, and the id of each name. Both maps are in the order of the rows, which is that of their ids.
-#[derive(Drop)]
 pub struct Catalog {
     pub rows: IndexMap<VolumeId, ControllerRow>,
     pub ids: IndexMap<String, VolumeId>,
 }
 
-// The text of a name.
-fn text_of(alloc: Global, name: &Name) -> Result<String, AllocError>
-    ensures { IfOk result (λ text. string_bytes text ≡ name.now) }
-{
-    String::from_str(alloc, name.as_str())
+impl Drop for Catalog {
+    fn drop(self) {
+        let Catalog { rows: _, ids: _ } = self;
+    }
 }
 
 /// Whether the row stays in this session: its volume is live, or its last call is of that session.
@@ -95,7 +92,13 @@ impl Catalog {
     pub fn live(&self) -> usize
         ensures { result ≡ length (filter (λ row. row.live) (rows_of self.now)) }
     {
-        self.rows().iter().filter(|row| row.live).count()
+        let mut live = 0;
+        for row in self.rows() {
+            if row.live {
+                live += 1;
+            }
+        }
+        live
     }
 
     /// Where the row of this id is. Where no row is, no id is hashed.
@@ -141,24 +144,13 @@ impl Catalog {
         }
     }
 
-    /// The row of this name.
-    pub fn named(&self, name: &str) -> Option<&ControllerRow>
-        requires { IsIndexed self.now }
-        ensures { option_copied result ≡ find (λ row. same_text row.name name.now) (rows_of self.now) }
-    {
-        match self.place_of_name(name) {
-            Some(place) => Some(&self.rows[place]),
-            None => None,
-        }
-    }
-
     /// Makes room for one more row, and gives the text of its name. The rows stay as they were.
     pub fn make_room(&mut self, alloc: Global, name: &Name) -> Result<String, CoreFault>
         ensures text { IfOk result (λ text. string_bytes text ≡ name.now) }
         ensures room { OnOk result (HasRoom self.new) }
         ensures same { AreSameEntries self.old self.new }
     {
-        let text = text_of(alloc, name)?;
+        let text = String::from_str(alloc, name.as_str())?;
         self.ids.reserve(1)?;
         self.rows.reserve(1)?;
         Ok(text)
@@ -222,7 +214,7 @@ impl Catalog {
         ensures added { (rows : List ControllerRow) → AreSameRows rows (rows_of self.old) → OnOk result (AreSameRows (rows ++ row.now ∷ []) (rows_of self.new)) }
         ensures indexed { IsIndexed self.new }
     {
-        let copy = copied_row(row)?;
+        let copy = row.clone()?;
         self.add(alloc, copy)
     }
 

@@ -12,7 +12,6 @@ mod at_row;
 mod attached;
 mod beginning;
 mod changes;
-pub(crate) mod copies;
 mod core_parts;
 mod counts;
 mod create_lines;
@@ -158,7 +157,7 @@ impl Controller {
     pub fn id_of(&self, name: &Name) -> Option<VolumeId>
         ensures { (state : ControllerState) → Shows self.now state → result ≡ option_map (λ volume. volume.id) (volume_named name.now state) }
     {
-        self.core.id_of(name.as_str())
+        self.core.catalog.id_of(name.as_str())
     }
 
     /// The id of the next volume, 0 once all were given. It takes no memory.

@@ -5,7 +5,7 @@ ghost use Rattle.std.specs.Cmp.Lexicographic.{slice_cmp};
 ghost use Rattle.std.specs.Ordering.{nat_cmp};
 ghost use Rattle.csi_types.specs.Same.{same_text};
 ghost use Rattle.csi_controller.specs.Core.{IsSound, IsCurrent};
-ghost use Rattle.csi_controller.specs.Judging.{AreRecorded, IsFirstRefused, earlier_of, is_current_row, may_follow as is_fit_after};
+ghost use Rattle.csi_controller.specs.Judging.{AreRecorded, IsFirstRefused, earlier_of, may_follow as is_fit_after};
 
 use crate::catalog::stays;
 use crate::row::ControllerRow;
@@ -36,13 +36,6 @@ fn add_name<'a>(names: &mut BTreeSet<&'a str>, name: &'a str) -> Result<bool, No
     }
 }
 
-// Whether the row's last call is of no later session than this one, and of this one where its volume was deleted.
-fn is_current(session: u64, row: &ControllerRow) -> bool
-    ensures { result ≡ is_current_row session row.now }
-{
-    row.last.session <= session && stays(row, session)
-}
-
 /// The place, counted from 1, of the first row that no record with this next id has there, whatever its session is; `None` where
 /// all these rows are a record's. The names are kept in order, so that each row is compared with few others.
 pub(crate) fn first_refused(
@@ -68,12 +61,14 @@ pub(crate) fn first_refused(
     Ok(None)
 }
 
-// The place, counted from 1, of the first row that isn't one of this session.
+// The place, counted from 1, of the first row that isn't one of this session: its last call is of a later one, or its volume was
+// deleted and its last call is of an earlier one.
 fn first_not_current(session: u64, rows: &[ControllerRow]) -> Option<u64>
     ensures { MatchOption result (IsCurrent session rows.now) (IsFirstRefused (IsCurrent session) rows.now) }
 {
     for (index, row) in rows.iter().enumerate() {
-        if !is_current(session, row) {
+        let is_current = row.last.session <= session && stays(row, session);
+        if !is_current {
             return Some(index as u64 + 1);
         }
     }

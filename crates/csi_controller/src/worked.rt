@@ -1,38 +1,14 @@
-//! Worked examples of the controller's table and fence. Each function proves a statement, and does nothing.
+//! Worked examples of the controller's table and fence. The function proves them, and does nothing.
 ghost use Rattle.csi_controller.specs.Worked.{OneNodeRow, BothModesRow, SingleWriterRow, SlotsRow, NameRow, FenceRow, SessionRow, EmptyIsShown, LawsTellPublish};
 
-fn one_node()
-    ensures { OneNodeRow }
-{}
-
-fn both_modes()
-    ensures { BothModesRow }
-{}
-
-fn single_writer()
-    ensures { SingleWriterRow }
-{}
-
-fn slots()
-    ensures { SlotsRow }
-{}
-
-fn names()
-    ensures { NameRow }
-{}
-
-fn fence()
-    ensures { FenceRow }
-{}
-
-fn sessions()
-    ensures { SessionRow }
-{}
-
-fn empty()
-    ensures { EmptyIsShown }
-{}
-
-fn publish_by_the_laws()
-    ensures { LawsTellPublish }
+fn examples()
+    ensures one_node { OneNodeRow }
+    ensures both_modes { BothModesRow }
+    ensures single_writer { SingleWriterRow }
+    ensures slots { SlotsRow }
+    ensures names { NameRow }
+    ensures fence { FenceRow }
+    ensures sessions { SessionRow }
+    ensures empty { EmptyIsShown }
+    ensures publish_by_the_laws { LawsTellPublish }
 {}

@@ -11,19 +11,19 @@ use Rattle.csi_types.specs.declared.capability.Capability.{Capability}
 use Rattle.csi_types.specs.declared.call.Kind.{Kind}
 use Rattle.csi_types.specs.declared.call.Call.{Call}
 use Rattle.csi_types.specs.declared.call.Call.TheVariants as calls
+use Rattle.csi_types.specs.declared.reply.Reply.{Reply}
 use Rattle.csi_types.specs.declared.frame.Body.TheVariants as bodies
 use Rattle.csi_types.specs.Mode.{mode_from_number}
 use Rattle.csi_frames.specs.declared.body_kind.BodyKind.TheVariants as body_kinds
+use Rattle.csi_frames.specs.declared.fault.FaultKind.{FaultKind}
 use Rattle.csi_frames.specs.declared.fault.FaultKind.TheVariants.{BadMode}
 use Rattle.csi_frames.specs.declared.fields.Stop.{Stop}
-use Rattle.csi_frames.specs.declared.fields.Fields.{Fields}
 use Rattle.csi_frames.specs.declared.version.Version.{Version}
 use Rattle.csi_frames.specs.Version.{has_mode, is_new_mode, takes_mode, only}
 use Rattle.csi_frames.specs.Codes.{is_mode, mode_of}
 use Rattle.csi_frames.specs.Grammar.{any}
 use Rattle.csi_frames.specs.Borrowed.{body_in, list_in}
-use Rattle.csi_frames.specs.Gives.{Gives, GivesAgain}
-use Rattle.csi_frames.specs.Reading.{Reader, go_on, ◌>>=◌, give, stopped, byte_at, word_at, id_at, text_at, access_at, mode_at, owed_capability_at, capabilities_at, call_at, fields_at}
+use Rattle.csi_frames.specs.Reading.{Reader, go_on, ◌>>=◌, give, stopped, byte_at, word_at, id_at, text_at, access_at, mode_at, owed_capability_at, capabilities_at, call_at, reply_at, fields_at}
 use Rattle.csi_frames.proofs.Readers.{done}
 
 -- where all of two readings was read, the first one was
@@ -35,6 +35,27 @@ first_ok (Err stop) next ok = absurd cc
 pub never_stops : {A : Type 0} (read : Result (A × List ℕ) Stop) (stop : Stop) → is_ok read ≡ true → read ≡ Err stop → ⊥
 never_stops (Ok x) stop ok e = absurd cc
 never_stops (Err s) stop ok e = absurd cc
+
+-- ---- a byte
+
+-- a byte is there where one was read
+pub byte_there : {A : Type 0} (allowed : ℕ → Bool) (fault : FaultKind) (bytes : List ℕ) (next : ℕ → Reader A) → is_ok (go_on (byte_at allowed fault bytes) next) ≡ true → 1 ≤ length bytes
+unfolding byte_at
+byte_there allowed fault [] next ok = absurd cc
+byte_there allowed fault (b ∷ bytes) next ok = omega arith
+
+-- where reading went on behind a byte, it was allowed
+taken : {A : Type 0} (is_allowed : Bool) (n : ℕ) (bytes : List ℕ) (fault : FaultKind) (next : ℕ → Reader A) → is_ok (go_on (cond is_allowed (done n bytes) (stopped fault (n ∷ bytes))) next) ≡ true
+    → cond is_allowed (done n bytes) (stopped fault (n ∷ bytes)) ≡ Ok (n, bytes)
+taken true n bytes fault next ok = refl
+taken false n bytes fault next ok = absurd cc
+
+-- it is the byte at the front
+pub byte_is : {A : Type 0} (allowed : ℕ → Bool) (fault : FaultKind) (bytes : List ℕ) (b : ℕ) (rest : List ℕ) (next : ℕ → Reader A) → bytes ≡ b ∷ rest → is_ok (go_on (byte_at allowed fault bytes) next) ≡ true
+    → byte_at allowed fault bytes ≡ Ok (b, rest)
+unfolding byte_at
+byte_is allowed fault [] b rest next e ok = absurd cc
+byte_is allowed fault (n ∷ bytes) b rest next e ok = taken (allowed n) n bytes fault next ok ∙ cc e
 
 -- ---- a number
 
@@ -170,10 +191,19 @@ pub call_is : (version : Version) (kind : Kind) (bytes left : List ℕ) (call : 
 unfolding fields_at
 call_is version kind bytes left call e = sym (ap (λ (read : Result (Call × List ℕ) Stop). body_in (go_on read (λ call. give (bodies.Call call)))) e)
 
--- what is read is read whatever is behind it
-pub again : {X Y : Type 0} (view : X → Y) (result : Result X Stop) (left : Fields) (read : Result (Y × List ℕ) Stop) → Gives view result left read → GivesAgain view result read
-again view (Ok x) left read e = (left.bytes.now, e)
-again view (Err stop) left read e = e
+-- ---- a reply
+
+-- the fields of a reply that were read are the reply's
+pub reply_ok : (version : Version) (kind : Kind) (bytes : List ℕ) → is_ok (fields_at version (body_kinds.Reply kind) bytes) ≡ true → is_ok (reply_at kind bytes) ≡ true
+unfolding fields_at
+reply_ok version kind bytes ok = first_ok (reply_at kind bytes) (λ reply. give (bodies.Reply kind reply)) ok
+
+-- and the body is that reply
+pub reply_is : (version : Version) (kind : Kind) (bytes left : List ℕ) (reply : Reply) → reply_at kind bytes ≡ Ok (reply, left) → bodies.Reply kind reply ≡ body_in (fields_at version (body_kinds.Reply kind) bytes)
+unfolding fields_at
+reply_is version kind bytes left reply e = sym (ap (λ (read : Result (Reply × List ℕ) Stop). body_in (go_on read (λ reply. give (bodies.Reply kind reply)))) e)
+
+-- ---- a list
 
 -- what follows a list that was read was read, and so is the list where no new mode is owed
 pub list_ok : {A : Type 0} (version : Version) (owed : Bool) (n : ℕ) (bytes : List ℕ) (next : List Capability → Reader A) → is_ok (go_on (capabilities_at version owed n bytes) next) ≡ true → is_ok (capabilities_at version false n bytes) ≡ true

@@ -1,14 +1,11 @@
 -- Reading capabilities one after another, as a loop does.
 use Rattle.std.proofs.Common.{◌≡◌, ℕ, suc, ◌-◌, ◌≤◌, ◌<◌, Bool, true, false, not, ◌&&◌, List, [], ◌∷◌, ◌++◌, Result, Ok, Err, is_ok, refl, sym, ap, subst, ◌∙◌, append_assoc, arith}
 use Rattle.std.specs.Prelude.{◌==◌}
-use Rattle.std.specs.List.{AllByRecursion}
 use Rattle.std.proofs.lemmas.List.{append-nil}
 use Rattle.csi_types.specs.declared.capability.Capability.{Capability}
-use Rattle.csi_types.specs.Limits.{IsCapability}
 use Rattle.csi_frames.specs.declared.fields.Stop.{Stop}
 use Rattle.csi_frames.specs.declared.version.Version.{Version}
 use Rattle.csi_frames.specs.Version.{is_new_mode}
-use Rattle.csi_frames.specs.Borrowed.{list_in}
 use Rattle.csi_frames.specs.Reading.{go_on, give, owed_capability_at, capabilities_at}
 
 -- what was read before, and what is still read
@@ -57,7 +54,7 @@ is_read (Ok x) never = refl
 is_read (Err stop) never = absurd (never stop refl)
 
 -- where the whole was read, reading doesn't stop at any of its capabilities
-pub never_ends : (version : Version) (stop : Stop) (front : List Capability) (left : ℕ) (bytes : List ℕ) (total : Result (List Capability × List ℕ) Stop) → 0 < left → owed_capability_at version false bytes ≡ Err stop
+never_ends : (version : Version) (stop : Stop) (front : List Capability) (left : ℕ) (bytes : List ℕ) (total : Result (List Capability × List ℕ) Stop) → 0 < left → owed_capability_at version false bytes ≡ Err stop
     → with_front front (capabilities_at version false left bytes) ≡ total → is_ok total ≡ true → ⊥
 never_ends version stop front left bytes total lt h so_far read =
     let none : is_ok total ≡ is_ok {T = List Capability × List ℕ} {E = Stop} (Err stop) = ap is_ok (ends version false false stop front left bytes total lt refl h so_far) in
@@ -67,20 +64,3 @@ never_ends version stop front left bytes total lt h so_far read =
 pub next_ok : (version : Version) (front : List Capability) (left : ℕ) (bytes : List ℕ) (total : Result (List Capability × List ℕ) Stop) → 0 < left
     → with_front front (capabilities_at version false left bytes) ≡ total → is_ok total ≡ true → is_ok (owed_capability_at version false bytes) ≡ true
 next_ok version front left bytes total lt so_far read = is_read (owed_capability_at version false bytes) (λ stop h. never_ends version stop front left bytes total lt h so_far read)
-
--- where all capabilities of a list are within their limits, one in the midst of it is
-among : (front others : List Capability) (c : Capability) → AllByRecursion IsCapability ((front ++ c ∷ []) ++ others) → IsCapability c
-among [] others c fits = fits.0
-among (f ∷ front) others c fits = among front others c fits.1
-
--- the same of a list of which the rest is still read
-among_read : (front : List Capability) (c : Capability) (read : Result (List Capability × List ℕ) Stop) → AllByRecursion IsCapability (list_in (with_front (front ++ c ∷ []) read)) → is_ok (with_front (front ++ c ∷ []) read) ≡ true → IsCapability c
-among_read front c (Ok x) fits read = among front x.0 c fits
-among_read front c (Err stop) fits read = absurd cc
-
--- of a list that was read, with each capability within its limits, the next one that is read is within its limits
-pub one_fits : (version : Version) (front : List Capability) (left : ℕ) (bytes : List ℕ) (c : Capability) (after : List ℕ) (total : Result (List Capability × List ℕ) Stop) → 0 < left → owed_capability_at version false bytes ≡ Ok (c, after)
-    → with_front front (capabilities_at version false left bytes) ≡ total → is_ok total ≡ true → AllByRecursion IsCapability (list_in total) → IsCapability c
-one_fits version front left bytes c after total lt h so_far read fits =
-    let next = goes_on version false false false front left bytes c after total lt refl refl h so_far in
-    among_read front c (capabilities_at version false (left - 1) after) (subst (λ (r : Result (List Capability × List ℕ) Stop). AllByRecursion IsCapability (list_in r)) (sym next) fits) (ap is_ok next ∙ read)

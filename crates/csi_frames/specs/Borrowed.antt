@@ -12,7 +12,7 @@ use Rattle.csi_types.specs.Frame.{Frame}
 use Rattle.csi_types.specs.Lent.{lent_capability}
 use Rattle.csi_frames.specs.declared.borrowed.CapabilitiesRef.{CapabilitiesRef}
 use Rattle.csi_frames.specs.declared.fields.Stop.{Stop}
-use Rattle.csi_frames.specs.Reading.{capabilities_at, fields_at}
+use Rattle.csi_frames.specs.Reading.{reply_id_of, capabilities_at, fields_at}
 use Rattle.csi_frames.specs.declared.borrowed.PartyRef.{PartyRef}
 use Rattle.csi_frames.specs.declared.borrowed.PartyRef.TheVariants.{Controller, Node}
 use Rattle.csi_frames.specs.declared.borrowed.BorrowedCall.{BorrowedCall}
@@ -50,7 +50,7 @@ owned_call (NodeUnpublishVolume id target) = calls.NodeUnpublishVolume id target
 
 -- the reply that a borrowed one stands for
 abbrev pub owned_reply : ReplyRef → Reply
-owned_reply reply = record { status = reply.status; id = reply.id; detail = reply.detail.now }
+owned_reply reply = record { status = reply.status; id = reply_id_of reply.id; detail = reply.detail.now }
 
 -- the body that a borrowed one stands for
 abbrev pub owned_body : BodyRef → Body

@@ -8,11 +8,6 @@ abbrev pub Gives : {X Y : Type 0} → (X → Y) → Result X Stop → Fields →
 Gives view (Ok x) left read = read ≡ Ok (view x, left.bytes.now)
 Gives view (Err stop) left read = read ≡ Err stop
 
--- The same of a value that was read before, whatever bytes are behind it.
-abbrev pub GivesAgain : {X Y : Type 0} → (X → Y) → Result X Stop → Result (Y × List ℕ) Stop → Type 0
-GivesAgain {Y} view (Ok x) read = (left : List ℕ) × (read ≡ Ok (view x, left))
-GivesAgain view (Err stop) read = read ≡ Err stop
-
 -- The same where nothing is left to be read.
 abbrev pub Answers : {X Y E : Type 0} → (X → Y) → Result X E → Result Y E → Type 0
 Answers view (Ok x) read = read ≡ Ok (view x)

@@ -60,30 +60,9 @@ fn party_at<'a>(fields: &mut Fields<'a>, kind: BodyKind) -> Result<PartyRef<'a>,
     Ok(PartyRef::Node(id))
 }
 
-// It is inlined, so that where the body is dropped none is made.
+// The fields, kept as the bytes that they are read from. What is read is inlined, so that where it is dropped none is made.
 #[inline(always)]
 #[tactic(auto, unfolding(crate::specs::Reading::fields_at))]
-fn fields_at<'a>(
-    fields: &mut Fields<'a>,
-    version: Version,
-    kind: BodyKind,
-) -> Result<BodyRef<'a>, Stop>
-    ensures { Gives owned_body result fields.new (fields_at version kind fields.old.bytes.now) }
-{
-    match kind {
-        BodyKind::Call(kind) => match call_at(fields, version, kind) {
-            Ok(call) => Ok(BodyRef::Call(call)),
-            Err(stop) => Err(stop),
-        },
-        BodyKind::Reply(kind) => match reply_at(fields, kind) {
-            Ok(reply) => Ok(BodyRef::Reply(kind, reply)),
-            Err(stop) => Err(stop),
-        },
-    }
-}
-
-// The same, kept as the bytes that they are read from.
-#[inline(always)]
 fn kept_fields_at<'a>(
     fields: &mut Fields<'a>,
     version: Version,
@@ -92,13 +71,23 @@ fn kept_fields_at<'a>(
     ensures { Gives owned_fields result fields.new (fields_at version kind fields.old.bytes.now) }
 {
     let bytes = fields.bytes;
-    match fields_at(fields, version, kind) {
-        Ok(_) => Ok(FieldsRef {
-            version,
-            kind,
-            bytes,
-        }),
-        Err(stop) => Err(stop),
+    match kind {
+        BodyKind::Call(of) => match call_at(fields, version, of) {
+            Ok(_) => Ok(FieldsRef {
+                version,
+                kind,
+                bytes,
+            }),
+            Err(stop) => Err(stop),
+        },
+        BodyKind::Reply(of) => match reply_at(fields, of) {
+            Ok(_) => Ok(FieldsRef {
+                version,
+                kind,
+                bytes,
+            }),
+            Err(stop) => Err(stop),
+        },
     }
 }
 
@@ -124,33 +113,18 @@ fn fields_of_version<'a>(
     }
 }
 
-// `fields_at` in a function of its own, so that what reads a call again is short enough to be inlined.
-#[inline(never)]
-fn fields_apart<'a>(
-    fields: &mut Fields<'a>,
-    version: Version,
-    kind: BodyKind,
-) -> Result<BodyRef<'a>, Stop>
-    ensures { Gives owned_body result fields.new (fields_at version kind fields.old.bytes.now) }
-{
-    fields_at(fields, version, kind)
-}
-
 /// The body that has these fields. They were read before, so that reading them again stops nowhere.
 #[inline(always)]
 pub(crate) fn body_of(from: FieldsRef<'_>) -> BodyRef<'_>
     ensures { owned_body result ≡ owned_fields from.entry }
 {
     let mut fields = Fields { bytes: from.bytes };
-    if let BodyKind::Call(kind) = from.kind {
-        return match known_call(&mut fields, from.version, kind) {
-            Ok(call) => BodyRef::Call(call),
+    match from.kind {
+        BodyKind::Call(kind) => BodyRef::Call(known_call(&mut fields, from.version, kind)),
+        BodyKind::Reply(kind) => match reply_at(&mut fields, kind) {
+            Ok(reply) => BodyRef::Reply(kind, reply),
             Err(_) => unreachable!(),
-        };
-    }
-    match fields_apart(&mut fields, from.version, from.kind) {
-        Ok(body) => body,
-        Err(_) => unreachable!(),
+        },
     }
 }
 

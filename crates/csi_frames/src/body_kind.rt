@@ -37,9 +37,15 @@ impl BodyKind {
         ensures { result ≡ body_kind_from_number number }
     {
         if number < 128 {
-            kind_from_number(number).map(BodyKind::Call)
+            match kind_from_number(number) {
+                Some(kind) => Some(BodyKind::Call(kind)),
+                None => None,
+            }
         } else {
-            kind_from_number(number - 128).map(BodyKind::Reply)
+            match kind_from_number(number - 128) {
+                Some(kind) => Some(BodyKind::Reply(kind)),
+                None => None,
+            }
         }
     }
 

@@ -65,7 +65,8 @@ pub(crate) enum BorrowedCall<'a> {
 #[derive(Clone, Copy)]
 pub(crate) struct ReplyRef<'a> {
     pub status: Status,
-    pub id: Option<u64>,
+    // 0 for none.
+    pub id: u64,
     pub detail: &'a str,
 }
 

@@ -1,12 +1,10 @@
 //! Capabilities, calls and replies, read from the bytes of a body.
 ghost use Rattle.std.specs.Prelude.{◌≡◌, ◌==◌, ◌&&◌, not};
 ghost use Rattle.csi_types.specs.Lent.{lent_access, lent_capability};
-ghost use Rattle.csi_types.specs.Reply.{is_create, is_ok_status};
 ghost use Rattle.csi_frames.specs.Borrowed.{owned_capabilities, owned_call, owned_reply};
 ghost use Rattle.csi_frames.specs.Gives.{Gives};
-ghost use Rattle.csi_frames.specs.Grammar.{is_count};
 ghost use Rattle.csi_frames.specs.Version.{is_new_mode, owes_new_mode};
-ghost use Rattle.csi_frames.specs.Reading.{byte_at, access_at, mode_at, owed_capability_at, capability_at, capabilities_at, create_at, call_at, status_at, reply_id_at, reply_at};
+ghost use Rattle.csi_frames.specs.Reading.{access_at, mode_at, owed_capability_at, capability_at, capabilities_at, create_at, call_at, status_at, reply_id_of, reply_id_at, reply_at};
 
 use crate::borrowed::{BorrowedCall, CapabilitiesRef, ReplyRef};
 use crate::fault::FaultKind;
@@ -104,14 +102,6 @@ fn capabilities_at<'a>(
     })
 }
 
-// The count of a CreateVolume's capabilities.
-#[inline(always)]
-fn count_at(fields: &mut Fields<'_>, version: Version) -> Result<u8, Stop>
-    ensures { Gives (λ n. n) result fields.new (byte_at (is_count version) FaultKind.BadCount fields.old.bytes.now) }
-{
-    fields.count(version.least_count(), 8)
-}
-
 #[inline(always)]
 #[tactic(auto, unfolding(crate::specs::Reading::create_at))]
 fn create_at<'a>(fields: &mut Fields<'a>, version: Version) -> Result<BorrowedCall<'a>, Stop>
@@ -120,7 +110,7 @@ fn create_at<'a>(fields: &mut Fields<'a>, version: Version) -> Result<BorrowedCa
     let name = fields.text(1, Name::MAX_LEN)?;
     let required = fields.word()?;
     let limit = fields.word()?;
-    let count = count_at(fields, version)?;
+    let count = fields.count(version.least_count(), 8)?;
     let capabilities = capabilities_at(fields, version, count)?;
     Ok(BorrowedCall::CreateVolume {
         name,
@@ -217,24 +207,18 @@ pub fn status_at(fields: &mut Fields<'_>) -> Result<Status, Stop>
     Status::from_code(byte).ok_or(bad)
 }
 
-// Whether a reply of this kind and status has an id.
-fn has_id(kind: Kind, status: Status) -> bool
-    ensures { result ≡ (is_create kind && is_ok_status status) }
-{
-    kind == Kind::CreateVolume && status == Status::Ok
-}
-
 // The id of a reply: 0, for none, but in an `Ok` to CreateVolume, where it isn't 0.
 #[tactic(auto, unfolding(crate::specs::Reading::word_at, crate::specs::Reading::reply_id_at))]
-fn reply_id_at(fields: &mut Fields<'_>, kind: Kind, status: Status) -> Result<Option<u64>, Stop>
-    ensures { Gives (λ id. id) result fields.new (reply_id_at kind status fields.old.bytes.now) }
+fn reply_id_at(fields: &mut Fields<'_>, kind: Kind, status: Status) -> Result<u64, Stop>
+    ensures { Gives reply_id_of result fields.new (reply_id_at kind status fields.old.bytes.now) }
 {
     let bad = fields.stop(FaultKind::BadId);
+    let has_id = kind == Kind::CreateVolume && status == Status::Ok;
     let number = fields.word()?;
-    if (number != 0) != has_id(kind, status) {
+    if (number != 0) != has_id {
         return Err(bad);
     }
-    Ok(if number == 0 { None } else { Some(number) })
+    Ok(number)
 }
 
 #[tactic(auto, unfolding(crate::specs::Reading::reply_at))]

@@ -3,17 +3,17 @@ ghost use Rattle.std.specs.Prelude.{◌≡◌, ◌≤◌, ◌<◌, ◌+◌, ◌+
 ghost use Rattle.std.specs.List.{flat_map, AllByRecursion};
 ghost use Rattle.byteorder.specs.Endian.{big_bytes};
 ghost use Rattle.csi_types.specs.VolumeId.{IsVolumeId};
-ghost use Rattle.csi_types.specs.Limits.{IsNumber, IsAccess, IsCapability, IsCapabilityList, IsParty, IsCall, IsReply, IsBody, IsFrame, IsWord};
-ghost use Rattle.csi_types.specs.Replies.{reply_frame};
+ghost use Rattle.csi_types.specs.Limits.{IsNumber, IsAccess, IsCapability, IsCapabilityList, IsParty, IsCall, IsReply, IsWord};
+ghost use Rattle.csi_types.specs.Replies.{call_frame, reply_frame};
 ghost use Rattle.csi_types.specs.Status.{status_code};
 ghost use Rattle.csi_frames.specs.Appends.{Appends, HasRoom};
-ghost use Rattle.csi_frames.specs.Spelling.{word, text, flag, access, capability, party, reply_id, call_fields, call_capabilities, reply_fields, body_fields, body_kind, body_version, has_new_mode, head, frame_body, spelling, Spells};
+ghost use Rattle.csi_frames.specs.Spelling.{word, text, flag, access, capability, party, reply_id, call_fields, call_capabilities, reply_fields, body_kind, has_new_mode, head, spelling, Spells};
 
 use crate::body_kind::{kind_number, reply_kind_number};
 use crate::version::{Version, is_new_mode};
 use crate::writing::{
-    capabilities_len, capability_len, put, put_byte, put_capabilities, put_capability, put_flag,
-    put_id, put_reply, put_text, put_word, reply_len, text_len,
+    capabilities_len, capability_len, put, put_byte, put_capabilities, put_capability, put_id,
+    put_reply, put_text, put_word, reply_len, text_len,
 };
 use byteorder::{BigEndian, ByteOrder};
 use csi_types::{Body, Call, Capability, Frame, Kind, NoMemory, Number, Party, Reply, VolumeId};
@@ -50,16 +50,6 @@ fn call_len(from: &Call) -> usize
     }
 }
 
-fn body_len(from: &Body) -> usize
-    ensures len { result ≡ length (body_fields from.now) }
-    ensures small { result ≤ 1194 }
-{
-    match from {
-        Body::Call(call) => call_len(call),
-        Body::Reply(_, reply) => reply_len(reply),
-    }
-}
-
 fn party_len(from: &Party) -> usize
     ensures len { result ≡ length (party from.now) }
     ensures small { result ≤ 257 }
@@ -84,7 +74,7 @@ fn put_publish(out: &mut Vec<u8>, id: VolumeId, to: &str, usage: &Capability, re
     put_id(out, id);
     put_text(out, to);
     put_capability(out, usage);
-    put_flag(out, readonly);
+    put_byte(out, if readonly { 1 } else { 0 });
 }
 
 fn put_call(out: &mut Vec<u8>, from: &Call)
@@ -149,27 +139,6 @@ fn put_party(out: &mut Vec<u8>, from: &Party)
     }
 }
 
-fn put_body(out: &mut Vec<u8>, from: &Body)
-    requires { HasRoom out.old (length (body_fields from.now)) }
-    ensures appends { Appends out.old out.new (body_fields from.now) }
-    ensures fits { IsBody from.now }
-{
-    match from {
-        Body::Call(call) => put_call(out, call),
-        Body::Reply(_, reply) => put_reply(out, reply),
-    }
-}
-
-/// The kind byte of a body: a reply has its call's number and 128.
-fn kind_byte(from: &Body) -> u8
-    ensures { result ≡ body_kind from.now }
-{
-    match from {
-        Body::Call(call) => kind_number(call.kind()),
-        Body::Reply(kind, _) => reply_kind_number(*kind),
-    }
-}
-
 // Whether one of them is in a mode that the first version hasn't.
 fn has_new_mode(capabilities: &[Capability]) -> bool
     ensures { result ≡ has_new_mode capabilities.now }
@@ -194,16 +163,6 @@ fn call_has_new_mode(from: &Call) -> bool
         | Call::ControllerUnpublishVolume { .. }
         | Call::NodeUnstageVolume { .. }
         | Call::NodeUnpublishVolume { .. } => false,
-    }
-}
-
-/// The version of a frame with this body: the second one exactly where a capability is in a mode that the first one hasn't.
-fn body_version(from: &Body) -> Version
-    ensures { result ≡ body_version from.now }
-{
-    match from {
-        Body::Call(call) => Version::with_new_mode(call_has_new_mode(call)),
-        Body::Reply(..) => Version::One,
     }
 }
 
@@ -233,25 +192,6 @@ fn put_head(out: &mut Vec<u8>, size: u32, version: Version, kind: u8, number: Nu
     put_party(out, from);
 }
 
-// The frame with its body's length, which has been counted.
-#[tactic(auto, unfolding(crate::specs::Spelling::frame_body, crate::specs::Spelling::spelling))]
-fn put_frame(out: &mut Vec<u8>, frame: &Frame, size: u32)
-    requires counted { size ≡ length (frame_body frame.now) }
-    requires room { HasRoom out.old (4 + size) }
-    ensures appends { Appends out.old out.new (spelling frame.now) }
-    ensures fits { IsFrame frame.now }
-{
-    put_head(
-        out,
-        size,
-        body_version(frame.body()),
-        kind_byte(frame.body()),
-        frame.number(),
-        frame.party(),
-    );
-    put_body(out, frame.body());
-}
-
 /// Appends the bytes that spell the frame. It takes no memory but the vector's own, which is asked for
 /// first: with spare capacity for the frame it succeeds, and a refusal leaves the vector's bytes as they
 /// were. This profile's own.
@@ -261,9 +201,32 @@ pub fn encode(frame: &Frame, out: &mut Vec<u8>) -> Result<(), NoMemory>
     ensures err { OnErr result (out.new.items ≡ out.old.items) }
     ensures spare { vec_len out.old + length (spelling frame.now) ≤ vec_capacity out.old → IsOk result }
 {
-    let size = HEAD + party_len(frame.party()) + body_len(frame.body());
+    match frame.body() {
+        Body::Call(call) => encode_call(frame.number(), frame.party(), call, out),
+        Body::Reply(kind, reply) => {
+            encode_reply(frame.number(), frame.party(), *kind, reply, out)
+        }
+    }
+}
+
+// The frame of a call, as `encode_reply` does that of a reply.
+fn encode_call(
+    number: Number,
+    party: &Party,
+    call: &Call,
+    out: &mut Vec<u8>,
+) -> Result<(), NoMemory>
+    ensures appends { OnOk result (out.new.items ≡ out.old.items ++ spelling (call_frame number party.now call.now)) }
+    ensures err { OnErr result (out.new.items ≡ out.old.items) }
+    ensures fits { OnOk result (IsNumber number × IsParty party.now × IsCall call.now) }
+    ensures spare { vec_len out.old + length (spelling (call_frame number party.now call.now)) ≤ vec_capacity out.old → IsOk result }
+{
+    let size = HEAD + party_len(party) + call_len(call);
+    let version = Version::with_new_mode(call_has_new_mode(call));
+    let kind = kind_number(call.kind());
     out.reserve(4 + size)?;
-    put_frame(out, frame, size as u32);
+    put_head(out, size as u32, version, kind, number, party);
+    put_call(out, call);
     Ok(())
 }
 
@@ -278,6 +241,7 @@ pub fn encode_reply(
 ) -> Result<(), NoMemory>
     ensures appends { OnOk result (out.new.items ≡ out.old.items ++ spelling (reply_frame number party.now kind reply.now)) }
     ensures err { OnErr result (out.new.items ≡ out.old.items) }
+    ensures fits { OnOk result (IsNumber number × IsParty party.now × IsReply reply.now) }
     ensures spare { vec_len out.old + length (spelling (reply_frame number party.now kind reply.now)) ≤ vec_capacity out.old → IsOk result }
 {
     let size = HEAD + party_len(party) + reply_len(reply);

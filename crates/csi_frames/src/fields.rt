@@ -1,5 +1,5 @@
 //! The bytes of a body, or of a part of a record, from which its fields are read one after another.
-ghost use Rattle.std.specs.Prelude.{◌≡◌, true, false, MatchOption, Ok, is_ok, length};
+ghost use Rattle.std.specs.Prelude.{◌≡◌, ◌≤◌, ◌∷◌, true, false, MatchOption, Ok, is_ok, length};
 ghost use Rattle.std.specs.Str.{is_utf8};
 
 use crate::fault::FaultKind;
@@ -135,6 +135,19 @@ impl<'a> Fields<'a> {
             }
             None => Err(self.stop(FaultKind::BadText)),
         }
+    }
+
+    /// A byte that was read before, so that reading it again stops nowhere. It isn't judged again.
+    #[inline(always)]
+    pub(crate) fn known_byte(&mut self) -> u8
+        requires { 1 ≤ length self.old.bytes.now }
+        ensures { self.old.bytes.now ≡ result ∷ self.new.bytes.now }
+    {
+        let [byte, rest @ ..] = self.bytes else {
+            unreachable!();
+        };
+        self.bytes = rest;
+        *byte
     }
 
     /// Any number of 64 bits that was read before, so that reading it again stops nowhere.

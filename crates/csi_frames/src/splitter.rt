@@ -1,5 +1,5 @@
 //! A stream that comes in pieces, split into its frames.
-ghost use Rattle.std.specs.Prelude.{◌≡◌, ◌≤◌, ◌*◌, Option, Result, length, drop, IfOk, IfNone, OnOk, OnErr, IsOk, IsSome, vec_len};
+ghost use Rattle.std.specs.Prelude.{◌≡◌, ◌≤◌, ◌*◌, Option, Result, length, IfOk, IfNone, OnOk, OnErr, IsOk, IsSome, vec_len};
 ghost use Rattle.std.specs.Borrow.{sem};
 ghost use Rattle.std.specs.Io.BufRead.{Rests};
 ghost use Rattle.csi_types.specs.Frame.{Frame as Parts};
@@ -35,16 +35,6 @@ impl Model for Splitter {
     ghost invariant = { λ splitter. IsHeldInFew splitter.progress.start (vec_len splitter.buffer) };
 }
 
-// Takes the first bytes off, and moves those behind them to the front.
-fn take_off(buffer: &mut Vec<u8>, count: usize)
-    requires { count ≤ vec_len buffer.old }
-    ensures { buffer.new.items ≡ drop count buffer.old.items }
-{
-    let left = buffer.len() - count;
-    buffer.copy_within(count.., 0);
-    buffer.truncate(left);
-}
-
 // Moves what is kept to the front once the frames before it took no fewer bytes. So all moves together move no more bytes
 // than frames took.
 fn compact(buffer: &mut Vec<u8>, progress: &mut Progress)
@@ -53,8 +43,10 @@ fn compact(buffer: &mut Vec<u8>, progress: &mut Progress)
     ensures few { 2 * progress.new.start ≤ vec_len buffer.new }
 {
     let start = progress.start;
-    if buffer.len() - start <= start {
-        take_off(buffer, start);
+    let left = buffer.len() - start;
+    if left <= start {
+        buffer.copy_within(start.., 0);
+        buffer.truncate(left);
         progress.start = 0;
     }
 }

@@ -1,6 +1,6 @@
 //! Versions of frames. What a version has is told here and nowhere else.
 ghost use Rattle.std.specs.Prelude.{◌≡◌, false};
-ghost use Rattle.csi_frames.specs.Version.{version_number, version_from_number, has_mode, is_new_mode, has_kind, least_count, owes_new_mode, version_with, takes_mode, mode_in, kind_in_version};
+ghost use Rattle.csi_frames.specs.Version.{version_number, version_from_number, has_mode, is_new_mode, has_kind, least_count, owes_new_mode, version_with, mode_in, kind_in_version};
 
 use crate::body_kind::BodyKind;
 use csi_types::{Kind, Mode};
@@ -13,22 +13,6 @@ pub enum Version {
     /// The second one, which has all modes. A frame is written in it where one of its capabilities is in a mode that the first
     /// version hasn't.
     Two,
-}
-
-// Whether calls of this kind have capabilities.
-fn has_capabilities(kind: Kind) -> bool
-    ensures { result ≡ has_kind Version.Two (BodyKind.Call kind) }
-{
-    match kind {
-        Kind::CreateVolume
-        | Kind::ControllerPublishVolume
-        | Kind::NodeStageVolume
-        | Kind::NodePublishVolume => true,
-        Kind::DeleteVolume
-        | Kind::ControllerUnpublishVolume
-        | Kind::NodeUnstageVolume
-        | Kind::NodeUnpublishVolume => false,
-    }
 }
 
 /// Whether the first version hasn't this mode.
@@ -80,14 +64,21 @@ impl Version {
         }
     }
 
-    // Whether a frame may have a body of this kind.
+    // Whether a frame may have a body of this kind: in the second version a call that has capabilities.
     #[inline]
     fn has_kind(self, kind: BodyKind) -> bool
         ensures { result ≡ has_kind self kind }
     {
         match (self, kind) {
             (Version::One, _) => true,
-            (Version::Two, BodyKind::Call(kind)) => has_capabilities(kind),
+            (Version::Two, BodyKind::Call(Kind::CreateVolume)) => true,
+            (Version::Two, BodyKind::Call(Kind::DeleteVolume)) => false,
+            (Version::Two, BodyKind::Call(Kind::ControllerPublishVolume)) => true,
+            (Version::Two, BodyKind::Call(Kind::ControllerUnpublishVolume)) => false,
+            (Version::Two, BodyKind::Call(Kind::NodeStageVolume)) => true,
+            (Version::Two, BodyKind::Call(Kind::NodeUnstageVolume)) => false,
+            (Version::Two, BodyKind::Call(Kind::NodePublishVolume)) => true,
+            (Version::Two, BodyKind::Call(Kind::NodeUnpublishVolume)) => false,
             (Version::Two, BodyKind::Reply(_)) => false,
         }
     }
@@ -127,14 +118,6 @@ impl Version {
         }
     }
 
-    // Whether a capability may be in this mode where a new one is owed, or isn't.
-    #[inline]
-    fn takes_mode(self, owed: bool, mode: Mode) -> bool
-        ensures { result ≡ takes_mode self owed mode }
-    {
-        self.has_mode(mode) && (!owed || is_new_mode(mode))
-    }
-
     /// The mode of this number in CSI, if a capability may be in it where one that the first version hasn't is owed, or isn't. It
     /// takes no memory.
     #[inline]
@@ -142,7 +125,7 @@ impl Version {
         ensures { result ≡ mode_in self owed number }
     {
         match Mode::from_number(number) {
-            Some(mode) if self.takes_mode(owed, mode) => Some(mode),
+            Some(mode) if self.has_mode(mode) && (!owed || is_new_mode(mode)) => Some(mode),
             _ => None,
         }
     }

@@ -129,13 +129,6 @@ pub(crate) fn put_capabilities(out: &mut Vec<u8>, from: &[Capability])
     }
 }
 
-pub(crate) fn put_flag(out: &mut Vec<u8>, readonly: bool)
-    requires { HasRoom out.old 1 }
-    ensures { Appends out.old out.new (flag readonly) }
-{
-    put_byte(out, if readonly { 1 } else { 0 });
-}
-
 pub(crate) fn put_id(out: &mut Vec<u8>, id: VolumeId)
     requires { HasRoom out.old 8 }
     ensures appends { Appends out.old out.new (word id) }
@@ -178,8 +171,7 @@ pub fn append_byte(out: &mut Vec<u8>, byte: u8) -> Result<(), NoMemory>
     ensures err { OnErr result (out.new.items ≡ out.old.items) }
     ensures spare { vec_len out.old + length (byte ∷ []) ≤ vec_capacity out.old → IsOk result }
 {
-    out.reserve(1)?;
-    put_byte(out, byte);
+    out.push(byte)?;
     Ok(())
 }
 
@@ -202,9 +194,7 @@ pub fn append_flag(out: &mut Vec<u8>, readonly: bool) -> Result<(), NoMemory>
     ensures err { OnErr result (out.new.items ≡ out.old.items) }
     ensures spare { vec_len out.old + length (flag readonly) ≤ vec_capacity out.old → IsOk result }
 {
-    out.reserve(1)?;
-    put_flag(out, readonly);
-    Ok(())
+    append_byte(out, if readonly { 1 } else { 0 })
 }
 
 // A text of at most 255 bytes.

@@ -4,7 +4,6 @@ ghost use Rattle.std.specs.List.{flat_map};
 ghost use Rattle.json.specs.Tree.{json_tokens};
 ghost use Rattle.serde_json.specs.Data.{Data};
 ghost use Rattle.serde_json.specs.Written.{outline};
-ghost use Rattle.csi_listings.specs.Entries.{entries};
 
 use crate::writer::JsonWriter;
 use csi_types::{Holding, Mode, NodeId, Target, VolumeId};
@@ -36,24 +35,14 @@ pub trait Entry {
         ensures { OnOk result (out.new ≡ out.old ++ json_tokens (outline (entry self.now))) };
 }
 
-// Writes the values of these, one after another.
-fn write_items<T: Entry>(out: &mut JsonWriter, items: &[T]) -> Result<(), AllocError>
+/// Writes the values of these, one after another.
+pub(crate) fn write_items<T: Entry>(out: &mut JsonWriter, items: &[T]) -> Result<(), AllocError>
     ensures { OnOk result (out.new ≡ out.old ++ flat_map (λ item. json_tokens (outline (T.entry item))) items.now) }
 {
     for item in items {
         item.write(out)?;
     }
     Ok(())
-}
-
-/// Writes the values of these, in order, as an array.
-#[tactic(auto, using(crate::proofs::WrittenLists::array_written))]
-pub fn write_array<T: Entry>(out: &mut JsonWriter, items: &[T]) -> Result<(), AllocError>
-    ensures { OnOk result (out.new ≡ out.old ++ json_tokens (outline (entries T.entry items.now))) }
-{
-    out.begin_array()?;
-    write_items(out, items)?;
-    out.end_array()
 }
 
 impl Entry for Holding {

@@ -16,7 +16,9 @@ use std::alloc::Global;
 fn add_staged(list: &mut Vec<StagedAt>, node: &Node) -> Result<(), NoMemory>
     ensures { OnOk result (list.new.items ≡ list.old.items ++ staged_on node.now) }
 {
-    let staged = node.staged().map_err(|_| NoMemory)?;
+    let Ok(staged) = node.staged() else {
+        return Err(NoMemory);
+    };
     for volume in &staged {
         let here = node.id().clone()?;
         list.push(StagedAt {
@@ -32,7 +34,9 @@ fn add_staged(list: &mut Vec<StagedAt>, node: &Node) -> Result<(), NoMemory>
 fn add_published(list: &mut Vec<PublishedAt>, node: &Node) -> Result<(), NoMemory>
     ensures { OnOk result (list.new.items ≡ list.old.items ++ published_on node.now) }
 {
-    let published = node.published().map_err(|_| NoMemory)?;
+    let Ok(published) = node.published() else {
+        return Err(NoMemory);
+    };
     for volume in &published {
         let here = node.id().clone()?;
         let target = volume.target.clone()?;
@@ -50,7 +54,9 @@ fn add_published(list: &mut Vec<PublishedAt>, node: &Node) -> Result<(), NoMemor
 pub fn attached(controller: &Controller) -> Result<Vec<Holding>, NoMemory>
     ensures { IfOk result (λ list. IsInPlace attached_place (attached_in (controller.now).rows) list.items) }
 {
-    let mut list = controller.attachments().map_err(|_| NoMemory)?;
+    let Ok(mut list) = controller.attachments() else {
+        return Err(NoMemory);
+    };
     put_in_place(&mut list);
     Ok(list)
 }

@@ -1,5 +1,5 @@
 //! The volumes that are there, in JSON.
-ghost use Rattle.std.specs.Prelude.{◌≡◌, ◌++◌, OnOk, [], ◌∷◌};
+ghost use Rattle.std.specs.Prelude.{◌≡◌, ◌++◌, OnOk};
 ghost use Rattle.std.specs.List.{flat_map};
 ghost use Rattle.json.specs.Tree.{json_tokens};
 ghost use Rattle.serde_json.specs.Written.{outline};
@@ -20,22 +20,14 @@ fn write_volume(out: &mut JsonWriter, row: &ControllerRow) -> Result<(), AllocEr
     out.end_object()
 }
 
-// Writes the volume of a row, where it is live.
-fn write_live(out: &mut JsonWriter, row: &ControllerRow) -> Result<(), AllocError>
-    ensures { OnOk result (out.new ≡ out.old ++ flat_map (λ row. json_tokens (outline (volume_entry row))) (live_rows (row.now ∷ []))) }
-{
-    if row.live {
-        write_volume(out, row)?;
-    }
-    Ok(())
-}
-
 // Writes the volumes of the live rows, one after another.
 fn write_all_live(out: &mut JsonWriter, rows: &[ControllerRow]) -> Result<(), AllocError>
     ensures { OnOk result (out.new ≡ out.old ++ flat_map (λ row. json_tokens (outline (volume_entry row))) (live_rows rows.now)) }
 {
     for row in rows {
-        write_live(out, row)?;
+        if row.live {
+            write_volume(out, row)?;
+        }
     }
     Ok(())
 }

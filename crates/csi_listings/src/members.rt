@@ -5,7 +5,7 @@ ghost use Rattle.json.specs.Tree.{json_tokens};
 ghost use Rattle.serde_json.specs.Written.{outline};
 ghost use Rattle.csi_listings.specs.Entries.{entries};
 
-use crate::entries::{Entry, write_array};
+use crate::entries::{Entry, write_items};
 use crate::writer::JsonWriter;
 use std::alloc::AllocError;
 
@@ -14,5 +14,7 @@ pub fn put_array<T: Entry>(out: &mut JsonWriter, key: &str, items: &[T]) -> Resu
     ensures { OnOk result (out.new ≡ out.old ++ key_token key.now ∷ json_tokens (outline (entries T.entry items.now))) }
 {
     out.key(key)?;
-    write_array(out, items)
+    out.begin_array()?;
+    write_items(out, items)?;
+    out.end_array()
 }

@@ -1,6 +1,6 @@
 //! The order in which a report lists things.
 ghost use Rattle.std.specs.Prelude.{◌≡◌, List, ℕ};
-ghost use Rattle.csi_listings.specs.Order.{flag_number as number_of_flag, attached_place, staged_place, published_place, place_order, IsInPlace};
+ghost use Rattle.csi_listings.specs.Order.{attached_place, staged_place, published_place, place_order, IsInPlace};
 
 use crate::entries::{PublishedAt, StagedAt};
 use csi_types::{Holding, Mode, NodeId, VolumeId};
@@ -15,13 +15,6 @@ pub trait Placed {
         ensures { result ≡ place_order (place self.now) (place other.now) };
 }
 
-// A flag as a number.
-fn flag_number(flag: bool) -> u8
-    ensures { result ≡ number_of_flag flag }
-{
-    if flag { 1 } else { 0 }
-}
-
 impl Placed for Holding {
     ghost place = { attached_place };
 
@@ -31,7 +24,7 @@ impl Placed for Holding {
         let nodes = self.node.as_str().cmp(other.node.as_str());
         let mode = self.capability.mode.number();
         let modes = mode.cmp(&other.capability.mode.number());
-        let flags = flag_number(self.readonly).cmp(&flag_number(other.readonly));
+        let flags = self.readonly.cmp(&other.readonly);
         ids.then(nodes.then(modes.then(flags)))
     }
 }
@@ -56,7 +49,7 @@ impl Placed for PublishedAt {
         let ids = self.id.number().cmp(&other.id.number());
         let nodes = self.node.as_str().cmp(other.node.as_str());
         let targets = self.target.as_str().cmp(other.target.as_str());
-        let flags = flag_number(self.readonly).cmp(&flag_number(other.readonly));
+        let flags = self.readonly.cmp(&other.readonly);
         ids.then(nodes.then(targets.then(flags)))
     }
 }

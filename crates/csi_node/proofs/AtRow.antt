@@ -18,7 +18,7 @@ use Rattle.csi_fence.specs.Fence.{Kept, verdict_of}
 use Rattle.csi_node.specs.declared.row.NodeRow.{NodeRow}
 use Rattle.csi_node.specs.Changes.{Changes, put_row}
 use Rattle.csi_node.specs.Fenced.{answer_frame, answered_in, fenced_call, kept_for}
-use Rattle.csi_node.specs.OneRow.{RowShown, shown, row_anew, table_answer, IsSoundRow, IsAfter, RowAnswers}
+use Rattle.csi_node.specs.OneRow.{RowShown, shown, row_anew, table_answer, IsSoundRow, IsAfter, IsFirst, RowAnswers}
 use Rattle.csi_node.specs.Record.{parts, parts_of, id_at, IsAt, IsCurrent, IsCurrentRow, IsGapFor, IsSound, Shows}
 use Rattle.csi_node.specs.State.{NodeState, volume_of}
 use Rattle.csi_node.specs.Step.{Answers, Gives}
@@ -120,17 +120,32 @@ current-there r number call id rows place row new is at current ok err =
     (kept_current r number call (shown row) (shown new) _ ok err (there-each (IsCurrentRow number.session) rows id place row is at current)) current)
 
 -- the rules once a new row stands in the gap of its id
-pub rules-first : (id : ℕ) (rows : List NodeRow) (place : ℕ) (new : NodeRow) → IsSound (parts rows) → IsGapFor (parts rows) id place → length rows < 4096 → IsSoundRow (shown new) → new.id ≡ id
+rules-first : (id : ℕ) (rows : List NodeRow) (place : ℕ) (new : NodeRow) → IsSound (parts rows) → IsGapFor (parts rows) id place → length rows < 4096 → IsSoundRow (shown new) → new.id ≡ id
     → IsSound (parts (insert rows place new))
 rules-first id rows place new rules gap few own same =
     subst IsSound (sym (insert-put rows id place new gap same)) (rules-put (parts rows) (shown new) rules own (λ none. let many = length-map rows shown in omega (arith, many, few)))
 
 -- and its session
-pub current-first : (number : Number) (call : Call) (id : ℕ) (before : RowShown) (rows : List NodeRow) (place : ℕ) (new : NodeRow) → IsGapFor (parts rows) id place → IsCurrent number.session (parts rows)
+current-first : (number : Number) (call : Call) (id : ℕ) (before : RowShown) (rows : List NodeRow) (place : ℕ) (new : NodeRow) → IsGapFor (parts rows) id place → IsCurrent number.session (parts rows)
     → IsAfter number call before (shown new) → new.id ≡ id → IsCurrent number.session (parts (insert rows place new))
 current-first number call id before rows place new gap current after own =
     subst (IsCurrent number.session) (sym (insert-put rows id place new gap own))
     (put-all (IsCurrentRow number.session) (shown new) (parts rows) (own-current number (shown new) (ap (λ (k : Kept). k.number) after.kept)) current)
+
+-- the rules of the rows where a volume's first call was answered, or ended in an error
+pub rules-answered : {E : Type 0} (r : Result Answer E) (number : Number) (call : Call) (id place : ℕ) (old new : List NodeRow) → IsSound (parts old) → IsGapFor (parts old) id place → length old < 4096
+    → IfOk r (IsFirst number call id place old new) → OnErr r (new ≡ old) → IsSound (parts new)
+rules-answered (Ok answer) number call id place old new rules gap few first err =
+    subst (λ (rows : List NodeRow). IsSound (parts rows)) (sym first.rows) (rules-first id old place first.row rules gap few first.rules first.after.id)
+rules-answered (Err fault) number call id place old new rules gap few first err = subst (λ (rows : List NodeRow). IsSound (parts rows)) (sym err) rules
+
+-- and of their sessions
+pub current-answered : {E : Type 0} (r : Result Answer E) (number : Number) (call : Call) (id place : ℕ) (old new : List NodeRow) → IsGapFor (parts old) id place → IsCurrent number.session (parts old)
+    → IfOk r (IsFirst number call id place old new) → OnErr r (new ≡ old) → IsCurrent number.session (parts new)
+current-answered (Ok answer) number call id place old new gap current first err =
+    subst (λ (rows : List NodeRow). IsCurrent number.session (parts rows)) (sym first.rows)
+    (current-first number call id (row_anew id number (kind_of call)) old place first.row gap current first.after first.after.id)
+current-answered (Err fault) number call id place old new gap current first err = subst (λ (rows : List NodeRow). IsCurrent number.session (parts rows)) (sym err) current
 
 module _ (node : List ℕ) (number : Number) (call : Call) (id : ℕ) (v : volume_of call ≡ Some id) where
   -- what rows give that show a state, a record of them gives

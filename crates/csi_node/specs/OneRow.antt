@@ -1,5 +1,6 @@
 -- A row of a node's record by its parts, and what it shows of the state by itself. This profile's own.
 use Rattle.std.specs.Prelude.{◌≡◌, ℕ, ◌<◌, ◌≤◌, List, [], ◌∷◌, ◌++◌, map, filter, find, length, true, not, ◌&&◌, if◌then◌else◌, Option, Some, None, codes}
+use Rattle.std.specs.List.{insert}
 use Rattle.csi_types.specs.declared.capability.Capability.{Capability}
 use Rattle.csi_types.specs.declared.call.Call.{Call}
 use Rattle.csi_types.specs.declared.call.Call.TheVariants as calls
@@ -156,6 +157,14 @@ row_anew id number kind = record { id = id; staged = None; targets = []; kept = 
 -- what the table answers to a call of the row's volume, in which row it is kept then
 abbrev pub table_answer : RowShown → Call → Answer
 table_answer row call = record { kind = kind_of call; reply = (lifecycle_row (alone row) call).reply; row = Some row.id }
+
+-- the first call of a volume was answered so, and its row was put in this place
+pub record IsFirst (number : Number) (call : Call) (id place : ℕ) (old new : List NodeRow) (answer : Answer) : Type 0 where
+  pub row : NodeRow
+  pub rows : new ≡ insert old place row
+  pub answered : answer ≡ table_answer (row_anew id number (kind_of call)) call
+  pub after : IsAfter number call (row_anew id number (kind_of call)) (shown row)
+  pub rules : IsSoundRow (shown row)
 
 -- what a row answers to a call by the fence's verdict, and what it is then
 abbrev pub RowAnswers : Number → Call → RowShown → RowShown → Answer → Verdict → Type 0

@@ -1,12 +1,10 @@
 -- The rules of one row of a node's record, as tests. This profile's own.
 use Rattle.std.specs.Prelude.{ℕ, ◌==◌, List, [], ◌∷◌, length, Option, Some, None, is_some, Bool, true, not, ◌&&◌, ◌||◌, nat_le}
-use Rattle.std.specs.List.{list_all, list_any}
 use Rattle.csi_types.specs.declared.capability.Capability.{Capability}
 use Rattle.csi_types.specs.Call.{is_node_kind}
-use Rattle.csi_types.specs.Same.{same_text}
 use Rattle.csi_types.specs.Sharing.{allows_one_target}
 use Rattle.csi_node.specs.declared.row.NodeTarget.{NodeTarget}
-use Rattle.csi_node.specs.OneRow.{RowShown}
+use Rattle.csi_node.specs.OneRow.{RowShown, target_among}
 use Rattle.csi_node.specs.Table.{begins_with_slash}
 
 -- the kept reply is one that a node gives
@@ -18,23 +16,14 @@ abbrev pub fits_mode : Option Capability → ℕ → Bool
 fits_mode None count = count == 0
 fits_mode (Some capability) count = not (allows_one_target capability.mode) || nat_le count 1
 
--- the target is one of these
-abbrev pub has_target : List ℕ → List NodeTarget → Bool
-has_target target targets = list_any (λ there. same_text there.target target) targets
-
--- no two are the same
-abbrev pub are_distinct : List NodeTarget → Bool
-are_distinct [] = true
-are_distinct (there ∷ later) = not (has_target there.target later) && are_distinct later
-
--- each is a path from the root
-abbrev pub are_absolute : List NodeTarget → Bool
-are_absolute targets = list_all (λ there. begins_with_slash there.target) targets
+-- each is a path from the root, and there once
+abbrev pub are_fit : List NodeTarget → Bool
+are_fit [] = true
+are_fit (there ∷ later) = begins_with_slash there.target && not (is_some (target_among later there.target)) && are_fit later
 
 -- at most 16 targets, as many as the mode allows and none where the volume isn't staged, paths from the root, each there once
 abbrev pub has_fit_targets : RowShown → Bool
-has_fit_targets row =
-    nat_le (length row.targets) 16 && fits_mode row.staged (length row.targets) && are_absolute row.targets && are_distinct row.targets
+has_fit_targets row = nat_le (length row.targets) 16 && fits_mode row.staged (length row.targets) && are_fit row.targets
 
 -- all of them
 abbrev pub is_sound_row : RowShown → Bool

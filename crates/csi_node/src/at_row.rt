@@ -1,11 +1,11 @@
 //! What a row of a node answers to the calls of its volume.
-ghost use Rattle.std.specs.Prelude.{◌≡◌, true, Some, None, IfOk, OnOk, OnErr};
+ghost use Rattle.std.specs.Prelude.{◌≡◌, ◌≤◌, length, true, Some, None, IfOk, OnOk, OnErr};
 ghost use Rattle.csi_types.specs.Call.{kind_of, is_node_kind};
 ghost use Rattle.csi_fence.specs.Fence.{verdict_of};
 ghost use Rattle.csi_types.specs.Lent.{lent_call};
 ghost use Rattle.csi_types.specs.Replies.{plain_reply};
 ghost use Rattle.csi_node.specs.State.{volume_of};
-ghost use Rattle.csi_node.specs.OneRow.{shown, row_anew, table_answer, IsSoundRow, IsAfter, IsNodeAnswer, RowAnswers};
+ghost use Rattle.csi_node.specs.OneRow.{shown, row_anew, table_answer, IsSoundRow, IsAfter, IsFirst, IsNodeAnswer, RowAnswers};
 
 use crate::changes::change_where;
 use crate::line::Line;
@@ -61,23 +61,26 @@ fn new_row(alloc: Global, id: VolumeId, number: Number, kind: Kind) -> Result<No
     })
 }
 
-/// Answers the first call of a volume, and gives its row and the answer.
+/// Answers the first call of a volume, and puts its row in this place. An `Err` changes nothing.
 pub(crate) fn answer_with_new_row(
+    rows: &mut Vec<NodeRow>,
+    place: usize,
     alloc: Global,
-    id: VolumeId,
     number: Number,
+    id: VolumeId,
     call: &CallRef<'_>,
-) -> Result<(NodeRow, Answer), CoreFault>
+) -> Result<Answer, CoreFault>
     requires volume { volume_of (lent_call call.now) ≡ Some id }
     requires kind { is_node_kind (kind_of (lent_call call.now)) ≡ true }
-    ensures answer { IfOk result (λ made. made.1 ≡ table_answer (row_anew id number (kind_of (lent_call call.now))) (lent_call call.now)) }
-    ensures fits { IfOk result (λ made. IsNodeAnswer made.1) }
-    ensures row { IfOk result (λ made. IsAfter number (lent_call call.now) (row_anew id number (kind_of (lent_call call.now))) (shown made.0)) }
-    ensures rules { IfOk result (λ made. IsSoundRow (shown made.0)) }
+    requires place { place ≤ length rows.old.items }
+    ensures first { IfOk result (IsFirst number (lent_call call.now) id place rows.old.items rows.new.items) }
+    ensures fits { IfOk result IsNodeAnswer }
+    ensures err { OnErr result (rows.new.items ≡ rows.old.items) }
 {
     let mut row = new_row(alloc, id, number, call.kind())?;
     let answer = carry_out(&mut row, alloc, number, call)?;
-    Ok((row, answer))
+    rows.insert(place, row)?;
+    Ok(answer)
 }
 
 /// A refusal that changes nothing.

@@ -43,18 +43,19 @@ fn begin_with_row(
     Ok(answer)
 }
 
-// Whether all are of staged volumes.
-fn are_staged(rows: &[NodeRow]) -> bool
-    ensures { result ≡ list_all (λ row. is_some row.staged) rows.now }
-{
-    rows.iter().all(|row| row.staged.is_some())
-}
-
 // Whether there is no room for a row, and no row would be forgotten.
 fn is_full(rows: &[NodeRow]) -> bool
     ensures { result ≡ (nat_le 4096 (length rows.now) && list_all (λ row. is_some row.staged) rows.now) }
 {
-    rows.len() >= MAX_ROWS && are_staged(rows)
+    if rows.len() < MAX_ROWS {
+        return false;
+    }
+    for row in rows {
+        if row.staged.is_none() {
+            return false;
+        }
+    }
+    true
 }
 
 // Answers a call of a volume that has no row; its row would have this place. For a moment there may be one row more than a node has. An
@@ -81,8 +82,7 @@ fn begin_without_row(
     if is_full(rows) {
         return refusal(alloc, call.kind(), Status::ResourceExhausted, "rows");
     }
-    let (row, answer) = answer_with_new_row(alloc, id, number, call)?;
-    rows.insert(place, row)?;
+    let answer = answer_with_new_row(rows, place, alloc, number, id, call)?;
     forget(rows, number.session);
     Ok(answer)
 }

@@ -5,10 +5,8 @@
 mod at_row;
 mod beginning;
 mod changes;
-mod copies;
 mod empty;
 mod entries;
-mod finding;
 mod forgetting;
 mod judging;
 mod laws;

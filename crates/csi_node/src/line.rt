@@ -33,11 +33,13 @@ impl Line<'_> {
             Line::Refused(status, detail) => (*status, *detail),
             Line::Met | Line::Done => (Status::Ok, ""),
         };
-        let detail = Detail::try_new(alloc, detail).map_err(|_| CoreFault::NoMemory)?;
-        Ok(Reply {
-            status,
-            id: None,
-            detail,
-        })
+        match Detail::try_new(alloc, detail) {
+            Ok(detail) => Ok(Reply {
+                status,
+                id: None,
+                detail,
+            }),
+            Err(_) => Err(CoreFault::NoMemory),
+        }
     }
 }

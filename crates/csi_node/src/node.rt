@@ -10,6 +10,7 @@ use crate::empty::empty_in;
 use crate::entries::{Published, Staged};
 use crate::record::NodeRecord;
 use crate::row::NodeRow;
+use crate::step::place_of;
 use crate::views::{published_in, staged_in};
 use csi_fence::{Answer, CoreFault};
 use csi_types::{Body, CallRef, Frame, NodeId, Number, Party, VolumeId};
@@ -79,7 +80,11 @@ impl Node {
     {
         Node {
             alloc,
-            record: NodeRecord::empty(alloc, id),
+            record: NodeRecord {
+                id,
+                session: 0,
+                rows: Vec::new(alloc),
+            },
         }
     }
 
@@ -120,7 +125,6 @@ impl Node {
         if !is_same_node(id, self.record.id()) {
             return Ok(None);
         }
-        let node = self.record.id().clone()?;
         let number = frame.number();
         let call = call.lend();
         let id = match &call {
@@ -131,6 +135,7 @@ impl Node {
             // No frame to a node has another call.
             _ => return Ok(None),
         };
+        let node = self.record.id().clone()?;
         let answer = self.record.answer(self.alloc, number, id, &call)?;
         Ok(Some(frame_of(node, number, answer)))
     }
@@ -184,7 +189,13 @@ impl Node {
         ensures rows { IfOk result (λ copy. parts copy.rows ≡ parts self.now.rows) }
         ensures shows { (state : NodeState) → Shows self.now state → IfOk result (λ copy. Shows copy state) }
     {
-        self.record.copy(self.alloc)
+        let id = self.record.id().clone()?;
+        let rows = Vec::from_clones(self.alloc, self.record.rows())?;
+        Ok(NodeRecord {
+            id,
+            session: self.record.session(),
+            rows,
+        })
     }
 
     /// The node that has this record: it shows what the record shows. It takes no memory.
@@ -203,7 +214,10 @@ impl Node {
         ensures shows { (state : NodeState) → Shows self.now state →
             IfOk result (λ row. option_map answered_of_row row ≡ row_with_id id state) }
     {
-        self.record.row(id)
+        match self.row_with_id(id) {
+            Some(row) => Ok(Some(row.clone()?)),
+            None => Ok(None),
+        }
     }
 
     /// The row of a volume, if the node has one, as it is kept: it keeps the rules of a row. It takes no memory.
@@ -211,7 +225,11 @@ impl Node {
         ensures row { option_map shown (option_copied result) ≡ row_by_id id (parts self.now.rows) }
         ensures rules { IfSome (option_copied result) (λ row. IsSoundRow (shown row)) }
     {
-        self.record.row_with_id(id)
+        let rows = self.record.rows();
+        match place_of(rows, id) {
+            Ok(place) => Some(&rows[place]),
+            Err(_) => None,
+        }
     }
 
     /// The greatest session of which a call came, 0 before any did. It takes no memory.

@@ -1,11 +1,8 @@
 //! A node's record as a value.
-ghost use Rattle.std.specs.Prelude.{◌≡◌, true, Some, None, [], IfOk, IfErr, IsOk, OnOk, OnErr, IfSome, option_map};
-ghost use Rattle.std.specs.Option.{option_copied};
+ghost use Rattle.std.specs.Prelude.{◌≡◌, true, Some, None, IfOk, IfErr, IsOk, OnOk, OnErr};
 
 use crate::at_row::refusal;
 use crate::beginning::begin;
-use crate::copies::{copies_of, copy_in};
-use crate::finding::row_with_id;
 use crate::forgetting::forget;
 use crate::judging::{first_refused, latest_session};
 use crate::row::NodeRow;
@@ -21,11 +18,20 @@ use std::marker::Model;
 /// in a mode that allows one target there is at most one; the kept reply is one to a node's call; and that call is of no later
 /// session than the greatest that came, and of that one where the volume isn't staged. A contract sees it as the id's text,
 /// the session and the rows.
-#[derive(Drop)]
 pub struct NodeRecord {
     pub(crate) id: NodeId,
     pub(crate) session: u64,
     pub(crate) rows: Vec<NodeRow>,
+}
+
+impl Drop for NodeRecord {
+    fn drop(self) {
+        let NodeRecord {
+            id: _,
+            session: _,
+            rows: _,
+        } = self;
+    }
 }
 
 impl Model for NodeRecord {
@@ -41,11 +47,9 @@ impl Model for NodeRecord {
 impl NodeRecord {
     ghost use Rattle.csi_types.specs.Call.{kind_of, is_node_kind};
     ghost use Rattle.csi_types.specs.Lent.{lent_call};
-    ghost use Rattle.csi_node.specs.Changes.{row_by_id};
     ghost use Rattle.csi_node.specs.Judging.{IsRecordRefusal};
     ghost use Rattle.csi_node.specs.Record.{parts, IsSound, IsCurrent};
-    ghost use Rattle.csi_node.specs.Shown.{row_in};
-    ghost use Rattle.csi_node.specs.OneRow.{shown, IsSoundRow, IsNodeAnswer};
+    ghost use Rattle.csi_node.specs.OneRow.{IsNodeAnswer};
     ghost use Rattle.csi_node.specs.State.{volume_of};
     ghost use Rattle.csi_node.specs.Step.{Answers};
     ghost use Rattle.csi_node.specs.WithoutSession.{without_session as kept_without_session};
@@ -113,17 +117,6 @@ impl NodeRecord {
         self.rows.as_slice()
     }
 
-    /// A record without rows.
-    pub(crate) fn empty(alloc: Global, id: NodeId) -> NodeRecord
-        ensures { result ≡ record { id = id; session = 0; rows = [] } }
-    {
-        NodeRecord {
-            id,
-            session: 0,
-            rows: Vec::new(alloc),
-        }
-    }
-
     /// Answers a call of this volume, behind the fence: one of an earlier session than the greatest that came is stale, whatever its
     /// row says, and one of a later session begins it. An `Err` changes nothing.
     pub(crate) fn answer(
@@ -151,36 +144,5 @@ impl NodeRecord {
             return Ok(answer);
         }
         answer(&mut self.rows, alloc, number, id, call)
-    }
-
-    /// A copy of the record.
-    pub(crate) fn copy(&self, alloc: Global) -> Result<NodeRecord, CoreFault>
-        ensures id { IfOk result (λ copy. copy.id ≡ self.now.id) }
-        ensures session { IfOk result (λ copy. copy.session ≡ self.now.session) }
-        ensures rows { IfOk result (λ copy. parts copy.rows ≡ parts self.now.rows) }
-    {
-        let id = self.id.clone()?;
-        let rows = copies_of(alloc, self.rows.as_slice())?;
-        Ok(NodeRecord {
-            id,
-            session: self.session,
-            rows,
-        })
-    }
-
-    /// The row of this volume, if it has one.
-    pub(crate) fn row_with_id(&self, id: VolumeId) -> Option<&NodeRow>
-        ensures row { option_map shown (option_copied result) ≡ row_by_id id (parts self.now.rows) }
-        ensures rules { IfSome (option_copied result) (λ row. IsSoundRow (shown row)) }
-    {
-        row_with_id(self.rows.as_slice(), id)
-    }
-
-    /// A copy of the row of this volume, if it has one. Without one it takes no memory.
-    pub(crate) fn row(&self, id: VolumeId) -> Result<Option<NodeRow>, CoreFault>
-        ensures row { IfOk result (λ row. option_map shown row ≡ option_map shown (row_in id self.now.rows)) }
-        ensures succeeds { row_in id self.now.rows ≡ None → IsOk result }
-    {
-        copy_in(self.rows.as_slice(), id)
     }
 }

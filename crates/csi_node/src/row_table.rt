@@ -5,7 +5,7 @@ ghost use Rattle.csi_types.specs.Lent.{lent_capability, lent_call};
 ghost use Rattle.csi_types.specs.Sharing.{allows_one_target as allows_one};
 ghost use Rattle.csi_types.specs.declared.status.Status.TheVariants.{AlreadyExists};
 ghost use Rattle.csi_node.specs.Line.{outcome_shown, WhereDone};
-ghost use Rattle.csi_node.specs.OneRow.{shown, alone, target_in, published_by, publish_by_row, change_of, CanChange, HasRoomFor, IsNew, IsSoundRow};
+ghost use Rattle.csi_node.specs.OneRow.{shown, alone, target_among, target_in, published_by, publish_by_row, change_of, CanChange, HasRoomFor, IsNew, IsSoundRow};
 ghost use Rattle.csi_node.specs.State.{volume_of, published_at, PublishedVolume};
 ghost use Rattle.csi_node.specs.Table.{Change, Stages, Unstages, Publishes, Unpublishes, stage, unstage, refused, met, publish, publish_new, unpublish, lifecycle_row, begins_with_slash};
 
@@ -25,13 +25,16 @@ pub(crate) fn is_absolute(target: &str) -> bool
     target.as_bytes().first() == Some(&b'/')
 }
 
-// How the row's volume is published at the target, if it is.
-fn find_target<'a>(row: &'a NodeRow, target: &str) -> Option<&'a NodeTarget>
-    ensures { option_copied result ≡ target_in (shown row.now) target.now }
+/// The first of these that is this target, if one is.
+pub(crate) fn find_target<'a>(targets: &'a [NodeTarget], target: &str) -> Option<&'a NodeTarget>
+    ensures { option_copied result ≡ target_among targets.now target.now }
 {
-    row.targets
-        .iter()
-        .find(|there| there.target.as_str() == target)
+    for there in targets {
+        if there.target.as_str() == target {
+            return Some(there);
+        }
+    }
+    None
 }
 
 // NodeStageVolume.
@@ -107,7 +110,7 @@ fn publish_staged_line<'a>(
         publish_by_row (shown row.now) staged.now published (target_in (shown row.now) target.now) ≡ outcome_shown (Publishes published) result }
     ensures ready { WhereDone result (IsNew (shown row.now) staged.now target.now (lent_capability capability.now)) }
 {
-    match find_target(row, target) {
+    match find_target(row.targets.as_slice(), target) {
         Some(there) => {
             let is_same = same_way(staged.lend(), there.readonly, *capability, readonly);
             published_line(is_same)
@@ -146,7 +149,7 @@ fn unpublish_line(row: &NodeRow, target: &str) -> Line<'static>
     requires rules { IsSoundRow (shown row.now) }
     ensures { unpublish row.now.id target.now (published_at row.now.id target.now (alone (shown row.now))) ≡ outcome_shown (Unpublishes row.now.id target.now) result }
 {
-    match find_target(row, target) {
+    match find_target(row.targets.as_slice(), target) {
         None => Line::Met,
         Some(_) => Line::Done,
     }

@@ -71,9 +71,7 @@ fn answer_without_row(
     if rows.len() >= MAX_ROWS {
         return refusal(alloc, call.kind(), Status::ResourceExhausted, "rows");
     }
-    let (row, answer) = answer_with_new_row(alloc, id, number, call)?;
-    rows.insert(place, row)?;
-    Ok(answer)
+    answer_with_new_row(rows, place, alloc, number, id, call)
 }
 
 /// Answers a call of this volume, in the greatest session that came, behind the fence. An `Err` changes nothing.

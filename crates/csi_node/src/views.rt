@@ -1,10 +1,10 @@
 //! What is staged and published on a node, as lists.
-ghost use Rattle.std.specs.Prelude.{◌≡◌, ◌++◌, ◌∷◌, [], map, Some, IfOk, OnOk};
+ghost use Rattle.std.specs.Prelude.{◌≡◌, ◌++◌, map, Some, IfOk, OnOk};
 ghost use Rattle.std.specs.List.{flat_map};
 ghost use Rattle.csi_node.specs.OneRow.{shown, alone, published_so};
 ghost use Rattle.csi_node.specs.Views.{staged_shown, published_shown};
 
-use crate::entries::{Published, Staged};
+use crate::entries::{Published, Staged, published_at};
 use crate::row::{NodeRow, NodeTarget};
 use csi_fence::CoreFault;
 use csi_types::{Capability, VolumeId};
@@ -35,27 +35,6 @@ pub(crate) fn staged_in(alloc: Global, rows: &[NodeRow]) -> Result<Vec<Staged>, 
     Ok(list)
 }
 
-// Puts a volume at a target at the end.
-fn push_target(
-    list: &mut Vec<Published>,
-    id: VolumeId,
-    capability: &Capability,
-    target: &NodeTarget,
-) -> Result<(), CoreFault>
-    ensures { OnOk result (map published_shown list.new.items ≡ map published_shown list.old.items ++ published_so id capability.now target.now ∷ []) }
-{
-    let capability = capability.clone()?;
-    let readonly = target.readonly;
-    let target = target.target.clone()?;
-    list.push(Published {
-        id,
-        target,
-        capability,
-        readonly,
-    })?;
-    Ok(())
-}
-
 // Puts a volume at its targets at the end.
 fn push_targets(
     list: &mut Vec<Published>,
@@ -66,7 +45,8 @@ fn push_targets(
     ensures { OnOk result (map published_shown list.new.items ≡ map published_shown list.old.items ++ map (published_so id capability.now) targets.now) }
 {
     for target in targets {
-        push_target(list, id, capability, target)?;
+        let published = published_at(id, &target.target, capability, target.readonly)?;
+        list.push(published)?;
     }
     Ok(())
 }

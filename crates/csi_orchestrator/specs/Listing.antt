@@ -10,6 +10,8 @@ use Rattle.csi_lists.specs.Members.{IsAmong, EachTwo}
 use Rattle.csi_orchestrator.specs.declared.row.TargetEntry.{TargetEntry}
 use Rattle.csi_orchestrator.specs.declared.thing.Thing.{Thing}
 use Rattle.csi_orchestrator.specs.declared.thing.Thing.TheVariants.{Exists, Attached, Staged, Published}
+use Rattle.csi_orchestrator.specs.declared.thing.ThingRef.{ThingRef}
+use Rattle.csi_orchestrator.specs.declared.thing.ThingRef.TheVariants as lent
 use Rattle.csi_orchestrator.specs.declared.thing.Known.{Known}
 use Rattle.csi_orchestrator.specs.declared.thing.Known.TheVariants.{No}
 use Rattle.csi_orchestrator.specs.Thing.{name_in, is_no}
@@ -58,6 +60,13 @@ thing_order a b =
 -- each thing once, in this order
 abbrev pub IsInOrder : List (Thing × Known) → Type 0
 IsInOrder things = EachTwo (λ a b. thing_order a.0 b.0 ≡ Less) things
+
+-- the thing that a lent one stands for
+abbrev pub lent_thing : ThingRef → Thing
+lent_thing (lent.Exists name) = Exists name.now
+lent_thing (lent.Attached name node) = Attached name.now node.now
+lent_thing (lent.Staged name node) = Staged name.now node.now
+lent_thing (lent.Published name node target) = Published name.now node.now target.now
 
 -- what is known, row by row, before it is put in order
 abbrev pub noted : Thing → Known → List (Thing × Known)

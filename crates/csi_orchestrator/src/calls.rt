@@ -1,6 +1,5 @@
 //! The call that is due, spelled.
-ghost use Rattle.std.specs.Prelude.{◌≡◌, None, IfOk, IfErr, IsOk};
-ghost use Rattle.std.specs.Option.{option_copied};
+ghost use Rattle.std.specs.Prelude.{◌≡◌, IfOk, IfErr, IsOk};
 ghost use Rattle.csi_types.specs.declared.call.Call.TheVariants as calls;
 ghost use Rattle.csi_types.specs.declared.call.Kind.TheVariants as kinds;
 ghost use Rattle.csi_types.specs.Call.{kind_of};
@@ -97,25 +96,16 @@ fn call_of(due: &Due<'_>) -> Result<Call, AllocError>
     }
 }
 
-// The plugin at this node, or else the controller, for which it takes no memory.
-fn party_of(node: Option<&NodeId>) -> Result<Party, OrchFault>
-    ensures ok { IfOk result (λ party. party ≡ party_at (option_copied node.entry)) }
-    ensures err { IfErr result (λ fault. fault ≡ Fault.NoMemory) }
-    ensures controller { node.entry ≡ None → IsOk result }
-{
-    match node {
-        Some(node) => Ok(Party::Node(node.clone()?)),
-        None => Ok(Party::Controller),
-    }
-}
-
 /// The frame of the call under this number. For a delete it takes no memory.
 pub(crate) fn frame_of(number: Number, due: &Due<'_>) -> Result<Frame, OrchFault>
     ensures ok { IfOk result (λ frame. frame ≡ call_frame number (party_at (node_due due.now)) (call_due due.now)) }
     ensures err { IfErr result (λ fault. fault ≡ Fault.NoMemory) }
     ensures delete { kind_of (call_due due.now) ≡ kinds.DeleteVolume → IsOk result }
 {
-    let party = party_of(due.node())?;
+    let party = match due.node() {
+        Some(node) => Party::Node(node.clone()?),
+        None => Party::Controller,
+    };
     let call = call_of(due)?;
     Ok(Frame::call(number, party, call).unwrap())
 }

@@ -1,11 +1,10 @@
 //! An orchestrator's rows by name, and by the numbers of their open calls. No look-up walks them.
-ghost use Rattle.std.specs.Prelude.{◌≡◌, ℕ, ◌+◌, ◌++◌, ◌∷◌, ◌<◌, ◌≤◌, [], Option, Some, None, length, map, false, slice_get, position, option_map, OnOk, OnErr, IfOk, IfErr, IfSome};
-ghost use Rattle.std.specs.Option.{option_copied};
+ghost use Rattle.std.specs.Prelude.{◌≡◌, ℕ, ◌+◌, ◌++◌, ◌∷◌, ◌<◌, ◌≤◌, [], Option, Some, None, length, map, false, slice_get, position, OnOk, OnErr, IfOk, IfErr, IfSome};
 ghost use Rattle.indexmap.specs.IndexMap.{values, spare, index_map_len};
 ghost use Rattle.csi_lists.specs.Places.{IsAt};
 ghost use Rattle.csi_types.specs.Same.{same_text};
 ghost use Rattle.csi_orchestrator.specs.Catalog.{rows_of, by_name, place_noted, IsNoted, IsNotedWith, IsIndexed, IsNextFor, IsReady, IsClosedAt, AreUpTo, AreNotedBefore, HasFewNotes};
-ghost use Rattle.csi_orchestrator.specs.Shown.{row_shown, row_of, without_call};
+ghost use Rattle.csi_orchestrator.specs.Shown.{without_call};
 
 use crate::fault::OrchFault;
 use crate::row::Row;
@@ -16,10 +15,15 @@ use std::alloc::{AllocError, Global};
 /// The rows, each under its name, in the order of the first creates; and where the row of each open call is, by the call's
 /// number in the session. A call that isn't open any more stays noted until room is wanted, or the notes are more than twice as many
 /// as the rows: what closes it needn't look for it, and the room that a row brought for its calls stays. A restart forgets all.
-#[derive(Drop)]
 pub(crate) struct Catalog {
     pub rows: IndexMap<Name, Row>,
     pub calls: IndexMap<u64, usize>,
+}
+
+impl Drop for Catalog {
+    fn drop(self) {
+        let Catalog { rows: _, calls: _ } = self;
+    }
 }
 
 impl Catalog {
@@ -49,17 +53,6 @@ impl Catalog {
         ensures within { IfSome result (λ index. index < index_map_len self.now.rows) }
     {
         self.rows.get_index_of(name)
-    }
-
-    /// The row of this name, as it is shown.
-    pub fn named(&self, name: &Name) -> Option<&Row>
-        requires { IsIndexed self.now }
-        ensures { option_map row_shown (option_copied result) ≡ row_of (map row_shown (rows_of self.now)) name.now }
-    {
-        match self.index_of(name) {
-            Some(index) => Some(&self.rows[index]),
-            None => None,
-        }
     }
 
     /// Where the row of this call is, if the call is open. Another row may be there, or none, if it isn't.
@@ -96,14 +89,6 @@ impl Catalog {
         }
     }
 
-    // Whether no other call can be noted without memory, or more than half of the notes are of calls that aren't open any more.
-    fn is_full(&self) -> bool
-        ensures spare { result ≡ false → 0 < spare self.now.calls }
-        ensures few { result ≡ false → HasFewNotes self.now }
-    {
-        self.calls.capacity() <= self.calls.len() || self.calls.len() / 2 > self.rows.len()
-    }
-
     /// Notes a call of the row at this index. It takes no memory. Notes are renewed seldom: after one for each row, or for each that
     /// there was room for.
     pub fn note(&mut self, call: u64, index: usize)
@@ -114,29 +99,15 @@ impl Catalog {
         ensures known { (last : ℕ) → AreUpTo last self.old → last < call → AreUpTo call self.new }
     {
         self.calls.insert(call, index).unwrap();
-        if self.is_full() {
+        // Where no other call can be noted without memory, or more than half of the notes are of calls that aren't open any more.
+        let count = self.calls.len();
+        if self.calls.capacity() <= count || count / 2 > self.rows.len() {
             self.renew();
         }
     }
 
     // Makes room for the call of one more row, and for half as many more calls as there are rows, so that notes are renewed seldom:
-    // once for that many calls that are sent. The rows stay as they are.
-    fn make_room(&mut self) -> Result<(), AllocError>
-        requires { IsIndexed self.old }
-        ensures rows { self.new.rows ≡ self.old.rows }
-        ensures indexed { IsIndexed self.new }
-        ensures room { OnOk result (length (rows_of self.old) + 2 ≤ spare self.new.calls) }
-        ensures kept { AreNotedBefore self.old self.new }
-    {
-        let rows = self.rows.len();
-        let wanted = rows + rows / 2 + 2;
-        if self.calls.capacity() - self.calls.len() < wanted {
-            self.renew();
-        }
-        self.calls.reserve(wanted)
-    }
-
-    // Makes room for the call of one more row, and copies its name. The rows stay as they are.
+    // once for that many calls that are sent; and copies the row's name. The rows stay as they are.
     fn prepare(&mut self, name: &Name) -> Result<Name, AllocError>
         requires { IsIndexed self.old }
         ensures rows { self.new.rows ≡ self.old.rows }
@@ -145,7 +116,12 @@ impl Catalog {
         ensures kept { AreNotedBefore self.old self.new }
         ensures name { IfOk result (λ copy. copy ≡ name.now) }
     {
-        self.make_room()?;
+        let rows = self.rows.len();
+        let wanted = rows + rows / 2 + 2;
+        if self.calls.capacity() - self.calls.len() < wanted {
+            self.renew();
+        }
+        self.calls.reserve(wanted)?;
         name.clone()
     }
 
@@ -171,17 +147,6 @@ impl Catalog {
         Ok(())
     }
 
-    // Gives up the open call of the row at this index, if there is one.
-    fn close_at(&mut self, index: usize)
-        ensures rows { IsClosedAt index (rows_of self.old) (rows_of self.new) }
-        ensures names { self.old.rows.entries ≡ map by_name (rows_of self.old) → self.new.rows.entries ≡ map by_name (rows_of self.new) }
-        ensures calls { self.new.calls ≡ self.old.calls }
-    {
-        if index < self.rows.len() {
-            self.rows[index].open_number = None;
-        }
-    }
-
     // Gives up the call that was noted in this turn, if it is open.
     fn close_noted(&mut self, turn: usize)
         requires { turn < index_map_len self.old.calls }
@@ -190,7 +155,9 @@ impl Catalog {
         ensures calls { self.new.calls ≡ self.old.calls }
     {
         let index = self.calls[turn];
-        self.close_at(index);
+        if index < self.rows.len() {
+            self.rows[index].open_number = None;
+        }
     }
 
     /// Gives up every open call. It costs the calls that are noted.

@@ -1,25 +1,14 @@
 //! What becomes of a row.
-ghost use Rattle.std.specs.Prelude.{◌≡◌, map, Some, None};
-ghost use Rattle.csi_orchestrator.specs.Shown.{row_shown, node_entry_shown};
-ghost use Rattle.csi_orchestrator.specs.RowChanges.{at_goal, aspect_of, marked_at, marked, sent, told_of, id_told as id_by_kind, succeeded, wanted, stopped_goal, dropped, new_row as new_row_shown};
+ghost use Rattle.std.specs.Prelude.{◌≡◌, Some, None};
+ghost use Rattle.csi_orchestrator.specs.Shown.{row_shown};
+ghost use Rattle.csi_orchestrator.specs.RowChanges.{marked, told_of, id_told as id_by_kind, succeeded, wanted, stopped_goal, dropped, new_row as new_row_shown};
 
 use crate::entries::{mark_at, tidy};
-use crate::request::Arguments;
-use crate::row::{Goal, NodeEntry, Row};
+use crate::request::{Arguments, Usage};
+use crate::row::{Goal, Row};
 use crate::thing::Known;
-use csi_types::{Kind, Name, Number, VolumeId};
+use csi_types::{Kind, Name, VolumeId};
 use std::alloc::Global;
-
-// Marks what a call of this kind does or undoes at the goal's node and target.
-fn mark_at_goal(entries: &mut Vec<NodeEntry>, goal: &Option<Goal>, kind: Kind, known: Known)
-    ensures { map node_entry_shown entries.new.items ≡ at_goal (marked_at known (aspect_of kind)) goal.now (map node_entry_shown entries.old.items) }
-{
-    match goal {
-        Some(Goal::Use(usage)) => mark_at(entries, &usage.node, &usage.target, kind, known),
-        Some(Goal::Stop { node, target }) => mark_at(entries, node, target, kind, known),
-        Some(Goal::Create | Goal::Delete) | None => {}
-    }
-}
 
 /// Marks what a call of this kind for the row's goal does or undoes.
 pub(crate) fn mark(row: &mut Row, kind: Kind, known: Known)
@@ -32,17 +21,22 @@ pub(crate) fn mark(row: &mut Row, kind: Kind, known: Known)
         | Kind::NodeStageVolume
         | Kind::NodeUnstageVolume
         | Kind::NodePublishVolume
-        | Kind::NodeUnpublishVolume => mark_at_goal(&mut row.node_entries, &row.goal, kind, known),
+        | Kind::NodeUnpublishVolume => match &row.goal {
+            Some(Goal::Use(usage)) => {
+                mark_at(
+                    &mut row.node_entries,
+                    &usage.node,
+                    &usage.target,
+                    kind,
+                    known,
+                )
+            }
+            Some(Goal::Stop { node, target }) => {
+                mark_at(&mut row.node_entries, node, target, kind, known)
+            }
+            Some(Goal::Create | Goal::Delete) | None => {}
+        },
     }
-}
-
-/// Keeps that a call of this number and kind is sent.
-pub(crate) fn note_sent(row: &mut Row, number: Number, kind: Kind)
-    ensures { row_shown row.new ≡ sent number kind (row_shown row.old) }
-{
-    mark(row, kind, Known::Maybe);
-    row.open_number = Some(number);
-    row.tries = row.tries.saturating_add(1).min(3);
 }
 
 /// What a success of a call of this kind tells.
@@ -85,22 +79,9 @@ pub(crate) fn succeed(row: &mut Row, kind: Kind, id: Option<VolumeId>)
 pub(crate) fn want(row: &mut Row, goal: Goal)
     ensures { row_shown row.new ≡ wanted goal (row_shown row.old) }
 {
-    row.goal = Some(goal);
+    drop(row.goal.replace(goal));
     row.open_number = None;
     row.tries = 0;
-}
-
-// The goal once this one is given up: a use that didn't come about is stopped.
-fn stopped(goal: Goal) -> Goal
-    ensures { result ≡ stopped_goal goal }
-{
-    match goal {
-        Goal::Use(usage) => Goal::Stop {
-            node: usage.node,
-            target: usage.target,
-        },
-        other => other,
-    }
 }
 
 /// Gives the goal up: a use is stopped. Without a goal nothing changes.
@@ -108,8 +89,13 @@ pub(crate) fn stop_use(row: &mut Row)
     ensures goal { (goal : Goal) → row.old.goal ≡ Some goal → row_shown row.new ≡ wanted (stopped_goal goal) (row_shown row.old) }
     ensures none { row.old.goal ≡ None → row_shown row.new ≡ row_shown row.old }
 {
-    if let Some(goal) = row.goal.take() {
-        want(row, stopped(goal));
+    match row.goal.take() {
+        Some(Goal::Use(usage)) => {
+            let Usage { node, target, .. } = usage;
+            want(row, Goal::Stop { node, target });
+        }
+        Some(other) => want(row, other),
+        None => {}
     }
 }
 
@@ -117,7 +103,7 @@ pub(crate) fn stop_use(row: &mut Row)
 pub(crate) fn drop_goal(row: &mut Row)
     ensures { row_shown row.new ≡ dropped (row_shown row.old) }
 {
-    row.goal = None;
+    drop(row.goal.take());
     row.open_number = None;
     row.tries = 0;
     tidy(&mut row.node_entries);

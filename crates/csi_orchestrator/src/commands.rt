@@ -19,7 +19,7 @@ use crate::fault::OrchFault;
 use crate::next_call::due_now;
 use crate::request::Arguments;
 use crate::row::Row;
-use crate::sending::{Outgoing, note_sent_or_drop, outgoing_for};
+use crate::sending::{Outgoing, discard, note_sent_or_drop, outgoing_for};
 use crate::state::OrchestratorCore;
 use crate::step::{Step, take};
 use csi_types::{Frame, Name};
@@ -78,7 +78,10 @@ impl OrchestratorCore {
     {
         match self.catalog.index_of(name) {
             Some(index) => self.step(index, step),
-            None => Err(OrchFault::NoSuchVolume),
+            None => {
+                drop(step);
+                Err(OrchFault::NoSuchVolume)
+            }
         }
     }
 
@@ -116,7 +119,7 @@ impl OrchestratorCore {
         match self.catalog.add(row) {
             Ok(()) => Ok(self.issue(index, next)),
             Err(fault) => {
-                drop(next);
+                discard(next);
                 Err(fault)
             }
         }

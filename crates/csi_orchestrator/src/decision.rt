@@ -1,6 +1,6 @@
 //! What a step comes to by the row of its volume, before anything changes, and why the first create of a name is refused: the
 //! first reason that holds.
-ghost use Rattle.std.specs.Prelude.{◌≡◌, ◌||◌, length, map, nat_le, is_none, Some};
+ghost use Rattle.std.specs.Prelude.{◌≡◌, ◌||◌, map, is_none, Some};
 ghost use Rattle.csi_orchestrator.specs.Commands.{next_number as number_after};
 ghost use Rattle.csi_orchestrator.specs.Decisions.{refused_or, decided_then, decided, decided_at, is_used_at};
 ghost use Rattle.csi_orchestrator.specs.Shown.{row_shown, node_entry_shown};
@@ -44,13 +44,6 @@ fn is_used_up(last: Number) -> bool
     next_number(last).is_none()
 }
 
-// Whether there is no room for another row.
-fn is_full(rows: &[Row]) -> bool
-    ensures { result ≡ nat_le 4096 (length rows.now) }
-{
-    rows.len() >= MAX_ROWS
-}
-
 /// Why the first create of a name is refused.
 pub(crate) fn first_fault(rows: &[Row], last: Number) -> Option<OrchFault>
     ensures { result ≡ first_refusal last (map row_shown rows.now) }
@@ -58,7 +51,7 @@ pub(crate) fn first_fault(rows: &[Row], last: Number) -> Option<OrchFault>
     if is_used_up(last) {
         return Some(OrchFault::NumbersSpent);
     }
-    if is_full(rows) {
+    if rows.len() >= MAX_ROWS {
         return Some(OrchFault::Full);
     }
     None

@@ -1,8 +1,8 @@
 //! The entries of a row: where they stand, and how they are marked, tidied and added.
-ghost use Rattle.std.specs.Prelude.{◌≡◌, map, filter, find, position, Some, None, IfOk, OnOk, OnErr};
+ghost use Rattle.std.specs.Prelude.{◌≡◌, map, find, position, Some, None, IfOk, OnOk, OnErr};
 ghost use Rattle.csi_types.specs.Same.{same_text};
 ghost use Rattle.csi_orchestrator.specs.Shown.{node_entry_shown};
-ghost use Rattle.csi_orchestrator.specs.RowChanges.{aspect_of, node_marked, marked_at, target_marked, is_target_kept as is_kept_target, is_node_kept as is_kept_shown, with_kept_targets, tidied, with_target, entry_for, new_target_entry as new_target_entry_shown};
+ghost use Rattle.csi_orchestrator.specs.RowChanges.{aspect_of, node_marked, marked_at, target_marked, is_target_kept as is_kept_target, is_node_kept as is_kept_shown, with_kept_targets, tidied, with_target, entry_for};
 ghost use Rattle.csi_orchestrator.specs.Keyed.{put_by};
 
 use crate::request::Usage;
@@ -15,16 +15,24 @@ use std::alloc::Global;
 pub(crate) fn node_index(entries: &[NodeEntry], node: &NodeId) -> Option<usize>
     ensures { result ≡ position (λ entry. same_text entry.node node.now) entries.now }
 {
-    entries.iter().position(|entry| entry.node == *node)
+    for (index, entry) in entries.iter().enumerate() {
+        if entry.node == *node {
+            return Some(index);
+        }
+    }
+    None
 }
 
 /// Where the entry of this target stands.
 pub(crate) fn target_index(target_entries: &[TargetEntry], target: &Target) -> Option<usize>
     ensures { result ≡ position (λ target_entry. same_text target_entry.target target.now) target_entries.now }
 {
-    target_entries
-        .iter()
-        .position(|target_entry| target_entry.target == *target)
+    for (index, target_entry) in target_entries.iter().enumerate() {
+        if target_entry.target == *target {
+            return Some(index);
+        }
+    }
+    None
 }
 
 // Marks whether it is published at the target, if the target has an entry.
@@ -72,22 +80,6 @@ fn is_target_kept(target_entry: &TargetEntry) -> bool
     !target_entry.published.is_no()
 }
 
-// Keeps the targets at which the volume may be published.
-fn keep_targets(target_entries: &mut Vec<TargetEntry>)
-    ensures { target_entries.new.items ≡ filter is_kept_target target_entries.old.items }
-{
-    target_entries.retain(is_target_kept);
-}
-
-// The same, at every node.
-fn keep_targets_of_all(entries: &mut Vec<NodeEntry>)
-    ensures { map node_entry_shown entries.new.items ≡ map with_kept_targets (map node_entry_shown entries.old.items) }
-{
-    for entry in entries.iter_mut() {
-        keep_targets(&mut entry.target_entries);
-    }
-}
-
 // Whether the volume may be attached, staged or published at the node.
 fn is_node_kept(entry: &NodeEntry) -> bool
     ensures { result ≡ is_kept_shown (node_entry_shown entry.now) }
@@ -95,30 +87,21 @@ fn is_node_kept(entry: &NodeEntry) -> bool
     !(entry.attached.is_no() && entry.staged.is_no() && entry.target_entries.is_empty())
 }
 
-// Keeps the nodes at which something may be so.
-fn keep_nodes(entries: &mut Vec<NodeEntry>)
-    ensures { entries.new.items ≡ filter (λ entry. is_kept_shown (node_entry_shown entry)) entries.old.items }
+// Keeps the targets at which the volume may be published, at every node.
+fn keep_targets(entries: &mut Vec<NodeEntry>)
+    ensures { map node_entry_shown entries.new.items ≡ map with_kept_targets (map node_entry_shown entries.old.items) }
 {
-    entries.retain(is_node_kept);
+    for entry in entries.iter_mut() {
+        entry.target_entries.retain(is_target_kept);
+    }
 }
 
 /// Keeps the entries of which something may be so.
 pub(crate) fn tidy(entries: &mut Vec<NodeEntry>)
     ensures { map node_entry_shown entries.new.items ≡ tidied (map node_entry_shown entries.old.items) }
 {
-    keep_targets_of_all(entries);
-    keep_nodes(entries);
-}
-
-// An entry of a target, at which nothing is published.
-fn new_target_entry(target: &Target) -> Result<TargetEntry, NoMemory>
-    ensures { IfOk result (λ target_entry. target_entry ≡ new_target_entry_shown target.now) }
-{
-    let target = target.clone()?;
-    Ok(TargetEntry {
-        target,
-        published: Known::No,
-    })
+    keep_targets(entries);
+    entries.retain(is_node_kept);
 }
 
 // Adds the target, unless it has an entry. A refusal changes nothing.
@@ -129,8 +112,11 @@ fn add_target(target_entries: &mut Vec<TargetEntry>, target: &Target) -> Result<
     if target_index(target_entries, target).is_some() {
         return Ok(());
     }
-    let target_entry = new_target_entry(target)?;
-    target_entries.push(target_entry)?;
+    let target = target.clone()?;
+    target_entries.push(TargetEntry {
+        target,
+        published: Known::No,
+    })?;
     Ok(())
 }
 
@@ -138,11 +124,10 @@ fn add_target(target_entries: &mut Vec<TargetEntry>, target: &Target) -> Result<
 fn new_node_entry(alloc: Global, usage: &Usage) -> Result<NodeEntry, NoMemory>
     ensures { IfOk result (λ entry. node_entry_shown entry ≡ entry_for usage.now None) }
 {
+    let mut target_entries = Vec::new(alloc);
+    add_target(&mut target_entries, &usage.target)?;
     let node = usage.node.clone()?;
     let capability = usage.capability.clone()?;
-    let target_entry = new_target_entry(&usage.target)?;
-    let mut target_entries = Vec::new(alloc);
-    target_entries.push(target_entry)?;
     Ok(NodeEntry {
         node,
         capability,

@@ -7,10 +7,11 @@ ghost use Rattle.csi_orchestrator.specs.RowMoves.{IsRefusal};
 ghost use Rattle.csi_orchestrator.specs.RowSteps.{outgoing_by, sent_or_dropped};
 
 use crate::calls::frame_of;
-use crate::changes::{drop_goal, note_sent};
+use crate::changes::{drop_goal, mark};
 use crate::due::{Due, next_number};
 use crate::fault::OrchFault;
 use crate::row::Row;
+use crate::thing::Known;
 use csi_types::{Frame, Kind, Number};
 
 /// A call to send: its frame, and what the row keeps of it.
@@ -45,12 +46,19 @@ pub(crate) fn outgoing_for(
     }))
 }
 
-/// Records that the call is sent. Where none is due, the goal is dropped.
+/// Drops what isn't sent after all.
+pub(crate) fn discard(_next: Option<Outgoing>) {}
+
+/// Keeps that the call is sent. Where none is due, the goal is dropped.
 pub(crate) fn note_sent_or_drop(row: &mut Row, next: &Option<Outgoing>)
     ensures { row_shown row.new ≡ sent_or_dropped next.now (row_shown row.old) }
 {
     match next {
-        Some(next) => note_sent(row, next.number, next.kind),
+        Some(next) => {
+            mark(row, next.kind, Known::Maybe);
+            row.open_number = Some(next.number);
+            row.tries = row.tries.saturating_add(1).min(3);
+        }
         None => drop_goal(row),
     }
 }

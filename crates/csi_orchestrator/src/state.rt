@@ -3,14 +3,14 @@ ghost use Rattle.std.specs.Prelude.{◌≡◌, ◌+◌, ◌<◌, ◌^◌, IfErr,
 ghost use Rattle.std.specs.Option.{option_copied};
 ghost use Rattle.csi_orchestrator.specs.declared.fault.OrchFault.{OrchFault as Fault};
 ghost use Rattle.csi_orchestrator.specs.Thing.{name_in};
-ghost use Rattle.csi_orchestrator.specs.Shown.{row_shown, node_entry_shown, row_of, node_entry_of, target_entry_of, mark_in, mark_of, published_in, without_call};
+ghost use Rattle.csi_orchestrator.specs.Shown.{row_shown, node_entry_shown, row_of, node_entry_of, mark_in, mark_of, published_in, without_call};
 ghost use Rattle.csi_orchestrator.specs.Catalog.{rows_of, IsIndexed};
 ghost use Rattle.csi_orchestrator.specs.CoreParts.{parts_of, IsFiled};
 
 use crate::catalog::Catalog;
 use crate::entries::{node_index, target_index};
 use crate::fault::OrchFault;
-use crate::row::{NodeEntry, Row, TargetEntry};
+use crate::row::{NodeEntry, Row};
 use crate::thing::{Known, Thing};
 use csi_types::{NodeId, Number, Target};
 use std::alloc::Global;
@@ -35,22 +35,12 @@ pub(crate) fn node_entry_at<'a>(row: &'a Row, node: &NodeId) -> Option<&'a NodeE
     }
 }
 
-// What a node's entry has of this target.
-fn target_entry_at<'a>(entry: &'a NodeEntry, target: &Target) -> Option<&'a TargetEntry>
-    ensures { option_copied result ≡ target_entry_of (node_entry_shown entry.now) target.now }
-{
-    match target_index(&entry.target_entries, target) {
-        Some(index) => Some(&entry.target_entries[index]),
-        None => None,
-    }
-}
-
 // What is known of the volume's publication at the target.
 pub(crate) fn published_at(entry: &NodeEntry, target: &Target) -> Known
     ensures { result ≡ published_in target.now (node_entry_shown entry.now) }
 {
-    match target_entry_at(entry, target) {
-        Some(target_entry) => target_entry.published,
+    match target_index(&entry.target_entries, target) {
+        Some(index) => entry.target_entries[index].published,
         None => Known::No,
     }
 }
@@ -81,8 +71,8 @@ pub(crate) fn known_in(catalog: &Catalog, thing: &Thing) -> Known
     requires { IsIndexed catalog.now }
     ensures { result ≡ mark_in (mark_of thing.now) (row_of (map row_shown (rows_of catalog.now)) (name_in thing.now)) }
 {
-    match catalog.named(thing.name()) {
-        Some(row) => known_at(row, thing),
+    match catalog.index_of(thing.name()) {
+        Some(index) => known_at(&catalog.rows[index], thing),
         None => Known::No,
     }
 }

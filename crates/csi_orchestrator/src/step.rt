@@ -12,7 +12,7 @@ use crate::fault::OrchFault;
 use crate::next_call::{due_then, is_given_up};
 use crate::request::{Arguments, Usage};
 use crate::row::{Goal, Row};
-use crate::sending::{Outgoing, note_sent_or_drop, outgoing_for};
+use crate::sending::{Outgoing, discard, note_sent_or_drop, outgoing_for};
 use csi_types::{Kind, NodeId, Number, Target, VolumeId};
 use std::alloc::Global;
 
@@ -52,7 +52,7 @@ fn fail(row: &mut Row)
 {
     match &row.goal {
         Some(goal) => match goal {
-            Goal::Create => row.goal = None,
+            Goal::Create => drop(row.goal.take()),
             Goal::Use(_) => stop_use(row),
             Goal::Stop { .. } | Goal::Delete => row.open_number = None,
         },
@@ -99,9 +99,15 @@ fn send_due(
     ensures quiet { needs_entry step ≡ false → SendsNothing (row_sends_due last (changed step (row_shown row.old))) → IsOk result }
     ensures delete { step ≡ Step.Delete → IfErr result (λ fault. fault ≡ OrchFault.NoMemory → ⊥) }
 {
-    let next = outgoing_for(last, &due_then(row, &step))?;
+    let next = match outgoing_for(last, &due_then(row, &step)) {
+        Ok(next) => next,
+        Err(fault) => {
+            drop(step);
+            return Err(fault);
+        }
+    };
     if let Err(fault) = change(alloc, row, step) {
-        drop(next);
+        discard(next);
         return Err(fault);
     }
     note_sent_or_drop(row, &next);

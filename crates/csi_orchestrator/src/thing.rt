@@ -1,6 +1,7 @@
 //! What an orchestrator does and undoes.
 ghost use Rattle.std.specs.Prelude.{◌≡◌, IfOk};
 ghost use Rattle.csi_orchestrator.specs.declared.thing.Thing.TheVariants as things;
+ghost use Rattle.csi_orchestrator.specs.Listing.{lent_thing};
 ghost use Rattle.csi_orchestrator.specs.Thing.{name_in, is_yes, is_no};
 
 use csi_types::{Name, NodeId, Target};
@@ -29,6 +30,27 @@ pub enum Thing {
         name: Name,
         node: NodeId,
         target: Target,
+    },
+}
+
+/// A thing, lent.
+#[derive(Clone, Copy)]
+pub(crate) enum ThingRef<'a> {
+    Exists {
+        name: &'a Name,
+    },
+    Attached {
+        name: &'a Name,
+        node: &'a NodeId,
+    },
+    Staged {
+        name: &'a Name,
+        node: &'a NodeId,
+    },
+    Published {
+        name: &'a Name,
+        node: &'a NodeId,
+        target: &'a Target,
     },
 }
 
@@ -86,16 +108,30 @@ impl Clone for Thing {
     }
 }
 
-/// That the volume is made.
-pub(crate) fn exists(name: &Name) -> Result<Thing, AllocError>
+impl ThingRef<'_> {
+    /// The thing with texts of its own.
+    pub(crate) fn to_thing(self) -> Result<Thing, AllocError>
+        ensures { IfOk result (λ thing. thing ≡ lent_thing self.entry) }
+    {
+        match self {
+            ThingRef::Exists { name } => exists(name),
+            ThingRef::Attached { name, node } => attached(name, node),
+            ThingRef::Staged { name, node } => staged(name, node),
+            ThingRef::Published { name, node, target } => published(name, node, target),
+        }
+    }
+}
+
+// That the volume is made.
+fn exists(name: &Name) -> Result<Thing, AllocError>
     ensures { IfOk result (λ thing. thing ≡ things.Exists name.now) }
 {
     let name = name.clone()?;
     Ok(Thing::Exists { name })
 }
 
-/// That it is attached to the node.
-pub(crate) fn attached(name: &Name, node: &NodeId) -> Result<Thing, AllocError>
+// That it is attached to the node.
+fn attached(name: &Name, node: &NodeId) -> Result<Thing, AllocError>
     ensures { IfOk result (λ thing. thing ≡ things.Attached name.now node.now) }
 {
     let name = name.clone()?;
@@ -103,8 +139,8 @@ pub(crate) fn attached(name: &Name, node: &NodeId) -> Result<Thing, AllocError>
     Ok(Thing::Attached { name, node })
 }
 
-/// That it is staged there.
-pub(crate) fn staged(name: &Name, node: &NodeId) -> Result<Thing, AllocError>
+// That it is staged there.
+fn staged(name: &Name, node: &NodeId) -> Result<Thing, AllocError>
     ensures { IfOk result (λ thing. thing ≡ things.Staged name.now node.now) }
 {
     let name = name.clone()?;
@@ -112,8 +148,8 @@ pub(crate) fn staged(name: &Name, node: &NodeId) -> Result<Thing, AllocError>
     Ok(Thing::Staged { name, node })
 }
 
-/// That it is published at the target there.
-pub(crate) fn published(name: &Name, node: &NodeId, target: &Target) -> Result<Thing, AllocError>
+// That it is published at the target there.
+fn published(name: &Name, node: &NodeId, target: &Target) -> Result<Thing, AllocError>
     ensures { IfOk result (λ thing. thing ≡ things.Published name.now node.now target.now) }
 {
     let name = name.clone()?;

@@ -173,14 +173,10 @@ class_of lasting.Attached = codes "attached"
 class_of lasting.Staged = codes "staged"
 class_of lasting.Published = codes "published"
 
--- a column is twice ten units wide
-unfoldable pub bar_front : List ℕ → ℕ → ℕ → List ℕ
-bar_front class lane from = pieces (codes "<path class='" ∷ class ∷ codes "' d='M" ∷ decimal lane ∷ codes "036 " ∷ decimal from ∷ codes "20m" ∷ [])
-
--- a bar's column, and the row down to which it goes
-unfoldable pub bar_way : ℕ → ℕ → List ℕ
-bar_way column to = pieces (decimal column ∷ codes "0 0m" ∷ decimal column ∷ codes "0 0V" ∷ decimal to ∷ codes "20'/>\n" ∷ [])
+-- a bar of this class, in its lane and from its row on, in a column, which is twice ten units wide, down to a row
+unfoldable pub bar_of_class : List ℕ → ℕ → ℕ → ℕ → ℕ → List ℕ
+bar_of_class class lane from column to = pieces (codes "<path class='" ∷ class ∷ codes "' d='M" ∷ decimal lane ∷ codes "036 " ∷ decimal from ∷ codes "20m" ∷ decimal column ∷ codes "0 0m" ∷ decimal column ∷ codes "0 0V" ∷ decimal to ∷ codes "20'/>\n" ∷ [])
 
 -- a bar
 abbrev pub bar : Bar → List ℕ
-bar b = bar_front (class_of b.what) b.lane b.from ++ bar_way b.column b.to
+bar b = bar_of_class (class_of b.what) b.lane b.from b.column b.to

@@ -1,5 +1,5 @@
 -- What stands at the front of a picture. This profile's own.
-use Rattle.std.specs.Prelude.{ℕ, Bool, List, [], ◌∷◌, ◌++◌, codes, decimal, if◌then◌else◌}
+use Rattle.std.specs.Prelude.{ℕ, Bool, List, [], ◌∷◌, codes, decimal, if◌then◌else◌}
 use Rattle.csi_pictures.specs.Pieces.{pieces}
 
 -- how each class of lines and texts is drawn; no two ways differ in colour alone
@@ -14,18 +14,14 @@ shapes = codes "<defs><marker id='head' viewBox='0 0 10 10' refX='10' refY='5' m
 unfoldable pub legend : List ℕ
 legend = codes "<path class='attached' d='M800-110h60'/><text x='880' y='-97'>attached</text><path class='staged' d='M1230-110h60'/><text x='1310' y='-97'>staged</text><path class='published' d='M1660-110h60'/><text x='1740' y='-97'>published</text><path class='taken' d='M800-48h60'/><text x='890' y='-35'>carried out, taken</text><path class='refused' d='M1290-48h60'/><text x='1390' y='-35'>refused, stale</text><path class='ignored' d='M1720-48h60'/><text x='1815' y='-35'>ignored</text><path class='lost' d='M2060-48h60'/><text x='2155' y='-35'>not delivered</text>\n"
 
--- of a last lane and a lowest row
-unfoldable pub size : ℕ → ℕ → List ℕ
-size last lowest = pieces (codes "<svg xmlns='http://www.w3.org/2000/svg' font-size='28' width='" ∷ decimal last ∷ codes "6em' height='" ∷ decimal lowest ∷ codes "em' viewBox='0 -160 " ∷ decimal last ∷ codes "600 " ∷ decimal lowest ∷ codes "00'>\n" ∷ [])
-
 -- what an audit found, in a word
 abbrev pub found : Bool → List ℕ
 found is_safe = if is_safe then codes "nothing" else codes "something"
 
--- how much there is, and what an audit of the last world found
-unfoldable pub title : ℕ → ℕ → List ℕ → List ℕ
-title events frames found = pieces (codes "<text class='t' x='30' y='-90'>" ∷ decimal events ∷ codes " events, " ∷ decimal frames ∷ codes " frames</text>\n<text x='30' y='-35'>Audit: " ∷ found ∷ codes " wrong</text>\n" ∷ [])
+-- the size, of a last lane and a lowest row; style and shapes; how much there is, and what an audit of the last world found; the legend
+unfoldable pub front_of : ℕ → ℕ → List ℕ → List ℕ → ℕ → ℕ → List ℕ → List ℕ → List ℕ
+front_of last lowest style shapes events frames found legend = pieces (codes "<svg xmlns='http://www.w3.org/2000/svg' font-size='28' width='" ∷ decimal last ∷ codes "6em' height='" ∷ decimal lowest ∷ codes "em' viewBox='0 -160 " ∷ decimal last ∷ codes "600 " ∷ decimal lowest ∷ codes "00'>\n" ∷ style ∷ shapes ∷ codes "<text class='t' x='30' y='-90'>" ∷ decimal events ∷ codes " events, " ∷ decimal frames ∷ codes " frames</text>\n<text x='30' y='-35'>Audit: " ∷ found ∷ codes " wrong</text>\n" ∷ legend ∷ [])
 
 -- all of it
 abbrev pub front : ℕ → ℕ → ℕ → ℕ → Bool → List ℕ
-front last lowest events frames is_safe = size last lowest ++ style ++ shapes ++ title events frames (found is_safe) ++ legend
+front last lowest events frames is_safe = front_of last lowest style shapes events frames (found is_safe) legend

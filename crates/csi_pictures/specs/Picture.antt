@@ -11,6 +11,8 @@ use Rattle.csi_world.specs.World.{World}
 use Rattle.csi_world.specs.Simulated.{WorldParts}
 use Rattle.csi_world.specs.Simulating.{numbered}
 use Rattle.csi_world.specs.Audited.{ArePlugins, Finds}
+use Rattle.csi_pictures.specs.declared.picture.Layer.{Layer}
+use Rattle.csi_pictures.specs.declared.picture.Layer.TheVariants as layers
 use Rattle.csi_pictures.specs.Pieces.{each}
 use Rattle.csi_pictures.specs.Lanes.{lanes, names_at}
 use Rattle.csi_pictures.specs.Front.{front}
@@ -41,27 +43,30 @@ abbrev pub sent_frame : WorldParts → List Event → ℕ → Option ℕ → Lis
 sent_frame world events row None = []
 sent_frame world events row (Some number) = sent_of world events row number (numbered world.frames number)
 
--- what is below the texts of an event, where there are both it and what came of it
-abbrev pub under_of : WorldParts → List Event → ℕ → Option Event → Option Outcome → List ℕ
-under_of world events row (Some event) (Some outcome) = passage world row event outcome
-under_of world events row _ _ = []
-
--- what is drawn of an event below the texts: its arrow
-abbrev pub under : WorldParts → List Event → ℕ → List ℕ
-under world events place = under_of world events (place + 1) (slice_get events place) (slice_get world.outcomes place)
-
 -- its texts and its mark
 abbrev pub event_over : WorldParts → List Event → ℕ → Event → Outcome → List ℕ
 event_over world events row event outcome = row_text row event outcome ++ mark world.nodes row event outcome ++ sent_frame world events row (sent_number outcome)
 
--- what is above, where there are both
-abbrev pub over_of : WorldParts → List Event → ℕ → Option Event → Option Outcome → List ℕ
-over_of world events row (Some event) (Some outcome) = event_over world events row event outcome
-over_of world events row _ _ = []
+-- what is drawn of an event in a layer: its arrow, or its texts and its mark
+abbrev pub drawn_in : Layer → WorldParts → List Event → ℕ → Event → Outcome → List ℕ
+drawn_in layers.Arrows world events row event outcome = passage world row event outcome
+drawn_in layers.Texts world events row event outcome = event_over world events row event outcome
 
--- what is above of the event at a place
+-- where there are both an event and what came of it
+abbrev pub layer_of : Layer → WorldParts → List Event → ℕ → Option Event → Option Outcome → List ℕ
+layer_of layer world events row (Some event) (Some outcome) = drawn_in layer world events row event outcome
+layer_of layer world events row _ _ = []
+
+-- a layer of the event at a place
+abbrev pub layer_at : Layer → WorldParts → List Event → ℕ → List ℕ
+layer_at layer world events place = layer_of layer world events (place + 1) (slice_get events place) (slice_get world.outcomes place)
+
+-- what is below the texts of the event at a place, and what is above
+abbrev pub under : WorldParts → List Event → ℕ → List ℕ
+under world events place = layer_at layers.Arrows world events place
+
 abbrev pub over : WorldParts → List Event → ℕ → List ℕ
-over world events place = over_of world events (place + 1) (slice_get events place) (slice_get world.outcomes place)
+over world events place = layer_at layers.Texts world events place
 
 -- ---- the whole
 

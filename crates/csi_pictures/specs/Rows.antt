@@ -1,6 +1,5 @@
 -- What is written of an event in its row. This profile's own.
 use Rattle.std.specs.Prelude.{ℕ, Bool, true, false, List, [], ◌∷◌, ◌++◌, codes, decimal, if◌then◌else◌}
-use Rattle.csi_types.specs.declared.call.Kind.{Kind}
 use Rattle.csi_types.specs.declared.frame.Body.{Body}
 use Rattle.csi_types.specs.declared.frame.Body.TheVariants as bodies
 use Rattle.csi_types.specs.declared.call.Party.{Party}
@@ -24,7 +23,7 @@ use Rattle.csi_pictures.specs.Scene.{is_ok, lane_of, node_lane}
 
 -- a command at a node and a target, in words
 abbrev pub placed : List ℕ → List ℕ → List ℕ → List ℕ → List ℕ
-placed command name node target = command ++ escaped name ++ codes " at " ++ escaped node ++ codes " " ++ escaped target
+placed command name node target = pieces (command ∷ escaped name ∷ codes " at " ∷ escaped node ∷ codes " " ∷ escaped target ∷ [])
 
 -- an event, in words
 abbrev pub words : Event → List ℕ
@@ -53,17 +52,13 @@ class_of outcomes.NoSuchNode = codes "wrong"
 class_of outcomes.Ignored = codes "odd"
 class_of _ = codes "plain"
 
--- the front of an event's row, up to its words
-unfoldable pub row_front : ℕ → List ℕ → List ℕ
-row_front row class = pieces (codes "<svg y='" ∷ decimal row ∷ codes "00' width='970' height='95'><text class='" ∷ class ∷ codes "' x='30' y='42'>" ∷ decimal row ∷ codes " " ∷ [])
-
--- from its words to those of what came of it
-unfoldable pub row_middle : List ℕ → List ℕ
-row_middle class = pieces (codes "</text><text class='" ∷ class ∷ codes " o' x='75' y='82'>" ∷ [])
+-- an event's row: what is told of it, and below that what came of it
+unfoldable pub row_of : ℕ → List ℕ → List ℕ → List ℕ → List ℕ
+row_of row class told came = pieces (codes "<svg y='" ∷ decimal row ∷ codes "00' width='970' height='95'><text class='" ∷ class ∷ codes "' x='30' y='42'>" ∷ decimal row ∷ codes " " ∷ told ∷ codes "</text><text class='" ∷ class ∷ codes " o' x='75' y='82'>" ∷ came ∷ codes "</text></svg>\n" ∷ [])
 
 -- the words, and below them what came of the event, as a report has it
 abbrev pub row_text : ℕ → Event → Outcome → List ℕ
-row_text row event outcome = row_front row (class_of outcome) ++ words event ++ row_middle (class_of outcome) ++ outcome_text outcome ++ codes "</text></svg>\n"
+row_text row event outcome = row_of row (class_of outcome) (words event) (outcome_text outcome)
 
 -- ---- the mark
 
@@ -100,46 +95,26 @@ mark nodes row event outcome = if is_delivery event then [] else mark_at (mark_l
 
 -- ---- the frame that it sent
 
--- the front of a call's label in a row
-unfoldable pub call_front : ℕ → List ℕ
-call_front row = pieces (codes "<svg x='1100' y='" ∷ decimal row ∷ codes "20' width='895' height='55'><text class='label' x='10' y='44'>" ∷ [])
-
--- its count and its call's name
-unfoldable pub frame_words : ℕ → Kind → List ℕ
-frame_words sent kind = pieces (decimal sent ∷ codes " " ∷ kind_name kind ∷ codes " " ∷ [])
-
--- a call's number, in words
-unfoldable pub number_words : ℕ → ℕ → List ℕ
-number_words session call = pieces (decimal session ∷ codes "." ∷ decimal call ∷ codes "</text></svg>\n" ∷ [])
-
--- a call's label
-abbrev pub call_label : ℕ → ℕ → Kind → Number → List ℕ
-call_label row sent kind number = call_front row ++ frame_words sent kind ++ number_words number.session number.call
+-- a call's label in a row: its frame's count, its name and its number
+unfoldable pub call_label : ℕ → ℕ → List ℕ → Number → List ℕ
+call_label row sent name number = pieces (codes "<svg x='1100' y='" ∷ decimal row ∷ codes "20' width='895' height='55'><text class='label' x='10' y='44'>" ∷ decimal sent ∷ codes " " ∷ name ∷ codes " " ∷ decimal number.session ∷ codes "." ∷ decimal number.call ∷ codes "</text></svg>\n" ∷ [])
 
 -- how the label of a reply is drawn
 abbrev pub reply_class : Status → List ℕ
 reply_class status = if is_ok status then codes "label" else codes "bad"
 
--- where it stands
-unfoldable pub reply_place : ℕ → ℕ → List ℕ
-reply_place row lane = pieces (codes "<g transform='translate(" ∷ decimal lane ∷ codes "000 " ∷ decimal row ∷ codes "20)'>" ∷ [])
-
--- its front
-unfoldable pub reply_front : List ℕ → List ℕ
-reply_front class = pieces (codes "<svg x='-905' width='895' height='55'><text class='" ∷ class ∷ codes " b' x='885' y='44'>" ∷ [])
-
--- a reply's status and detail
-abbrev pub status_words : Reply → List ℕ
-status_words reply = status_name reply.status ++ codes " " ++ escaped reply.detail
+-- a reply's label, to the left of a lane: its frame's count, its call's name, its status and its detail
+unfoldable pub reply_at : ℕ → ℕ → List ℕ → ℕ → List ℕ → List ℕ → List ℕ → List ℕ
+reply_at row lane class sent name status detail = pieces (codes "<g transform='translate(" ∷ decimal lane ∷ codes "000 " ∷ decimal row ∷ codes "20)'><svg x='-905' width='895' height='55'><text class='" ∷ class ∷ codes " b' x='885' y='44'>" ∷ decimal sent ∷ codes " " ∷ name ∷ codes " " ∷ status ∷ codes " " ∷ escaped detail ∷ codes "</text></svg></g>\n" ∷ [])
 
 -- a reply's label
-abbrev pub reply_label : ℕ → ℕ → ℕ → Kind → Reply → List ℕ
-reply_label row lane sent kind reply = reply_place row lane ++ reply_front (reply_class reply.status) ++ frame_words sent kind ++ status_words reply ++ codes "</text></svg></g>\n"
+abbrev pub reply_label : ℕ → ℕ → ℕ → List ℕ → Reply → List ℕ
+reply_label row lane sent name reply = reply_at row lane (reply_class reply.status) sent name (status_name reply.status) reply.detail
 
 -- the label of a call or of a reply
 abbrev pub label_of : List NodeParts → ℕ → ℕ → Number → Party → Body → List ℕ
-label_of nodes row sent number party (bodies.Call call) = call_label row sent (kind_of call) number
-label_of nodes row sent number party (bodies.Reply kind reply) = reply_label row (lane_of nodes party) sent kind reply
+label_of nodes row sent number party (bodies.Call call) = call_label row sent (kind_name (kind_of call)) number
+label_of nodes row sent number party (bodies.Reply kind reply) = reply_label row (lane_of nodes party) sent (kind_name kind) reply
 
 -- the label of a frame
 abbrev pub label : List NodeParts → ℕ → ℕ → Frame → List ℕ

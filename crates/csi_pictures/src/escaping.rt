@@ -1,58 +1,41 @@
-//! Texts and numbers within an element of XML.
-ghost use Rattle.std.specs.Prelude.{◌≡◌, ◌++◌, ◌<◌, false, OnOk};
-ghost use Rattle.std.specs.Fmt.{digit_glyph};
+//! Texts within an element of XML.
+ghost use Rattle.std.specs.Prelude.{Some};
+ghost use Rattle.std.specs.Fmt.{WritesOnOk};
 ghost use Rattle.csi_pictures.specs.Escaping.{escaped_byte, escaped};
 
-use std::alloc::AllocError;
+use std::fmt;
 
-/// Appends a text as it is.
-pub fn put(out: &mut Vec<u8>, text: &str) -> Result<(), AllocError>
-    ensures { OnOk result (out.new.items ≡ out.old.items ++ text.now) }
-{
-    out.extend_from_slice(text.as_bytes())
-}
+/// A text as it stands between two tags, whatever it is.
+#[derive(Drop)]
+pub struct Escaped<'a>(pub &'a str);
 
-// The digit of a number below 16.
-fn hex_digit(number: u8) -> u8
-    requires { number < 16 }
-    ensures { result ≡ digit_glyph false number }
-{
-    if number < 10 {
-        48 + number
-    } else {
-        87 + number
-    }
-}
-
-// Appends a byte so that it stands for itself between two tags, or so that one sees which it is.
-fn put_byte(out: &mut Vec<u8>, byte: u8) -> Result<(), AllocError>
-    ensures { OnOk result (out.new.items ≡ out.old.items ++ escaped_byte byte) }
+// Writes a byte so that it stands for itself between two tags, or so that one sees which it is.
+fn write_byte<W: fmt::Write>(f: &mut fmt::Formatter<W>, byte: u8) -> fmt::Result
+    ensures { WritesOnOk W.write_str_gives f.old result (escaped_byte byte) f.new }
 {
     if byte == b'&' {
-        return put(out, "&amp;");
+        return f.write_str("&amp;");
     }
     if byte == b'<' {
-        return put(out, "&lt;");
+        return f.write_str("&lt;");
     }
     if byte == b'>' {
-        return put(out, "&gt;");
+        return f.write_str("&gt;");
     }
     if byte < 32 || byte > 126 || byte == b'"' || byte == b'\\' {
-        let high = hex_digit(byte / 16);
-        let low = hex_digit(byte % 16);
-        return out.extend_from_slice(&[b'\\', b'x', high, low]);
+        return write!(f, "\\x{byte:02x}");
     }
-    out.push(byte)?;
-    Ok(())
+    f.write_char(char::from(byte))
 }
 
-/// Appends a text so that it can stand between two tags, whatever it is.
-pub fn put_escaped(out: &mut Vec<u8>, text: &str) -> Result<(), AllocError>
-    ensures { OnOk result (out.new.items ≡ out.old.items ++ escaped text.now) }
-{
-    let bytes = text.as_bytes();
-    for byte in bytes {
-        put_byte(out, *byte)?;
+impl fmt::Display for Escaped<'_> {
+    ghost output = { λ text. Some (escaped text.0.now) };
+
+    fn fmt<W: fmt::Write>(&self, f: &mut fmt::Formatter<W>) -> fmt::Result {
+        let bytes = self.0.as_bytes();
+        for byte in bytes {
+            write_byte(f, *byte)?;
+        }
+        Ok(())
     }
-    Ok(())
 }

@@ -1,193 +1,77 @@
 //! The lanes, and their names.
-ghost use Rattle.std.specs.Prelude.{◌≡◌, ◌<◌, ◌^◌, ◌++◌, OnOk, length};
-ghost use Rattle.csi_pictures.specs.Lanes.{band, name_below, lane as lane_drawn, lanes, node_head, name_front, name_again, node_again, names_in, names_at};
+ghost use Rattle.std.specs.Prelude.{◌≡◌, ◌++◌, OnOk, length, string_bytes};
+ghost use Rattle.csi_pictures.specs.Lanes.{part_of, node_part, all_parts};
 ghost use Rattle.csi_pictures.specs.Pieces.{each};
 
-use crate::escaping::{put, put_escaped};
+use crate::escaping::Escaped;
 use csi_node::Node;
-use std::alloc::{AllocError, Global};
+use std::alloc::AllocError;
 
-// Appends the band of a lane, down to a row, and the front of its name above it.
-#[tactic(auto, unfolding(crate::specs::Lanes::band))]
-fn put_band(
-    alloc: Global,
-    out: &mut Vec<u8>,
-    lane: usize,
-    below: usize,
-    kind: &str,
-) -> Result<(), AllocError>
-    ensures { OnOk result (out.new.items ≡ out.old.items ++ band lane below kind.now) }
-{
-    let text = format!(in alloc;
-        "<g transform='translate({lane}045 0)'><path class='lane' d='M0 75V{below}30'/><svg x='-450' y='10' width='900' height='60'><text class='h' x='450' y='45'>{kind}"
-    )?;
-    put(out, &text)
+/// What is drawn of a lane.
+#[derive(Clone, Copy)]
+pub enum Part {
+    /// Its band, down to a row, and its name above and below it.
+    Band,
+    /// Its name, below a row.
+    Name,
 }
 
-// Appends the front of a lane's name below its band.
-#[tactic(auto, unfolding(crate::specs::Lanes::name_below))]
-fn put_below(alloc: Global, out: &mut Vec<u8>, below: usize, kind: &str) -> Result<(), AllocError>
-    ensures { OnOk result (out.new.items ≡ out.old.items ++ name_below below kind.now) }
-{
-    let text = format!(in alloc;
-        "</text></svg><svg x='-450' y='{below}35' width='900' height='60'><text class='h' x='450' y='45'>{kind}"
-    )?;
-    put(out, &text)
-}
-
-// Appends the band of a lane, down to a row, and its name above and below it.
-fn put_lane(
-    alloc: Global,
-    out: &mut Vec<u8>,
+// Appends this part of a lane.
+#[tactic(auto, unfolding(crate::specs::Lanes::name_again))]
+fn put_part(
+    out: &mut String,
+    part: Part,
     lane: usize,
-    below: usize,
+    row: usize,
     kind: &str,
     id: &str,
 ) -> Result<(), AllocError>
-    ensures { OnOk result (out.new.items ≡ out.old.items ++ lane_drawn lane below kind.now id.now) }
+    ensures { OnOk result (string_bytes out.new ≡ string_bytes out.old ++ part_of part lane row kind.now id.now) }
 {
-    put_band(alloc, out, lane, below, kind)?;
-    put_escaped(out, id)?;
-    put_below(alloc, out, below, kind)?;
-    put_escaped(out, id)?;
-    put(out, "</text></svg></g>\n")
+    let id = Escaped(id);
+    match part {
+        Part::Band => write!(
+            out,
+            "<g transform='translate({lane}045 0)'><path class='lane' d='M0 75V{row}30'/><svg x='-450' y='10' width='900' height='60'><text class='h' x='450' y='45'>{kind}{id}</text></svg><svg x='-450' y='{row}35' width='900' height='60'><text class='h' x='450' y='45'>{kind}{id}</text></svg></g>\n"
+        ),
+        Part::Name => write!(
+            out,
+            "<g transform='translate({lane}045 {row}68)'><svg x='-450' width='900' height='45'><text class='h label' x='450' y='32'>{kind}{id}</text></svg></g>\n"
+        ),
+    }
 }
 
-// Appends the lane of the node in this place.
+// Appends this part of the lane of the node in this place.
 fn put_node(
-    alloc: Global,
-    out: &mut Vec<u8>,
+    out: &mut String,
+    part: Part,
     nodes: &[Node],
-    below: usize,
+    row: usize,
     place: usize,
 ) -> Result<(), AllocError>
-    ensures { OnOk result (out.new.items ≡ out.old.items ++ node_head below nodes.now place) }
+    ensures { OnOk result (string_bytes out.new ≡ string_bytes out.old ++ node_part part row nodes.now place) }
 {
     match nodes.get(place) {
-        Some(node) => put_lane(alloc, out, place + 3, below, "node ", node.id().as_str()),
+        Some(node) => put_part(out, part, place + 3, row, "node ", node.id().as_str()),
         None => Ok(()),
     }
 }
 
-// Appends the lanes of the nodes.
-fn put_nodes(
-    alloc: Global,
-    out: &mut Vec<u8>,
-    nodes: &[Node],
-    below: usize,
-) -> Result<(), AllocError>
-    ensures { OnOk result (out.new.items ≡ out.old.items ++ each (node_head below nodes.now) (length nodes.now)) }
+// Appends this part of the lanes of the nodes.
+fn put_nodes(out: &mut String, part: Part, nodes: &[Node], row: usize) -> Result<(), AllocError>
+    ensures { OnOk result (string_bytes out.new ≡ string_bytes out.old ++ each (node_part part row nodes.now) (length nodes.now)) }
 {
     for place in 0..nodes.len() {
-        put_node(alloc, out, nodes, below, place)?;
+        put_node(out, part, nodes, row, place)?;
     }
     Ok(())
 }
 
-/// Appends the lanes, down to a row.
-pub fn put_lanes(
-    alloc: Global,
-    out: &mut Vec<u8>,
-    nodes: &[Node],
-    below: usize,
-) -> Result<(), AllocError>
-    ensures { OnOk result (out.new.items ≡ out.old.items ++ lanes below nodes.now) }
+/// Appends this part of the lanes, down to a row or below it.
+pub fn put_lanes(out: &mut String, part: Part, nodes: &[Node], row: usize) -> Result<(), AllocError>
+    ensures { OnOk result (string_bytes out.new ≡ string_bytes out.old ++ all_parts part row nodes.now) }
 {
-    put_lane(alloc, out, 1, below, "orchestrator", "")?;
-    put_lane(alloc, out, 2, below, "controller", "")?;
-    put_nodes(alloc, out, nodes, below)
-}
-
-// Appends the front of a lane's name below a row.
-#[tactic(auto, unfolding(crate::specs::Lanes::name_front))]
-fn put_name_front(
-    alloc: Global,
-    out: &mut Vec<u8>,
-    lane: usize,
-    row: usize,
-    kind: &str,
-) -> Result<(), AllocError>
-    ensures { OnOk result (out.new.items ≡ out.old.items ++ name_front lane row kind.now) }
-{
-    let text = format!(in alloc;
-        "<g transform='translate({lane}045 {row}68)'><svg x='-450' width='900' height='45'><text class='h label' x='450' y='32'>{kind}"
-    )?;
-    put(out, &text)
-}
-
-// Appends a lane's name below a row.
-fn put_name(
-    alloc: Global,
-    out: &mut Vec<u8>,
-    lane: usize,
-    row: usize,
-    kind: &str,
-    id: &str,
-) -> Result<(), AllocError>
-    ensures { OnOk result (out.new.items ≡ out.old.items ++ name_again lane row kind.now id.now) }
-{
-    put_name_front(alloc, out, lane, row, kind)?;
-    put_escaped(out, id)?;
-    put(out, "</text></svg></g>\n")
-}
-
-// Appends the name of the node in this place below a row.
-fn put_node_name(
-    alloc: Global,
-    out: &mut Vec<u8>,
-    nodes: &[Node],
-    row: usize,
-    place: usize,
-) -> Result<(), AllocError>
-    ensures { OnOk result (out.new.items ≡ out.old.items ++ node_again row nodes.now place) }
-{
-    match nodes.get(place) {
-        Some(node) => put_name(alloc, out, place + 3, row, "node ", node.id().as_str()),
-        None => Ok(()),
-    }
-}
-
-// Appends the names of the nodes below a row.
-fn put_node_names(
-    alloc: Global,
-    out: &mut Vec<u8>,
-    nodes: &[Node],
-    row: usize,
-) -> Result<(), AllocError>
-    ensures { OnOk result (out.new.items ≡ out.old.items ++ each (node_again row nodes.now) (length nodes.now)) }
-{
-    for place in 0..nodes.len() {
-        put_node_name(alloc, out, nodes, row, place)?;
-    }
-    Ok(())
-}
-
-// Appends the names of the lanes below a row.
-fn put_names_in(
-    alloc: Global,
-    out: &mut Vec<u8>,
-    nodes: &[Node],
-    row: usize,
-) -> Result<(), AllocError>
-    ensures { OnOk result (out.new.items ≡ out.old.items ++ names_in row nodes.now) }
-{
-    put_name(alloc, out, 1, row, "orchestrator", "")?;
-    put_name(alloc, out, 2, row, "controller", "")?;
-    put_node_names(alloc, out, nodes, row)
-}
-
-/// Appends the names of the lanes below the row of the event in this place, where it is a thirtieth.
-pub fn put_names_at(
-    alloc: Global,
-    out: &mut Vec<u8>,
-    nodes: &[Node],
-    place: usize,
-) -> Result<(), AllocError>
-    requires { place < 2 ^ 63 }
-    ensures { OnOk result (out.new.items ≡ out.old.items ++ names_at nodes.now place) }
-{
-    if (place + 1) % 30 == 0 {
-        return put_names_in(alloc, out, nodes, place + 1);
-    }
-    Ok(())
+    put_part(out, part, 1, row, "orchestrator", "")?;
+    put_part(out, part, 2, row, "controller", "")?;
+    put_nodes(out, part, nodes, row)
 }

@@ -1,8 +1,7 @@
 //! Where things of a run stand in its picture: the lanes of parties, and the rows of events, from 1.
 ghost use Rattle.std.specs.Prelude.{◌≡◌, slice_get};
-ghost use Rattle.std.specs.Option.{option_copied};
 ghost use Rattle.csi_types.specs.Same.{same_text};
-ghost use Rattle.csi_pictures.specs.Scene.{node_lane as node_lane_by, lane_of as lane_by, sender as sender_by, receiver as receiver_by, sent_number as number_sent, sends as sends_it, sent_row as row_sent, delivers as delivers_it, came as has_come, comes_by as it_comes_by, delivered_from, delivered as frame_delivered, is_ok as is_status_ok, is_success as is_success_in, succeeded as has_succeeded, way_of as way_by};
+ghost use Rattle.csi_pictures.specs.Scene.{node_lane as node_lane_by, lane_of as lane_by, sender as sender_by, receiver as receiver_by, sent_number as number_sent, sends as sends_it, sent_row as row_sent, came as has_come, comes_by as it_comes_by, delivered_from, is_ok as is_status_ok, succeeded as has_succeeded, way_of as way_by};
 
 use csi_node::Node;
 use csi_types::{Body, Frame, NodeId, Party, Status};
@@ -95,16 +94,6 @@ pub fn sent_row(outcomes: &[Outcome], number: u64) -> usize
     row
 }
 
-// Whether an event is a delivery of the frame of this number.
-fn delivers(event: &Event, number: u64) -> bool
-    ensures { result ≡ delivers_it number event.now }
-{
-    match event {
-        Event::Deliver(delivered) => *delivered == number,
-        _ => false,
-    }
-}
-
 /// Whether a delivery that came to this was of a frame that was sent before.
 pub fn came(outcome: Outcome) -> bool
     ensures { result ≡ has_come outcome }
@@ -125,7 +114,10 @@ fn comes_by(outcomes: &[Outcome], place: usize, event: &Event, number: u64) -> b
     if !came(*outcome) {
         return false;
     }
-    delivers(event, number)
+    match event {
+        Event::Deliver(delivered) => *delivered == number,
+        _ => false,
+    }
 }
 
 /// Whether an event delivers the frame of this number, which was sent before.
@@ -138,26 +130,6 @@ pub fn is_delivered(outcomes: &[Outcome], events: &[Event], number: u64) -> bool
         }
     }
     false
-}
-
-/// The call or reply that an event delivers, if it delivers one that was sent.
-pub fn delivered<'a>(world: &'a World, event: &Event) -> Option<&'a Frame>
-    ensures { option_copied result ≡ frame_delivered world.now.frames event.now }
-{
-    match event {
-        Event::Deliver(number) => world.frame(*number),
-        _ => None,
-    }
-}
-
-// Whether a frame is a reply that says that its call succeeded.
-fn is_success(frame: &Frame) -> bool
-    ensures { result ≡ is_success_in frame.now.body }
-{
-    match frame.body() {
-        Body::Call(_) => false,
-        Body::Reply(_, reply) => is_ok(reply.status),
-    }
 }
 
 /// Whether a status is OK.
@@ -174,9 +146,12 @@ pub fn succeeded(world: &World, outcome: Outcome) -> bool
     let Outcome::Answered(number) = outcome else {
         return false;
     };
-    match world.frame(number) {
-        Some(reply) => is_success(reply),
-        None => false,
+    let Some(frame) = world.frame(number) else {
+        return false;
+    };
+    match frame.body() {
+        Body::Call(_) => false,
+        Body::Reply(_, reply) => is_ok(reply.status),
     }
 }
 

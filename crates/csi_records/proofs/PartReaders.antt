@@ -16,11 +16,9 @@ use Rattle.csi_frames.specs.Spelling as spelling
 use Rattle.csi_controller.specs.declared.row.NodeHolding.{NodeHolding}
 use Rattle.csi_node.specs.declared.row.NodeTarget.{NodeTarget}
 use Rattle.csi_node.specs.OneRow.{RowShown}
-use Rattle.std.specs.Global.{Vec}
 use Rattle.csi_stores.specs.declared.part.Part.{Part}
 use Rattle.csi_stores.specs.Part.{StoredPart, stored_in, value_in}
-use Rattle.csi_records.specs.Reading.{Reader, go_on, ended, whole, IsReadWhole, byte_in, tag_in, volume_in, answered_in, controller_head_in, node_head_in}
-use Rattle.csi_frames.specs.Reading.{byte_at}
+use Rattle.csi_records.specs.Reading.{Reader, go_on, ended, whole, IsReadWhole, tag_in, volume_in, answered_in, controller_head_in, node_head_in}
 use Rattle.csi_records.specs.Spelling.{VolumeRow, state_byte, counted, holding_bytes, target_bytes, kept_bytes, staged_bytes, volume_part, answered_part, controller_head, node_head}
 use Rattle.csi_records.specs.Records.{IsCapabilityIn, IsKept, IsHolding, IsVolumeRow, IsTargetRow, IsStagedSo, IsAnsweredRow, IsHead}
 use Rattle.csi_records.proofs.Readers.{Reads, in_words, Spelled, After, Made, after, makes, Always}
@@ -231,15 +229,10 @@ whole-again {A} {read} version Fits spell one value fits =
     let again : go_on (tag_in b (b ∷ spell value ++ [])) (λ _. read) ≡ Some (value, []) = (tagged b Fits spell one).again value (b ∷ spell value) [] (record { fits = fits; are = refl }) in
     ap (λ (t : List ℕ). ended (go_on (tag_in b (b ∷ t)) (λ _. read))) (sym (append-nil (spell value))) ∙ ap ended again
 
--- no byte is no value
-pub nothing_read : {A : Type 0} (version : RecordVersion) (read : Reader A) → whole version read [] ≡ None
-unfolding whole tag_in byte_in byte_at
-nothing_read version read = refl
-
 -- ---- the rows and heads of parts
 
 -- a part is equal to one with its key and its value
-abbrev pub make_part : ℕ → List ℕ → StoredPart
+abbrev make_part : ℕ → List ℕ → StoredPart
 make_part key value = record { key = key; value = value }
 
 -- rows that are read behind the version, under their ids, are read as what spells them
@@ -290,14 +283,23 @@ module _ {R : Type 0} {version : RecordVersion} {row_in : ℕ → Reader R} {IsK
   value_of part = whole version (row_in part.key) part.value
 
   -- where nothing is read of a part, nothing has that part
-  pub unread : (part : StoredPart) → whole version (row_in part.key) part.value ≡ None → (row : R) → IsRow row → row_part row ≡ part → ⊥
+  unread : (part : StoredPart) → whole version (row_in part.key) part.value ≡ None → (row : R) → IsRow row → row_part row ≡ part → ⊥
   unread part none row fits e = some_is_not_none row (sym (is_read.again row fits) ∙ ap value_of e ∙ none)
 
   -- what has equal parts is equal
   pub same_part : (a b : R) → IsRow a → IsRow b → row_part a ≡ row_part b → a ≡ b
   same_part a b fits fit e = same_Some a b (sym (is_read.again a fits) ∙ ap value_of e ∙ is_read.again b fit)
 
--- a part with this value
-pub stored-is : (part : Part) (value : Vec ℕ) (key : ℕ) (bytes : List ℕ) → part.value ≡ Some value → key ≡ part.key → bytes ≡ value.items → stored_in part ≡ make_part key bytes
-stored-is part value key bytes is key_is bytes_are =
-    ap (λ (v : Option (Vec ℕ)). make_part part.key (value_in v)) is ∙ ap (λ (bs : List ℕ). make_part part.key bs) (sym bytes_are) ∙ ap (λ (k : ℕ). make_part k bytes) (sym key_is)
+-- a part with this key and this value
+part-is : (part : Part) (key : ℕ) (bytes : List ℕ) → key ≡ part.key → bytes ≡ value_in part.value → stored_in part ≡ make_part key bytes
+part-is part key bytes key_is bytes_are = ap (λ (bs : List ℕ). make_part part.key bs) (sym bytes_are) ∙ ap (λ (k : ℕ). make_part k bytes) (sym key_is)
+
+module _ {R : Type 0} {version : RecordVersion} {row_in : ℕ → Reader R} {IsKey : ℕ → Type 0} {IsRow : R → Type 0} {row_part : R → StoredPart} (is_read : IsReadWhole version row_in IsKey IsRow row_part) (part : Part) (key : ℕ) (bytes : List ℕ) (key_is : key ≡ part.key)
+    (bytes_are : bytes ≡ value_in part.value) where
+  -- what is read of a part's value is within its limits, and has that part
+  pub read-of : IsKey key → AreBytes bytes → (row : R) → whole version (row_in key) bytes ≡ Some row → IsRow row × (row_part row ≡ stored_in part)
+  read-of is_key are_bytes row read = let p = is_read.takes key bytes row is_key are_bytes read in (p.0, p.1 ∙ sym (part-is part key bytes key_is bytes_are))
+
+  -- where nothing is read of a part's value, nothing has that part
+  pub unread-of : whole version (row_in key) bytes ≡ None → (row : R) → IsRow row → row_part row ≡ stored_in part → ⊥
+  unread-of none row fits same = unread is_read (make_part key bytes) none row fits (same ∙ part-is part key bytes key_is bytes_are)

@@ -1,5 +1,5 @@
 -- The records of both plugins by their layouts.
-use Rattle.std.proofs.Common.{◌≡◌, ℕ, ◌-◌, ◌≤◌, ◌<◌, List, [], ◌∷◌, length, take, drop, map, get_or, Some, None, sym, ap, subst, ◌∙◌, arith}
+use Rattle.std.proofs.Common.{◌≡◌, ℕ, ◌-◌, ◌≤◌, ◌<◌, List, [], ◌∷◌, length, take, drop, map, get_or, Some, None, refl, sym, ap, subst, ◌∙◌, arith}
 use Rattle.std.specs.Prelude.{Option, IfSome}
 use Rattle.std.specs.List.{AllByRecursion}
 use Rattle.std.proofs.lemmas.List.{take_rest, take-map, length-append, length-take, length-map, get_or-take}
@@ -10,6 +10,8 @@ use Rattle.csi_controller.specs.Core.{IsSound, IsCurrentRow, IsCurrent}
 use Rattle.csi_controller.specs.Views.{AreSameRows}
 use Rattle.csi_controller.proofs.Copies.{sound-copies}
 use Rattle.csi_controller.proofs.FirstRefused.{sound-take}
+use Rattle.csi_controller.specs.Judging.{AreRecorded}
+use Rattle.csi_types.specs.Limits.{IsWord}
 use Rattle.csi_types.specs.Text.{IsNodeId}
 use Rattle.csi_frames.specs.Spelling as spelling
 use Rattle.csi_records.specs.declared.version.RecordVersion.{RecordVersion}
@@ -20,8 +22,8 @@ use Rattle.csi_node.specs.Record.{IsSound as IsNodeSound, IsCurrentRow as IsCurr
 use Rattle.csi_stores.specs.declared.part.Part.{Part}
 use Rattle.csi_stores.specs.Part.{StoredPart, stored_in, all_stored_in}
 use Rattle.csi_records.specs.Writing.{ArePublishedFew, CanBeWritten}
-use Rattle.csi_records.specs.Spelling.{VolumeRow, session_bytes, volume_row, node_head}
-use Rattle.csi_records.specs.Records.{Layout, AreParts, Head, IsHead, IsAskedNode, controller_layout, node_layout, AreControllerRows, AreVolumeRows, IsRecordOf, IsRefusedAt}
+use Rattle.csi_records.specs.Spelling.{VolumeRow, present, session_bytes, volume_row, node_head, controller_parts, node_parts}
+use Rattle.csi_records.specs.Records.{Layout, Head, IsHead, IsAskedNode, IsVolumeRow, IsAnsweredRow, controller_layout, node_layout, AreControllerRows, AreVolumeRows, IsRecordOf, IsRefusedAt}
 use Rattle.csi_records.proofs.PartReaders.{volume_read, answered_read, controller_head_read, node_head_read, same_part}
 use Rattle.csi_records.proofs.ValueSizes.{volume_size, answered_size}
 use Rattle.csi_records.proofs.FieldReaders.{version-found}
@@ -165,8 +167,8 @@ node_plain version wanted = record {
 }
 
 -- the parts of a record can be written
-pub writable : {H R : Type 0} (layout : Layout H R) → ArePlain layout → (first : H) (rows : List R) (parts : List StoredPart) → AreParts layout first rows parts → CanBeWritten parts
-writable layout plain first rows parts are = let fits = fit-parts layout plain parts (record { first = first; rows = rows; spelled = are }) in record { each = fits.fit; few = fits.few }
+pub writable : {H R : Type 0} (layout : Layout H R) → ArePlain layout → (parts : List StoredPart) → IsRecordOf layout parts → CanBeWritten parts
+writable layout plain parts is = let fits = fit-parts layout plain parts is in record { each = fits.fit; few = fits.few }
 
 -- the heads of either plugin begin with the byte of their version
 pub controller_versioned : AreVersioned controller_layout
@@ -175,3 +177,35 @@ controller_versioned = record { heads = λ version head. version-found version }
 -- a node's head begins with the byte of its version
 pub node_versioned : (wanted : Option (List ℕ)) → AreVersioned (λ version. node_layout version wanted)
 node_versioned wanted = record { heads = λ version head. version-found version }
+
+-- ---- a record's parts in the present version, made of what the record shows
+
+-- a controller's
+pub controller_is : (next_id session : ℕ) (rs rows : List ControllerRow) → rs ≡ rows → IsWord next_id → IsWord session → AreRecorded next_id session rows → AllByRecursion (IsVolumeRow present) (map volume_row rs)
+    → IsRecordOf (controller_layout present) (controller_parts present next_id (Some session) (map volume_row rows))
+controller_is next_id session rs rows same next_fits session_fits rules each =
+    record {
+      first = record { own = next_id; session = Some session };
+      rows = map volume_row rows;
+      spelled = record {
+        head_fits = record { own = next_fits; session = session_fits };
+        rows_fit = subst (λ (xs : List ControllerRow). AllByRecursion (IsVolumeRow present) (map volume_row xs)) same each;
+        rules = (rows, refl, rules);
+        are = refl;
+      };
+    }
+
+-- a node's
+pub node_is : (id : List ℕ) (session : ℕ) (rs rows : List NodeRow) → rs ≡ rows → IsNodeId id → IsWord session → KeepNodeRules (Some session) (map shown rows) → AllByRecursion (IsAnsweredRow present) (map shown rs)
+    → IsRecordOf (node_layout present None) (node_parts present id (Some session) (map shown rows))
+node_is id session rs rows same id_fits session_fits rules each =
+    record {
+      first = record { own = id; session = Some session };
+      rows = map shown rows;
+      spelled = record {
+        head_fits = record { own = (id_fits, tt); session = session_fits };
+        rows_fit = subst (λ (xs : List NodeRow). AllByRecursion (IsAnsweredRow present) (map shown xs)) same each;
+        rules = rules;
+        are = refl;
+      };
+    }

@@ -1,9 +1,13 @@
 -- Reading items one after another, as a loop does.
-use Rattle.std.proofs.Common.{◌≡◌, ℕ, suc, ◌-◌, ◌+◌, ◌≤◌, ◌<◌, List, [], ◌∷◌, ◌++◌, Some, None, Err, refl, sym, ap, ◌∙◌, append_assoc, arith}
+use Rattle.std.proofs.Common.{◌≡◌, ℕ, suc, ◌-◌, ◌+◌, ◌≤◌, ◌<◌, List, [], ◌∷◌, ◌++◌, Some, None, Ok, Err, refl, sym, ap, ◌∙◌, append_assoc, arith}
 use Rattle.std.specs.Prelude.{Option, Result, IsErrOf}
 use Rattle.csi_records.specs.declared.fault.Stop.{Stop}
 use Rattle.std.proofs.lemmas.List.{append-nil}
-use Rattle.csi_records.specs.Reading.{Reader, go_on, give, items_in}
+use Rattle.csi_frames.specs.declared.fault.FaultKind.TheVariants.{BadCount}
+use Rattle.csi_frames.specs.declared.fields.Stop as frames
+use Rattle.csi_frames.specs.Grammar.{at_most}
+use Rattle.csi_frames.specs.Reading.{byte_at}
+use Rattle.csi_records.specs.Reading.{Reader, go_on, give, taken, items_in, counted_in, count_in}
 
 -- what was read before, and what is still read
 abbrev pub with_front : {A : Type 0} → List A → Option (List A × List ℕ) → Option (List A × List ℕ)
@@ -40,6 +44,12 @@ is_done {A} read front count i bytes total le so_far =
     let k : count - i ≡ 0 = omega arith in
     let one : with_front front (items_in read (count - i) bytes) ≡ Some (front, bytes) = rw k (ap (λ (xs : List A). Some (xs, bytes)) (append-nil front)) in
     sym so_far ∙ one
+
+-- where a count is read, the counted list is as many items
+pub counted-as : {A : Type 0} (read : Reader A) (most count : ℕ) (bytes after : List ℕ) (total : Option (List A × List ℕ)) → byte_at (at_most most) BadCount bytes ≡ Ok (count, after) → items_in read count after ≡ total
+    → counted_in most read bytes ≡ total
+unfolding counted_in count_in
+counted-as read most count bytes after total counted is = ap (λ (r : Result (ℕ × List ℕ) frames.Stop). go_on (taken r) (items_in read)) counted ∙ is
 
 -- an error that a `?` hands on is the one that was answered
 abbrev pub failed : {Y : Type 0} → Stop → Result Y Stop

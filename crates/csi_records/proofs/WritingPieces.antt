@@ -104,3 +104,9 @@ pub one_more_fit : {X R : Type 0} (shown : X → R) (P : R → Type 0) (rows : L
 one_more_fit shown P rows i row inside is each own =
     let more : map shown (take (i + 1) rows) ≡ map shown (take i rows) ++ shown row ∷ [] = ap (map shown) (one_more rows i row inside is) ∙ map-append shown (take i rows) (row ∷ []) in
     subst (λ rs. AllByRecursion P rs) (sym more) (each-append_one P (map shown (take i rows)) (shown row) each own)
+
+-- what a head and rows are put as is what those are that equal them
+pub put_same : {X R : Type 0} (part_of : R → StoredPart) (shown : X → R) (head value : List ℕ) (rs rows : List X) (changes : List Change) → head ≡ value → rs ≡ rows → changes ≡ put_all (record { key = 0; value = head } ∷ map part_of (map shown rs))
+    → changes ≡ put_all (record { key = 0; value = value } ∷ map part_of (map shown rows))
+put_same {X} part_of shown head value rs rows changes heads same are =
+    are ∙ ap (λ (v : List ℕ). put_all (record { key = 0; value = v } ∷ map part_of (map shown rs))) heads ∙ ap (λ (xs : List X). put_all (record { key = 0; value = value } ∷ map part_of (map shown xs))) same

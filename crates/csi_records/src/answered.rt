@@ -8,12 +8,12 @@ ghost use Rattle.csi_records.specs.Records.{Head, IsHead};
 ghost use Rattle.csi_records.specs.Reading.{node_head_in, whole};
 
 use crate::fault::Stop;
-use crate::fields::{kind, number, session, tag};
+use crate::fields::{session, tag};
 use crate::items::list;
+use crate::part_value::value_of;
 use crate::plugin_rows::Row;
 use crate::row_values::answered_value;
-use crate::texts::node_id;
-use crate::values::{reply, staged};
+use crate::values::{KeptCall, kept, staged};
 use crate::version::RecordVersion;
 use csi_frames::Fields;
 use csi_node::NodeRow;
@@ -40,7 +40,7 @@ impl Row for NodeRow {
 
     ghost is_small = { ArePublishedFew };
 
-    #[tactic(auto, unfolding(crate::specs::Reading::answered_in, crate::specs::Reading::kept_in))]
+    #[tactic(auto, unfolding(crate::specs::Reading::answered_in))]
     fn read(
         fields: &mut Fields<'_>,
         alloc: Global,
@@ -49,14 +49,16 @@ impl Row for NodeRow {
     ) -> Result<NodeRow, Stop> {
         let staged = staged(fields, alloc, version)?;
         let targets = list(fields, alloc, version, 16)?;
-        let last = number(fields)?;
-        let kind = kind(fields)?;
-        let reply = reply(fields, alloc)?;
+        let KeptCall {
+            number,
+            kind,
+            reply,
+        } = kept(fields, alloc)?;
         Ok(NodeRow {
             id,
             staged,
             targets,
-            last,
+            last: number,
             kind,
             reply,
         })
@@ -79,7 +81,7 @@ pub(crate) struct NodeHead {
 }
 
 // What the head tells of which this is the whole value, in this version.
-#[tactic(auto, unfolding(crate::specs::Reading::whole, crate::specs::Reading::node_head_in))]
+#[tactic(auto, unfolding(crate::specs::Reading::whole, crate::specs::Reading::node_head_in, crate::specs::Reading::text_in))]
 fn head_in(alloc: Global, version: RecordVersion, value: &[u8]) -> Result<NodeHead, Stop>
     ensures read { IfOk result (λ head. whole version (node_head_in version) value.now ≡ Some (record { own = head.id; session = head.session })) }
     ensures bad { IsErrOf result Stop.Bad → whole version (node_head_in version) value.now ≡ None }
@@ -88,7 +90,7 @@ fn head_in(alloc: Global, version: RecordVersion, value: &[u8]) -> Result<NodeHe
     let mut fields = Fields { bytes: value };
     tag(&mut fields, version.number())?;
     tag(&mut fields, 1)?;
-    let id = node_id(&mut fields, alloc)?;
+    let id = NodeId::try_new(alloc, fields.text(1, NodeId::MAX_LEN)?)?;
     let session = session(&mut fields, version)?;
     if fields.bytes.is_empty() {
         Ok(NodeHead { id, session })
@@ -106,8 +108,5 @@ pub(crate) fn head_of(alloc: Global, version: RecordVersion, part: &Part) -> Res
     if part.key != 0 {
         return Err(Stop::Bad);
     }
-    let Some(value) = &part.value else {
-        return Err(Stop::Bad);
-    };
-    head_in(alloc, version, value)
+    head_in(alloc, version, value_of(part))
 }

@@ -1,20 +1,17 @@
-//! A controller's record and its parts.
-ghost use Rattle.std.specs.Prelude.{◌≡◌, Some, map, IfOk, IfErr, OnOk};
+//! A controller's record, read from its parts.
+ghost use Rattle.std.specs.Prelude.{◌≡◌, IfOk, IfErr, OnOk};
 ghost use Rattle.csi_controller.specs.Judging.{IsRecordRefusal};
-ghost use Rattle.csi_stores.specs.Part.{StoredPart, all_stored_in, change_of, put_all};
-ghost use Rattle.csi_records.specs.Spelling.{present, controller_parts, volume_row};
-ghost use Rattle.csi_records.specs.Records.{controller_layout, controller_of, AreControllerRows, AreParts, IsControllerOf, IsRecordOf};
+ghost use Rattle.csi_stores.specs.Part.{all_stored_in};
+ghost use Rattle.csi_records.specs.Records.{controller_layout, controller_of, AreControllerRows, IsControllerOf, IsRecordOf};
 ghost use Rattle.csi_records.specs.Places.{ReadsParts};
 
 use crate::fault::RecordStop;
-use crate::plugin_rows::{ReadRows, parts_with, rows_of};
-use crate::row_values::controller_head_value;
+use crate::plugin_rows::{ReadRows, rows_of};
 use crate::version::RecordVersion;
 use crate::volumes::{ControllerHead, head_of};
 use csi_controller::{ControllerRecord, ControllerRow};
 use csi_fence::RecordFault;
 use csi_stores::Part;
-use csi_types::NoMemory;
 use std::alloc::Global;
 
 // The record of these rows under this head: with the head's session, or without one.
@@ -55,16 +52,4 @@ pub(crate) fn controller_record(
         Err(RecordFault::BadRow(bad)) => Err(RecordStop::BadRecord(bad)),
         Err(RecordFault::NoMemory) => Err(RecordStop::NoMemory),
     }
-}
-
-/// The parts of a controller's record.
-pub(crate) fn controller_parts(
-    alloc: Global,
-    kept: &ControllerRecord,
-) -> Result<Vec<Part>, NoMemory>
-    ensures changes { IfOk result (λ parts. map change_of parts.items ≡ put_all (controller_parts present kept.now.next_id (Some kept.now.session) (map volume_row kept.now.rows))) }
-    ensures parts { IfOk result (λ parts. AreParts (controller_layout present) (record { own = kept.now.next_id; session = Some kept.now.session }) (map volume_row kept.now.rows) (controller_parts present kept.now.next_id (Some kept.now.session) (map volume_row kept.now.rows))) }
-{
-    let head = controller_head_value(alloc, kept.next_id(), kept.session())?;
-    parts_with(alloc, head, kept.rows())
 }

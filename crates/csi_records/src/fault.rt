@@ -1,6 +1,6 @@
 //! Why parts or bytes are no record.
 use csi_stores::KeepFault;
-use csi_types::NoMemory;
+use csi_types::{NoMemory, TextFault};
 use std::alloc::{AllocError, AllocFailed};
 use thiserror::Error;
 
@@ -49,13 +49,26 @@ pub(crate) enum Stop {
     NoMemory,
 }
 
-impl From<NoMemory> for Stop {
+// Bytes that are no field of frames are none of records.
+impl From<csi_frames::Stop> for Stop {
+    ghost use Rattle.std.specs.Prelude.{◌≡◌};
+    ghost use Rattle.csi_records.specs.declared.fault.Stop.TheVariants.{Bad as NotRead};
+
+    ghost from_gives = { λ _ stop. stop ≡ NotRead };
+
+    fn from(_stop: csi_frames::Stop) -> Stop {
+        Stop::Bad
+    }
+}
+
+// A text is within its limits when it was read, so that a copy of it can only want memory.
+impl From<TextFault> for Stop {
     ghost use Rattle.std.specs.Prelude.{◌≡◌};
     ghost use Rattle.csi_records.specs.declared.fault.Stop.TheVariants.{NoMemory as Refused};
 
     ghost from_gives = { λ _ stop. stop ≡ Refused };
 
-    fn from(_refused: NoMemory) -> Stop {
+    fn from(_fault: TextFault) -> Stop {
         Stop::NoMemory
     }
 }

@@ -2,19 +2,18 @@
 ghost use Rattle.std.specs.Prelude.{◌≡◌, ◌≤◌, ◌++◌, List, ℕ, Some, None, IfOk, IsErrOf, OnOk, length};
 ghost use Rattle.std.specs.List.{AllByRecursion};
 ghost use Rattle.csi_records.specs.declared.version.RecordVersion.{RecordVersion};
-ghost use Rattle.csi_records.specs.Reading.{Reader, capability_in, items_in, counted_in};
+ghost use Rattle.csi_records.specs.Reading.{Reader, counted_in};
 ghost use Rattle.csi_records.specs.Spelling.{counted, present};
 
 use crate::fault::Stop;
-use crate::fields::{capability, count, flag};
-use crate::texts::{node_id, target};
 use crate::version::RecordVersion;
 use csi_controller::NodeHolding;
 use csi_frames::{
-    Fields, append_byte, append_capability, append_flag, append_node_id, append_target,
+    FaultKind, Fields, append_byte, append_capability, append_flag, append_node_id, append_target,
+    capability_at,
 };
 use csi_node::NodeTarget;
-use csi_types::{Capability, CapabilityList, NoMemory};
+use csi_types::{Capability, NoMemory, NodeId, Target};
 use std::alloc::Global;
 
 /// What a row has a list of. It is read in any version, and written in the present one.
@@ -48,16 +47,14 @@ impl Item for Capability {
 
     ghost is_item = { IsCapabilityIn };
 
+    #[tactic(auto, unfolding(crate::specs::Reading::capability_in))]
     fn read(
         fields: &mut Fields<'_>,
         alloc: Global,
         version: RecordVersion,
     ) -> Result<Capability, Stop> {
-        let lent = capability(fields, version)?;
-        match lent.to_capability(alloc) {
-            Ok(capability) => Ok(capability),
-            Err(_) => Err(Stop::NoMemory),
-        }
+        let lent = capability_at(fields, version.modes())?;
+        Ok(lent.to_capability(alloc)?)
     }
 
     fn put(&self, out: &mut Vec<u8>) -> Result<(), NoMemory> {
@@ -76,15 +73,15 @@ impl Item for NodeHolding {
 
     ghost is_item = { IsHolding };
 
-    #[tactic(auto, unfolding(crate::specs::Reading::holding_in))]
+    #[tactic(auto, unfolding(crate::specs::Reading::holding_in, crate::specs::Reading::text_in, crate::specs::Reading::flag_in))]
     fn read(
         fields: &mut Fields<'_>,
         alloc: Global,
         version: RecordVersion,
     ) -> Result<NodeHolding, Stop> {
-        let node = node_id(fields, alloc)?;
+        let node = NodeId::try_new(alloc, fields.text(1, NodeId::MAX_LEN)?)?;
         let capability = Capability::read(fields, alloc, version)?;
-        let readonly = flag(fields)?;
+        let readonly = fields.flag()?;
         Ok(NodeHolding {
             node,
             capability,
@@ -110,14 +107,14 @@ impl Item for NodeTarget {
 
     ghost is_item = { λ version. IsTargetRow };
 
-    #[tactic(auto, unfolding(crate::specs::Reading::target_in))]
+    #[tactic(auto, unfolding(crate::specs::Reading::target_in, crate::specs::Reading::text_in, crate::specs::Reading::flag_in))]
     fn read(
         fields: &mut Fields<'_>,
         alloc: Global,
         _version: RecordVersion,
     ) -> Result<NodeTarget, Stop> {
-        let target = target(fields, alloc)?;
-        let readonly = flag(fields)?;
+        let target = Target::try_new(alloc, fields.text(1, Target::MAX_LEN)?)?;
+        let readonly = fields.flag()?;
         Ok(NodeTarget { target, readonly })
     }
 
@@ -127,27 +124,8 @@ impl Item for NodeTarget {
     }
 }
 
-// As many items as `count` says.
-fn items<T: Item>(
-    fields: &mut Fields<'_>,
-    alloc: Global,
-    version: RecordVersion,
-    count: u8,
-) -> Result<Vec<T>, Stop>
-    ensures read { IfOk result (λ list. items_in (T.item_in version) count fields.old.bytes.now ≡ Some (list.items, fields.new.bytes.now)) }
-    ensures count { IfOk result (λ list. length list.items ≡ count) }
-    ensures bad { IsErrOf result Stop.Bad → items_in (T.item_in version) count fields.old.bytes.now ≡ None }
-{
-    let mut list = Vec::with_capacity(alloc, count as usize)?;
-    for _ in 0..count {
-        let one = T::read(fields, alloc, version)?;
-        list.push(one)?;
-    }
-    Ok(list)
-}
-
 /// A count of at most `most`, and as many items.
-#[tactic(auto, unfolding(crate::specs::Reading::counted_in))]
+#[tactic(auto, unfolding(crate::specs::Reading::counted_in, crate::specs::Reading::count_in))]
 pub(crate) fn list<T: Item>(
     fields: &mut Fields<'_>,
     alloc: Global,
@@ -158,21 +136,13 @@ pub(crate) fn list<T: Item>(
     ensures within { IfOk result (λ list. length list.items ≤ most) }
     ensures bad { IsErrOf result Stop.Bad → counted_in most (T.item_in version) fields.old.bytes.now ≡ None }
 {
-    let count = count(fields, most)?;
-    items(fields, alloc, version, count)
-}
-
-/// At most 8 capabilities.
-pub(crate) fn capabilities(
-    fields: &mut Fields<'_>,
-    alloc: Global,
-    version: RecordVersion,
-) -> Result<CapabilityList, Stop>
-    ensures read { IfOk result (λ list. counted_in 8 (capability_in version) fields.old.bytes.now ≡ Some (list, fields.new.bytes.now)) }
-    ensures bad { IsErrOf result Stop.Bad → counted_in 8 (capability_in version) fields.old.bytes.now ≡ None }
-{
-    let items = list(fields, alloc, version, 8)?;
-    Ok(CapabilityList::try_new(items).unwrap())
+    let count = fields.byte(most, FaultKind::BadCount)?;
+    let mut list = Vec::with_capacity(alloc, count as usize)?;
+    for _ in 0..count {
+        let one = T::read(fields, alloc, version)?;
+        list.push(one)?;
+    }
+    Ok(list)
 }
 
 /// The count of the items, at most 255, and each of them.

@@ -1,23 +1,20 @@
-//! A node's record and its parts.
-ghost use Rattle.std.specs.Prelude.{◌≡◌, ◌↔◌, Some, None, map, IfOk, IfErr, IfSome, IsTrue, OnOk};
+//! A node's record, read from its parts.
+ghost use Rattle.std.specs.Prelude.{◌≡◌, ◌↔◌, IfOk, IfErr, IfSome, IsTrue, OnOk};
 ghost use Rattle.std.specs.Option.{option_copied};
 ghost use Rattle.csi_node.specs.Judging.{IsRecordRefusal, KeepRules};
-ghost use Rattle.csi_node.specs.OneRow.{shown};
 ghost use Rattle.csi_node.specs.Record.{parts as rows_shown};
-ghost use Rattle.csi_stores.specs.Part.{all_stored_in, change_of, put_all};
-ghost use Rattle.csi_records.specs.Spelling.{present, node_parts};
-ghost use Rattle.csi_records.specs.Records.{node_layout, node_of, AreParts, IsNodeOf, IsRecordOf};
+ghost use Rattle.csi_stores.specs.Part.{all_stored_in};
+ghost use Rattle.csi_records.specs.Records.{node_layout, node_of, IsNodeOf, IsRecordOf};
 ghost use Rattle.csi_records.specs.Places.{ReadsParts};
 
 use crate::answered::{NodeHead, head_of};
 use crate::fault::{RecordStop, Stop};
-use crate::plugin_rows::{ReadRows, parts_with, rows_of};
-use crate::row_values::node_head_value;
+use crate::plugin_rows::{ReadRows, rows_of};
 use crate::version::RecordVersion;
 use csi_fence::RecordFault;
 use csi_node::{NodeRecord, NodeRow};
 use csi_stores::Part;
-use csi_types::{NoMemory, NodeId};
+use csi_types::NodeId;
 use std::alloc::Global;
 
 // Whether a head is that of the node that is asked for, if one is.
@@ -70,13 +67,4 @@ pub(crate) fn node_record(
         Err(RecordFault::BadRow(bad)) => Err(RecordStop::BadRecord(bad)),
         Err(RecordFault::NoMemory) => Err(RecordStop::NoMemory),
     }
-}
-
-/// The parts of a node's record.
-pub(crate) fn node_parts(alloc: Global, kept: &NodeRecord) -> Result<Vec<Part>, NoMemory>
-    ensures changes { IfOk result (λ parts. map change_of parts.items ≡ put_all (node_parts present kept.now.id (Some kept.now.session) (map shown kept.now.rows))) }
-    ensures parts { IfOk result (λ parts. AreParts (node_layout present None) (record { own = kept.now.id; session = Some kept.now.session }) (map shown kept.now.rows) (node_parts present kept.now.id (Some kept.now.session) (map shown kept.now.rows))) }
-{
-    let head = node_head_value(alloc, kept.id(), kept.session())?;
-    parts_with(alloc, head, kept.rows())
 }

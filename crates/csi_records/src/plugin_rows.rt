@@ -11,6 +11,7 @@ ghost use Rattle.csi_records.specs.Stopping.{AreRead};
 
 use crate::fault::Stop;
 use crate::fields::tag;
+use crate::part_value::value_of;
 use crate::version::RecordVersion;
 use csi_frames::Fields;
 use csi_stores::{Part, push_value};
@@ -90,10 +91,7 @@ fn row_of<T: Row>(alloc: Global, version: RecordVersion, part: &Part) -> Result<
     let Some(id) = VolumeId::try_new(part.key) else {
         return Err(Stop::Bad);
     };
-    let Some(value) = &part.value else {
-        return Err(Stop::Bad);
-    };
-    row_in(alloc, version, id, value)
+    row_in(alloc, version, id, value_of(part))
 }
 
 /// The rows that were read, and whether all parts are rows.

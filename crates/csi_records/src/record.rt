@@ -9,9 +9,12 @@ ghost use Rattle.csi_records.specs.Reading.{version_in_parts};
 ghost use Rattle.csi_records.specs.Places.{ReadsParts, ReadsStored, ReadsBytes};
 ghost use Rattle.csi_records.specs.Writing.{CanBeWritten};
 
-use crate::controller_record::{controller_parts, controller_record};
+use crate::controller_record::controller_record;
 use crate::fault::{RecordStop, Stop};
-use crate::node_record::{node_parts, node_record};
+use crate::node_record::node_record;
+use crate::part_value::value_of;
+use crate::plugin_rows::parts_with;
+use crate::row_values::{controller_head_value, node_head_value};
 use crate::splitting::{SplitParts, split};
 use crate::stored::Stored;
 use crate::version::RecordVersion;
@@ -57,10 +60,7 @@ fn version_of(parts: &[Part]) -> Option<RecordVersion>
     let [head, ..] = parts else {
         return None;
     };
-    let Some(value) = &head.value else {
-        return None;
-    };
-    let [byte, ..] = value.as_slice() else {
+    let [byte, ..] = value_of(head) else {
         return None;
     };
     RecordVersion::from_number(*byte)
@@ -78,7 +78,8 @@ impl Record for ControllerRecord {
     ghost is_of = { IsControllerOf };
 
     fn to_parts(&self, alloc: Global) -> Result<Vec<Part>, NoMemory> {
-        controller_parts(alloc, self)
+        let head = controller_head_value(alloc, self.next_id(), self.session())?;
+        parts_with(alloc, head, self.rows())
     }
 
     fn in_version(
@@ -113,7 +114,8 @@ impl Record for NodeRecord {
     ghost is_of = { λ version. IsNodeOf version None };
 
     fn to_parts(&self, alloc: Global) -> Result<Vec<Part>, NoMemory> {
-        node_parts(alloc, self)
+        let head = node_head_value(alloc, self.id(), self.session())?;
+        parts_with(alloc, head, self.rows())
     }
 
     fn in_version(

@@ -8,7 +8,7 @@ ghost use Rattle.csi_records.specs.Records.{IsVolumeRow, IsStagedSo, IsAnsweredR
 
 use crate::items::{Item, put_list};
 use crate::version::PRESENT;
-use crate::writing::put_kept;
+use crate::writing::{put, put_kept};
 use csi_controller::ControllerRow;
 use csi_frames::{append_byte, append_name, append_node_id, append_word};
 use csi_node::NodeRow;
@@ -37,8 +37,7 @@ pub fn volume_value(alloc: Global, row: &ControllerRow) -> Result<Vec<u8>, NoMem
 {
     let _id = row.id.number();
     let mut out = Vec::new(alloc);
-    append_byte(&mut out, PRESENT.number())?;
-    append_byte(&mut out, if row.live { 1 } else { 2 })?;
+    put(&mut out, &[PRESENT.number(), if row.live { 1 } else { 2 }])?;
     append_name(&mut out, &row.name)?;
     append_word(&mut out, row.capacity)?;
     put_list(&mut out, row.capabilities.as_slice())?;
@@ -69,8 +68,7 @@ pub fn controller_head_value(alloc: Global, next_id: u64, session: u64) -> Resul
     ensures { IfOk result (λ value. value.items ≡ (controller_head present next_id (Some session)).value) }
 {
     let mut out = Vec::new(alloc);
-    append_byte(&mut out, PRESENT.number())?;
-    append_byte(&mut out, 0)?;
+    put(&mut out, &[PRESENT.number(), 0])?;
     append_word(&mut out, next_id)?;
     append_word(&mut out, session)?;
     Ok(out)
@@ -83,8 +81,7 @@ pub fn node_head_value(alloc: Global, node: &NodeId, session: u64) -> Result<Vec
     ensures fits { IfOk result (λ value. IsNodeId node.now) }
 {
     let mut out = Vec::new(alloc);
-    append_byte(&mut out, PRESENT.number())?;
-    append_byte(&mut out, 1)?;
+    put(&mut out, &[PRESENT.number(), 1])?;
     append_node_id(&mut out, node)?;
     append_word(&mut out, session)?;
     Ok(out)

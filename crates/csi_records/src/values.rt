@@ -1,18 +1,16 @@
-//! Replies and how a volume is staged, read from the bytes of a value.
-ghost use Rattle.std.specs.Prelude.{◌≡◌, Some, None, IfOk, OnErr, IsErrOf};
-ghost use Rattle.csi_records.specs.Reading.{reply_id_in, reply_in, staged_in, id_from};
+//! How a volume is staged, and the last call that is kept, read from the bytes of a value.
+ghost use Rattle.std.specs.Prelude.{◌≡◌, Some, None, IfOk, IsErrOf};
+ghost use Rattle.csi_records.specs.Reading.{kept_in, staged_in};
 
 use crate::fault::Stop;
-use crate::fields::{flag, status, word};
 use crate::items::Item;
-use crate::texts::detail;
 use crate::version::RecordVersion;
-use csi_frames::Fields;
-use csi_types::{Capability, Reply, VolumeId};
+use csi_frames::{Fields, number_at, reply_kind, status_at};
+use csi_types::{Capability, Detail, Kind, Number, Reply, VolumeId};
 use std::alloc::Global;
 
 /// How a volume is staged, if it is.
-#[tactic(auto, unfolding(crate::specs::Reading::staged_in))]
+#[tactic(auto, unfolding(crate::specs::Reading::staged_in, crate::specs::Reading::flag_in))]
 pub(crate) fn staged(
     fields: &mut Fields<'_>,
     alloc: Global,
@@ -21,37 +19,38 @@ pub(crate) fn staged(
     ensures read { IfOk result (λ staged. staged_in version fields.old.bytes.now ≡ Some (staged, fields.new.bytes.now)) }
     ensures bad { IsErrOf result Stop.Bad → staged_in version fields.old.bytes.now ≡ None }
 {
-    if !flag(fields)? {
+    if !fields.flag()? {
         return Ok(None);
     }
     let capability = Capability::read(fields, alloc, version)?;
     Ok(Some(capability))
 }
 
-// The id of a number, which 0 has none.
-fn id_of(number: u64) -> Option<VolumeId>
-    ensures { result ≡ id_from number }
-{
-    VolumeId::try_new(number)
+/// The last call that is kept.
+#[derive(Drop)]
+pub(crate) struct KeptCall {
+    pub number: Number,
+    pub kind: Kind,
+    pub reply: Reply,
 }
 
-#[tactic(auto, unfolding(crate::specs::Reading::reply_id_in))]
-fn reply_id(fields: &mut Fields<'_>) -> Result<Option<VolumeId>, Stop>
-    ensures read { IfOk result (λ id. reply_id_in fields.old.bytes.now ≡ Some (id, fields.new.bytes.now)) }
-    ensures bad { OnErr result (reply_id_in fields.old.bytes.now ≡ None) }
+/// The last call that is kept: its number, the kind of its reply, and the reply.
+#[tactic(auto, unfolding(crate::specs::Reading::kept_in, crate::specs::Reading::number_in, crate::specs::Reading::code_in, crate::specs::Reading::byte_in, crate::specs::Reading::reply_in, crate::specs::Reading::status_in, crate::specs::Reading::reply_id_in, crate::specs::Reading::word_in, crate::specs::Reading::text_in))]
+pub(crate) fn kept(fields: &mut Fields<'_>, alloc: Global) -> Result<KeptCall, Stop>
+    ensures read { IfOk result (λ kept. kept_in fields.old.bytes.now ≡ Some (record { number = kept.number; kind = kept.kind; reply = kept.reply }, fields.new.bytes.now)) }
+    ensures bad { IsErrOf result Stop.Bad → kept_in fields.old.bytes.now ≡ None }
 {
-    let number = word(fields)?;
-    Ok(id_of(number))
-}
-
-/// A reply.
-#[tactic(auto, unfolding(crate::specs::Reading::reply_in))]
-pub(crate) fn reply(fields: &mut Fields<'_>, alloc: Global) -> Result<Reply, Stop>
-    ensures read { IfOk result (λ reply. reply_in fields.old.bytes.now ≡ Some (reply, fields.new.bytes.now)) }
-    ensures bad { IsErrOf result Stop.Bad → reply_in fields.old.bytes.now ≡ None }
-{
-    let status = status(fields)?;
-    let id = reply_id(fields)?;
-    let detail = detail(fields, alloc)?;
-    Ok(Reply { status, id, detail })
+    let number = number_at(fields)?;
+    let Some(kind) = reply_kind(fields.any_byte()?) else {
+        return Err(Stop::Bad);
+    };
+    let status = status_at(fields)?;
+    let id = VolumeId::try_new(fields.word()?);
+    let detail = Detail::try_new(alloc, fields.text(0, Detail::MAX_LEN)?)?;
+    let reply = Reply { status, id, detail };
+    Ok(KeptCall {
+        number,
+        kind,
+        reply,
+    })
 }

@@ -8,17 +8,17 @@ ghost use Rattle.csi_records.specs.Records.{Head, IsHead};
 ghost use Rattle.csi_records.specs.Reading.{controller_head_in, whole};
 
 use crate::fault::Stop;
-use crate::fields::{kind, live, number, session, tag, word};
-use crate::items::{capabilities, list};
+use crate::fields::{live_of, session, tag};
+use crate::items::list;
+use crate::part_value::value_of;
 use crate::plugin_rows::Row;
 use crate::row_values::volume_value;
-use crate::texts::name;
-use crate::values::reply;
+use crate::values::{KeptCall, kept};
 use crate::version::RecordVersion;
 use csi_controller::ControllerRow;
 use csi_frames::Fields;
 use csi_stores::{Part, push_value};
-use csi_types::{NoMemory, VolumeId};
+use csi_types::{CapabilityList, Name, NoMemory, VolumeId};
 use std::alloc::Global;
 
 impl Row for ControllerRow {
@@ -39,21 +39,25 @@ impl Row for ControllerRow {
 
     ghost is_small = { AreHeldFew };
 
-    #[tactic(auto, unfolding(crate::specs::Reading::volume_in, crate::specs::Reading::kept_in))]
+    #[tactic(auto, unfolding(crate::specs::Reading::volume_in, crate::specs::Reading::code_in, crate::specs::Reading::byte_in, crate::specs::Reading::text_in, crate::specs::Reading::word_in))]
     fn read(
         fields: &mut Fields<'_>,
         alloc: Global,
         version: RecordVersion,
         id: VolumeId,
     ) -> Result<ControllerRow, Stop> {
-        let live = live(fields)?;
-        let name = name(fields, alloc)?;
-        let capacity = word(fields)?;
-        let capabilities = capabilities(fields, alloc, version)?;
+        let Some(live) = live_of(fields.any_byte()?) else {
+            return Err(Stop::Bad);
+        };
+        let name = Name::try_new(alloc, fields.text(1, Name::MAX_LEN)?)?;
+        let capacity = fields.word()?;
+        let capabilities = CapabilityList::try_new(list(fields, alloc, version, 8)?).unwrap();
         let holdings = list(fields, alloc, version, 64)?;
-        let last = number(fields)?;
-        let kind = kind(fields)?;
-        let reply = reply(fields, alloc)?;
+        let KeptCall {
+            number,
+            kind,
+            reply,
+        } = kept(fields, alloc)?;
         Ok(ControllerRow {
             id,
             live,
@@ -61,7 +65,7 @@ impl Row for ControllerRow {
             capacity,
             capabilities,
             holdings,
-            last,
+            last: number,
             kind,
             reply,
         })
@@ -84,7 +88,7 @@ pub(crate) struct ControllerHead {
 }
 
 // What the head tells of which this is the whole value, in this version.
-#[tactic(auto, unfolding(crate::specs::Reading::whole, crate::specs::Reading::controller_head_in))]
+#[tactic(auto, unfolding(crate::specs::Reading::whole, crate::specs::Reading::controller_head_in, crate::specs::Reading::word_in))]
 fn head_in(version: RecordVersion, value: &[u8]) -> Result<ControllerHead, Stop>
     ensures read { IfOk result (λ head. whole version (controller_head_in version) value.now ≡ Some (record { own = head.next_id; session = head.session })) }
     ensures bad { OnErr result (whole version (controller_head_in version) value.now ≡ None) }
@@ -93,7 +97,7 @@ fn head_in(version: RecordVersion, value: &[u8]) -> Result<ControllerHead, Stop>
     let mut fields = Fields { bytes: value };
     tag(&mut fields, version.number())?;
     tag(&mut fields, 0)?;
-    let next_id = word(&mut fields)?;
+    let next_id = fields.word()?;
     let session = session(&mut fields, version)?;
     if fields.bytes.is_empty() {
         Ok(ControllerHead { next_id, session })
@@ -111,10 +115,7 @@ pub(crate) fn head_of(version: RecordVersion, part: &Part) -> Option<ControllerH
     if part.key != 0 {
         return None;
     }
-    let Some(value) = &part.value else {
-        return None;
-    };
-    match head_in(version, value) {
+    match head_in(version, value_of(part)) {
         Ok(head) => Some(head),
         Err(_) => None,
     }

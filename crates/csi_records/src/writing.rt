@@ -1,11 +1,12 @@
 //! What records have beside fields, written as bytes. Reading a value shows that it is within its limits.
-ghost use Rattle.std.specs.Prelude.{◌≡◌, ◌<◌, ◌++◌, ◌^◌, length, IfOk, OnOk};
+ghost use Rattle.std.specs.Prelude.{◌≡◌, ◌++◌, IfOk, OnOk};
 ghost use Rattle.byteorder.specs.Endian.{big_bytes};
 ghost use Rattle.csi_stores.specs.Part.{IsPart, stored_in, all_stored_in};
 ghost use Rattle.csi_records.specs.Spelling.{present, kept_bytes, part_bytes, record_bytes};
 ghost use Rattle.csi_records.specs.Records.{IsKept};
 ghost use Rattle.csi_records.specs.Writing.{CanBeWritten};
 
+use crate::part_value::value_of;
 use crate::version::PRESENT;
 use byteorder::{BigEndian, ByteOrder};
 use csi_frames::{append_byte, append_reply, append_word, reply_kind_number};
@@ -13,8 +14,8 @@ use csi_stores::Part;
 use csi_types::{Kind, NoMemory, Number, Reply};
 use std::alloc::Global;
 
-// Bytes as they are.
-fn put(out: &mut Vec<u8>, bytes: &[u8]) -> Result<(), NoMemory>
+/// Bytes as they are.
+pub(crate) fn put(out: &mut Vec<u8>, bytes: &[u8]) -> Result<(), NoMemory>
     ensures { OnOk result (out.new.items ≡ out.old.items ++ bytes.now) }
 {
     out.extend_from_slice(bytes)?;
@@ -46,25 +47,15 @@ pub(crate) fn put_kept(
     append_reply(out, reply)
 }
 
-// The key and the value of a part of a whole record.
-fn put_value(out: &mut Vec<u8>, key: u64, value: &[u8]) -> Result<(), NoMemory>
-    requires { length value.now < 2 ^ 32 }
-    ensures { OnOk result (out.new.items ≡ out.old.items ++ part_bytes (record { key = key; value = value.now })) }
-{
-    append_word(out, key)?;
-    put_count(out, value.len() as u32)?;
-    put(out, value)
-}
-
 // A part of a whole record.
 fn put_part(out: &mut Vec<u8>, part: &Part) -> Result<(), NoMemory>
     requires { IsPart (stored_in part.now) }
     ensures { OnOk result (out.new.items ≡ out.old.items ++ part_bytes (stored_in part.now)) }
 {
-    match &part.value {
-        Some(value) => put_value(out, part.key, value),
-        None => put_value(out, part.key, &[]),
-    }
+    let value = value_of(part);
+    append_word(out, part.key)?;
+    put_count(out, value.len() as u32)?;
+    put(out, value)
 }
 
 /// The bytes of the record with these parts.

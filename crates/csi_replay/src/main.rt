@@ -1,7 +1,6 @@
 //! The program `csi-replay`: what it asks of its process is in `process`.
 #![tactic(auto)]
 
-mod laws;
 mod pictures;
 mod process;
 

@@ -1,5 +1,5 @@
 -- What is so of the first items of a list is so of one item more: in loops.
-use Rattle.std.proofs.Common.{◌≡◌, ◌∙◌, sym, ap, subst, refl, append_assoc, ℕ, ◌+◌, ◌<◌, Bool, true, false, cond, List, [], ◌∷◌, ◌++◌, length, take, get_or, map}
+use Rattle.std.proofs.Common.{◌≡◌, ◌∙◌, sym, ap, subst, refl, ℕ, ◌+◌, ◌<◌, Bool, true, false, cond, List, [], ◌∷◌, ◌++◌, length, take, get_or, map}
 use Rattle.std.specs.Prelude.{◌==◌, ◌||◌, None, not, filter}
 use Rattle.std.specs.List.{AllByRecursion, list_any}
 use Rattle.std.proofs.lemmas.List.{map-append, take_more}
@@ -15,13 +15,6 @@ one-more xs i x d inside is = take_more xs i d inside ∙ ap (λ y. take i xs ++
 -- each of them is as it should be
 pub each-more : {X : Type 0} (P : X → Type 0) (xs : List X) (i : ℕ) (x : X) → i < length xs → x ≡ get_or xs i x → AllByRecursion P (take i xs) → P x → AllByRecursion P (take (i + 1) xs)
 each-more P xs i x inside is so_far one = subst (AllByRecursion P) (sym (one-more xs i x x inside is)) (each-append_one P (take i xs) x so_far one)
-
--- they are taken out
-pub taken-more : (keys : List ℕ) (i key d : ℕ) (old before after : List Change) → i < length keys → key ≡ get_or keys i d → before ≡ old ++ take_all (take i keys) → after ≡ before ++ take_all (key ∷ [])
-    → after ≡ old ++ take_all (take (i + 1) keys)
-taken-more keys i key d old before after inside is so_far one =
-    one ∙ ap (λ (cs : List Change). cs ++ take_all (key ∷ [])) so_far ∙ append_assoc old (take_all (take i keys)) (take_all (key ∷ []))
-    ∙ ap (λ (cs : List Change). old ++ cs) (sym (map-append (λ (k : ℕ). record { key = k; value = None }) (take i keys) (key ∷ []))) ∙ ap (λ (ks : List ℕ). old ++ take_all ks) (sym (one-more keys i key d inside is))
 
 -- ---- keys that are left out
 
@@ -46,7 +39,7 @@ left-append (other ∷ olds) old news = by (not (has_key other.key news)) (left-
     by false rest = rest
 
 -- those of the first parts
-pub left-more : (found parts : List Part) (i : ℕ) (part : Part) (before after : List ℕ) → i < length found → part ≡ get_or found i part → before ≡ left_out (all_stored_in (take i found)) (all_stored_in parts)
+left-more : (found parts : List Part) (i : ℕ) (part : Part) (before after : List ℕ) → i < length found → part ≡ get_or found i part → before ≡ left_out (all_stored_in (take i found)) (all_stored_in parts)
     → after ≡ before ++ cond (list_any (λ (p : Part). p.key == part.key) parts) [] (part.key ∷ []) → after ≡ left_out (all_stored_in (take (i + 1) found)) (all_stored_in parts)
 left-more found parts i part before after inside is so_far one =
     one ∙ ap (λ (ks : List ℕ). ks ++ cond (list_any (λ (p : Part). p.key == part.key) parts) [] (part.key ∷ [])) so_far
@@ -54,3 +47,13 @@ left-more found parts i part before after inside is so_far one =
     ∙ sym (left-append (all_stored_in (take i found)) (stored_in part) (all_stored_in parts))
     ∙ ap (λ (ps : List StoredPart). left_out ps (all_stored_in parts)) (sym (map-append stored_in (take i found) (part ∷ [])))
     ∙ ap (λ (ps : List Part). left_out (all_stored_in ps) (all_stored_in parts)) (sym (one-more found i part part inside is))
+
+-- and what takes them out
+pub removed-more : (found parts : List Part) (i : ℕ) (part : Part) (before after : List Change) → i < length found → part ≡ get_or found i part
+    → before ≡ take_all (left_out (all_stored_in (take i found)) (all_stored_in parts))
+    → after ≡ before ++ take_all (cond (list_any (λ (p : Part). p.key == part.key) parts) [] (part.key ∷ [])) → after ≡ take_all (left_out (all_stored_in (take (i + 1) found)) (all_stored_in parts))
+removed-more found parts i part before after inside is so_far one =
+    let keys = left_out (all_stored_in (take i found)) (all_stored_in parts) in
+    let more = cond (list_any (λ (p : Part). p.key == part.key) parts) [] (part.key ∷ []) in
+    one ∙ ap (λ (cs : List Change). cs ++ take_all more) so_far ∙ sym (map-append (λ (k : ℕ). record { key = k; value = None }) keys more)
+    ∙ ap take_all (left-more found parts i part keys (keys ++ more) inside is refl refl)

@@ -1,25 +1,15 @@
 //! What a call changes of a controller's record, and the parts that say so.
-ghost use Rattle.std.specs.Prelude.{◌≡◌, ◌↔◌, ◌++◌, ◌==◌, [], Some, find, map, IfOk, IsTrue, OnErr, OnOk};
+ghost use Rattle.std.specs.Prelude.{◌≡◌, ◌↔◌, ◌++◌, ◌==◌, find, map, IfOk, IsTrue, OnOk};
 ghost use Rattle.std.specs.List.{AllByRecursion};
 ghost use Rattle.csi_types.specs.VolumeId.{IsVolumeId};
-ghost use Rattle.csi_types.specs.Frame.{IsAllowed};
-ghost use Rattle.csi_types.specs.Lent.{lent_call, HasFitTexts};
-ghost use Rattle.csi_types.specs.Replies.{call_frame};
-ghost use Rattle.csi_controller.specs.Core.{Shows};
-ghost use Rattle.csi_controller.specs.Fenced.{fenced};
-ghost use Rattle.csi_controller.specs.State.{ControllerState};
-ghost use Rattle.csi_controller.specs.Step.{answer_frame};
 ghost use Rattle.csi_stores.specs.Part.{change_of};
-ghost use Rattle.csi_stores.specs.Content.{all_changed};
-ghost use Rattle.csi_service.specs.Services.{parts_of_controller, changes_of, forgotten_by, row_change, ControllerDiffers};
-ghost use Rattle.csi_service.specs.declared.changed.Changed.{Changed as WhatChanged};
+ghost use Rattle.csi_service.specs.Services.{forgotten_by, row_change};
 
-use crate::changed::{Changed, id_law, ids_law};
-use csi_controller::{Controller, showing_law, sound_law};
-use csi_fence::Answer;
+use crate::changed::ids_law;
+use csi_controller::{Controller, sound_law};
 use csi_records::volume_value;
 use csi_stores::{Part, push_value};
-use csi_types::{Body, CallRef, NoMemory, Number, Party, VolumeId};
+use csi_types::{NoMemory, Number, VolumeId};
 use std::alloc::Global;
 
 /// Puts the part of a volume's row at the end, if it has one.
@@ -41,8 +31,8 @@ pub(crate) fn push_row(
     }
 }
 
-// The volumes that a call of this number makes the controller forget. Where it begins no session, none are asked for.
-fn forgotten(
+/// The volumes that a call of this number makes the controller forget. Where it begins no session, none are asked for.
+pub(crate) fn forgotten(
     alloc: Global,
     controller: &Controller,
     number: Number,
@@ -62,52 +52,9 @@ fn forgotten(
     }
 }
 
-// Whether the two heads, each a next id and a session, are the same.
-fn is_same_head(before: (u64, u64), now: (u64, u64)) -> bool
+/// Whether the two heads, each a next id and a session, are the same.
+pub(crate) fn is_same_head(before: (u64, u64), now: (u64, u64)) -> bool
     ensures { IsTrue result ↔ (now ≡ before) }
 {
     now == before
-}
-
-/// Answers a call of the controller, which is within its limits, and tells what that changed. A refusal leaves what the record says.
-pub(crate) fn answer_call(
-    alloc: Global,
-    controller: &mut Controller,
-    number: Number,
-    call: &CallRef<'_>,
-) -> Result<(Answer, Changed), NoMemory>
-    requires allowed { IsAllowed Party.Controller (Body.Call (lent_call call.now)) }
-    requires texts { HasFitTexts (lent_call call.now) }
-    ensures config { controller.new.config ≡ controller.old.config }
-    ensures reply { (state : ControllerState) → Shows controller.old state
-        → IfOk result (λ made. Some (answer_frame number made.0) ≡ (fenced controller.old.config state (call_frame number Party.Controller (lent_call call.now))).reply) }
-    ensures allowed { IfOk result (λ made. IsAllowed Party.Controller (Body.Reply made.0.kind made.0.reply)) }
-    ensures state { (state : ControllerState) → Shows controller.old state
-        → OnOk result (Shows controller.new (fenced controller.old.config state (call_frame number Party.Controller (lent_call call.now))).state) }
-    ensures parts { IfOk result (λ made. parts_of_controller controller.new ≡ all_changed (changes_of made.1 controller.new) (parts_of_controller controller.old)) }
-    ensures nothing { (state : ControllerState) → Shows controller.old state → (fenced controller.old.config state (call_frame number Party.Controller (lent_call call.now))).state ≡ state
-        → IfOk result (λ made. changes_of made.1 controller.new ≡ []) }
-    ensures differs { IfOk result (λ made. ControllerDiffers made.1 controller.old controller.new) }
-    ensures err_shows { (state : ControllerState) → Shows controller.old state → OnErr result (Shows controller.new state) }
-    ensures err { OnErr result (parts_of_controller controller.new ≡ parts_of_controller controller.old) }
-    ensures err_changes { (changed : WhatChanged) → OnErr result (changes_of changed controller.new ≡ changes_of changed controller.old) }
-{
-    sound_law(controller);
-    showing_law(controller);
-    let before = (controller.next_id(), controller.session());
-    let forgotten = forgotten(alloc, controller, number)?;
-    let answered = controller.answer(number, call);
-    sound_law(controller);
-    let Ok(answer) = answered else {
-        return Err(NoMemory);
-    };
-    let answer = answer.unwrap();
-    id_law(answer.row);
-    let now = (controller.next_id(), controller.session());
-    let changed = Changed {
-        new_head: !is_same_head(before, now),
-        forgotten,
-        row: answer.row,
-    };
-    Ok((answer, changed))
 }

@@ -21,11 +21,11 @@ ghost use Rattle.csi_service.specs.Opening.{controller_records, IsOpenFault, Lea
 ghost use Rattle.csi_service.specs.Services.{controller_service_parts, controller_service_changes, ControllerAnswers, ControllerDiffers};
 
 use crate::calls::{call_for, texts_law};
-use crate::changed::{Changed, nothing};
-use crate::controller_changes::{answer_call, push_row};
+use crate::changed::{Changed, id_law, nothing};
+use crate::controller_changes::{forgotten, is_same_head, push_row};
 use crate::opening::{Opens, head_part, open, renewal};
-use crate::replies::{append, frame_of, reserve};
-use csi_controller::{Controller, ControllerRecord};
+use crate::replies::{MOST_BYTES, append, frame_of};
+use csi_controller::{Controller, ControllerRecord, showing_law, sound_law};
 use csi_fence::Answer;
 use csi_frames::FrameRef;
 use csi_records::{Record, RecordStop, Stored, controller_head_value, push_removals};
@@ -152,7 +152,7 @@ impl ControllerService {
 }
 
 impl ControllerService {
-    // Answers a call of the controller, and notes what that changed.
+    // Answers a call of the controller, which is within its limits, and notes what that changed. A refusal leaves what the record says.
     fn answer_call(&mut self, number: Number, call: &CallRef<'_>) -> Result<Answer, NoMemory>
         requires allowed { IsAllowed Party.Controller (Body.Call (lent_call call.now)) }
         requires texts { HasFitTexts (lent_call call.now) }
@@ -167,8 +167,23 @@ impl ControllerService {
         ensures err_changes { OnErr result (controller_service_changes self.new ≡ controller_service_changes self.old) }
         ensures differs { OnOk result (ControllerDiffers self.new.changed self.old.controller self.new.controller) }
     {
-        let (answer, changed) = answer_call(self.alloc, &mut self.controller, number, call)?;
-        self.changed = changed;
+        sound_law(&self.controller);
+        showing_law(&self.controller);
+        let before = (self.controller.next_id(), self.controller.session());
+        let forgotten = forgotten(self.alloc, &self.controller, number)?;
+        let answered = self.controller.answer(number, call);
+        sound_law(&self.controller);
+        let Ok(answer) = answered else {
+            return Err(NoMemory);
+        };
+        let answer = answer.unwrap();
+        id_law(answer.row);
+        let now = (self.controller.next_id(), self.controller.session());
+        self.changed = Changed {
+            new_head: !is_same_head(before, now),
+            forgotten,
+            row: answer.row,
+        };
         Ok(answer)
     }
 
@@ -198,24 +213,18 @@ impl ControllerService {
         ensures err_changes { OnErr result (controller_service_changes self.new ≡ controller_service_changes self.old) }
         ensures err_bytes { OnErr result (out.new.items ≡ out.old.items) }
     {
-        if !frame.is_for(&Party::Controller) {
-            self.pass();
-            return Ok(false);
-        }
-        let capabilities = frame.capabilities(self.alloc)?;
-        reserve(out)?;
-        match frame.call(&capabilities) {
-            Some(call) => {
+        if frame.is_for(&Party::Controller) {
+            out.reserve(MOST_BYTES)?;
+            let capabilities = frame.capabilities(self.alloc)?;
+            if let Some(call) = frame.call(&capabilities) {
                 let number = frame.number();
                 let answer = self.answer_call(number, &call)?;
                 append(number, &Party::Controller, answer, out);
-                Ok(true)
-            }
-            None => {
-                self.pass();
-                Ok(false)
+                return Ok(true);
             }
         }
+        self.pass();
+        Ok(false)
     }
 }
 

@@ -3,13 +3,13 @@ ghost use Rattle.std.specs.Prelude.{◌≡◌};
 ghost use Rattle.csi_types.specs.declared.call.Party.TheVariants.{Node as OfNode};
 
 use crate::calls::{call_for, texts_law};
-use crate::changed::{Changed, nothing};
-use crate::node_changes::{answer_call, push_row};
+use crate::changed::{Changed, id_law, nothing};
+use crate::node_changes::{forgotten, push_row};
 use crate::opening::{Opens, head_part, open, renewal};
-use crate::replies::{append, frame_of, reserve};
+use crate::replies::{MOST_BYTES, append, frame_of};
 use csi_fence::Answer;
 use csi_frames::FrameRef;
-use csi_node::{Node, NodeRecord};
+use csi_node::{Node, NodeRecord, record_law, showing_law};
 use csi_records::{RecordStop, Stored, node_head_value, push_removals, record_of_node};
 use csi_serving::Core;
 use csi_stores::{Keep, KeepFault, Part, push_value};
@@ -158,7 +158,7 @@ impl NodeService {
         open(alloc, id, keep)
     }
 
-    // Answers a call of the node, and notes what that changed.
+    // Answers a call of the node, which is within its limits, and notes what that changed. A refusal leaves what the record says.
     fn answer_call(&mut self, number: Number, call: &CallRef<'_>) -> Result<Answer, NoMemory>
         requires allowed { IsAllowed self.old.party (Body.Call (lent_call call.now)) }
         requires texts { HasFitTexts (lent_call call.now) }
@@ -173,8 +173,20 @@ impl NodeService {
         ensures err_changes { OnErr result (node_service_changes self.new ≡ node_service_changes self.old) }
         ensures differs { OnOk result (NodeDiffers self.new.changed self.old.node self.new.node) }
     {
-        let (answer, changed) = answer_call(self.alloc, &mut self.node, number, call)?;
-        self.changed = changed;
+        record_law(&self.node);
+        showing_law(&self.node);
+        let session = self.node.session();
+        let forgotten = forgotten(self.alloc, &self.node, number)?;
+        let Ok(answer) = self.node.answer(number, call) else {
+            return Err(NoMemory);
+        };
+        let answer = answer.unwrap();
+        id_law(answer.row);
+        self.changed = Changed {
+            new_head: self.node.session() != session,
+            forgotten,
+            row: answer.row,
+        };
         Ok(answer)
     }
 
@@ -202,24 +214,18 @@ impl NodeService {
         ensures err_changes { OnErr result (node_service_changes self.new ≡ node_service_changes self.old) }
         ensures err_bytes { OnErr result (out.new.items ≡ out.old.items) }
     {
-        if !frame.is_for(&self.party) {
-            self.pass();
-            return Ok(false);
-        }
-        let capabilities = frame.capabilities(self.alloc)?;
-        reserve(out)?;
-        match frame.call(&capabilities) {
-            Some(call) => {
+        if frame.is_for(&self.party) {
+            out.reserve(MOST_BYTES)?;
+            let capabilities = frame.capabilities(self.alloc)?;
+            if let Some(call) = frame.call(&capabilities) {
                 let number = frame.number();
                 let answer = self.answer_call(number, &call)?;
                 append(number, &self.party, answer, out);
-                Ok(true)
-            }
-            None => {
-                self.pass();
-                Ok(false)
+                return Ok(true);
             }
         }
+        self.pass();
+        Ok(false)
     }
 }
 

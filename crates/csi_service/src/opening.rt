@@ -51,43 +51,27 @@ pub(crate) fn head_part(alloc: Global, value: Vec<u8>) -> Result<Vec<Part>, NoMe
     Ok(parts)
 }
 
-// Whether one of these parts has the key.
-fn has_key(parts: &[Part], key: u64) -> bool
-    ensures { result ≡ list_any (λ part. part.key == key) parts.now }
+// Puts at the end that the part of this key is taken out, unless one of these parts has it.
+fn push_unless(removals: &mut Vec<Part>, parts: &[Part], key: u64) -> Result<(), NoMemory>
+    ensures { OnOk result (map change_of removals.new.items ≡ map change_of removals.old.items ++ take_all (if list_any (λ part. part.key == key) parts.now then [] else key ∷ [])) }
 {
-    parts.iter().any(|part| part.key == key)
-}
-
-// Puts the key at the end, unless one of these parts has it.
-fn push_unless(keys: &mut Vec<u64>, parts: &[Part], key: u64) -> Result<(), NoMemory>
-    ensures { OnOk result (keys.new.items ≡ keys.old.items ++ (if list_any (λ part. part.key == key) parts.now then [] else key ∷ [])) }
-{
-    if has_key(parts, key) {
-        return Ok(());
+    for part in parts {
+        if part.key == key {
+            return Ok(());
+        }
     }
-    keys.push(key)?;
-    Ok(())
+    push_removal(removals, key)
 }
 
-// The keys of the parts that were found, but for those that the record has a part of.
-fn left_out(alloc: Global, found: &[Part], parts: &[Part]) -> Result<Vec<u64>, NoMemory>
-    ensures { IfOk result (λ keys. keys.items ≡ left_out (all_stored_in found.now) (all_stored_in parts.now)) }
+// What takes out the parts that were found, but for those that the record has a part of.
+fn left_out(alloc: Global, found: &[Part], parts: &[Part]) -> Result<Vec<Part>, NoMemory>
+    ensures { IfOk result (λ removals. map change_of removals.items ≡ take_all (left_out (all_stored_in found.now) (all_stored_in parts.now))) }
 {
-    let mut keys = Vec::new(alloc);
+    let mut removals = Vec::new(alloc);
     for part in found {
-        push_unless(&mut keys, parts, part.key)?;
+        push_unless(&mut removals, parts, part.key)?;
     }
-    Ok(keys)
-}
-
-// Puts at the end that the parts of these keys are taken out.
-fn push_keys(parts: &mut Vec<Part>, keys: &[u64]) -> Result<(), NoMemory>
-    ensures { OnOk result (map change_of parts.new.items ≡ map change_of parts.old.items ++ take_all keys.now) }
-{
-    for key in keys {
-        push_removal(parts, *key)?;
-    }
-    Ok(())
+    Ok(removals)
 }
 
 /// What a record that was read of these parts in this version has to be committed: nothing where that is the present one, else all its
@@ -104,8 +88,8 @@ pub(crate) fn renewal<T: Record>(
         return Ok(Vec::new(alloc));
     }
     let mut parts = kept.to_parts(alloc)?;
-    let keys = left_out(alloc, found, &parts)?;
-    push_keys(&mut parts, &keys)?;
+    let mut removals = left_out(alloc, found, &parts)?;
+    parts.append(&mut removals)?;
     Ok(parts)
 }
 

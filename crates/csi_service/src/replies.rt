@@ -1,12 +1,12 @@
 //! The frame of an answer's reply, and its bytes, for which there is room before the call is answered.
-ghost use Rattle.std.specs.Prelude.{◌≡◌, ◌≤◌, ◌+◌, ◌++◌, length, OnOk, vec_len, vec_capacity};
+ghost use Rattle.std.specs.Prelude.{◌≡◌, ◌≤◌, ◌+◌, ◌++◌, length, vec_len, vec_capacity};
 ghost use Rattle.csi_types.specs.Frame.{IsAllowed};
 ghost use Rattle.csi_types.specs.Replies.{reply_frame};
 ghost use Rattle.csi_frames.specs.Spelling.{spelling, party as spelled_party};
 
 use csi_fence::Answer;
 use csi_frames::encode_reply;
-use csi_types::{Body, Frame, NoMemory, Number, Party};
+use csi_types::{Body, Frame, Number, Party};
 
 /// The frame in which a plugin answers a call of this number.
 pub(crate) fn frame_of(number: Number, party: Party, answer: Answer) -> Frame
@@ -17,8 +17,8 @@ pub(crate) fn frame_of(number: Number, party: Party, answer: Answer) -> Frame
     Frame::reply(number, party, kind, reply).unwrap()
 }
 
-// The most bytes of a reply: 4 of a length, 18 of a version, a kind and a number, 257 of a party, and 265 of a status, an id and a detail.
-const MOST: usize = 544;
+/// The most bytes of a reply: 4 of a length, 18 of a version, a kind and a number, 257 of a party, and 265 of a status, an id and a detail.
+pub(crate) const MOST_BYTES: usize = 544;
 
 // A law, and nothing that runs: how many bytes a party has at most.
 fn party_law(party: &Party)
@@ -36,15 +36,6 @@ fn most_law(number: Number, party: &Party, answer: &Answer)
 {
     party_law(party);
     let _detail = answer.reply.detail.as_str();
-}
-
-/// Asks for room for any reply behind these bytes, which stay as they are.
-pub(crate) fn reserve(out: &mut Vec<u8>) -> Result<(), NoMemory>
-    ensures room { OnOk result (vec_len out.new + 544 ≤ vec_capacity out.new) }
-    ensures same { out.new.items ≡ out.old.items }
-{
-    out.reserve(MOST)?;
-    Ok(())
 }
 
 /// Appends the bytes of that frame, for which there is room. There are at most 544.

@@ -54,9 +54,15 @@ pub fn has_capability(capabilities: &[Capability], wished: CapabilityRef) -> boo
 }
 
 /// From none to 8 capabilities, in order (this profile's own limit). A contract sees it as a list.
-#[derive(Clone, Debug, Drop)]
+#[derive(Clone, Debug)]
 pub struct CapabilityList {
     items: Vec<Capability>,
+}
+
+impl Drop for CapabilityList {
+    fn drop(self) {
+        let CapabilityList { items: _ } = self;
+    }
 }
 
 impl Model for CapabilityList {

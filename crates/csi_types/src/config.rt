@@ -45,10 +45,19 @@ impl ConfigFault {
 
 /// What a controller can give (this profile's own): the greatest capacity of a volume, and up to 64 nodes,
 /// each with up to 4,096 slots. A contract sees its parts.
-#[derive(Clone, Debug, Drop)]
+#[derive(Clone, Debug)]
 pub struct Config {
     greatest: u64,
     nodes: Vec<NodeSlots>,
+}
+
+impl Drop for Config {
+    fn drop(self) {
+        let Config {
+            greatest: _,
+            nodes: _,
+        } = self;
+    }
 }
 
 impl Model for Config {

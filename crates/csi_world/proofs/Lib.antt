@@ -29,3 +29,4 @@ pub mod SystemInputs
 pub mod SystemNodes
 pub mod SystemCalls
 pub mod SimulatedRuns
+pub mod WholeLists

@@ -9,7 +9,7 @@ use crate::world::World;
 use csi_controller::{Controller, ControllerRecord};
 use csi_node::{Node, NodeRecord};
 use csi_orchestrator::Orchestrator;
-use csi_types::{Config, NoMemory, NodeId, NodeSlots};
+use csi_types::{Config, NoMemory, NodeSlots};
 use std::alloc::Global;
 use thiserror::Error;
 
@@ -24,13 +24,6 @@ pub enum AssembleFault {
     NoMemory = 2,
 }
 
-// Whether the two are the same.
-fn is_same(a: &NodeId, b: &NodeId) -> bool
-    ensures { IsTrue result ↔ (a.now ≡ b.now) }
-{
-    a == b
-}
-
 // Whether the records are those of these nodes, in their order.
 fn are_of_nodes(kept: &[NodeRecord], nodes: &[NodeSlots]) -> bool
     ensures { IsTrue result ↔ AreOfNodes kept.now nodes.now }
@@ -39,22 +32,11 @@ fn are_of_nodes(kept: &[NodeRecord], nodes: &[NodeSlots]) -> bool
         return false;
     }
     for (place, slots) in nodes.iter().enumerate() {
-        if !is_same(kept[place].id(), &slots.id) {
+        if *kept[place].id() != slots.id {
             return false;
         }
     }
     true
-}
-
-// The nodes of these records, in order.
-fn nodes_of_records(alloc: Global, kept: Vec<NodeRecord>) -> Result<Vec<Node>, NoMemory>
-    ensures { IfOk result (λ nodes. nodes.items ≡ kept.items) }
-{
-    let mut nodes = Vec::new(alloc);
-    for one in kept {
-        nodes.push(Node::from_record(alloc, one).unwrap())?;
-    }
-    Ok(nodes)
 }
 
 // The nodes of these records, which must be of these nodes, in their order.
@@ -70,10 +52,13 @@ fn nodes_as_configured(
     if !are_of_nodes(&kept, nodes) {
         return Err(AssembleFault::OtherNodes);
     }
-    match nodes_of_records(alloc, kept) {
-        Ok(made) => Ok(made),
-        Err(NoMemory) => Err(AssembleFault::NoMemory),
+    let mut made = Vec::new(alloc);
+    for one in kept {
+        if made.push(Node::from_record(alloc, one).unwrap()).is_err() {
+            return Err(AssembleFault::NoMemory);
+        }
     }
+    Ok(made)
 }
 
 // The plugins of these records.

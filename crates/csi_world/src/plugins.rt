@@ -29,44 +29,38 @@ pub(crate) fn ids_of(alloc: Global, nodes: &[NodeSlots]) -> Result<Vec<NodeId>, 
     Ok(ids)
 }
 
-// A node that answered nothing.
-fn new_node(alloc: Global, slots: &NodeSlots) -> Result<Node, NoMemory>
-    ensures { IfOk result (λ node. node ≡ new_node_parts slots.now) }
-{
-    let id = slots.id.clone()?;
-    Ok(Node::new(alloc, id))
-}
-
 /// Nodes that answered nothing, one for each, in order.
 pub(crate) fn new_nodes(alloc: Global, slots: &[NodeSlots]) -> Result<Vec<Node>, NoMemory>
     ensures { IfOk result (λ nodes. nodes.items ≡ map new_node_parts slots.now) }
 {
     let mut nodes = Vec::new(alloc);
     for one in slots {
-        nodes.push(new_node(alloc, one)?)?;
+        let id = one.id.clone()?;
+        nodes.push(Node::new(alloc, id))?;
     }
     Ok(nodes)
-}
-
-// Whether the node has this id.
-fn is_node(node: &Node, id: &NodeId) -> bool
-    ensures { result ≡ same_text node.now.id id.now }
-{
-    *node.id() == *id
 }
 
 /// Where the node of this id is.
 pub(crate) fn place_of(nodes: &[Node], id: &NodeId) -> Option<usize>
     ensures { result ≡ position (λ node. same_text node.id id.now) nodes.now }
 {
-    nodes.iter().position(|node| is_node(node, id))
+    for (place, node) in nodes.iter().enumerate() {
+        if *node.id() == *id {
+            return Some(place);
+        }
+    }
+    None
 }
 
 /// The node of this id.
 pub(crate) fn node_of<'a>(nodes: &'a [Node], id: &NodeId) -> Option<&'a Node>
     ensures { option_copied result ≡ find (λ node. same_text node.id id.now) nodes.now }
 {
-    nodes.iter().find(|node| is_node(node, id))
+    match place_of(nodes, id) {
+        Some(place) => Some(&nodes[place]),
+        None => None,
+    }
 }
 
 /// Lets the controller answer a frame.
@@ -76,20 +70,20 @@ pub(crate) fn step_controller(
 ) -> Result<Option<Frame>, NoMemory>
     ensures { IfOk result (ControllerDoes controller.old controller.new frame.now) }
 {
-    match controller.step(frame) {
-        Ok(reply) => Ok(reply),
-        Err(_) => Err(NoMemory),
-    }
+    let Ok(reply) = controller.step(frame) else {
+        return Err(NoMemory);
+    };
+    Ok(reply)
 }
 
 /// Lets a node answer a frame.
 pub(crate) fn step_node(node: &mut Node, frame: &Frame) -> Result<Option<Frame>, NoMemory>
     ensures { IfOk result (NodeDoes node.old node.new frame.now) }
 {
-    match node.step(frame) {
-        Ok(reply) => Ok(reply),
-        Err(_) => Err(NoMemory),
-    }
+    let Ok(reply) = node.step(frame) else {
+        return Err(NoMemory);
+    };
+    Ok(reply)
 }
 
 /// The controller of this record, under a copy of the configuration.

@@ -7,16 +7,16 @@ ghost use Rattle.csi_types.specs.Call.{kind_of, is_party_of};
 ghost use Rattle.csi_fence.specs.Fence.{verdict_of as verdict_by};
 ghost use Rattle.csi_types.specs.Frame.{IsAllowed};
 ghost use Rattle.csi_types.specs.Lent.{lent_call};
-ghost use Rattle.csi_types.specs.Replies.{ok_reply, stale_reply};
+ghost use Rattle.csi_types.specs.Replies.{stale_reply};
 ghost use Rattle.csi_controller.specs.Core.{IsSoundRow, IsUndoing};
 ghost use Rattle.csi_controller.specs.AtRow.{RowAnswers, IsLeft, row_named};
 ghost use Rattle.csi_controller.specs.RowTable.{row_line};
 ghost use Rattle.csi_controller.specs.Step.{answer_frame};
 
 use super::changes::change;
-use super::counts::{MAX_NODES, recount};
-use super::line::refused;
-use super::replies::{copied, done, reply_of};
+use super::counts::MAX_NODES;
+use super::line::{line_of, refused};
+use super::replies::{answer_of, done, reply_of};
 use super::row_table::line;
 use crate::row::ControllerRow;
 use csi_fence::{Answer, CoreFault, Verdict, verdict_of};
@@ -36,7 +36,7 @@ fn keep(
     ensures err { OnErr result (row.new ≡ row.old) }
     ensures succeeds { reply.detail ≡ [] → IsOk result }
 {
-    match copied(alloc, &reply) {
+    match reply_of(alloc, &line_of(&reply)) {
         Ok(copy) => {
             row.last = number;
             row.kind = kind;
@@ -48,21 +48,6 @@ fn keep(
             })
         }
         Err(fault) => Err(fault),
-    }
-}
-
-// Keeps in a row that a call was carried out, and gives the answer that says so. It takes no memory.
-fn keep_done(row: &mut ControllerRow, alloc: Global, number: Number, kind: Kind) -> Answer
-    ensures answer { result ≡ record { kind = kind; reply = ok_reply; row = Some row.old.id } }
-    ensures kept { row.new ≡ record row.old { last = number; kind = kind; reply = ok_reply } }
-{
-    row.last = number;
-    row.kind = kind;
-    row.reply = done(alloc, None);
-    Answer {
-        kind,
-        reply: done(alloc, None),
-        row: Some(row.id),
     }
 }
 
@@ -89,10 +74,17 @@ fn carry_out(
             Ok(reply) => keep(row, alloc, number, call.kind(), reply),
             Err(fault) => Err(fault),
         },
-        None => match change(row, alloc, call) {
-            Ok(counted) => {
-                recount(counts, nodes, &counted);
-                Ok(keep_done(row, alloc, number, call.kind()))
+        None => match change(row, nodes, counts, alloc, call) {
+            Ok(()) => {
+                let kind = call.kind();
+                row.last = number;
+                row.kind = kind;
+                row.reply = done(alloc, None);
+                Ok(Answer {
+                    kind,
+                    reply: done(alloc, None),
+                    row: Some(row.id),
+                })
             }
             Err(fault) => Err(fault),
         },
@@ -103,29 +95,7 @@ fn carry_out(
 pub fn stale(alloc: Global, kind: Kind) -> Result<Answer, CoreFault>
     ensures { IfOk result (λ answer. answer ≡ record { kind = kind; reply = stale_reply; row = None }) }
 {
-    match reply_of(alloc, &refused(Status::Aborted, "stale")) {
-        Ok(reply) => Ok(Answer {
-            kind,
-            reply,
-            row: None,
-        }),
-        Err(fault) => Err(fault),
-    }
-}
-
-// The kept answer, once more. Without a detail it takes no memory.
-fn kept(alloc: Global, row: &ControllerRow) -> Result<Answer, CoreFault>
-    ensures ok { IfOk result (λ answer. answer ≡ record { kind = row.now.kind; reply = row.now.reply; row = None }) }
-    ensures succeeds { row.now.reply.detail ≡ [] → IsOk result }
-{
-    match copied(alloc, &row.reply) {
-        Ok(reply) => Ok(Answer {
-            kind: row.kind,
-            reply,
-            row: None,
-        }),
-        Err(fault) => Err(fault),
-    }
+    answer_of(alloc, kind, &refused(Status::Aborted, "stale"))
 }
 
 /// Answers a call of the row's volume: a refusal where a later call was answered, the kept kind and reply where this one was, and
@@ -151,7 +121,7 @@ pub fn answer_at_row(
 {
     match verdict_of(Some(row.last), number) {
         Verdict::Stale => stale(alloc, call.kind()),
-        Verdict::Repeated => kept(alloc, row),
+        Verdict::Repeated => answer_of(alloc, row.kind, &line_of(&row.reply)),
         Verdict::Fresh => carry_out(row, nodes, counts, alloc, number, call),
     }
 }

@@ -10,12 +10,12 @@ ghost use Rattle.csi_controller.specs.declared.row.ControllerRow.{ControllerRow 
 
 use super::at_row::answer_at_row;
 use super::core_parts::ControllerCore;
-use super::create_lines::argument_fault;
-use super::making::{made, not_made};
+use super::making::made;
 use super::new_row::new_row;
-use super::without_row::reply_without_row;
+use super::replies::answer_of;
+use super::without_row::line_without_row;
 use csi_fence::{Answer, CoreFault};
-use csi_types::{Call, CallRef, CapabilityList, Number, VolumeId};
+use csi_types::{Call, CallRef, CapabilityList, Kind, Number, VolumeId};
 
 impl ControllerCore {
     ghost use Rattle.csi_controller.specs.State.{ControllerState, is_row_for};
@@ -129,15 +129,10 @@ impl ControllerCore {
     {
         let alloc = self.alloc;
         let wished = capabilities.as_slice();
-        if let Some(line) = argument_fault(required, limit, wished) {
-            let answer = not_made(alloc, &line)?;
-            self.forget(number.session);
-            return Ok(answer);
-        }
-        match self.room_for(self.catalog.live(), required, limit) {
+        match self.room_for(self.catalog.live(), required, limit, wished) {
             Ok(made) => self.make_first(number, made.0, made.1, name, capabilities),
             Err(line) => {
-                let answer = not_made(alloc, &line)?;
+                let answer = answer_of(alloc, Kind::CreateVolume, &line)?;
                 self.forget(number.session);
                 Ok(answer)
             }
@@ -156,35 +151,9 @@ impl ControllerCore {
         ensures err { OnErr result (IsLeftSo self.old self.new) }
         ensures undone { IsUndoing (lent_call call.now) → IsOk result }
     {
-        let reply = reply_without_row(self.alloc, call)?;
+        let answer = answer_of(self.alloc, call.kind(), &line_without_row(call))?;
         self.forget(number.session);
-        Ok(Answer {
-            kind: call.kind(),
-            reply,
-            row: None,
-        })
-    }
-
-    // Answers a call that begins a session and has no live volume. An `Err` changes nothing.
-    #[inline(always)]
-    fn begin_without_row(&mut self, number: Number, call: &CallRef<'_>) -> Result<Answer, CoreFault>
-        requires party { IsTrue (is_party_of (kind_of (lent_call call.now)) Controller) }
-        requires kept { IsSoundCore self.old }
-        requires begins { self.old.session < number.session }
-        requires none { find (λ row. is_row_for (lent_call call.now) (volume_of_row row)) (live_rows (rows_of self.old.catalog)) ≡ None }
-        ensures ok { IfOk result (λ answer. IsAnswered self.old self.new number (lent_call call.now) answer) }
-        ensures err { OnErr result (IsLeftSo self.old self.new) }
-        ensures undone { IsUndoing (lent_call call.now) → IsOk result }
-    {
-        match call {
-            CallRef::CreateVolume {
-                name,
-                required,
-                limit,
-                capabilities,
-            } => self.create_first(number, name, *required, *limit, capabilities),
-            _ => self.begin_nowhere(number, call),
-        }
+        Ok(answer)
     }
 
     /// Answers a call of a later session than any that came: the session begins, so that the volumes that were deleted before are
@@ -202,7 +171,15 @@ impl ControllerCore {
     {
         match self.live_place_for(call) {
             Some(place) => self.begin_with_row(place, number, call),
-            None => self.begin_without_row(number, call),
+            None => match call {
+                CallRef::CreateVolume {
+                    name,
+                    required,
+                    limit,
+                    capabilities,
+                } => self.create_first(number, name, *required, *limit, capabilities),
+                _ => self.begin_nowhere(number, call),
+            },
         }
     }
 }

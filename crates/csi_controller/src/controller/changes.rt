@@ -1,17 +1,18 @@
 //! What a call changes in the row of its volume.
-ghost use Rattle.std.specs.Prelude.{◌≡◌, [], ◌∷◌, ◌++◌, not, filter, OnOk, OnErr, IfOk, IsOk};
+ghost use Rattle.std.specs.Prelude.{◌≡◌, ◌≤◌, length, not, filter, OnOk, OnErr, IfOk, IsOk};
 ghost use Rattle.csi_types.specs.Lent.{lent_call};
 ghost use Rattle.csi_types.specs.Same.{same_text};
-ghost use Rattle.csi_controller.specs.Core.{IsSameRow, IsUndoing};
+ghost use Rattle.csi_controller.specs.AtRow.{IsLeft};
+ghost use Rattle.csi_controller.specs.Core.{IsUndoing};
 ghost use Rattle.csi_controller.specs.OneRow.{live_after, items_after, held_so, count_change_by};
 ghost use Rattle.csi_controller.specs.RowTable.{row_change};
-ghost use Rattle.csi_controller.specs.Counts.{count_change_told};
+ghost use Rattle.csi_controller.specs.Counts.{recounted};
 ghost use Rattle.csi_controller.specs.Shown.{volume_of_row};
 
-use super::counts::CountChange;
+use super::counts::{MAX_NODES, recount};
 use crate::row::{ControllerRow, NodeHolding};
 use csi_fence::CoreFault;
-use csi_types::{CallRef, NodeId, NodeUse};
+use csi_types::{CallRef, NodeId, NodeSlots, NodeUse};
 use std::alloc::Global;
 
 // A use of the volume at a node, as its row holds it.
@@ -32,16 +33,6 @@ fn held(alloc: Global, wanted: NodeUse) -> Result<NodeHolding, CoreFault>
     }
 }
 
-// Adds a holding, the last one. A refusal changes nothing.
-fn add(holdings: &mut Vec<NodeHolding>, alloc: Global, wanted: NodeUse) -> Result<(), CoreFault>
-    ensures ok { OnOk result (holdings.new.items ≡ holdings.old.items ++ held_so wanted.entry ∷ []) }
-    ensures err { OnErr result (holdings.new.items ≡ holdings.old.items) }
-{
-    let held = held(alloc, wanted)?;
-    holdings.push(held)?;
-    Ok(())
-}
-
 // Takes out what is held at the node. The others keep their order.
 fn take_out(holdings: &mut Vec<NodeHolding>, node: &str)
     ensures { holdings.new.items ≡ filter (λ held. not (same_text held.node node.now)) holdings.old.items }
@@ -49,23 +40,26 @@ fn take_out(holdings: &mut Vec<NodeHolding>, node: &str)
     holdings.retain(|held| held.node.as_str() != node);
 }
 
-/// Makes the call's change to the row, and says at which node it is held from now on, or isn't any longer, if that changed. An `Err` changes nothing.
-/// A DeleteVolume and a ControllerUnpublishVolume take no memory.
-pub fn change<'a>(
+/// Makes the call's change to the row, and counts the volume at a node where it is held from now on, or isn't any longer. An `Err`
+/// changes nothing. A DeleteVolume and a ControllerUnpublishVolume take no memory.
+pub fn change(
     row: &mut ControllerRow,
+    nodes: &[NodeSlots],
+    counts: &mut [u64; MAX_NODES],
     alloc: Global,
-    call: &CallRef<'a>,
-) -> Result<Option<CountChange<'a>>, CoreFault>
+    call: &CallRef<'_>,
+) -> Result<(), CoreFault>
+    requires { length nodes.now ≤ 64 }
     ensures volume { OnOk result (volume_of_row row.new ≡ record (volume_of_row row.old) { is_live = live_after (row_change (lent_call call.now)) row.old.live }) }
     ensures items { OnOk result (row.new.holdings.items ≡ items_after (row_change (lent_call call.now)) row.old.holdings.items) }
-    ensures counts { IfOk result (λ counted. count_change_told counted ≡ count_change_by (row_change (lent_call call.now))) }
-    ensures err { OnErr result (IsSameRow row.old row.new) }
+    ensures counts { OnOk result (counts.new ≡ recounted nodes.now (count_change_by (row_change (lent_call call.now))) counts.old) }
+    ensures err { OnErr result (IsLeft row.old row.new counts.old counts.new) }
     ensures undone { IsUndoing (lent_call call.now) → IsOk result }
 {
     match call {
         CallRef::DeleteVolume { .. } => {
             row.live = false;
-            Ok(None)
+            Ok(())
         }
         CallRef::ControllerPublishVolume {
             node,
@@ -78,21 +72,16 @@ pub fn change<'a>(
                 capability: *capability,
                 readonly: *readonly,
             };
-            match add(&mut row.holdings, alloc, wanted) {
-                Ok(()) => Ok(Some(CountChange {
-                    node,
-                    is_held: true,
-                })),
-                Err(fault) => Err(fault),
-            }
+            let held = held(alloc, wanted)?;
+            row.holdings.push(held)?;
+            recount(counts, nodes, node, true);
+            Ok(())
         }
         CallRef::ControllerUnpublishVolume { node, .. } => {
             take_out(&mut row.holdings, node);
-            Ok(Some(CountChange {
-                node,
-                is_held: false,
-            }))
+            recount(counts, nodes, node, false);
+            Ok(())
         }
-        _ => Ok(None),
+        _ => Ok(()),
     }
 }

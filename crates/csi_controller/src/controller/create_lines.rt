@@ -7,7 +7,7 @@ ghost use Rattle.csi_types.specs.Reply.{has_id_by_rule};
 ghost use Rattle.csi_controller.specs.Table.{serves as is_served};
 ghost use Rattle.csi_controller.specs.Shown.{volume_of_row};
 ghost use Rattle.csi_controller.specs.Line.{line_told};
-ghost use Rattle.csi_controller.specs.RowTable.{again_line as again_told, create_line as create_told, argument_fault as fault_told};
+ghost use Rattle.csi_controller.specs.RowTable.{create_line as create_told, argument_fault as fault_told};
 ghost use Rattle.csi_controller.specs.OneRow.RowChange.{RowStays};
 
 use super::line::{Line, met, refused};
@@ -18,7 +18,12 @@ use csi_types::{Capability, Status, has_capability, is_bad_range, is_empty_range
 fn has_each(capabilities: &[Capability], wished: &[Capability]) -> bool
     ensures { result ≡ list_all (is_among capabilities.now) wished.now }
 {
-    wished.iter().all(|capability| has_capability(capabilities, capability.lend()))
+    for capability in wished {
+        if !has_capability(capabilities, capability.lend()) {
+            return false;
+        }
+    }
+    true
 }
 
 // Whether the volume has a capacity in the range, where a limit of 0 is none, and each capability.
@@ -48,23 +53,6 @@ pub fn argument_fault(required: u64, limit: u64, wished: &[Capability]) -> Optio
     None
 }
 
-// CreateVolume with good arguments, of a name that has this row.
-fn again_line(
-    row: &ControllerRow,
-    required: u64,
-    limit: u64,
-    wished: &[Capability],
-) -> Line<'static>
-    ensures ok { again_told row.now required limit wished.now ≡ record { reply = line_told result; change = RowStays } }
-    ensures id { IsTrue (has_id_by_rule CreateVolume (line_told result)) }
-    ensures plain { (line_told result).status ≡ Status.Ok → (line_told result).detail ≡ [] }
-{
-    if row.live && serves(row, required, limit, wished) {
-        return met(Some(row.id));
-    }
-    refused(Status::AlreadyExists, "name")
-}
-
 /// CreateVolume of a name that has this row.
 pub fn create_line(
     row: &ControllerRow,
@@ -76,8 +64,11 @@ pub fn create_line(
     ensures id { IsTrue (has_id_by_rule CreateVolume (line_told result)) }
     ensures plain { (line_told result).status ≡ Status.Ok → (line_told result).detail ≡ [] }
 {
-    match argument_fault(required, limit, wished) {
-        Some(line) => line,
-        None => again_line(row, required, limit, wished),
+    if let Some(line) = argument_fault(required, limit, wished) {
+        return line;
     }
+    if row.live && serves(row, required, limit, wished) {
+        return met(Some(row.id));
+    }
+    refused(Status::AlreadyExists, "name")
 }

@@ -34,13 +34,13 @@ impl ControllerCore {
     {
         match call {
             CallRef::CreateVolume { name, .. } => self.catalog.place_of_name(name),
-            CallRef::DeleteVolume { id } => self.catalog.place_of_id(*id),
-            CallRef::ControllerPublishVolume { id, .. } => self.catalog.place_of_id(*id),
-            CallRef::ControllerUnpublishVolume { id, .. } => self.catalog.place_of_id(*id),
-            CallRef::NodeStageVolume { id, .. } => self.catalog.place_of_id(*id),
-            CallRef::NodeUnstageVolume { id } => self.catalog.place_of_id(*id),
-            CallRef::NodePublishVolume { id, .. } => self.catalog.place_of_id(*id),
-            CallRef::NodeUnpublishVolume { id, .. } => self.catalog.place_of_id(*id),
+            CallRef::DeleteVolume { id }
+            | CallRef::ControllerPublishVolume { id, .. }
+            | CallRef::ControllerUnpublishVolume { id, .. }
+            | CallRef::NodeStageVolume { id, .. }
+            | CallRef::NodeUnstageVolume { id }
+            | CallRef::NodePublishVolume { id, .. }
+            | CallRef::NodeUnpublishVolume { id, .. } => self.catalog.place_of_id(*id),
         }
     }
 }

@@ -13,13 +13,6 @@ use csi_types::{NodeUse, can_use_both, same_way};
 /// The most nodes at which a volume is held.
 pub const MAX_HOLDINGS: usize = 64;
 
-/// Whether the volume is held at the node.
-pub fn is_held_at(row: &ControllerRow, node: &str) -> bool
-    ensures { result ≡ list_any (λ held. same_text held.node node.now) row.now.holdings.items }
-{
-    row.holdings.iter().any(|held| held.node.as_str() == node)
-}
-
 /// Whether the volume is held so: at this node, with this capability and flag.
 pub fn is_held_so(held: &NodeHolding, wanted: NodeUse) -> bool
     ensures { (id : ℕ) → result ≡ same_holding (held_by id held.now) (held_by id (held_so wanted.entry)) }
@@ -49,6 +42,13 @@ pub fn held_at<'a>(row: &'a ControllerRow, node: &str) -> Option<&'a NodeHolding
     ensures { option_copied result ≡ find (λ held. same_text held.node node.now) row.now.holdings.items }
 {
     row.holdings.iter().find(|held| held.node.as_str() == node)
+}
+
+/// Whether the volume is held at the node.
+pub fn is_held_at(row: &ControllerRow, node: &str) -> bool
+    ensures { result ≡ list_any (λ held. same_text held.node node.now) row.now.holdings.items }
+{
+    held_at(row, node).is_some()
 }
 
 /// The first holding that can't be held with this one.

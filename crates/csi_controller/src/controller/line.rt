@@ -3,7 +3,7 @@ ghost use Rattle.std.specs.Prelude.{◌≡◌, []};
 ghost use Rattle.csi_types.specs.Replies.{plain_reply};
 ghost use Rattle.csi_controller.specs.Line.{line_told};
 
-use csi_types::{Status, VolumeId};
+use csi_types::{Reply, Status, VolumeId};
 
 /// A reply, by what it says.
 #[derive(Clone, Copy)]
@@ -32,5 +32,16 @@ pub fn met(id: Option<VolumeId>) -> Line<'static>
         status: Status::Ok,
         id,
         detail: "",
+    }
+}
+
+/// What a reply says.
+pub fn line_of(reply: &Reply) -> Line<'_>
+    ensures { line_told result ≡ reply.now }
+{
+    Line {
+        status: reply.status,
+        id: reply.id,
+        detail: reply.detail.as_str(),
     }
 }

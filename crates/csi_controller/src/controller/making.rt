@@ -1,7 +1,6 @@
 //! A volume that is made.
 ghost use Rattle.std.specs.Prelude.{◌≡◌, ◌==◌, ◌<◌, ℕ, List, None, IfOk, OnErr, OnOk, IsTrue, IfErr, MatchResult};
 ghost use Rattle.std.specs.List.{find};
-ghost use Rattle.csi_types.specs.declared.capability.Capability.{Capability as OneCapability};
 ghost use Rattle.csi_types.specs.declared.call.Kind.TheVariants.{CreateVolume as CreateKind};
 ghost use Rattle.csi_types.specs.Reply.{has_id_by_rule};
 ghost use Rattle.csi_types.specs.Replies.{ok_reply_with};
@@ -13,9 +12,11 @@ use super::core_parts::ControllerCore;
 use super::create_lines::argument_fault;
 use super::line::{Line, refused};
 use super::new_row::new_row;
-use super::replies::{done, reply_of};
+use super::replies::{answer_of, done};
 use csi_fence::{Answer, CoreFault};
-use csi_types::{Call, CapabilityList, Kind, Number, Status, VolumeId, wanted_capacity};
+use csi_types::{
+    Call, Capability, CapabilityList, Kind, Number, Status, VolumeId, wanted_capacity,
+};
 use std::alloc::Global;
 
 /// The most rows that a controller has.
@@ -32,25 +33,12 @@ pub fn made(alloc: Global, id: VolumeId) -> Answer
     }
 }
 
-/// The answer that no volume is made, by a line of the table.
-pub fn not_made(alloc: Global, line: &Line) -> Result<Answer, CoreFault>
-    ensures { IfOk result (λ answer. answer ≡ record { kind = CreateKind; reply = line_told line.now; row = None }) }
-{
-    match reply_of(alloc, line) {
-        Ok(reply) => Ok(Answer {
-            kind: Kind::CreateVolume,
-            reply,
-            row: None,
-        }),
-        Err(fault) => Err(fault),
-    }
-}
-
 impl ControllerCore {
     ghost use Rattle.csi_controller.specs.Table.{Makes, Stays};
     ghost use Rattle.csi_controller.specs.Core.{next_shown};
     ghost use Rattle.csi_controller.specs.CoreAnswers.{IsAnswered, IsLeftSo};
-    ghost use Rattle.csi_controller.specs.Making.{new_line, IsMade};
+    ghost use Rattle.csi_controller.specs.Making.{made_line, new_line, IsMade};
+    ghost use Rattle.csi_controller.specs.RowTable.{argument_fault as fault_told};
     ghost use Rattle.csi_controller.specs.Catalog.{IsIndexed};
     ghost use Rattle.csi_controller.specs.CoreParts.{parts_of, IsSoundCore};
 
@@ -60,16 +48,20 @@ impl ControllerCore {
         count: usize,
         required: u64,
         limit: u64,
+        wished: &[Capability],
     ) -> Result<(VolumeId, u64), Line<'static>>
-        ensures line { (name : List ℕ) (wished : List OneCapability) → MatchResult result
-            (λ made. new_line self.now.config.greatest count (next_shown self.now.next_id) name required limit wished
-            ≡ record { reply = ok_reply_with made.0; change = Makes name made.1 wished })
-            (λ line. new_line self.now.config.greatest count (next_shown self.now.next_id) name required limit wished
+        ensures line { (name : List ℕ) → MatchResult result
+            (λ made. made_line (fault_told required limit wished.now) (new_line self.now.config.greatest count (next_shown self.now.next_id) name required limit wished.now)
+            ≡ record { reply = ok_reply_with made.0; change = Makes name made.1 wished.now })
+            (λ line. made_line (fault_told required limit wished.now) (new_line self.now.config.greatest count (next_shown self.now.next_id) name required limit wished.now)
             ≡ record { reply = line_told line; change = Stays }) }
         ensures id { IfOk result (λ made. made.0 ≡ self.now.next_id) }
         ensures from { IfOk result (λ made. 0 < made.0) }
         ensures no_id { IfErr result (λ line. IsTrue (has_id_by_rule CreateKind (line_told line))) }
     {
+        if let Some(line) = argument_fault(required, limit, wished) {
+            return Err(line);
+        }
         let capacity = wanted_capacity(required, limit);
         if capacity > self.config.greatest() {
             return Err(refused(Status::OutOfRange, "range"));
@@ -126,12 +118,9 @@ impl ControllerCore {
     {
         let alloc = self.alloc;
         let wished = capabilities.as_slice();
-        if let Some(line) = argument_fault(required, limit, wished) {
-            return not_made(alloc, &line);
-        }
-        match self.room_for(self.catalog.len(), required, limit) {
+        match self.room_for(self.catalog.len(), required, limit, wished) {
             Ok(made) => self.make(number, made.0, made.1, name, capabilities),
-            Err(line) => not_made(alloc, &line),
+            Err(line) => answer_of(alloc, Kind::CreateVolume, &line),
         }
     }
 }

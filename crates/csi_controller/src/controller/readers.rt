@@ -1,9 +1,8 @@
 //! What a core's readers show.
-ghost use Rattle.std.specs.Prelude.{◌≡◌, ◌==◌, None, find, option_map, IfOk, IsOk};
+ghost use Rattle.std.specs.Prelude.{◌≡◌, ◌==◌, None, find, IfOk, IsOk};
 ghost use Rattle.csi_types.specs.Same.{same_text};
 ghost use Rattle.csi_controller.specs.Views.{row_if_live, IsCopyOf};
 
-use super::copies::copied_row;
 use super::core_parts::ControllerCore;
 use crate::row::ControllerRow;
 use csi_fence::CoreFault;
@@ -17,8 +16,9 @@ impl ControllerCore {
         requires { IsSoundCore self.now }
         ensures { result ≡ row_if_live (find (λ row. same_text row.name name.now) (parts_of self.now).rows) }
     {
-        match self.catalog.named(name) {
-            Some(row) => {
+        match self.catalog.place_of_name(name) {
+            Some(place) => {
+                let row = &self.catalog.rows[place];
                 if row.live {
                     Some((row.id, row.capacity))
                 } else {
@@ -29,14 +29,6 @@ impl ControllerCore {
         }
     }
 
-    /// The id of the volume of this name, deleted or not, unless it is forgotten.
-    pub fn id_of(&self, name: &str) -> Option<VolumeId>
-        requires { IsSoundCore self.now }
-        ensures { result ≡ option_map (λ row. row.id) (find (λ row. same_text row.name name.now) (parts_of self.now).rows) }
-    {
-        self.catalog.id_of(name)
-    }
-
     /// A copy of the row of this id. Without one it takes no memory.
     pub fn row(&self, id: VolumeId) -> Result<Option<ControllerRow>, CoreFault>
         requires { IsSoundCore self.now }
@@ -44,10 +36,10 @@ impl ControllerCore {
         ensures succeeds { find (λ row. row.id == id) (parts_of self.now).rows ≡ None → IsOk result }
     {
         match self.catalog.place_of_id(id) {
-            Some(place) => match copied_row(&self.catalog.rows[place]) {
-                Ok(copy) => Ok(Some(copy)),
-                Err(fault) => Err(fault),
-            },
+            Some(place) => {
+                let copy = self.catalog.rows[place].clone()?;
+                Ok(Some(copy))
+            }
             None => Ok(None),
         }
     }

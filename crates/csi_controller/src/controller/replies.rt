@@ -1,10 +1,10 @@
-//! Replies of lines, and copies of replies.
-ghost use Rattle.std.specs.Prelude.{◌≡◌, [], IsOk, IfOk};
+//! Replies of lines, and answers.
+ghost use Rattle.std.specs.Prelude.{◌≡◌, [], None, IsOk, IfOk};
 ghost use Rattle.csi_controller.specs.Line.{line_told};
 
 use super::line::Line;
-use csi_fence::CoreFault;
-use csi_types::{Detail, Reply, Status, VolumeId};
+use csi_fence::{Answer, CoreFault};
+use csi_types::{Detail, Kind, Reply, Status, VolumeId};
 use std::alloc::Global;
 
 // A detail of this text. An empty one takes no memory, and no bytes are copied for it.
@@ -49,16 +49,16 @@ pub fn done(alloc: Global, id: Option<VolumeId>) -> Reply
     }
 }
 
-/// The same reply again. Without a detail it takes no memory.
-pub fn copied(alloc: Global, reply: &Reply) -> Result<Reply, CoreFault>
-    ensures ok { IfOk result (λ copy. copy ≡ reply.now) }
-    ensures succeeds { reply.now.detail ≡ [] → IsOk result }
+/// The answer of a line, where no row is changed. Without a detail it takes no memory.
+pub fn answer_of(alloc: Global, kind: Kind, line: &Line) -> Result<Answer, CoreFault>
+    ensures ok { IfOk result (λ answer. answer ≡ record { kind = kind; reply = line_told line.now; row = None }) }
+    ensures succeeds { (line_told line.now).detail ≡ [] → IsOk result }
 {
-    match detail_of(alloc, reply.detail.as_str()) {
-        Ok(detail) => Ok(Reply {
-            status: reply.status,
-            id: reply.id,
-            detail,
+    match reply_of(alloc, line) {
+        Ok(reply) => Ok(Answer {
+            kind,
+            reply,
+            row: None,
         }),
         Err(fault) => Err(fault),
     }

@@ -12,7 +12,7 @@ ghost use Rattle.csi_controller.specs.RowTable.{by_line, delete_line as delete_t
 ghost use Rattle.csi_controller.specs.OneRow.{held_so};
 ghost use Rattle.csi_controller.specs.OneRow.RowChange.{RowEnds, RowAttaches, RowDetaches};
 
-use super::counts::{MAX_NODES, has_node, is_full};
+use super::counts::{MAX_NODES, is_full};
 use super::create_lines::create_line;
 use super::holdings::{MAX_HOLDINGS, excluding, held_at, is_held_at, is_held_so};
 use super::line::{Line, met, refused};
@@ -34,19 +34,6 @@ fn delete_line(row: &ControllerRow) -> Option<Line<'_>>
     }
 }
 
-// Whether the node takes no more volumes, or the volume is at as many nodes as it may be.
-fn is_full_for(
-    row: &ControllerRow,
-    nodes: &[NodeSlots],
-    counts: &[u64; MAX_NODES],
-    node: &str,
-) -> bool
-    requires { length nodes.now ≤ 64 }
-    ensures { result ≡ (is_node_full nodes.now counts.now node.now || nat_le 64 (length row.now.holdings.items)) }
-{
-    is_full(counts, nodes, node) || row.holdings.len() >= MAX_HOLDINGS
-}
-
 // ControllerPublishVolume of this row's volume.
 fn publish_line<'a>(
     row: &'a ControllerRow,
@@ -64,9 +51,9 @@ fn publish_line<'a>(
     if !row.live {
         return Some(refused(Status::NotFound, "volume"));
     }
-    if !has_node(nodes, wanted.node) {
+    let Some(is_full) = is_full(counts, nodes, wanted.node) else {
         return Some(refused(Status::NotFound, "node"));
-    }
+    };
     if !has_capability(row.capabilities.as_slice(), wanted.capability) {
         return Some(refused(Status::InvalidArgument, "capability"));
     }
@@ -79,7 +66,7 @@ fn publish_line<'a>(
     if let Some(other) = excluding(row, wanted) {
         return Some(refused(Status::FailedPrecondition, other.node.as_str()));
     }
-    if is_full_for(row, nodes, counts, wanted.node) {
+    if is_full || row.holdings.len() >= MAX_HOLDINGS {
         return Some(refused(Status::ResourceExhausted, "slots"));
     }
     None

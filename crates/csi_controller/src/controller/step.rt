@@ -13,7 +13,8 @@ ghost use Rattle.csi_types.specs.Replies.{call_frame, reply_frame};
 use super::at_row::{answer_at_row, stale};
 use super::core_parts::ControllerCore;
 use super::finding::is_own;
-use super::without_row::reply_without_row;
+use super::replies::answer_of;
+use super::without_row::line_without_row;
 use csi_fence::{Answer, CoreFault};
 use csi_types::{Body, CallRef, CapabilityList, CapabilityRef, Frame, Kind, Number, Party, Reply};
 
@@ -70,12 +71,7 @@ impl ControllerCore {
         ensures ok { (number : OneNumber) → number.session ≡ self.now.session → IfOk result (λ answer. IsAnswered self.now self.now number (lent_call call.now) answer) }
         ensures undone { IsUndoing (lent_call call.now) → IsOk result }
     {
-        let reply = reply_without_row(self.alloc, call)?;
-        Ok(Answer {
-            kind: call.kind(),
-            reply,
-            row: None,
-        })
+        answer_of(self.alloc, call.kind(), &line_without_row(call))
     }
 
     // Answers a call of the present session that has no row. An `Err` changes nothing.

@@ -34,9 +34,15 @@ impl Text {
 
 /// What a reply says beside its status: at most 255 bytes of UTF-8, empty where the status says all
 /// (this profile's own; CSI leaves a human-readable message to the RPC library).
-#[derive(Clone, Debug, Drop)]
+#[derive(Clone, Debug)]
 pub struct Detail {
     text: Text,
+}
+
+impl Drop for Detail {
+    fn drop(self) {
+        let Detail { text: _ } = self;
+    }
 }
 
 impl Model for Detail {

@@ -10,9 +10,15 @@ use std::marker::Model;
 
 /// The type of the file system that a mounted volume has: at most 128 bytes of UTF-8. An empty one
 /// leaves the choice to the plugin (`MountVolume.fs_type` of CSI's spec.md, "CreateVolume").
-#[derive(Clone, Debug, Drop)]
+#[derive(Clone, Debug)]
 pub struct FsType {
     text: String,
+}
+
+impl Drop for FsType {
+    fn drop(self) {
+        let FsType { text: _ } = self;
+    }
 }
 
 impl Model for FsType {

@@ -14,9 +14,15 @@ use std::marker::Model;
 
 /// The name that the orchestrator gives a volume: 1 to 128 bytes of UTF-8 (CSI's spec.md,
 /// "CreateVolume"; every UTF-8 text within the limits is accepted).
-#[derive(Clone, Debug, Drop)]
+#[derive(Clone, Debug)]
 pub struct Name {
     text: String,
+}
+
+impl Drop for Name {
+    fn drop(self) {
+        let Name { text: _ } = self;
+    }
 }
 
 impl Model for Name {

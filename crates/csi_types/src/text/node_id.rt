@@ -10,9 +10,15 @@ use std::marker::Model;
 
 /// The id of a node, from which the controller and the orchestrator tell nodes apart: 1 to 255 bytes of
 /// UTF-8 (`node_id` of CSI's spec.md, "ControllerPublishVolume"; the limit is this profile's own).
-#[derive(Clone, Debug, Drop)]
+#[derive(Clone, Debug)]
 pub struct NodeId {
     text: String,
+}
+
+impl Drop for NodeId {
+    fn drop(self) {
+        let NodeId { text: _ } = self;
+    }
 }
 
 impl Model for NodeId {

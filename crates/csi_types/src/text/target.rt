@@ -10,9 +10,15 @@ use std::marker::Model;
 
 /// The path on a node at which a volume is published: 1 to 255 bytes of UTF-8 (`target_path` of CSI's
 /// spec.md, "NodePublishVolume"; the limit is this profile's own). That it is absolute is for the node to ask.
-#[derive(Clone, Debug, Drop)]
+#[derive(Clone, Debug)]
 pub struct Target {
     text: String,
+}
+
+impl Drop for Target {
+    fn drop(self) {
+        let Target { text: _ } = self;
+    }
 }
 
 impl Model for Target {

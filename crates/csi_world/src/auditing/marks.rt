@@ -1,13 +1,12 @@
 //! Whether what the orchestrator knows is so.
-ghost use Rattle.std.specs.Prelude.{◌≡◌, ◌↔◌, ◌&&◌, ◌||◌, List, [], length, map, not, IfOk, IsTrue};
+ghost use Rattle.std.specs.Prelude.{◌≡◌, ◌↔◌, ◌&&◌, List, [], length, map, IfOk, IsTrue};
 ghost use Rattle.std.specs.List.{list_all};
-ghost use Rattle.csi_orchestrator.specs.Listing.{ListsKnown, IsInOrder};
+ghost use Rattle.csi_orchestrator.specs.Listing.{IsInOrder};
 ghost use Rattle.csi_orchestrator.specs.Shown.{view_of};
-ghost use Rattle.csi_orchestrator.specs.Thing.{is_yes};
 ghost use Rattle.csi_orchestrator.specs.declared.thing.Thing.{Thing as ThingParts};
 ghost use Rattle.csi_world.specs.World.{World};
 ghost use Rattle.csi_world.specs.Audited.{AreMarkedRight};
-ghost use Rattle.csi_world.specs.Listed.{AreRowsApart, IsListed, is_affirmed as is_affirmed_so, is_entry_listed, is_noted};
+ghost use Rattle.csi_world.specs.Listed.{AreRowsApart, IsListed, is_affirmed, is_entry_listed, is_noted};
 
 use super::halving::place_of_noted;
 use super::lists::NodeLists;
@@ -33,20 +32,13 @@ fn mark_noted(things: &[Thing], noted: &[(Thing, Known)], marks: &mut [bool]) ->
     true
 }
 
-// Whether the entry is marked, where its thing is known to be so.
-fn is_affirmed(entry: &(Thing, Known), marked: bool) -> bool
-    ensures { result ≡ (not (is_yes entry.now.1) || marked) }
-{
-    !matches!(entry.1, Known::Yes) || marked
-}
-
-// The same for all that is noted.
+// Whether each entry is marked whose thing is known to be so.
 fn are_affirmed(noted: &[(Thing, Known)], marks: &[bool]) -> bool
     requires { length marks.now ≡ length noted.now }
-    ensures { (things : List ThingParts) → marks.now ≡ map (is_entry_listed things) noted.now → result ≡ list_all (is_affirmed_so things) noted.now }
+    ensures { (things : List ThingParts) → marks.now ≡ map (is_entry_listed things) noted.now → result ≡ list_all (is_affirmed things) noted.now }
 {
     for (place, entry) in noted.iter().enumerate() {
-        if !is_affirmed(entry, marks[place]) {
+        if matches!(entry.1, Known::Yes) && !marks[place] {
             return false;
         }
     }
@@ -56,24 +48,13 @@ fn are_affirmed(noted: &[(Thing, Known)], marks: &[bool]) -> bool
 // Whether each thing that is known to be so is among these, and something is noted of each of them.
 fn are_right(alloc: Global, things: &[Thing], noted: &[(Thing, Known)]) -> Result<bool, NoMemory>
     requires { IsInOrder noted.now }
-    ensures { IfOk result (λ right. right ≡ (list_all (is_affirmed_so things.now) noted.now && list_all (is_noted noted.now) things.now)) }
+    ensures { IfOk result (λ right. right ≡ (list_all (is_affirmed things.now) noted.now && list_all (is_noted noted.now) things.now)) }
 {
     let mut marks = vec![in alloc; false; noted.len()]?;
     if !mark_noted(things, noted, marks.as_mut_slice()) {
         return Ok(false);
     }
     Ok(are_affirmed(noted, &marks))
-}
-
-// What the orchestrator knows.
-fn known_by(orchestrator: &Orchestrator) -> Result<Vec<(Thing, Known)>, NoMemory>
-    ensures known { IfOk result (λ noted. ListsKnown (view_of orchestrator.now).marks noted.items) }
-    ensures order { IfOk result (λ noted. IsInOrder noted.items) }
-{
-    match orchestrator.things() {
-        Ok(noted) => Ok(noted),
-        Err(_) => Err(NoMemory),
-    }
 }
 
 /// Whether what is known to be so is so and what is known not to be so isn't, in every world of which this is the list.
@@ -86,7 +67,9 @@ pub(crate) fn is_marked_right(
     requires { AreRowsApart rows.now }
     ensures { (world : World) → IsListed (record { rows = rows.now; nodes = nodes.now }) world → IfOk result (λ right. IsTrue right ↔ AreMarkedRight (view_of orchestrator.now).marks world) }
 {
-    let noted = known_by(orchestrator)?;
+    let Ok(noted) = orchestrator.things() else {
+        return Err(NoMemory);
+    };
     let things = list_things(alloc, rows, nodes)?;
     are_right(alloc, &things, &noted)
 }

@@ -1,20 +1,10 @@
 //! What the plugins' own contracts keep.
-ghost use Rattle.std.specs.List.{AllByRecursion};
 ghost use Rattle.csi_world.specs.World.{World};
 ghost use Rattle.csi_world.specs.Audited.{ArePlugins};
-ghost use Rattle.csi_world.specs.Listed.{IsPublishing, ArePluginsSafe};
+ghost use Rattle.csi_world.specs.Listed.{ArePluginsSafe};
 
 use csi_controller::{Controller, exclusive_law};
 use csi_node::{Node, publishing_law};
-
-// Nothing that runs: what is published at a node is staged there.
-fn nodes_publish(nodes: &[Node])
-    ensures { AllByRecursion IsPublishing nodes.now }
-{
-    for node in nodes {
-        publishing_law(node);
-    }
-}
 
 /// Nothing that runs: in every world that the plugins show, two holdings of one volume are apart, what is published is
 /// staged, and what is attached wasn't deleted.
@@ -22,5 +12,7 @@ pub(crate) fn plugins_are_safe(controller: &Controller, nodes: &[Node])
     ensures { (world : World) → ArePlugins controller.now nodes.now world → ArePluginsSafe world }
 {
     exclusive_law(controller);
-    nodes_publish(nodes);
+    for node in nodes {
+        publishing_law(node);
+    }
 }

@@ -1,10 +1,10 @@
 //! Whether what is staged is attached.
-ghost use Rattle.std.specs.Prelude.{◌≡◌, ◌==◌, ◌↔◌, find, IsTrue};
+ghost use Rattle.std.specs.Prelude.{◌≡◌, ◌==◌, ◌↔◌, IsTrue};
 ghost use Rattle.std.specs.List.{list_any, list_all};
 ghost use Rattle.csi_controller.specs.Core.{IsRising};
 ghost use Rattle.csi_world.specs.World.{World};
 ghost use Rattle.csi_world.specs.Safe.{IsStagedWhereAttached};
-ghost use Rattle.csi_world.specs.Listed.{IsListed, is_held_as as is_held_so, is_row_held, is_staged_right, is_node_attached};
+ghost use Rattle.csi_world.specs.Listed.{IsListed, is_held_as as is_held_so, is_staged_right, is_node_attached};
 
 use super::halving::find_row;
 use super::lists::NodeLists;
@@ -20,10 +20,15 @@ fn is_held_as(node: &NodeId, capability: &Capability, held: &NodeHolding) -> boo
 }
 
 // Whether the row's volume is held so.
-fn is_held_in(node: &NodeId, capability: &Capability, held: &[NodeHolding]) -> bool
-    ensures { result ≡ list_any (is_held_so node.now capability.now) held.now }
+fn is_held_in(node: &NodeId, capability: &Capability, holdings: &[NodeHolding]) -> bool
+    ensures { result ≡ list_any (is_held_so node.now capability.now) holdings.now }
 {
-    held.iter().any(|one| is_held_as(node, capability, one))
+    for held in holdings {
+        if is_held_as(node, capability, held) {
+            return true;
+        }
+    }
+    false
 }
 
 // Whether the staged volume is attached at the node, with its capability.
@@ -42,9 +47,12 @@ fn is_attached_at(node: &NodeLists, rows: &[ControllerRow]) -> bool
     requires { IsRising rows.now }
     ensures { result ≡ is_node_attached rows.now node.now }
 {
-    node.staged
-        .iter()
-        .all(|staged| is_attached_as(&node.id, staged, rows))
+    for staged in &node.staged {
+        if !is_attached_as(&node.id, staged, rows) {
+            return false;
+        }
+    }
+    true
 }
 
 // The same at each node.
@@ -52,7 +60,12 @@ fn are_attached(nodes: &[NodeLists], rows: &[ControllerRow]) -> bool
     requires { IsRising rows.now }
     ensures { result ≡ list_all (is_node_attached rows.now) nodes.now }
 {
-    nodes.iter().all(|node| is_attached_at(node, rows))
+    for node in nodes {
+        if !is_attached_at(node, rows) {
+            return false;
+        }
+    }
+    true
 }
 
 /// Whether what is staged at a node is attached there, with the same capability, in every world of which this is the list.

@@ -1,36 +1,20 @@
 //! Everything that holds, by what is listed.
-ghost use Rattle.std.specs.Prelude.{◌≡◌, ◌++◌, ◌↔◌, map, true, IfOk, OnOk};
+ghost use Rattle.std.specs.Prelude.{◌≡◌, ◌++◌, ◌↔◌, true, IfOk, OnOk};
 ghost use Rattle.std.specs.List.{flat_map};
 ghost use Rattle.csi_lists.specs.Members.{IsAmong};
 ghost use Rattle.csi_controller.specs.Core.{IsRising};
 ghost use Rattle.csi_orchestrator.specs.declared.thing.Thing.{Thing as ThingParts};
 ghost use Rattle.csi_world.specs.World.{World};
 ghost use Rattle.csi_world.specs.Safe.{holds};
-ghost use Rattle.csi_world.specs.Listed.{AreRowsApart, IsListed, attached_thing, things_of, staged_thing, published_thing, things_at, things_listed};
+ghost use Rattle.csi_world.specs.Listed.{AreRowsApart, IsListed, things_of, staged_thing, published_thing, things_at, things_listed};
 
 use super::halving::find_row;
 use super::lists::NodeLists;
-use csi_controller::{ControllerRow, NodeHolding};
+use csi_controller::ControllerRow;
 use csi_node::{Published, Staged};
 use csi_orchestrator::Thing;
-use csi_types::{Name, NoMemory, NodeId};
+use csi_types::{NoMemory, NodeId};
 use std::alloc::Global;
-
-// Adds where the volume of this name is attached.
-fn add_holdings(
-    things: &mut Vec<Thing>,
-    name: &Name,
-    holdings: &[NodeHolding],
-) -> Result<(), NoMemory>
-    ensures { OnOk result (things.new.items ≡ things.old.items ++ map (attached_thing name.now) holdings.now) }
-{
-    for held in holdings {
-        let name = name.clone()?;
-        let node = held.node.clone()?;
-        things.push(Thing::Attached { name, node })?;
-    }
-    Ok(())
-}
 
 // Adds what holds of the row's volume at the controller.
 fn add_row(things: &mut Vec<Thing>, row: &ControllerRow) -> Result<(), NoMemory>
@@ -40,7 +24,12 @@ fn add_row(things: &mut Vec<Thing>, row: &ControllerRow) -> Result<(), NoMemory>
         let name = row.name.clone()?;
         things.push(Thing::Exists { name })?;
     }
-    add_holdings(things, &row.name, &row.holdings)
+    for held in &row.holdings {
+        let name = row.name.clone()?;
+        let node = held.node.clone()?;
+        things.push(Thing::Attached { name, node })?;
+    }
+    Ok(())
 }
 
 // The same for each of these rows.
@@ -122,20 +111,7 @@ fn add_all_published(
     Ok(())
 }
 
-// Adds what the node has.
-fn add_node(
-    things: &mut Vec<Thing>,
-    rows: &[ControllerRow],
-    node: &NodeLists,
-) -> Result<(), NoMemory>
-    requires { IsRising rows.now }
-    ensures { OnOk result (things.new.items ≡ things.old.items ++ things_at rows.now node.now) }
-{
-    add_all_staged(things, rows, &node.id, &node.staged)?;
-    add_all_published(things, rows, &node.id, &node.published)
-}
-
-// The same for each of these nodes.
+// Adds what each of these nodes has.
 fn add_nodes(
     things: &mut Vec<Thing>,
     rows: &[ControllerRow],
@@ -145,7 +121,8 @@ fn add_nodes(
     ensures { OnOk result (things.new.items ≡ things.old.items ++ flat_map (things_at rows.now) nodes.now) }
 {
     for node in nodes {
-        add_node(things, rows, node)?;
+        add_all_staged(things, rows, &node.id, &node.staged)?;
+        add_all_published(things, rows, &node.id, &node.published)?;
     }
     Ok(())
 }

@@ -24,18 +24,18 @@ returns-then-is_full-clause-current c =
 
 pub returns-clause-ok : goal.returns-clause-ok
 returns-clause-ok c = λ node session later.
-    begins-first node c.args.number (lent_call c.args.call.now) c.args.id c.requires.volume session later c.args.rows.now.items c.args.place c.in_ok-row.row c.forget.new.rows.items
-    c.requires.rules c.requires.earlier c.requires.place (subst (λ (rows : List NodeRow). is_full_of rows ≡ false) c.deref.ensures.value (sym c.is_full.ensures ∙ c.if-is_full.false)) c.in_ok-row.answer c.in_ok-row.ensures.answer c.in_ok-row.ensures.row
-    (c.forget.ensures ∙ ap (filter (stays_in c.args.number.session)) c.in_ok-insert.ensures.items)
+    begins-first node c.args.number (lent_call c.args.call.now) c.args.id c.requires.volume session later c.args.rows.now.items c.args.place c.in_ok-answer.ensures.first.row c.forget.new.rows.items
+    c.requires.rules c.requires.earlier c.requires.place (subst (λ (rows : List NodeRow). is_full_of rows ≡ false) c.deref.ensures.value (sym c.is_full.ensures ∙ c.if-is_full.false)) c.in_ok-answer.answer c.in_ok-answer.ensures.first.answered c.in_ok-answer.ensures.first.after
+    (c.forget.ensures ∙ ap (filter (stays_in c.args.number.session)) c.in_ok-answer.ensures.first.rows)
 
 pub returns-clause-rules : goal.returns-clause-rules
 returns-clause-rules c =
-    rules-first_begun c.args.rows.now.items c.forget.new.rows.items (shown c.in_ok-row.row) c.requires.rules (subst (λ (rows : List NodeRow). is_full_of rows ≡ false) c.deref.ensures.value (sym c.is_full.ensures ∙ c.if-is_full.false)) c.in_ok-row.ensures.rules
-    (first-put c.args.number (lent_call c.args.call.now) c.args.id (row_anew c.args.id c.args.number (kind_of (lent_call c.args.call.now))) c.args.rows.now.items c.args.place c.in_ok-row.row c.forget.new.rows.items
-    c.requires.rules c.requires.earlier c.requires.place c.in_ok-row.ensures.row refl (c.forget.ensures ∙ ap (filter (stays_in c.args.number.session)) c.in_ok-insert.ensures.items))
+    rules-first_begun c.args.rows.now.items c.forget.new.rows.items (shown c.in_ok-answer.ensures.first.row) c.requires.rules (subst (λ (rows : List NodeRow). is_full_of rows ≡ false) c.deref.ensures.value (sym c.is_full.ensures ∙ c.if-is_full.false)) c.in_ok-answer.ensures.first.rules
+    (first-put c.args.number (lent_call c.args.call.now) c.args.id (row_anew c.args.id c.args.number (kind_of (lent_call c.args.call.now))) c.args.rows.now.items c.args.place c.in_ok-answer.ensures.first.row c.forget.new.rows.items
+    c.requires.rules c.requires.earlier c.requires.place c.in_ok-answer.ensures.first.after refl (c.forget.ensures ∙ ap (filter (stays_in c.args.number.session)) c.in_ok-answer.ensures.first.rows))
 
 pub returns-clause-current : goal.returns-clause-current
 returns-clause-current c =
-    current-begun c.args.number c.args.rows.now.items c.forget.new.rows.items (shown c.in_ok-row.row) (ap (λ (k : Kept). k.number) c.in_ok-row.ensures.row.kept) c.requires.earlier
-    (first-put c.args.number (lent_call c.args.call.now) c.args.id (row_anew c.args.id c.args.number (kind_of (lent_call c.args.call.now))) c.args.rows.now.items c.args.place c.in_ok-row.row c.forget.new.rows.items
-    c.requires.rules c.requires.earlier c.requires.place c.in_ok-row.ensures.row refl (c.forget.ensures ∙ ap (filter (stays_in c.args.number.session)) c.in_ok-insert.ensures.items))
+    current-begun c.args.number c.args.rows.now.items c.forget.new.rows.items (shown c.in_ok-answer.ensures.first.row) (ap (λ (k : Kept). k.number) c.in_ok-answer.ensures.first.after.kept) c.requires.earlier
+    (first-put c.args.number (lent_call c.args.call.now) c.args.id (row_anew c.args.id c.args.number (kind_of (lent_call c.args.call.now))) c.args.rows.now.items c.args.place c.in_ok-answer.ensures.first.row c.forget.new.rows.items
+    c.requires.rules c.requires.earlier c.requires.place c.in_ok-answer.ensures.first.after refl (c.forget.ensures ∙ ap (filter (stays_in c.args.number.session)) c.in_ok-answer.ensures.first.rows))

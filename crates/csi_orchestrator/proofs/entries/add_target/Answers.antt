@@ -1,5 +1,5 @@
 -- The target has an entry where one is found.
-use Rattle.std.proofs.Common.{◌≡◌, Bool, true, false, cond, [], ◌∷◌, ◌++◌, sym, ◌∙◌, ap}
+use Rattle.std.proofs.Common.{◌≡◌, ℕ, List, Bool, true, false, cond, [], ◌∷◌, ◌++◌, sym, ◌∙◌, ap, rules}
 use Rattle.std.specs.Prelude.{position, is_some}
 use Rattle.csi_types.specs.Same.{same_text}
 use Rattle.csi_orchestrator.specs.declared.row.TargetEntry.{TargetEntry}
@@ -20,4 +20,5 @@ returns-clause-ok c =
     let target = c.args.target.now in
     let placed : is_some (position (λ (target_entry : TargetEntry). same_text target_entry.target target) target_entries) ≡ false = cc in
     let found = placed-found (λ (target_entry : TargetEntry). same_text target_entry.target target) target_entries (new_target_entry target) ∙ placed in
-    c.in_ok-push.ensures.items ∙ ap (λ (target_entry : TargetEntry). target_entries ++ target_entry ∷ []) c.in_ok-target_entry.ensures ∙ sym (ap (λ (b : Bool). cond b target_entries (target_entries ++ new_target_entry target ∷ [])) found)
+    let copied : c.in_ok-target.target ≡ target = search rules in
+    c.in_ok-push.ensures.items ∙ ap (λ (text : List ℕ). target_entries ++ new_target_entry text ∷ []) copied ∙ sym (ap (λ (b : Bool). cond b target_entries (target_entries ++ new_target_entry target ∷ [])) found)

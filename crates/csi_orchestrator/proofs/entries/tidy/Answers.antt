@@ -1,9 +1,14 @@
-use Rattle.std.proofs.Common.{◌∙◌, map, filter, ap, sym}
+use Rattle.std.proofs.Common.{◌≡◌, ◌∙◌, map, filter, ap, sym, rules}
+use Rattle.std.proofs.lemmas.Fn.{filter_same}
+use Rattle.csi_lists.proofs.Filters.{filter-of_map}
+use Rattle.csi_orchestrator.specs.declared.row.NodeEntry.{NodeEntry}
 use Rattle.csi_orchestrator.specs.Shown.{node_entry_shown}
 use Rattle.csi_orchestrator.specs.RowChanges.{is_node_kept}
-use Rattle.csi_lists.proofs.Filters.{filter-of_map}
 use Rattle.csi_orchestrator.proofs.entries.tidy.Goals as goal
 
 pub returns : goal.returns
 returns c =
-    ap (map node_entry_shown) c.keep_nodes.ensures ∙ sym (filter-of_map is_node_kept node_entry_shown c.keep_targets_of_all.new.entries.items) ∙ ap (filter is_node_kept) c.keep_targets_of_all.ensures
+    let entries = c.keep_targets.new.entries.items in
+    let kept : c.retain.new.self.items ≡ filter (λ (entry : NodeEntry). is_node_kept (node_entry_shown entry)) entries =
+    filter_same _ (λ (entry : NodeEntry). is_node_kept (node_entry_shown entry)) _ (λ x b f called. search rules) _ _ c.retain.ensures.filtered in
+    ap (map node_entry_shown) kept ∙ sym (filter-of_map is_node_kept node_entry_shown entries) ∙ ap (filter is_node_kept) c.keep_targets.ensures

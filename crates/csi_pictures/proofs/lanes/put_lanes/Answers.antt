@@ -1,11 +1,11 @@
-use Rattle.std.proofs.Common.{codes, [], length}
+use Rattle.std.proofs.Common.{codes, [], length, string_bytes}
 use Rattle.csi_pictures.specs.Pieces.{each}
-use Rattle.csi_pictures.specs.Lanes.{lane, node_head}
+use Rattle.csi_pictures.specs.Lanes.{part_of, node_part}
 use Rattle.csi_pictures.proofs.Joins.{three}
 use Rattle.csi_pictures.proofs.lanes.put_lanes.Goals as goal
 
 pub returns : goal.returns
 returns c =
-    three c.put_nodes.result c.args.out.now.items c.put_lane.new.out.items c.put_lane-2.new.out.items c.put_nodes.new.out.items
-    (lane 1 c.args.below (codes "orchestrator") []) (lane 2 c.args.below (codes "controller") []) (each (node_head c.args.below c.args.nodes.now) (length c.args.nodes.now))
-    c.in_ok-put_lane.ensures c.in_ok-put_lane-2.ensures c.put_nodes.ensures
+    three c.put_nodes.result (string_bytes c.args.out.now) (string_bytes c.put_part.new.out) (string_bytes c.put_part-2.new.out) (string_bytes c.put_nodes.new.out)
+    (part_of c.args.part 1 c.args.row (codes "orchestrator") []) (part_of c.args.part 2 c.args.row (codes "controller") []) (each (node_part c.args.part c.args.row c.args.nodes.now) (length c.args.nodes.now))
+    c.in_ok-put_part.ensures c.in_ok-put_part-2.ensures c.put_nodes.ensures

@@ -1,8 +1,8 @@
--- The nodes before this one have their lanes.
-use Rattle.std.proofs.Common.{◌≡◌, ◌++◌}
+-- Of the nodes before this one it is drawn.
+use Rattle.std.proofs.Common.{◌≡◌, ◌++◌, string_bytes}
 use Rattle.csi_pictures.specs.Pieces.{each}
-use Rattle.csi_pictures.specs.Lanes.{node_head}
+use Rattle.csi_pictures.specs.Lanes.{node_part}
 use Rattle.csi_pictures.proofs.lanes.put_nodes.Given as goal
 
 abbrev pub invariant-loop-place : goal.invariant-loop-place
-invariant-loop-place l = l.out.items ≡ l.fn.out.items ++ each (node_head l.below l.nodes) l.place
+invariant-loop-place l = string_bytes l.out ≡ string_bytes l.fn.out ++ each (node_part l.part l.row l.nodes) l.place

@@ -1,13 +1,19 @@
-use Rattle.std.proofs.Common.{codes, length}
+use Rattle.std.proofs.Common.{◌+◌, codes, length, rules, string_bytes}
+use Rattle.std.specs.List.{flat_map}
+use Rattle.csi_pictures.specs.Bars.{bar, bars_to}
+use Rattle.csi_pictures.specs.Lanes.{lanes, names_at}
 use Rattle.csi_pictures.specs.Pieces.{each}
-use Rattle.csi_pictures.specs.Lanes.{names_at}
-use Rattle.csi_pictures.specs.Picture.{world_front, below_texts, over}
-use Rattle.csi_pictures.proofs.Joins.{five}
+use Rattle.csi_pictures.specs.Picture.{world_front, under, over}
+use Rattle.csi_pictures.proofs.Joins.{seven}
 use Rattle.csi_pictures.proofs.picture.put_picture.Goals as goal
 
 pub returns : goal.returns
 returns c =
-    five c.put.result c.args.out.now.items c.put_world_front.new.out.items c.put_below_texts.new.out.items c.put_world_names.new.out.items c.put_all_over.new.out.items c.put.new.out.items
-    (world_front c.args.world.now c.args.events.now c.args.is_safe) (below_texts c.args.world.now c.args.events.now)
-    (each (names_at (c.args.world.now).nodes) (length c.args.events.now)) (each (over c.args.world.now c.args.events.now) (length c.args.events.now)) (codes "</svg>\n")
-    c.in_ok-put_world_front.ensures c.in_ok-put_below_texts.ensures c.in_ok-put_world_names.ensures c.in_ok-put_all_over.ensures c.put.ensures
+    let world = c.args.world.now in
+    let events = c.args.events.now in
+    seven c.write.result (string_bytes c.args.out.now) (string_bytes c.put_front.new.out) (string_bytes c.put_lanes.new.out) (string_bytes c.put_all_bars.new.out)
+    (string_bytes c.put_layer.new.out) (string_bytes c.put_names.new.out) (string_bytes c.put_layer-2.new.out) (string_bytes c.write.new.self)
+    (world_front world events c.args.is_safe)
+    (lanes (length events + 1) world.nodes) (flat_map bar (bars_to world events (length events))) (each (under world events) (length events))
+    (each (names_at world.nodes) (length events)) (each (over world events) (length events)) (codes "</svg>\n")
+    (search rules) (search rules) c.in_ok-put_all_bars.ensures c.in_ok-put_layer.ensures (search rules) c.in_ok-put_layer-2.ensures c.write.ensures.bytes

@@ -1,12 +1,19 @@
-use Rattle.std.proofs.Common.{◌∙◌, ap, ℕ, List, ◌++◌, codes}
-use Rattle.csi_pictures.specs.Rows.{frame_words, reply_class, reply_place, reply_front, status_words}
-use Rattle.csi_pictures.proofs.Joins.{five}
+-- The pieces are one text.
+use Rattle.std.proofs.Common.{◌∙◌, ap, ℕ, List, ◌++◌, string_bytes, append_assoc}
+use Rattle.std.proofs.lemmas.Result.{on_ok_weaker}
+use Rattle.csi_types.specs.Names.{status_name}
+use Rattle.csi_pictures.specs.Rows.{reply_class, reply_at}
 use Rattle.csi_pictures.proofs.rows.put_reply_label.Goals as goal
 
 pub returns : goal.returns
+unfolding reply_at
 returns c =
-    five c.put.result c.args.out.now.items c.put_reply_place.new.out.items c.put_reply_front.new.out.items c.put_frame_words.new.out.items c.put_status.new.out.items c.put.new.out.items
-    (reply_place c.args.row c.args.lane) (reply_front (reply_class (c.args.reply.now).status)) (frame_words c.args.sent c.args.kind) (status_words c.args.reply.now) (codes "</text></svg></g>\n")
-    c.in_ok-put_reply_place.ensures
-    (c.in_ok-put_reply_front.ensures ∙ ap (λ (class : List ℕ). c.put_reply_place.new.out.items ++ reply_front class) c.reply_class.ensures)
-    c.in_ok-put_frame_words.ensures c.in_ok-put_status.ensures c.put.ensures
+    let a = c.args in
+    let reply = c.args.reply.now in
+    let old = string_bytes c.args.out.now in
+    on_ok_weaker c.write.result
+    (λ written. written
+    ∙ ap (λ (class : List ℕ). old ++ reply_at a.row a.lane class a.sent a.name.now c.name-status.result.now c.as_str.result.now) c.reply_class-class.ensures
+    ∙ ap (λ (status : List ℕ). old ++ reply_at a.row a.lane (reply_class reply.status) a.sent a.name.now status c.as_str.result.now) c.name-status.ensures
+    ∙ ap (λ (detail : List ℕ). old ++ reply_at a.row a.lane (reply_class reply.status) a.sent a.name.now (status_name reply.status) detail) c.as_str.ensures.value)
+    (simp append_assoc at c.write.ensures.bytes)

@@ -1,14 +1,16 @@
-use Rattle.std.proofs.Common.{◌∙◌, ap, ℕ, List, ◌++◌, codes}
-use Rattle.csi_world.specs.Outcomes.{outcome_text}
-use Rattle.csi_pictures.specs.Rows.{words, class_of, row_front, row_middle}
-use Rattle.csi_pictures.proofs.Joins.{five}
+-- The pieces are one text.
+use Rattle.std.proofs.Common.{◌∙◌, ap, ℕ, List, ◌++◌, string_bytes, append_assoc}
+use Rattle.std.proofs.lemmas.Result.{on_ok_weaker}
+use Rattle.csi_pictures.specs.Rows.{words, class_of, row_of}
 use Rattle.csi_pictures.proofs.rows.put_row_text.Goals as goal
 
 pub returns : goal.returns
+unfolding row_of
 returns c =
-    five c.put.result c.args.out.now.items c.put_row_front.new.out.items c.put_words.new.out.items c.put_row_middle.new.out.items c.put_came.new.out.items c.put.new.out.items
-    (row_front c.args.row (class_of c.args.outcome)) (words c.args.event.now) (row_middle (class_of c.args.outcome)) (outcome_text c.args.outcome) (codes "</text></svg>\n")
-    (c.in_ok-put_row_front.ensures ∙ ap (λ (class : List ℕ). c.args.out.now.items ++ row_front c.args.row class) c.class_of-class.ensures)
-    c.in_ok-put_words.ensures
-    (c.in_ok-put_row_middle.ensures ∙ ap (λ (class : List ℕ). c.put_words.new.out.items ++ row_middle class) c.class_of-class.ensures)
-    c.in_ok-put_came.ensures c.put.ensures
+    let old = string_bytes c.args.out.now in
+    let told = words c.args.event.now in
+    on_ok_weaker c.write.result
+    (λ written. written
+    ∙ ap (λ (class : List ℕ). old ++ row_of c.args.row class told (string_bytes c.in_ok-came.came)) c.class_of-class.ensures
+    ∙ ap (λ (came : List ℕ). old ++ row_of c.args.row (class_of c.args.outcome) told came) c.in_ok-came.ensures)
+    (simp append_assoc at c.write.ensures.bytes)

@@ -1,16 +1,14 @@
-use Rattle.std.proofs.Common.{◌∙◌, refl, sym}
-use Rattle.csi_records.proofs.PartReaders.{stored-is, make_part, controller_head_read, unread}
+use Rattle.std.proofs.Common.{refl, sym}
+use Rattle.csi_records.proofs.PartReaders.{controller_head_read, read-of, unread-of}
 use Rattle.csi_records.proofs.volumes.head_of.Goals as goal
 
 pub returns-in-Ok-clause-head : goal.returns-in-Ok-clause-head
 returns-in-Ok-clause-head c =
-    let is = stored-is c.args.part.now c.in-Some.value 0 c.deref.result.now c.in-Some.is (sym c.if-part-ne0.false) c.deref.ensures.value in
-    ((controller_head_read c.args.version).takes 0 c.deref.result.now _ refl c.in-Ok.ensures.bytes c.in-Ok.ensures.read).1 ∙ sym is
-
-pub returns-in-Err-clause-none : goal.returns-in-Err-clause-none
-returns-in-Err-clause-none c = λ none head fits same.
-    let is = stored-is c.args.part.now c.in-Some.value 0 c.deref.result.now c.in-Some.is (sym c.if-part-ne0.false) c.deref.ensures.value in
-    unread (controller_head_read c.args.version) (make_part 0 c.deref.result.now) c.in-Err.ensures.bad head fits (same ∙ is)
+    (read-of (controller_head_read c.args.version) c.args.part.now 0 c.value_of.result.now (sym c.if-part-ne0.false) c.value_of.ensures refl c.in-Ok.ensures.bytes _ c.in-Ok.ensures.read).1
 
 pub returns-in-Ok-clause-fits : goal.returns-in-Ok-clause-fits
-returns-in-Ok-clause-fits c = ((controller_head_read c.args.version).takes 0 c.deref.result.now _ refl c.in-Ok.ensures.bytes c.in-Ok.ensures.read).0
+returns-in-Ok-clause-fits c =
+    (read-of (controller_head_read c.args.version) c.args.part.now 0 c.value_of.result.now (sym c.if-part-ne0.false) c.value_of.ensures refl c.in-Ok.ensures.bytes _ c.in-Ok.ensures.read).0
+
+pub returns-in-Err-clause-none : goal.returns-in-Err-clause-none
+returns-in-Err-clause-none c = λ none. unread-of (controller_head_read c.args.version) c.args.part.now 0 c.value_of.result.now (sym c.if-part-ne0.false) c.value_of.ensures c.in-Err.ensures.bad

@@ -1,5 +1,5 @@
 -- Place by place.
-use Rattle.std.proofs.Common.{◌≡◌, sym, ◌∙◌, ap, refl, arith}
+use Rattle.std.proofs.Common.{◌≡◌, sym, ◌∙◌, ap, refl, arith, rules}
 use Rattle.std.proofs.lemmas.Bool.{false≢true}
 use Rattle.csi_types.specs.declared.config.NodeSlots.{NodeSlots}
 use Rattle.csi_node.specs.Record.{NodeParts}
@@ -7,8 +7,8 @@ use Rattle.csi_world.specs.Assembled.{AreOfNodes}
 use Rattle.csi_world.proofs.AssembledNodes.{same-at, same-from}
 use Rattle.csi_world.proofs.assembling.are_of_nodes.Goals as goal
 
-pub returns-then-not-is_same : goal.returns-then-not-is_same
-returns-then-not-is_same c = (λ h. absurd (false≢true h), λ same. absurd (differ same))
+pub returns-then-ne : goal.returns-then-ne
+returns-then-ne c = (λ h. absurd (false≢true h), λ same. absurd (differ same))
   where
     differ : AreOfNodes c.args.kept.now c.args.nodes.now → ⊥
     differ same =
@@ -17,7 +17,8 @@ returns-then-not-is_same c = (λ h. absurd (false≢true h), λ same. absurd (di
         let ids : one.id ≡ slots.id
         = ap (λ (x : NodeParts). x.id) c.index-kept-place.is ∙ same-at c.args.kept.now c.args.nodes.now same c.loop-place.place one slots c.loop-place-test.true ∙ ap (λ (x : NodeSlots). x.id) (sym c.index-nodes-place.is)
         in
-        false≢true (sym c.if-not-is_same.true ∙ c.is_same.ensures.1 (c.id.ensures ∙ ids))
+        let differ : one.id ≡ slots.id → ⊥ = search rules in
+        differ ids
 
 pub returns : goal.returns
 returns c = (λ h. same-from c.args.kept.now c.args.nodes.now c.if-kept-nodes.false (λ k d e below. c.loop-place.invariant k d e (omega (arith, below, c.loop-place-test.false))), λ same. refl)

@@ -9,11 +9,11 @@ pub loop-place-preserved : goal.loop-place-preserved
 loop-place-preserved c =
     let at = c.loop-place in
     let long = at.invariant.0 in
-    let few = c.requires in
+    let few = c.requires.few in
     let turn = c.loop-place-test.true in
     (length-set at.counts at.place c.count_in.result ∙ long, counted-more c.args.nodes.now c.args.rows.now at.counts at.place c.index-nodes-place.result c.count_in.result (omega (arith, long, few, turn)) c.index-nodes-place.is (subst (λ (node : List ℕ). c.count_in.result ≡ count_held node c.args.rows.now) c.as_str.ensures.value c.count_in.ensures) at.invariant.1)
 
 pub returns : goal.returns
 returns c =
     let at = c.loop-place in
-    all-counted c.args.nodes.now c.args.rows.now at.counts at.place c.requires at.invariant.0 c.loop-place-test.false at.invariant.1
+    all-counted c.args.nodes.now c.args.rows.now at.counts at.place c.requires.few c.requires.distinct at.invariant.0 c.loop-place-test.false at.invariant.1

@@ -1,12 +1,31 @@
+use Rattle.std.proofs.Common.{◌≡◌, ◌∙◌, ap, arith, ℕ, Some}
 use Rattle.std.proofs.lemmas.Result.{IfOk-weaker}
-use Rattle.csi_records.specs.Spelling.{present}
+use Rattle.csi_records.specs.Spelling.{present, controller_head, volume_part, volume_row}
 use Rattle.csi_records.specs.Records.{controller_layout}
-use Rattle.csi_records.proofs.WritingPieces.{stored_put}
-use Rattle.csi_records.proofs.PluginLayouts.{writable, controller_plain}
+use Rattle.csi_records.proofs.WritingPieces.{put_same, stored_put}
+use Rattle.csi_records.proofs.PluginLayouts.{controller_is, controller_plain, writable}
 use Rattle.csi_records.proofs.record.ControllerRecordRecord.to_parts.Goals as goal
 
 pub returns-clause-stored : goal.returns-clause-stored
-returns-clause-stored c = IfOk-weaker c.controller_parts.result _ _ (λ parts changes. stored_put parts.items _ changes) c.controller_parts.ensures.changes
+returns-clause-stored c =
+    let kept = c.args.self.now in
+    let head : c.in_ok-head.head.items ≡ (controller_head present kept.next_id (Some kept.session)).value =
+    c.in_ok-head.ensures ∙ ap (λ (n : ℕ). (controller_head present n (Some c.session.result)).value) c.next_id.ensures ∙ ap (λ (n : ℕ). (controller_head present kept.next_id (Some n)).value) c.session.ensures in
+    IfOk-weaker c.parts_with.result _ _
+    (λ parts changes. stored_put parts.items _ (put_same (volume_part present) volume_row _ _ c.rows.result.now kept.rows _ head c.rows.ensures.value changes))
+    c.parts_with.ensures.parts
+
+pub returns-clause-parts : goal.returns-clause-parts
+returns-clause-parts c =
+    let kept = c.args.self.now in
+    IfOk-weaker c.parts_with.result _ _
+    (λ parts each. controller_is kept.next_id kept.session c.rows.result.now kept.rows c.rows.ensures.value (omega arith) (omega arith) (c.rows.ensures.sound, c.rows.ensures.current) each)
+    c.parts_with.ensures.fit
 
 pub returns-clause-writable : goal.returns-clause-writable
-returns-clause-writable c = IfOk-weaker c.controller_parts.result _ _ (λ parts are. writable (controller_layout present) (controller_plain present) _ _ _ are) c.controller_parts.ensures.parts
+returns-clause-writable c =
+    let kept = c.args.self.now in
+    IfOk-weaker c.parts_with.result _ _
+    (λ parts each. writable (controller_layout present) (controller_plain present) _
+    (controller_is kept.next_id kept.session c.rows.result.now kept.rows c.rows.ensures.value (omega arith) (omega arith) (c.rows.ensures.sound, c.rows.ensures.current) each))
+    c.parts_with.ensures.fit

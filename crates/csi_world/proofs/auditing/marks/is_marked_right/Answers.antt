@@ -13,6 +13,6 @@ returns c world is =
     let noted = c.deref-2.ensures.value in
     IfOk-weaker c.are_right.result _ _
     (λ (right : Bool) told.
-    marked-told (view_of c.args.orchestrator.now).marks world c.in_ok-things.things.items c.in_ok-noted.noted.items (c.in_ok-things.ensures world is) c.in_ok-noted.ensures.known right
+    marked-told (view_of c.args.orchestrator.now).marks world c.in_ok-things.things.items c.in-Ok.noted.items (c.in_ok-things.ensures world is) c.in-Ok.ensures.marks right
     (told ∙ (λ i. list_all (is_affirmed (things i)) (noted i) && list_all (is_noted (noted i)) (things i))))
     c.are_right.ensures

@@ -1,8 +1,11 @@
 -- Nothing changes.
-use Rattle.std.proofs.Common.{Bool}
+use Rattle.std.proofs.Common.{Bool, subst, sym}
+use Rattle.std.proofs.lemmas.Result.{IfOk-weaker}
 use Rattle.csi_types.specs.Lent.{lent_call}
 use Rattle.csi_controller.specs.declared.row.ControllerRow.{ControllerRow}
 use Rattle.csi_controller.specs.Catalog.{rows_of}
+use Rattle.csi_controller.specs.CoreAnswers.{IsAnswered}
+use Rattle.csi_controller.specs.Line.{line_told}
 use Rattle.csi_controller.specs.Shown.{volume_of_row}
 use Rattle.csi_controller.specs.State.{is_row_for}
 use Rattle.csi_controller.proofs.AtRow.{nowhere}
@@ -14,4 +17,8 @@ returns-clause-ok c = λ number present.
     let core = c.args.self.now in
     let call = lent_call c.args.call.now in
     let p : ControllerRow → Bool = λ r. is_row_for (lent_call c.args.call.now) (volume_of_row r) in
-    nowhere-now core number call c.kind.result c.in_ok-reply.reply c.requires.kept present (nowhere p (rows_of core.catalog) c.requires.none) c.requires.party c.requires.other c.kind.ensures c.in_ok-reply.ensures.reply
+    IfOk-weaker c.answer_of.result _ _
+    (λ answer is. subst (IsAnswered core core number call) (sym is)
+    (nowhere-now core number call c.kind.result (line_told c.line_without_row.result) c.requires.kept present (nowhere p (rows_of core.catalog) c.requires.none) c.requires.party c.requires.other c.kind.ensures
+    c.line_without_row.ensures.reply))
+    c.answer_of.ensures.ok

@@ -1,0 +1,11 @@
+-- What is known at the node, and at the first targets, was added.
+use Rattle.std.proofs.Common.{◌≡◌, ◌++◌, take}
+use Rattle.std.specs.List.{flat_map}
+use Rattle.csi_orchestrator.specs.declared.thing.Thing.TheVariants.{Attached, Staged}
+use Rattle.csi_orchestrator.specs.Listing.{noted, noted_of_target}
+use Rattle.csi_orchestrator.proofs.listing.add_node.Given as goal
+
+abbrev pub invariant-loop-target_entry : goal.invariant-loop-target_entry
+invariant-loop-target_entry l =
+    l.things.items
+    ≡ l.fn.things.items ++ noted (Attached l.name l.entry.node) l.entry.attached ++ noted (Staged l.name l.entry.node) l.entry.staged ++ flat_map (noted_of_target l.name l.entry.node) (take l.target_entry-index l.entry.target_entries.items)

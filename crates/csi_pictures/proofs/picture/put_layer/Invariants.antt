@@ -1,0 +1,8 @@
+-- The events before this one are drawn.
+use Rattle.std.proofs.Common.{◌≡◌, ◌++◌, string_bytes}
+use Rattle.csi_pictures.specs.Pieces.{each}
+use Rattle.csi_pictures.specs.Picture.{layer_at}
+use Rattle.csi_pictures.proofs.picture.put_layer.Given as goal
+
+abbrev pub invariant-loop-place : goal.invariant-loop-place
+invariant-loop-place l = string_bytes l.out ≡ string_bytes l.fn.out ++ each (layer_at l.layer l.world l.events) l.place

@@ -1,7 +1,0 @@
--- The lists are of the first nodes.
-use Rattle.std.proofs.Common.{take, map}
-use Rattle.csi_world.specs.Listed.{node_listed, AreListsOf}
-use Rattle.csi_world.proofs.auditing.gathering.list_nodes.Given as goal
-
-abbrev pub invariant-loop-node : goal.invariant-loop-node
-invariant-loop-node l = AreListsOf (take l.node-index l.nodes) (map node_listed l.lists.items)
