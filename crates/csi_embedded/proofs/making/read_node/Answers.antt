@@ -9,12 +9,12 @@ use Rattle.csi_embedded.proofs.making.read_node.Goals as goal
 pub returns-clause-made : goal.returns-clause-made
 returns-clause-made c =
     let has = c.in_ok-service.ensures.has in
-    let same : c.id-2.result.now ≡ c.in_ok-id.id = search rules in
+    let same : c.id.result.now ≡ c.in_ok-id.id = search rules in
     record {
       service = c.in_ok-service.service;
       is = c.new.ensures.plugin;
       version = c.in-Ok.stored.version;
       read = subst (λ (node : NodeParts). AreBytesOf (λ v. IsRecordOf (node_layout v None)) (λ v. IsNodeOf v None) c.in-Ok.stored.version c.args.bytes.now node) (sym has) c.in-Ok.ensures;
-      own = ap (λ (node : NodeParts). node.id) has ∙ (sym c.id-2.ensures ∙ (same ∙ c.in_ok-id.ensures.made));
+      own = ap (λ (node : NodeParts). node.id) has ∙ (sym c.id.ensures ∙ (same ∙ c.in_ok-id.ensures.made));
       renews = told-renewal c.in-Ok.stored.version _ _ _ _ c.in_ok-changed.ending c.in_ok-changed.ensures c.in_ok-service.ensures.parts c.new.ensures.told;
     }
