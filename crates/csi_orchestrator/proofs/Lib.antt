@@ -1,6 +1,7 @@
 pub mod AddedItems
 pub mod Numbers
 pub mod ViewsFollow
+pub mod RepliesFollow
 pub mod KeyedSearches
 pub mod RowViews
 pub mod DueCases

@@ -41,7 +41,8 @@ use Rattle.csi_orchestrator.specs.Sound.{IsSoundRow, IsSound, AreGuarded, RowsTe
 use Rattle.csi_orchestrator.proofs.TextLists.{text-same}
 use Rattle.csi_orchestrator.proofs.DueCalls.{due-of-row}
 use Rattle.csi_orchestrator.proofs.DueCases.{IsDueFor, due-cases, ToMake, ToRemove, ToAttach, ToStage, ToPublish, ToUnpublish, ToUnstage, ToDetach}
-use Rattle.csi_orchestrator.proofs.ViewsFollow.{accepted-follows, closed-follows, noted-follows, started-follows}
+use Rattle.csi_orchestrator.proofs.ViewsFollow.{closed-follows, noted-follows, started-follows}
+use Rattle.csi_orchestrator.proofs.RepliesFollow.{accepted-follows}
 use Rattle.csi_orchestrator.proofs.SendingAgrees.{Guards, Tells, IsReady, has-entry, then-dropped, sends-due-tells}
 use Rattle.csi_orchestrator.proofs.StepsSound.{closed-may, stopped-may, changed-may}
 use Rattle.csi_orchestrator.proofs.RowsAfterNotes.{reads-wanted, reads-closed, reads-quiet, reads-refused}

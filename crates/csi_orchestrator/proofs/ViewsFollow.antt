@@ -1,40 +1,39 @@
 -- Why what an orchestrator shows can be kept up item by item.
 use Rattle.std.proofs.Common.{◌≡◌, ◌≢◌, ◌+◌, ℕ, List, [], ◌∷◌, Bool, true, false, cond, refl, sym, ◌∙◌, ap, subst, inl, inr, arith}
-use Rattle.std.specs.Prelude.{Option, Some, None, min, find, filter, filter_map, option_and_then, ◌&&◌, ◌||◌}
+use Rattle.std.specs.Prelude.{Option, Some, None, min, find, filter_map, option_and_then, ◌&&◌, ◌||◌}
 use Rattle.std.specs.List.{list_any, cons_option}
 use Rattle.std.specs.Option.{option_or}
-use Rattle.std.proofs.lemmas.Bool.{false≢true, false_from_ne_true}
+use Rattle.std.proofs.lemmas.Bool.{false≢true}
 use Rattle.std.proofs.lemmas.Bool.Decides.{nat_tests}
 use Rattle.csi_types.specs.declared.call.Call.{Call}
 use Rattle.csi_types.specs.declared.call.Call.TheVariants as calls
 use Rattle.csi_types.specs.declared.call.Party.{Party}
 use Rattle.csi_types.specs.declared.call.Party.TheVariants.{Controller, Node}
 use Rattle.csi_types.specs.declared.number.Number.{Number}
-use Rattle.csi_types.specs.declared.status.Status.{Status}
 use Rattle.csi_lists.specs.Members.{IsAmong}
-use Rattle.csi_lists.proofs.Members.{among-find, among-kept}
-use Rattle.csi_lists.proofs.Searches.{find-passes, find-filter}
-use Rattle.csi_lists.proofs.Tests.{alike, then-any, any-none}
-use Rattle.std.proofs.lemmas.Option.{same_Some, none-some}
-use Rattle.csi_types.specs.Reply.{is_ok_status}
 use Rattle.csi_types.specs.Same.{same_text, same_number}
 use Rattle.csi_types.proofs.Equality.{same_text-tells, same_number-tells}
 use Rattle.csi_orchestrator.specs.declared.thing.Thing.{Thing}
 use Rattle.csi_orchestrator.specs.declared.thing.Thing.TheVariants.{Exists, Attached, Staged, Published}
 use Rattle.csi_orchestrator.specs.declared.thing.Known.TheVariants.{No, Maybe}
 use Rattle.csi_orchestrator.specs.Thing.{Issued, name_in, same_thing, thing_at, is_thing, is_doing, touches}
-use Rattle.csi_orchestrator.specs.History.{Goal, Item, Started, Sent, Accepted, Closed, Noted, Held, Arguments, History, with_items}
-use Rattle.csi_orchestrator.specs.Readings.{newest, issued_in, issued_of, is_success_of, has_success, known_by, known, id_in, id_by, id_of, held_by, noted_for, arguments_in_goal, open_in, open_call, unless, is_number_of, calls_since, last_number, distinct, name_noted}
-use Rattle.csi_orchestrator.specs.WellFormed.{IsNext, AreWellFormed, IsWellFormed}
+use Rattle.csi_orchestrator.specs.History.{Goal, Item, Started, Sent, Closed, Noted, Held, Arguments, History, with_items}
+use Rattle.csi_orchestrator.specs.Readings.{newest, issued_in, issued_of, is_success_of, has_success, known_by, known, id_in, id_by, id_of, held_by, noted_for, arguments_in_goal, open_call, unless, calls_since, last_number, distinct, name_noted}
+use Rattle.csi_orchestrator.specs.WellFormed.{IsNext, IsWellFormed}
 use Rattle.csi_orchestrator.specs.Agrees.{View, Agrees}
-use Rattle.csi_orchestrator.specs.Following.{after_started, after_sent, after_accepted, after_closed, after_noted, told, id_brought, DetachesSomething}
-use Rattle.csi_orchestrator.proofs.Numbers.{other-number, sent-before, one-call, unless-some, open-sent, fresh-silent, open-silent}
+use Rattle.csi_orchestrator.specs.Following.{after_started, after_sent, after_closed, after_noted, DetachesSomething}
+use Rattle.csi_orchestrator.proofs.Numbers.{one-call, open-sent, fresh-silent}
 use Rattle.csi_orchestrator.proofs.TextLists.{same_text-flip, any-distinct}
 
 -- where two tests pass together, the left one does
 left-true : (a b : Bool) → (a && b) ≡ true → a ≡ true
 left-true true b e = refl
 left-true false b e = e
+
+-- a test together with one that fails fails
+pub and-false : (b : Bool) → (b && false) ≡ false
+and-false true = refl
+and-false false = refl
 
 -- things that are the same are of the same name
 same_thing-name : (thing other : Thing) → same_thing thing other ≡ true → same_text (name_in thing) (name_in other) ≡ true
@@ -61,7 +60,7 @@ pub touches-name : (thing : Thing) (issued : Issued) → touches thing issued �
 touches-name thing issued e = same_text-flip issued.name (name_in thing) ∙ is_thing-name thing issued.name issued.party issued.call e
 
 -- an item that tells of no success changes no mark
-known-quiet : (item : Item) (items : List Item) (thing : Thing) (o : Option Issued) → ((number : Number) → is_success_of number item ≡ false) → known_by (item ∷ items) thing o ≡ known_by items thing o
+pub known-quiet : (item : Item) (items : List Item) (thing : Thing) (o : Option Issued) → ((number : Number) → is_success_of number item ≡ false) → known_by (item ∷ items) thing o ≡ known_by items thing o
 known-quiet item items thing None quiet = refl
 known-quiet item items thing (Some issued) quiet = rw (quiet issued.number) refl
 
@@ -71,7 +70,7 @@ id-quiet item items issued (calls.CreateVolume name required limit capabilities)
 id-quiet item items issued call quiet = refl
 
 -- an item that brings none of these calls an id leaves the ids that they brought
-ids-quiet : (item : Item) (items : List Item) (sent : List Issued) → ((issued : Issued) → IsAmong issued sent → id_in issued.number item ≡ None)
+pub ids-quiet : (item : Item) (items : List Item) (sent : List Issued) → ((issued : Issued) → IsAmong issued sent → id_in issued.number item ≡ None)
     → filter_map (λ (issued : Issued). id_by (item ∷ items) issued issued.call) sent ≡ filter_map (λ (issued : Issued). id_by items issued issued.call) sent
 ids-quiet item items [] quiet = refl
 ids-quiet item items (issued ∷ others) quiet =
@@ -79,7 +78,7 @@ ids-quiet item items (issued ∷ others) quiet =
     ∙ ap (cons_option (id_by items issued issued.call)) (ids-quiet item items others (λ i among. quiet i (inr among)))
 
 -- no id was brought yet
-no-id : (items : List Item) (issued : Issued) (call : Call) → filter_map (id_in issued.number) items ≡ [] → id_by items issued call ≡ None
+pub no-id : (items : List Item) (issued : Issued) (call : Call) → filter_map (id_in issued.number) items ≡ [] → id_by items issued call ≡ None
 no-id items issued (calls.CreateVolume name required limit capabilities) none = ap newest none
 no-id items issued call none = refl
 
@@ -185,11 +184,11 @@ sent-follows view history issued form agrees next detaches =
     count false k n e = e
 
 -- a number is the same as itself
-number-same : (number : Number) → same_number number number ≡ true
+pub number-same : (number : Number) → same_number number number ≡ true
 number-same number = (same_number-tells number number).1 refl
 
 -- the open call of a name is closed, and every other one stays open
-unless-follows : (history : History) (issued : Issued) (name : List ℕ) → IsWellFormed history → open_call history issued.name ≡ Some issued
+pub unless-follows : (history : History) (issued : Issued) (name : List ℕ) → IsWellFormed history → open_call history issued.name ≡ Some issued
     → cond (same_text issued.name name) None (open_call history name) ≡ unless issued.number (open_call history name)
 unless-follows history issued name form is_open = by (same_text issued.name name) refl
   where
@@ -272,186 +271,6 @@ noted-follows view history name goal agrees =
         by (Some arguments) = refl
         by None = agrees.same_arguments other
     told_so other false = agrees.same_arguments other
-
-    count : (b : Bool) (k n : ℕ) → k ≡ min 3 n → cond b 0 k ≡ min 3 (cond b 0 n)
-    count true k n e = refl
-    count false k n e = e
-
--- a test together with one that fails fails
-pub and-false : (b : Bool) → (b && false) ≡ false
-and-false true = refl
-and-false false = refl
-
--- the newest of a list that may have one more in front is that one, or else the list's own
-newest-cons : {X : Type 0} (o : Option X) (xs : List X) → newest (cons_option o xs) ≡ option_or o (newest xs)
-newest-cons None xs = refl
-newest-cons (Some x) xs = refl
-
--- numbers are compared alike from both sides
-same_number-flip : (a b : Number) → same_number a b ≡ same_number b a
-same_number-flip a b = alike (same_number a b) (same_number b a) (λ e. (same_number-tells b a).1 (sym ((same_number-tells a b).0 e))) (λ e. (same_number-tells a b).1 (sym ((same_number-tells b a).0 e)))
-
--- the open call is the latest of its name
-record IsLatest (name : List ℕ) (items : List Item) (call : Issued) : Type 0 where
-  others : List Issued
-  first : filter (λ (i : Issued). same_text i.name name) (issued_in items) ≡ call ∷ others
-  numbers : (other : Issued) → IsAmong other others → same_number call.number other.number ≡ false
-
--- in a well-formed history the open call of a name is its latest one, and no earlier call has its number
-open-latest : (began : Number) (name : List ℕ) (items : List Item) (call : Issued) → AreWellFormed began items → open_in name items ≡ Some call → IsLatest name items call
-open-latest began name [] call form e = absurd (none-some call e)
-open-latest began name (Started session ∷ older) call form e = absurd (none-some call e)
-open-latest began name (Sent issued ∷ older) call form e =
-    let parts = by (same_text issued.name name) e (open-latest began name older call form.1) in
-    record { others = parts.0; first = parts.1; numbers = parts.2 }
-  where
-    differs : (other : Issued) → IsAmong other (filter (λ (i : Issued). same_text i.name name) (issued_in older)) → same_number issued.number other.number ≡ false
-    differs other among =
-        same_number-flip issued.number other.number
-        ∙ other-number other.number issued.number (sent-before began older issued.number other form.1 form.0.0.later (among-kept (λ (i : Issued). same_text i.name name) (issued_in older) other among).0)
-
-    by : (b : Bool) → cond b (Some issued) (open_in name older) ≡ Some call → (open_in name older ≡ Some call → IsLatest name older call)
-        → (others : List Issued) × (cond b (issued ∷ filter (λ (i : Issued). same_text i.name name) (issued_in older)) (filter (λ (i : Issued). same_text i.name name) (issued_in older)) ≡ call ∷ others)
-        × ((other : Issued) → IsAmong other others → same_number call.number other.number ≡ false)
-    by true f rest =
-        let is : issued ≡ call = same_Some issued call f in (
-          filter (λ (i : Issued). same_text i.name name) (issued_in older),
-          ap (λ (c : Issued). c ∷ filter (λ (i : Issued). same_text i.name name) (issued_in older)) is,
-          λ other among. ap (λ (c : Issued). same_number c.number other.number) (sym is) ∙ differs other among,
-        )
-    by false f rest = let latest = rest f in (latest.others, latest.first, latest.numbers)
-open-latest began name (Accepted number status id ∷ older) call form e = let latest = open-latest began name older call form.1 (unless-some number (open_in name older) call e).0 in record { others = latest.others; first = latest.first; numbers = latest.numbers }
-open-latest began name (Closed number ∷ older) call form e = let latest = open-latest began name older call form.1 (unless-some number (open_in name older) call e).0 in record { others = latest.others; first = latest.first; numbers = latest.numbers }
-open-latest began name (Noted other goal ∷ older) call form e = let latest = open-latest began name older call form.1 e in record { others = latest.others; first = latest.first; numbers = latest.numbers }
-
--- the open call is the latest of each thing that it touches
-latest-touching : (began : Number) (name : List ℕ) (items : List Item) (call : Issued) (thing : Thing) → AreWellFormed began items → open_in name items ≡ Some call → touches thing call ≡ true
-    → find (touches thing) (issued_in items) ≡ Some call
-latest-touching began name items call thing form e of =
-    let latest = open-latest began name items call form e in
-    sym (find-filter (touches thing) (λ (i : Issued). same_text i.name name) (issued_in items) (λ i its. subst (λ n. same_text i.name n ≡ true) own (touches-name thing i its)))
-    ∙ ap (find (touches thing)) latest.first ∙ ap (λ b. cond b (Some call) (find (touches thing) latest.others)) of
-  where
-    own : name_in thing ≡ name
-    own = sym ((same_text-tells call.name (name_in thing)).0 (touches-name thing call of)) ∙ (same_text-tells call.name name).0 (open-sent name items call e).1
-
--- the id that a success brings
-id-brought : (items : List Item) (issued : Issued) (call : Call) (status : Status) (id : Option ℕ) → is_ok_status status ≡ true → filter_map (id_in issued.number) items ≡ []
-    → id_by (Accepted issued.number status id ∷ items) issued call ≡ id_brought call id
-id-brought items issued (calls.CreateVolume name required limit capabilities) status id fine none =
-    ap (λ b. newest (cons_option (cond (b && is_ok_status status) id None) (filter_map (id_in issued.number) items))) (number-same issued.number)
-    ∙ ap (λ b. newest (cons_option (cond b id None) (filter_map (id_in issued.number) items))) fine
-    ∙ ap (λ xs. newest (cons_option id xs)) none ∙ by id
-  where
-    by : (o : Option ℕ) → newest (cons_option o []) ≡ o
-    by None = refl
-    by (Some x) = refl
-id-brought items issued (calls.DeleteVolume volume) status id fine none = refl
-id-brought items issued call status id fine none = refl
-
--- a reply is taken
-pub accepted-follows : (view : View) (history : History) (issued : Issued) (status : Status) (id : Option ℕ) → IsWellFormed history → Agrees view history → open_call history issued.name ≡ Some issued
-    → Agrees (after_accepted issued status id view) (with_items history (Accepted issued.number status id ∷ []))
-accepted-follows view history issued status id form agrees is_open =
-    record {
-      same_last = agrees.same_last;
-      same_rows = agrees.same_rows;
-      same_marks = λ thing. mark thing (is_ok_status status) refl (touches thing issued) refl;
-      same_ids = λ name. an_id name (is_ok_status status) refl (same_text issued.name name) refl;
-      same_goals = agrees.same_goals;
-      same_arguments = agrees.same_arguments;
-      same_holdings = λ name node there. agrees.same_holdings name node (was_there name node there (is_ok_status status) refl (touches (Attached name node) issued) refl);
-      same_open_calls = λ name. ap (λ o. cond (same_text issued.name name) None o) (agrees.same_open_calls name) ∙ unless-follows history issued name form is_open;
-      same_counts = λ name. count (is_ok_status status && same_text issued.name name) (view.counts name) (calls_since name history.items) (agrees.same_counts name)
-          ∙ ap (λ b. min 3 (cond (is_ok_status status && b) 0 (calls_since name history.items))) (sym (own_number name (same_text issued.name name) refl));
-    }
-  where
-    item : Item
-    item = Accepted issued.number status id
-
-    sent : IsAmong issued (issued_in history.items)
-    sent = (open-sent issued.name history.items issued is_open).0
-
-    silent : (has_success history.items issued.number ≡ false) × (filter_map (id_in issued.number) history.items ≡ [])
-    silent = open-silent history.began history.items issued.name issued form is_open
-
-    -- another call has another number
-    differs : (call : Issued) → IsAmong call (issued_in history.items) → ((call ≡ issued) → ⊥) → same_number issued.number call.number ≡ false
-    differs call among other =
-        false_from_ne_true _ (λ e. other (one-call history.began history.items call issued form among sent (sym ((same_number-tells issued.number call.number).0 e))))
-
-    -- a mark that the reply doesn't tell of
-    untold : (thing : Thing) (o : Option Issued) → find (touches thing) (issued_in history.items) ≡ o → touches thing issued ≡ false → known_by (Accepted issued.number status id ∷ history.items) thing o ≡ known_by history.items thing o
-    untold thing None e of = refl
-    untold thing (Some call) e of =
-        let among = among-find (touches thing) (issued_in history.items) call e in
-        let touched : touches thing call ≡ true = find-passes (touches thing) (issued_in history.items) call e in
-        let other : (call ≡ issued) → ⊥ = λ is. false≢true (sym of ∙ ap (touches thing) (sym is) ∙ touched) in
-        rw (differs call among other) refl
-
-    tells : (thing : Thing) → is_ok_status status ≡ true → touches thing issued ≡ true → known_by (Accepted issued.number status id ∷ history.items) thing (Some issued) ≡ told issued.call
-    tells thing fine of = rw (number-same issued.number, fine, of) refl
-
-    refused : (thing : Thing) → is_ok_status status ≡ false → known (with_items history (Accepted issued.number status id ∷ [])) thing ≡ known history thing
-    refused thing not_fine = known-quiet (Accepted issued.number status id) history.items thing (find (touches thing) (issued_in history.items)) (λ number. ap (λ b. same_number issued.number number && b) not_fine ∙ and-false (same_number issued.number number))
-
-    mark : (thing : Thing) (fine : Bool) → is_ok_status status ≡ fine → (of : Bool) → touches thing issued ≡ of → cond (fine && of) (told issued.call) (view.marks thing) ≡ known (with_items history (Accepted issued.number status id ∷ [])) thing
-    mark thing true e true f =
-        sym (ap (known_by (Accepted issued.number status id ∷ history.items) thing) (latest-touching history.began issued.name history.items issued thing form is_open f) ∙ tells thing e f)
-    mark thing true e false f = agrees.same_marks thing ∙ sym (untold thing (find (touches thing) (issued_in history.items)) refl f)
-    mark thing false e of f = agrees.same_marks thing ∙ sym (refused thing e)
-
-    was_there : (name node : List ℕ) → known (with_items history (Accepted issued.number status id ∷ [])) (Attached name node) ≢ No → (fine : Bool) → is_ok_status status ≡ fine → (of : Bool) → touches (Attached name node) issued ≡ of
-        → known history (Attached name node) ≢ No
-    was_there name node there true e true f =
-        λ was. maybe_not_no (sym (ap (known_by history.items (Attached name node)) (latest-touching history.began issued.name history.items issued (Attached name node) form is_open f) ∙ unheard (Attached name node)) ∙ was)
-      where
-        maybe_not_no : Maybe ≡ No → ⊥
-        maybe_not_no h = cc
-
-        unheard : (thing : Thing) → known_by history.items thing (Some issued) ≡ Maybe
-        unheard thing = rw (silent.0) refl
-    was_there name node there true e false f = λ was. there (untold (Attached name node) (find (touches (Attached name node)) (issued_in history.items)) refl f ∙ was)
-    was_there name node there false e of f = λ was. there (refused (Attached name node) e ∙ was)
-
-    own_number : (name : List ℕ) (b : Bool) → same_text issued.name name ≡ b → is_number_of name history.items issued.number ≡ b
-    own_number name true e = then-any (λ (i : Issued). same_text i.name name && same_number i.number issued.number) (issued_in history.items) issued sent (ap (λ b. b && same_number issued.number issued.number) e ∙ number-same issued.number)
-    own_number name false e = any-none (λ (i : Issued). same_text i.name name && same_number i.number issued.number) (issued_in history.items) (λ call among. by call among (same_text call.name name) refl)
-      where
-        by : (call : Issued) → IsAmong call (issued_in history.items) → (b : Bool) → same_text call.name name ≡ b → (b && same_number call.number issued.number) ≡ false
-        by call among true f = same_number-flip call.number issued.number ∙ differs call among (λ is. false≢true (sym e ∙ ap (λ (c : Issued). same_text c.name name) (sym is) ∙ f))
-        by call among false f = refl
-
-    an_id : (name : List ℕ) (fine : Bool) → is_ok_status status ≡ fine → (own : Bool) → same_text issued.name name ≡ own
-        → cond (fine && own) (option_or (id_brought issued.call id) (view.ids name)) (view.ids name) ≡ id_of (with_items history (Accepted issued.number status id ∷ [])) name
-    an_id name true e true f =
-        ap (option_or (id_brought issued.call id)) (agrees.same_ids name ∙ before) ∙ sym after
-      where
-        latest : IsLatest name history.items issued
-        latest = open-latest history.began name history.items issued form (subst (λ n. open_in n history.items ≡ Some issued) ((same_text-tells issued.name name).0 f) is_open)
-
-        rest : List ℕ
-        rest = filter_map (λ (i : Issued). id_by history.items i i.call) latest.others
-
-        before : id_of history name ≡ newest rest
-        before =
-            ap (λ (sent : List Issued). newest (filter_map (λ (i : Issued). id_by history.items i i.call) sent)) latest.first
-            ∙ ap (λ o. newest (cons_option o rest)) (no-id history.items issued issued.call (silent.1))
-
-        after : id_of (with_items history (Accepted issued.number status id ∷ [])) name ≡ option_or (id_brought issued.call id) (newest rest)
-        after =
-            ap (λ (sent : List Issued). newest (filter_map (λ (i : Issued). id_by (Accepted issued.number status id ∷ history.items) i i.call) sent)) latest.first
-            ∙ ap (λ o. newest (cons_option o (filter_map (λ (i : Issued). id_by (Accepted issued.number status id ∷ history.items) i i.call) latest.others))) (id-brought history.items issued issued.call status id e (silent.1))
-            ∙ ap (λ xs. newest (cons_option (id_brought issued.call id) xs)) (ids-quiet (Accepted issued.number status id) history.items latest.others
-            (λ other among. ap (λ b. cond (b && is_ok_status status) id None) (latest.numbers other among)))
-            ∙ newest-cons (id_brought issued.call id) rest
-    an_id name true e false f =
-        agrees.same_ids name ∙ sym (ap newest (ids-quiet (Accepted issued.number status id) history.items (issued_of history name)
-        (λ other among. let there = among-kept (λ (i : Issued). same_text i.name name) (issued_in history.items) other among in
-        ap (λ b. cond (b && is_ok_status status) id None) (differs other there.0 (λ is. false≢true (sym f ∙ ap (λ (c : Issued). same_text c.name name) (sym is) ∙ there.1))))))
-    an_id name false e own f =
-        agrees.same_ids name ∙ sym (ap newest (ids-quiet (Accepted issued.number status id) history.items (issued_of history name)
-        (λ other among. ap (λ b. cond (same_number issued.number other.number && b) id None) e ∙ ap (λ b. cond b id None) (and-false (same_number issued.number other.number)))))
 
     count : (b : Bool) (k n : ℕ) → k ≡ min 3 n → cond b 0 k ≡ min 3 (cond b 0 n)
     count true k n e = refl

@@ -1,6 +1,7 @@
 -- Item by item, goal by goal and input by input.
 use Rattle.csi_orchestrator.proofs.DueCalls.{due-told}
-use Rattle.csi_orchestrator.proofs.ViewsFollow.{started-follows, sent-follows, accepted-follows, closed-follows, noted-follows}
+use Rattle.csi_orchestrator.proofs.ViewsFollow.{started-follows, sent-follows, closed-follows, noted-follows}
+use Rattle.csi_orchestrator.proofs.RepliesFollow.{accepted-follows}
 use Rattle.csi_orchestrator.proofs.RulesStay.{rows-stay-sound}
 use Rattle.csi_orchestrator.proofs.RepliesAgree.{rows-tell, moves-are-guarded}
 use Rattle.csi_orchestrator.proofs.laws.rows_follow.Goals as goal
