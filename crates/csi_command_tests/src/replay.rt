@@ -8,6 +8,7 @@ mod events;
 mod examples;
 mod files;
 mod flushes;
+mod full;
 mod listed;
 mod long;
 mod pictures;

@@ -10,7 +10,8 @@ use Rattle.csi_counted.specs.Counting.{HasRisen}
 use Rattle.csi_counted.specs.Writing.{WritesFront}
 use Rattle.csi_streams.specs.declared.streaming.StreamFault.{StreamFault}
 use Rattle.csi_streams.specs.declared.streaming.StreamFault.TheVariants as stops
-use Rattle.csi_streams.specs.Replay.{Grows}
+use Rattle.csi_streams.specs.Replay.{answered, Grows}
+use Rattle.csi_streams.specs.Lines.{lines}
 use Rattle.csi_streams.specs.Failing.{TellsReader, TellsWriter}
 use Rattle.csi_streams.specs.Streaming.{AreReplies, AreLines, GivesFront, StreamEnds, Streams, Waits}
 use Rattle.csi_streams.proofs.Streams.{one_stream}
@@ -21,10 +22,6 @@ use Rattle.csi_endings.specs.declared.ending.Ending.TheVariants as endings
 use Rattle.csi_commands.specs.Ending.{EndsAs}
 use Rattle.csi_commands.specs.Running.{Drawing, Plays, IsRefused}
 use Rattle.csi_commands.specs.Streaming.{StreamsAs, StreamEndsAs, WasCut, TellsDevice, HasRead, ReadsWhole, ending_of_stream, ending_of_written}
-
--- all bytes begin with none; and all begin with themselves
-grows-all : (bytes : List ℕ) → Grows [] bytes
-grows-all bytes = record { more = bytes; appended = refl }
 
 -- all bytes begin with themselves
 grows-none : (bytes : List ℕ) → Grows bytes bytes
@@ -38,35 +35,31 @@ module _ (draws : Drawing) (bytes rest : List ℕ) (frames : List Frame) (of : F
       let same = one_stream bytes frames fs rest more of of' in
       subst (λ (x : List ℕ). P fs x) same.1 (subst (λ (gs : List Frame). P gs rest) same.0 here)
 
-  -- replies to all frames of the bytes are a front of what the command appends
-  all_given : (out : List ℕ) → AreReplies frames out → WasCut draws Answer bytes out
-  all_given out given = record {
-    all = out;
-    appended = for_all (λ fs more. GivesFront AreReplies fs out) (record { count = length frames; within = omega arith; given = subst (λ (fs : List Frame). AreReplies fs out) (sym (take_all (length frames) frames (omega arith))) given });
-    grows = grows-none out;
-  }
+  -- the text of all frames of the bytes is that of some of the first
+  all_given : (text : List Frame → List ℕ) (out : List ℕ) → out ≡ text frames → (fs : List Frame) (more : List ℕ) → FramesOf bytes fs more → GivesFront (λ gs given. given ≡ text gs) fs out
+  all_given text out given = for_all (λ fs more. GivesFront (λ gs given. given ≡ text gs) fs out) (record {
+    count = length frames;
+    within = omega arith;
+    given = subst (λ (fs : List Frame). out ≡ text fs) (sym (take_all (length frames) frames (omega arith))) given;
+  })
 
   -- however the answering of a stream ended, the command ends so on its bytes
   answer_ends : (at_end : Type 0) (out : List ℕ) (result : Result ℕ StreamFault) → StreamEnds AreReplies bytes frames rest at_end out result → StreamEndsAs draws Answer at_end bytes out (ending_of_stream result)
-  answer_ends at_end out (Ok count) ends = (ends.0, (for_all (λ fs more. EndsAs Answer fs more [] out endings.Done) (ends.1, ends.3), tt))
+  answer_ends at_end out (Ok count) ends = (ends.0, (for_all (λ fs more. EndsAs Answer fs more [] out endings.Done) (record { whole = ends.1; appended = ends.3 }), tt))
   answer_ends at_end out (Err (stops.Frame kind place)) ends = (ends.0, (for_all (λ fs more. EndsAs Answer fs more [] out (endings.FrameFault kind place)) (ends.1, ends.2), tt))
   answer_ends at_end out (Err stops.NoMemory) ends = (tt, (for_all (λ fs more. EndsAs Answer fs more [] out endings.Memory) (record { count = ends.count; within = ends.within; appended = ends.given }), tt))
-  answer_ends at_end out (Err stops.Input) ends = all_given out ends.1
+  answer_ends at_end out (Err stops.Input) ends = record { all = out; appended = all_given answered out ends.1; grows = grows-none out }
   answer_ends at_end out (Err stops.Output) ends = record { all = ends.0; appended = for_all (λ fs more. GivesFront AreReplies fs ends.0) ends.2; grows = ends.1 }
   answer_ends at_end out (Err stops.Endless) ends = (ends.0, for_all (λ fs more. Waits more × AreReplies fs out) (ends.1, ends.2))
 
-  -- whatever was written of lines is a front of what the command may append
-  shown : (out : List ℕ) → WasCut draws Show bytes out
-  shown out = record { all = out; appended = tt; grows = grows-none out }
-
-  -- however the showing of a stream ended, the command ends so on its bytes
+  -- and however the showing of one ended
   show_ends : (at_end : Type 0) (out : List ℕ) (result : Result ℕ StreamFault) → StreamEnds AreLines bytes frames rest at_end out result → StreamEndsAs draws Show at_end bytes out (ending_of_stream result)
-  show_ends at_end out (Ok count) ends = (ends.0, (for_all (λ fs more. EndsAs Show fs more [] out endings.Done) (ends.1, grows-all out), tt))
-  show_ends at_end out (Err (stops.Frame kind place)) ends = (ends.0, (for_all (λ fs more. EndsAs Show fs more [] out (endings.FrameFault kind place)) (ends.1, grows-all out), tt))
-  show_ends at_end out (Err stops.NoMemory) ends = (tt, (for_all (λ fs more. EndsAs Show fs more [] out endings.Memory) (grows-all out), tt))
-  show_ends at_end out (Err stops.Input) ends = shown out
-  show_ends at_end out (Err stops.Output) ends = shown out
-  show_ends at_end out (Err stops.Endless) ends = (ends.0, for_all (λ fs more. Waits more) ends.1)
+  show_ends at_end out (Ok count) ends = (ends.0, (for_all (λ fs more. EndsAs Show fs more [] out endings.Done) (record { whole = ends.1; appended = ends.3 }), tt))
+  show_ends at_end out (Err (stops.Frame kind place)) ends = (ends.0, (for_all (λ fs more. EndsAs Show fs more [] out (endings.FrameFault kind place)) (ends.1, ends.2), tt))
+  show_ends at_end out (Err stops.NoMemory) ends = (tt, (for_all (λ fs more. EndsAs Show fs more [] out endings.Memory) (record { count = ends.count; within = ends.within; appended = ends.given }), tt))
+  show_ends at_end out (Err stops.Input) ends = record { all = out; appended = all_given lines out ends.1; grows = grows-none out }
+  show_ends at_end out (Err stops.Output) ends = record { all = ends.0; appended = for_all (λ fs more. GivesFront AreLines fs ends.0) ends.2; grows = ends.1 }
+  show_ends at_end out (Err stops.Endless) ends = (ends.0, for_all (λ fs more. Waits more × AreLines fs out) (ends.1, ends.2))
 
 -- where the frames of a reader were answered, the command ends as on its bytes; and below where they were shown
 pub answers_so : (draws : Drawing) (left now had has : Option (List ℕ)) (result : Result ℕ StreamFault) → Streams AreReplies left now had has result → StreamsAs draws Answer left now had has (ending_of_stream result)

@@ -7,7 +7,8 @@ use Rattle.csi_streams.specs.declared.answers.AnswerFault.{AnswerFault}
 use Rattle.csi_streams.specs.declared.answers.AnswerFault.TheVariants as faults
 use Rattle.csi_endings.specs.declared.command.FileCommand.{FileCommand}
 use Rattle.csi_endings.specs.declared.command.FileCommand.TheVariants.{Answer, Show, Schedule}
-use Rattle.csi_streams.specs.Replay.{answered, Fails, IsFaultOf, Grows}
+use Rattle.csi_streams.specs.Replay.{answered, AppendsAll, Fails}
+use Rattle.csi_streams.specs.Lines.{lines}
 use Rattle.csi_commands.specs.Running.{Drawing, Plays, IsRefused}
 
 -- how it ends by what the frames stopped at
@@ -15,17 +16,18 @@ abbrev pub ending_of : AnswerFault → Ending
 ending_of (faults.Frame kind place) = FrameFault kind place
 ending_of faults.NoMemory = Memory
 
--- Of the commands on frames: where all were answered, or shown, the rest is empty; a fault and want of memory are those of the answer, or of
--- the frames. Of the lines that are shown no text is said: they come behind what was there.
+-- Of a command on frames, that gives this text of them: where it is done, it has appended that of all frames, and the rest is empty; a fault is
+-- that of the rest, and the text of all frames before it was appended, or at want of memory that of some of the first.
+abbrev pub FramesEnd : (List Frame → List ℕ) → List Frame → List ℕ → List ℕ → List ℕ → Ending → Type 0
+FramesEnd text frames rest old new Done = AppendsAll text frames rest old new
+FramesEnd text frames rest old new (FrameFault kind place) = Fails text frames rest old new (faults.Frame kind place)
+FramesEnd text frames rest old new Memory = Fails text frames rest old new faults.NoMemory
+FramesEnd text frames rest old new _ = ⊥
+
+-- the replies to the frames, or their lines; and of a schedule nothing is said here
 abbrev pub EndsAs : FileCommand → List Frame → List ℕ → List ℕ → List ℕ → Ending → Type 0
-EndsAs Answer frames rest old new Done = (rest ≡ []) × (new ≡ old ++ answered frames)
-EndsAs Answer frames rest old new (FrameFault kind place) = Fails frames rest old new (faults.Frame kind place)
-EndsAs Answer frames rest old new Memory = Fails frames rest old new faults.NoMemory
-EndsAs Answer frames rest old new _ = ⊥
-EndsAs Show frames rest old new Done = (rest ≡ []) × Grows old new
-EndsAs Show frames rest old new (FrameFault kind place) = IsFaultOf frames rest kind place × Grows old new
-EndsAs Show frames rest old new Memory = Grows old new
-EndsAs Show frames rest old new _ = ⊥
+EndsAs Answer frames rest old new ending = FramesEnd answered frames rest old new ending
+EndsAs Show frames rest old new ending = FramesEnd lines frames rest old new ending
 EndsAs (Schedule command) frames rest old new ending = Unit {0}
 
 -- Where a schedule was run, what the command gives of it was appended, and otherwise nothing.

@@ -9,7 +9,7 @@ use Rattle.csi_counted.specs.Counting.{HasRisen}
 use Rattle.csi_streams.specs.declared.streaming.StreamFault.{StreamFault}
 use Rattle.csi_streams.specs.declared.streaming.StreamFault.TheVariants as stops
 use Rattle.csi_streams.specs.Replay.{Grows}
-use Rattle.csi_streams.specs.Streaming.{AreReplies, GivesFront, Waits}
+use Rattle.csi_streams.specs.Streaming.{AreReplies, AreLines, GivesFront, Waits}
 use Rattle.csi_endings.specs.declared.command.FileCommand.{FileCommand}
 use Rattle.csi_endings.specs.declared.command.FileCommand.TheVariants.{Answer, Show, Schedule}
 use Rattle.csi_endings.specs.declared.ending.Ending.{Ending}
@@ -21,10 +21,10 @@ use Rattle.csi_commands.specs.Running.{Drawing, Plays}
 abbrev pub FileEnds : Drawing → FileCommand → List ℕ → List ℕ → Ending → Type 0
 FileEnds draws command bytes out ending = ((frames : List Frame) (rest : List ℕ) → FramesOf bytes frames rest → EndsAs command frames rest [] out ending) × RunsAs draws command bytes [] out ending
 
--- what `file` appends for these bytes at some time: the replies to some of the first frames, or some lines, or what a schedule gives or nothing
+-- what `file` appends for these bytes at some time: the replies to some of the first frames, or their lines, or what a schedule gives or nothing
 abbrev pub FileAppends : Drawing → FileCommand → List ℕ → List ℕ → Type 0
 FileAppends draws Answer bytes all = (frames : List Frame) (rest : List ℕ) → FramesOf bytes frames rest → GivesFront AreReplies frames all
-FileAppends draws Show bytes all = Unit {0}
+FileAppends draws Show bytes all = (frames : List Frame) (rest : List ℕ) → FramesOf bytes frames rest → GivesFront AreLines frames all
 FileAppends draws (Schedule command) bytes all = (all ≡ []) ⊎ Plays draws command bytes [] all
 
 -- a front of it was written
@@ -36,7 +36,7 @@ pub record WasCut (draws : Drawing) (command : FileCommand) (bytes out : List �
 -- the reader gave no fault yet, and all that `file` appends for its frames was written
 abbrev pub WritesAll : FileCommand → List ℕ → List ℕ → Type 0
 WritesAll Answer bytes out = (frames : List Frame) (rest : List ℕ) → FramesOf bytes frames rest → Waits rest × AreReplies frames out
-WritesAll Show bytes out = (frames : List Frame) (rest : List ℕ) → FramesOf bytes frames rest → Waits rest
+WritesAll Show bytes out = (frames : List Frame) (rest : List ℕ) → FramesOf bytes frames rest → Waits rest × AreLines frames out
 WritesAll (Schedule command) bytes out = ⊥
 
 -- at these endings nothing is left unread

@@ -7,8 +7,9 @@ ghost use Rattle.csi_counted.specs.Counting.{HasRisen, is_error, is_write_fault,
 use std::io;
 use std::io::{Read, Write};
 
-/// A reader or a writer to which each call is passed on, and a count of those that failed: that were answered with an
-/// error, or wrote no byte of some. The count ends at 2^64 - 1. This profile's own.
+/// A reader or a writer, and a count of its calls that failed: that were answered with an error, or wrote no byte of some.
+/// Each call is passed on once, with its whole buffer, and its answer is handed back as it is, the error too: that is tested,
+/// since contracts of a `Read` or `Write` can't name what one call answers. The count ends at 2^64 - 1. This profile's own.
 #[derive(Debug, Drop)]
 pub struct Counted<T> {
     inner: T,

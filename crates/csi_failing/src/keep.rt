@@ -4,7 +4,7 @@ ghost use Rattle.csi_stores.specs.Part.{StoredPart, put_all, change_of};
 ghost use Rattle.csi_stores.specs.Content.{all_changed};
 ghost use Rattle.csi_counted.specs.Counting.{one_more};
 ghost use Rattle.csi_stores.specs.Keeping.{RefusesAt};
-ghost use Rattle.csi_stores.specs.Stores.{IsLoadFault, IsCommitFault, IsOnly};
+ghost use Rattle.csi_stores.specs.Stores.{Found, Parts, IsOnly, FindsSome, IsLoadFault, IsCommitFault};
 ghost use Rattle.csi_failing.specs.Counting.{is_due, after_call, counted};
 ghost use Rattle.csi_failing.specs.Keep.{failing};
 
@@ -74,9 +74,10 @@ impl<K: Keep> Keep for FailingKeep<K> {
     fn load(&mut self) -> Result<Vec<Part>, KeepFault>
         ensures honest { (K.store self.new.inner).honest → (K.store self.old.inner).honest }
         ensures parts { (K.store self.new.inner).honest → (content : List StoredPart) → (K.store self.old.inner).holds content → IfOk result (λ parts. map change_of parts.items ≡ put_all content) }
-        ensures stays { (K.store self.new.inner).honest → (content : List StoredPart) → (K.store self.old.inner).holds content → OnOk result ((K.store self.new.inner).holds content) }
+        ensures stays { (K.store self.new.inner).honest → (content : List StoredPart) → (K.store self.old.inner).holds content → OnOk result (IsOnly (K.store self.new.inner) (Parts content)) }
         ensures foreign { (K.store self.new.inner).honest → (place : ℕ) → (K.store self.old.inner).foreign place → RefusesAt place result }
-        ensures left { (K.store self.new.inner).honest → (content : List StoredPart) → (K.store self.new.inner).leaves content → (K.store self.old.inner).leaves content }
+        ensures left { (K.store self.new.inner).honest → (found : Found) → (K.store self.new.inner).leaves found → (K.store self.old.inner).leaves found }
+        ensures some { (K.store self.new.inner).honest → (found : Found) → IsOnly (K.store self.old.inner) found → FindsSome (K.store self.new.inner) }
         ensures room { (content : List StoredPart) → (K.store self.old.inner).fits content → (K.store self.new.inner).fits content }
         ensures no_more_room { (content : List StoredPart) → (K.store self.new.inner).fits content → (K.store self.old.inner).fits content }
         ensures faults { (failing self.old.failures (K.store self.old.inner)).faults ≤ (failing self.new.failures (K.store self.new.inner)).faults }
@@ -94,11 +95,11 @@ impl<K: Keep> Keep for FailingKeep<K> {
     /// what is to be there, a refusal of that store is the answer, and nothing else is counted.
     fn commit(&mut self, parts: &[Part]) -> Result<(), KeepFault>
         ensures honest { (K.store self.new.inner).honest → (K.store self.old.inner).honest }
-        ensures done { (K.store self.new.inner).honest → (content : List StoredPart) → (K.store self.old.inner).holds content → OnOk result ((K.store self.new.inner).holds (all_changed (map change_of parts.now) content)) }
-        ensures alone { (K.store self.new.inner).honest → (content : List StoredPart) → (K.store self.old.inner).holds content →
-            OnOk result ((other : List StoredPart) → (K.store self.new.inner).leaves other → other ≡ all_changed (map change_of parts.now) content) }
+        ensures done { (K.store self.new.inner).honest → (content : List StoredPart) → (K.store self.old.inner).holds content →
+            OnOk result (IsOnly (K.store self.new.inner) (Parts (all_changed (map change_of parts.now) content))) }
         ensures refused { (K.store self.new.inner).honest → (content : List StoredPart) → (K.store self.old.inner).holds content →
-            OnErr result ((other : List StoredPart) → (K.store self.new.inner).leaves other → (K.store self.old.inner).leaves other ⊎ (other ≡ all_changed (map change_of parts.now) content)) }
+            OnErr result ((other : Found) → (K.store self.new.inner).leaves other → (K.store self.old.inner).leaves other ⊎ (other ≡ Parts (all_changed (map change_of parts.now) content))) }
+        ensures some { (K.store self.new.inner).honest → (content : List StoredPart) → IsOnly (K.store self.old.inner) (Parts content) → FindsSome (K.store self.new.inner) }
         ensures room { (content : List StoredPart) → (K.store self.old.inner).fits content → (K.store self.new.inner).fits content }
         ensures no_more_room { (content : List StoredPart) → (K.store self.new.inner).fits content → (K.store self.old.inner).fits content }
         ensures faults { (failing self.old.failures (K.store self.old.inner)).faults ≤ (failing self.new.failures (K.store self.new.inner)).faults }
@@ -108,7 +109,7 @@ impl<K: Keep> Keep for FailingKeep<K> {
             (result ≡ Err KeepFault.Device) × (self.new ≡ record self.old { commit = after_call self.old.commit; failures = one_more self.old.failures }) }
         ensures leaves_new { is_due self.old.commit ≡ true → self.old.left ≡ Left.New → (self.new.failures ≡ self.old.failures) ⊎
             (result ≡ Err KeepFault.Device) × (self.new.failures ≡ one_more self.old.failures) ×
-            ((K.store self.new.inner).honest → (content : List StoredPart) → (K.store self.old.inner).holds content → IsOnly (K.store self.new.inner) (all_changed (map change_of parts.now) content)) }
+            ((K.store self.new.inner).honest → (content : List StoredPart) → (K.store self.old.inner).holds content → IsOnly (K.store self.new.inner) (Parts (all_changed (map change_of parts.now) content))) }
         ensures passes { is_due self.old.commit ≡ false → self.new.failures ≡ self.old.failures }
         ensures next { self.new ≡ record self.old { inner = self.new.inner; commit = after_call self.old.commit; failures = self.new.failures } }
     {

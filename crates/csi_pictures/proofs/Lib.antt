@@ -1,2 +1,5 @@
 pub mod Joins
-pub mod Columns
+pub mod WaysNoted
+pub mod LinksFollowed
+pub mod BarsFollowed
+pub mod BarsKept

@@ -7,3 +7,7 @@ pub mod Front
 pub mod Lanes
 pub mod Picture
 pub mod Bars
+pub mod Ways
+pub mod Links
+pub mod Columns
+pub mod Begun

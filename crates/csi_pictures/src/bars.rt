@@ -1,11 +1,14 @@
 //! What is attached, staged and published, as bars on the lanes of the plugins: each from the call that was carried out to the one
 //! that undid it.
-ghost use Rattle.std.specs.Prelude.{◌≡◌, ◌+◌, ◌++◌, IfOk, OnOk, length, slice_get, string_bytes};
+ghost use Rattle.std.specs.Prelude.{◌≡◌, ◌+◌, ◌++◌, ◌<◌, ◌==◌, ◌&&◌, ◌||◌, ℕ, [], false, IfOk, OnOk, length, get_or, slice_get, string_bytes};
 ghost use Rattle.std.specs.List.{flat_map};
 ghost use Rattle.csi_types.specs.Same.{same_text};
-ghost use Rattle.csi_world.specs.Simulating.{numbered};
-ghost use Rattle.csi_pictures.specs.Bars.{undoes as undoes_by, ends as ends_by, end_row as end_by, is_same_thing as same_thing, asks_for as asks_by, lasting_of as lasting_by, is_shown_by as shown_by, is_shown as shown_among, is_taken_by as taken_by, is_taken as taken_among, free_among, with_lasting, with_both, bars_to, class_of as class_by, bar as bar_drawn};
+ghost use Rattle.csi_pictures.specs.Bars.{undoes as undoes_by, ends as ends_by, end_row as end_by, is_same_thing as same_thing, lasting_of as lasting_by, with_lasting, with_both, bars_to, class_of as class_by, bar as bar_drawn};
+ghost use Rattle.csi_pictures.specs.Begun.{asks_again as asks_again_by, IsOfChain, AreMarked, IsDelivery, IsKept};
+ghost use Rattle.csi_pictures.specs.Links.{AreLinks};
 
+use crate::columns::{Columns, blank_columns, take_column};
+use crate::links::{link_at, links_of};
 use crate::scene::{lane_of, succeeded};
 use csi_types::{Body, Call, NodeId, Target};
 use csi_world::{Event, World};
@@ -72,18 +75,6 @@ fn ends(world: &World, lane: usize, begun: &Call, event: &Event, place: usize) -
     }
 }
 
-// The row where the bar of a call ends, which begins in the row of this number; behind the last where nothing ends it.
-fn end_row(world: &World, events: &[Event], row: usize, lane: usize, begun: &Call) -> usize
-    ensures { result ≡ end_by world.now lane begun.now row 0 events.now }
-{
-    for (place, event) in events.iter().enumerate() {
-        if place >= row && ends(world, lane, begun, event, place) {
-            return place + 1;
-        }
-    }
-    events.len() + 1
-}
-
 // Whether two calls to one plugin ask for the same thing.
 fn is_same_thing(begun: &Call, call: &Call) -> bool
     ensures { result ≡ same_thing begun.now call.now }
@@ -113,15 +104,20 @@ fn is_same_thing(begun: &Call, call: &Call) -> bool
     }
 }
 
-// Whether the frame of this number is a call for the same thing.
-fn asks_for(world: &World, call: &Call, number: u64) -> bool
-    ensures { result ≡ asks_by call.now (numbered world.now.frames number) }
+// Whether an event delivers a call to the plugin of a lane for the same thing as a call that went there.
+fn asks_again(world: &World, lane: usize, begun: &Call, event: &Event) -> bool
+    ensures { result ≡ asks_again_by world.now lane begun.now event.now }
 {
-    let Some(frame) = world.frame(number) else {
+    let Event::Deliver(number) = event else {
+        return false;
+    };
+    let Some(frame) = world.frame(*number) else {
         return false;
     };
     match frame.body() {
-        Body::Call(begun) => is_same_thing(begun, call),
+        Body::Call(call) => {
+            lane == lane_of(world.nodes(), frame.party()) && is_same_thing(begun, call)
+        }
         Body::Reply(..) => false,
     }
 }
@@ -158,77 +154,85 @@ fn lasting_of(call: &Call) -> Option<Lasting>
     }
 }
 
-// Whether a bar shows in a row what a call to the plugin of a lane does.
-fn is_shown_by(world: &World, lane: usize, row: usize, call: &Call, bar: Bar) -> bool
-    ensures { result ≡ shown_by world.now.frames lane row call.now bar }
+// Marks a place, unless the mark is none.
+fn mark_at(marks: &mut [bool], at: usize, mark: bool)
+    requires { at < length marks.old }
+    ensures size { length marks.new ≡ length marks.old }
+    ensures marked { (place : ℕ) → get_or marks.new place false ≡ (get_or marks.old place false || (place == at && mark)) }
 {
-    bar.lane == lane && (row < bar.to && asks_for(world, call, bar.number))
-}
-
-// Whether one of the bars does.
-fn is_shown(world: &World, lane: usize, row: usize, call: &Call, bars: &[Bar]) -> bool
-    ensures { result ≡ shown_among world.now.frames lane row call.now bars.now }
-{
-    for bar in bars {
-        if is_shown_by(world, lane, row, call, *bar) {
-            return true;
-        }
+    if !mark {
+        return;
     }
-    false
+    marks[at] = true;
 }
 
-// Whether a bar has this column of the lane in the row.
-fn is_taken_by(lane: usize, row: usize, column: usize, bar: Bar) -> bool
-    ensures { result ≡ taken_by lane row column bar }
+// Follows the bar that a call begins in a place down to the row where it ends, behind the last where nothing ends it, and marks
+// the events on its way that ask for the same thing.
+fn follow(
+    marks: &mut [bool],
+    world: &World,
+    events: &[Event],
+    links: &[usize],
+    place: usize,
+    lane: usize,
+    begun: &Call,
+) -> usize
+    requires links { AreLinks (world.now).frames events.now links.now }
+    requires size { length marks.old ≡ length events.now }
+    requires place { place < length events.now }
+    requires chain { IsOfChain world.now events.now begun.now place }
+    ensures end { result ≡ end_by world.now lane begun.now (place + 1) 0 events.now }
+    ensures size { length marks.new ≡ length marks.old }
+    ensures marked { AreMarked world.now events.now lane begun.now place result marks.old marks.new }
 {
-    bar.lane == lane && (bar.column == column && row <= bar.to)
-}
-
-// Whether one of the bars does.
-fn is_taken(lane: usize, row: usize, column: usize, bars: &[Bar]) -> bool
-    ensures { result ≡ taken_among lane row column bars.now }
-{
-    for bar in bars {
-        if is_taken_by(lane, row, column, *bar) {
-            return true;
+    let mut at = link_at(links, place);
+    while at < events.len() {
+        let event = &events[at];
+        if ends(world, lane, begun, event, at) {
+            return at + 1;
         }
+        mark_at(marks, at, asks_again(world, lane, begun, event));
+        at = link_at(links, at);
     }
-    false
+    events.len() + 1
 }
 
-// The first column that is free.
-fn free_column(lane: usize, row: usize, bars: &[Bar]) -> usize
-    ensures { result ≡ free_among lane row bars.now 0 bars.now }
-{
-    for (column, _bar) in bars.iter().enumerate() {
-        if !is_taken(lane, row, column, bars) {
-            return column;
-        }
-    }
-    bars.len()
+// What is kept while bars begin: the bars, the places of calls for what is there already, and the columns of the lanes.
+#[derive(Drop)]
+struct Begun {
+    bars: Vec<Bar>,
+    marks: Vec<bool>,
+    lanes: Vec<Columns>,
 }
 
 // Puts the bar that a call begins behind the others.
 fn add_call(
-    bars: &mut Vec<Bar>,
+    begun: &mut Begun,
     world: &World,
     events: &[Event],
-    row: usize,
+    links: &[usize],
+    place: usize,
     number: u64,
     lane: usize,
     call: &Call,
 ) -> Result<(), AllocError>
-    ensures { OnOk result (bars.new.items ≡ with_lasting world.now events.now bars.old.items row number lane call.now (lasting_by call.now)) }
+    requires kept { IsKept world.now events.now place begun.old }
+    requires links { AreLinks (world.now).frames events.now links.now }
+    requires event { IsDelivery world.now events.now place number lane call.now }
+    ensures bars { OnOk result (begun.new.bars.items ≡ with_lasting world.now events.now begun.old.bars.items (place + 1) number lane call.now (lasting_by call.now)) }
+    ensures kept { OnOk result (IsKept world.now events.now (place + 1) begun.new) }
 {
     let Some(what) = lasting_of(call) else {
         return Ok(());
     };
-    if is_shown(world, lane, row, call, bars) {
+    if begun.marks[place] {
         return Ok(());
     }
-    let to = end_row(world, events, row, lane, call);
-    let column = free_column(lane, row, bars);
-    bars.push(Bar {
+    let row = place + 1;
+    let marks = begun.marks.as_mut_slice();
+    let to = follow(marks, world, events, links, place, lane, call);
+    let column = take_column(&mut begun.lanes[lane], row, to)?;
+    begun.bars.push(Bar {
         what,
         number,
         lane,
@@ -241,12 +245,16 @@ fn add_call(
 
 // Puts the bar that the event in this place begins behind the others.
 fn add_at(
-    bars: &mut Vec<Bar>,
+    begun: &mut Begun,
     world: &World,
     events: &[Event],
+    links: &[usize],
     place: usize,
 ) -> Result<(), AllocError>
-    ensures { OnOk result (bars.new.items ≡ with_both world.now events.now bars.old.items (place + 1) (slice_get events.now place) (slice_get world.now.outcomes place)) }
+    requires kept { IsKept world.now events.now place begun.old }
+    requires links { AreLinks (world.now).frames events.now links.now }
+    ensures bars { OnOk result (begun.new.bars.items ≡ with_both world.now events.now begun.old.bars.items (place + 1) (slice_get events.now place) (slice_get (world.now).outcomes place)) }
+    ensures kept { OnOk result (IsKept world.now events.now (place + 1) begun.new) }
 {
     let Some(event) = events.get(place) else {
         return Ok(());
@@ -266,10 +274,24 @@ fn add_at(
     match frame.body() {
         Body::Call(call) => {
             let lane = lane_of(world.nodes(), frame.party());
-            add_call(bars, world, events, place + 1, *number, lane, call)
+            add_call(begun, world, events, links, place, *number, lane, call)
         }
         Body::Reply(..) => Ok(()),
     }
+}
+
+// Nothing is begun yet.
+fn none_begun(alloc: Global, world: &World, events: &[Event]) -> Result<Begun, AllocError>
+    ensures bars { IfOk result (λ begun. begun.bars.items ≡ []) }
+    ensures kept { IfOk result (IsKept world.now events.now 0) }
+{
+    let marks = vec![in alloc; false; events.len()]?;
+    let lanes = blank_columns(alloc, world.nodes().len() + 4)?;
+    Ok(Begun {
+        bars: Vec::new(alloc),
+        marks,
+        lanes,
+    })
 }
 
 /// The bars of a run, in the order in which they begin.
@@ -280,10 +302,16 @@ pub(crate) fn bars_of(
 ) -> Result<Vec<Bar>, AllocError>
     ensures { IfOk result (λ bars. bars.items ≡ bars_to world.now events.now (length events.now)) }
 {
-    let mut bars = Vec::new(alloc);
+    let links = links_of(alloc, world, events)?;
+    let mut begun = none_begun(alloc, world, events)?;
     for place in 0..events.len() {
-        add_at(&mut bars, world, events, place)?;
+        add_at(&mut begun, world, events, &links, place)?;
     }
+    let Begun {
+        bars,
+        marks: _,
+        lanes: _,
+    } = begun;
     Ok(bars)
 }
 

@@ -3,12 +3,15 @@
 #![tactic(auto)]
 
 mod bars;
+mod columns;
 mod elements;
 mod escaping;
 mod front;
 mod lanes;
+mod links;
 mod picture;
 mod rows;
 mod scene;
+mod ways;
 
 pub use picture::draw;

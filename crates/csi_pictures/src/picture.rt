@@ -1,18 +1,21 @@
 //! The picture of a run.
-ghost use Rattle.std.specs.Prelude.{◌≡◌, ◌++◌, ◌+◌, IfOk, OnOk, length, string_bytes};
+ghost use Rattle.std.specs.Prelude.{◌≡◌, ◌++◌, ◌+◌, List, IfOk, OnOk, length, string_bytes};
 ghost use Rattle.std.specs.List.{flat_map};
+ghost use Rattle.csi_types.specs.declared.event.Event.{Event as Happening};
 ghost use Rattle.csi_pictures.specs.Bars.{bar, bars_to};
 ghost use Rattle.csi_pictures.specs.Lanes.{names_at};
 ghost use Rattle.csi_pictures.specs.Pieces.{each};
 ghost use Rattle.csi_pictures.specs.Picture.{passage, sent_frame, event_over, layer_at, picture, IsPicture};
 ghost use Rattle.csi_pictures.specs.Scene.{sent_number as sent_by};
+ghost use Rattle.csi_pictures.specs.Ways.{AreSentRows, AreDelivered, AreWays};
 
 use crate::bars::{bars_of, put_bars};
 use crate::elements::put_arrow;
 use crate::front::put_front;
 use crate::lanes::{Part, put_lanes};
 use crate::rows::{put_label, put_lost, put_mark, put_row_text};
-use crate::scene::{came, is_delivered, receiver, sender, sent_number, sent_row, way_of};
+use crate::scene::{came, receiver, sender, sent_number, way_of};
+use crate::ways::{Ways, is_marked, row_at, ways_of};
 use csi_node::Node;
 use csi_types::NoMemory;
 use csi_world::{Event, Outcome, World, audit};
@@ -47,10 +50,12 @@ fn put_all_bars(
 fn put_passage(
     out: &mut String,
     world: &World,
+    rows: &[usize],
     row: usize,
     event: &Event,
     outcome: Outcome,
 ) -> Result<(), AllocError>
+    requires { AreSentRows (world.now).outcomes (world.now).frames rows.now }
     ensures { OnOk result (string_bytes out.new ≡ string_bytes out.old ++ passage world.now row event.now outcome) }
 {
     let Event::Deliver(number) = event else {
@@ -66,7 +71,7 @@ fn put_passage(
     let class = way_of(world, outcome);
     let from = sender(nodes, frame);
     let to = receiver(nodes, frame);
-    let sent = sent_row(world.outcomes(), *number);
+    let sent = row_at(rows, *number);
     put_arrow(out, class, from, sent, to, row)
 }
 
@@ -74,11 +79,11 @@ fn put_passage(
 fn put_sent(
     out: &mut String,
     world: &World,
-    events: &[Event],
+    marks: &[bool],
     row: usize,
     outcome: Outcome,
 ) -> Result<(), AllocError>
-    ensures { OnOk result (string_bytes out.new ≡ string_bytes out.old ++ sent_frame world.now events.now row (sent_by outcome)) }
+    ensures { (events : List Happening) → AreDelivered (world.now).outcomes events (world.now).frames marks.now → OnOk result (string_bytes out.new ≡ string_bytes out.old ++ sent_frame world.now events row (sent_by outcome)) }
 {
     let Some(number) = sent_number(outcome) else {
         return Ok(());
@@ -87,7 +92,7 @@ fn put_sent(
         return Ok(());
     };
     put_label(out, world.nodes(), row, number, frame)?;
-    if is_delivered(world.outcomes(), events, number) {
+    if is_marked(marks, number) {
         return Ok(());
     }
     put_lost(out, sender(world.nodes(), frame), row, frame)
@@ -98,16 +103,16 @@ fn put_event(
     alloc: Global,
     out: &mut String,
     world: &World,
-    events: &[Event],
+    marks: &[bool],
     row: usize,
     event: &Event,
     outcome: Outcome,
 ) -> Result<(), AllocError>
-    ensures { OnOk result (string_bytes out.new ≡ string_bytes out.old ++ event_over world.now events.now row event.now outcome) }
+    ensures { (events : List Happening) → AreDelivered (world.now).outcomes events (world.now).frames marks.now → OnOk result (string_bytes out.new ≡ string_bytes out.old ++ event_over world.now events row event.now outcome) }
 {
     put_row_text(alloc, out, row, event, outcome)?;
     put_mark(out, world.nodes(), row, event, outcome)?;
-    put_sent(out, world, events, row, outcome)
+    put_sent(out, world, marks, row, outcome)
 }
 
 // What is drawn of all events before what follows is.
@@ -126,8 +131,10 @@ fn put_at(
     layer: Layer,
     world: &World,
     events: &[Event],
+    ways: &Ways,
     place: usize,
 ) -> Result<(), AllocError>
+    requires { AreWays world.now events.now ways.now }
     ensures { OnOk result (string_bytes out.new ≡ string_bytes out.old ++ layer_at layer world.now events.now place) }
 {
     let Some(event) = events.get(place) else {
@@ -137,8 +144,8 @@ fn put_at(
         return Ok(());
     };
     match layer {
-        Layer::Arrows => put_passage(out, world, place + 1, event, *outcome),
-        Layer::Texts => put_event(alloc, out, world, events, place + 1, event, *outcome),
+        Layer::Arrows => put_passage(out, world, &ways.rows, place + 1, event, *outcome),
+        Layer::Texts => put_event(alloc, out, world, &ways.marks, place + 1, event, *outcome),
     }
 }
 
@@ -149,11 +156,13 @@ fn put_layer(
     layer: Layer,
     world: &World,
     events: &[Event],
+    ways: &Ways,
 ) -> Result<(), AllocError>
+    requires { AreWays world.now events.now ways.now }
     ensures { OnOk result (string_bytes out.new ≡ string_bytes out.old ++ each (layer_at layer world.now events.now) (length events.now)) }
 {
     for place in 0..events.len() {
-        put_at(alloc, out, layer, world, events, place)?;
+        put_at(alloc, out, layer, world, events, ways, place)?;
     }
     Ok(())
 }
@@ -168,6 +177,7 @@ fn put_picture(
 ) -> Result<(), AllocError>
     ensures { OnOk result (string_bytes out.new ≡ string_bytes out.old ++ picture world.now events.now is_safe) }
 {
+    let ways = ways_of(alloc, world, events)?;
     let nodes = world.nodes();
     let count = events.len();
     put_front(
@@ -180,9 +190,9 @@ fn put_picture(
     )?;
     put_lanes(out, Part::Band, nodes, count + 1)?;
     put_all_bars(alloc, out, world, events)?;
-    put_layer(alloc, out, Layer::Arrows, world, events)?;
+    put_layer(alloc, out, Layer::Arrows, world, events, &ways)?;
     put_names(out, nodes, events)?;
-    put_layer(alloc, out, Layer::Texts, world, events)?;
+    put_layer(alloc, out, Layer::Texts, world, events, &ways)?;
     write!(out, "</svg>\n")
 }
 

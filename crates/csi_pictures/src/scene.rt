@@ -1,7 +1,7 @@
 //! Where things of a run stand in its picture: the lanes of parties, and the rows of events, from 1.
-ghost use Rattle.std.specs.Prelude.{◌≡◌, slice_get};
+ghost use Rattle.std.specs.Prelude.{◌≡◌};
 ghost use Rattle.csi_types.specs.Same.{same_text};
-ghost use Rattle.csi_pictures.specs.Scene.{node_lane as node_lane_by, lane_of as lane_by, sender as sender_by, receiver as receiver_by, sent_number as number_sent, sends as sends_it, sent_row as row_sent, came as has_come, comes_by as it_comes_by, delivered_from, is_ok as is_status_ok, succeeded as has_succeeded, way_of as way_by};
+ghost use Rattle.csi_pictures.specs.Scene.{node_lane as node_lane_by, lane_of as lane_by, sender as sender_by, receiver as receiver_by, sent_number as number_sent, came as has_come, is_ok as is_status_ok, succeeded as has_succeeded, way_of as way_by};
 
 use csi_node::Node;
 use csi_types::{Body, Frame, NodeId, Party, Status};
@@ -70,30 +70,6 @@ pub fn sent_number(outcome: Outcome) -> Option<u64>
     }
 }
 
-// Whether an event sent the frame of this number.
-fn sends(outcome: Outcome, number: u64) -> bool
-    ensures { result ≡ sends_it number outcome }
-{
-    match sent_number(outcome) {
-        Some(sent) => sent == number,
-        None => false,
-    }
-}
-
-/// The row of the event that sent the frame of this number; behind the last where none did.
-pub fn sent_row(outcomes: &[Outcome], number: u64) -> usize
-    ensures { result ≡ row_sent number outcomes.now }
-{
-    let mut row = 1;
-    for outcome in outcomes {
-        if sends(*outcome, number) {
-            return row;
-        }
-        row += 1;
-    }
-    row
-}
-
 /// Whether a delivery that came to this was of a frame that was sent before.
 pub fn came(outcome: Outcome) -> bool
     ensures { result ≡ has_come outcome }
@@ -102,34 +78,6 @@ pub fn came(outcome: Outcome) -> bool
         Outcome::NoSuchFrame => false,
         _ => true,
     }
-}
-
-// Whether the event in this place delivers the frame of this number, which was sent before.
-fn comes_by(outcomes: &[Outcome], place: usize, event: &Event, number: u64) -> bool
-    ensures { result ≡ it_comes_by number event.now (slice_get outcomes.now place) }
-{
-    let Some(outcome) = outcomes.get(place) else {
-        return false;
-    };
-    if !came(*outcome) {
-        return false;
-    }
-    match event {
-        Event::Deliver(delivered) => *delivered == number,
-        _ => false,
-    }
-}
-
-/// Whether an event delivers the frame of this number, which was sent before.
-pub fn is_delivered(outcomes: &[Outcome], events: &[Event], number: u64) -> bool
-    ensures { result ≡ delivered_from number outcomes.now 0 events.now }
-{
-    for (place, event) in events.iter().enumerate() {
-        if comes_by(outcomes, place, event, number) {
-            return true;
-        }
-    }
-    false
 }
 
 /// Whether a status is OK.

@@ -3,6 +3,7 @@ mod calls;
 mod compared;
 mod full;
 mod growths;
+mod largest;
 mod lent;
 mod plain;
 mod records;

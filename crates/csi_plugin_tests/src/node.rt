@@ -1,6 +1,7 @@
 //! The node plugin. What it is to answer comes from the table of the lifecycle, written out.
 mod full;
 mod growths;
+mod largest;
 mod lent;
 mod readers;
 mod rows;

@@ -1,72 +1,27 @@
--- Two runs over one store are one run of all their frames.
-use Rattle.std.proofs.Common.{◌≡◌, ◌∙◌, sym, ap, ap₂, refl, subst, inl, inr, ℕ, List, [], ◌∷◌, ◌++◌, take, Result, Ok, Err}
+-- Two runs over one store are one run.
+use Rattle.std.proofs.Common.{◌≡◌, ◌∙◌, ◌⊎◌, sym, ap, refl, subst, inl, inr, ℕ, zero, suc, ◌+◌, List, [], ◌∷◌, ◌++◌, take, slice_get, Some, Result, Ok, Err, arith}
 use Rattle.std.specs.Prelude.{Option}
-use Rattle.std.specs.List.{flat_map, AllByRecursion}
-use Rattle.std.specs.Io.KnownBytes.{Consumes, Appends, IsAtEnd}
-use Rattle.std.proofs.Math.Seq.{take-length}
 use Rattle.std.proofs.lemmas.List.{append-nil}
-use Rattle.std.proofs.lemmas.List.Concat.{flat_map-append}
+use Rattle.std.proofs.lemmas.Option.{same_Some}
 use Rattle.csi_types.specs.Frame.{Frame}
-use Rattle.csi_types.specs.Limits.{IsFrame}
-use Rattle.csi_frames.specs.Spelling.{spelling}
-use Rattle.csi_frames.specs.Stream.{FramesOf}
 use Rattle.csi_stores.specs.declared.keep.KeepFault.{KeepFault}
 use Rattle.csi_stores.specs.declared.keep.KeepFault.TheVariants as faults
 use Rattle.csi_stores.specs.Part.{StoredPart}
-use Rattle.csi_stores.specs.Stores.{Store, IsOnly, IsSettled}
+use Rattle.csi_stores.specs.Stores.{Store, Found, Parts, Has, IsOnly}
 use Rattle.csi_records.specs.declared.version.RecordVersion.{RecordVersion}
+use Rattle.csi_records.specs.Records.{IsRefusedAt, IsInSome}
 use Rattle.csi_records.specs.Spelling.{present}
 use Rattle.csi_serving.specs.declared.serving.fault.Served.{Served}
 use Rattle.csi_serving.specs.declared.serving.fault.ServeFault.{ServeFault}
 use Rattle.csi_serving.specs.declared.serving.fault.ServeFaultKind.{ServeFaultKind}
 use Rattle.csi_serving.specs.declared.serving.fault.ServeFaultKind.TheVariants as kinds
-use Rattle.csi_serving.specs.Serving.{AnswersEach, Serves, output_of}
-use Rattle.csi_service.specs.Opening.{Records, OpensTo}
-use Rattle.csi_endings.specs.declared.ending.Ending.TheVariants.{Done}
-use Rattle.csi_plugins.specs.Ending.{ending_of_store, ending_of_kind, ending_of_serving}
-use Rattle.csi_plugins.specs.Service.{Streams, setting_of}
-use Rattle.csi_plugins.specs.Running.{IsOpened, Runs}
-use Rattle.csi_plugins.specs.Joined.{RunsAgain, AreOneRun}
-
--- ---- an ending that is well
-
--- a store's refusal doesn't end well
-no-refusal : (fault : KeepFault) → Done ≡ ending_of_store fault → ⊥
-no-refusal faults.Device e = cc
-no-refusal faults.NoMemory e = cc
-no-refusal (faults.BadRecord place) e = cc
-no-refusal faults.Full e = cc
-
--- nor does a fault of serving
-no-fault : (kind : ServeFaultKind) → Done ≡ ending_of_kind kind → ⊥
-no-fault kinds.Input e = cc
-no-fault kinds.Output e = cc
-no-fault (kinds.Frame kind place) e = cc
-no-fault (kinds.Keep fault) e = no-refusal fault e
-no-fault kinds.NoMemory e = cc
-no-fault kinds.Endless e = cc
-
--- so serving was answered OK
-served-ok : (r : Result Served ServeFault) → Done ≡ ending_of_serving r → (served : Served) × (r ≡ Ok served)
-served-ok (Ok served) e = (served, refl)
-served-ok (Err fault) e = absurd (no-fault fault.kind e)
-
--- ---- frames of two inputs
-
--- where all of two lists are frames, so are all of the two together
-each-frame : (fs gs : List Frame) → AllByRecursion IsFrame fs → AllByRecursion IsFrame gs → AllByRecursion IsFrame (fs ++ gs)
-each-frame [] gs one two = two
-each-frame (f ∷ fs) gs one two = (one.0, each-frame fs gs one.1 two)
-
--- frames with nothing left over, and others behind them
-both-streams : (a b : List ℕ) (fs gs : List Frame) → FramesOf a fs [] → FramesOf b gs [] → FramesOf (a ++ b) (fs ++ gs) []
-both-streams a b fs gs one two = record {
-  whole =
-      ap₂ (λ (x y : List ℕ). x ++ y) (one.whole ∙ append-nil (flat_map spelling fs)) (two.whole ∙ append-nil (flat_map spelling gs))
-      ∙ sym (flat_map-append spelling fs gs) ∙ sym (append-nil (flat_map spelling (fs ++ gs)));
-  each = each-frame fs gs one.each two.each;
-  longest = one.longest;
-}
+use Rattle.csi_serving.specs.Serving.{AnswersEach, Serves, StopsBy, frames_counted}
+use Rattle.csi_serving.proofs.GrowingAnswers.{answers-push}
+use Rattle.csi_service.specs.Opening.{Records, Becomes, OpensTo, IsOpenFault}
+use Rattle.csi_endings.specs.declared.ending.Ending.{Ending}
+use Rattle.csi_plugins.specs.Service.{Streams, IsServed, setting_of}
+use Rattle.csi_plugins.specs.Running.{IsRefused, IsOpened, Runs}
+use Rattle.csi_plugins.specs.Joined.{Reopens, AreMadeBy, AreMade, RunsAgain, IsHindrance, IsHindered, AreOneRun, Joins}
 
 -- ---- runs in which the plugin is opened again
 
@@ -95,102 +50,149 @@ module _ {C : Type 0} (IsAsked : C → Type 0) (answers : C → Frame → Option
   joined one mid other last (f ∷ fs) gs [] ss first same second = absurd first
   joined one mid other last (f ∷ fs) gs (r ∷ rs) ss first same second = (first.0, first.1, first.2, first.3, first.4, joined first.3 mid other last fs gs rs ss first.5 same second)
 
--- ---- a store that was left by a run
+-- ---- the frames that left their mark
 
--- a core's parts are a record in the present version, and opening leaves them
-module _ {X C : Type 0} (records : Records X) (head : StoredPart) (parts_of : C → List StoredPart) where
-  -- what a core left is opened with its parts, where these are of the present version and never none
-  pub opened-again : ((core : C) (version : RecordVersion) → records.are version (parts_of core) → version ≡ present) → ((core : C) → parts_of core ≡ [] → ⊥)
-      → (core other : C) → OpensTo records head (parts_of core) (parts_of other) → parts_of other ≡ parts_of core
-  opened-again told some core other (inl same) = same.1
-  opened-again told some core other (inr (inl none)) = absurd (some core none.0)
-  opened-again told some core other (inr (inr renewed)) = absurd (renewed.earlier (told core renewed.version renewed.stored))
+-- the first ones, and one more
+take-next : {X : Type 0} (xs : List X) (k : ℕ) (x : X) → slice_get xs k ≡ Some x → take (suc k) xs ≡ take k xs ++ x ∷ []
+take-next [] zero x e = absurd (cc)
+take-next [] (suc k) x e = absurd (cc)
+take-next {X} (y ∷ ys) zero x e = ap (λ (z : X). z ∷ []) (same_Some y x e)
+take-next {X} (y ∷ ys) (suc k) x e = ap (λ (zs : List X). y ∷ zs) (take-next ys k x e)
 
--- ---- one run that ended well
+-- what is found is what some of the frames led to
+record Marked {C : Type 0} (answers : C → Frame → Option Frame → C → Type 0) (parts_of : C → List StoredPart) (core : C) (frames : List Frame) (replies : List (Option Frame)) (IsCount : ℕ → Type 0) (found : Found) : Type 0 where
+  made : ℕ
+  are_made : IsCount made
+  unwritten : List (Option Frame)
+  mid : C
+  runs : AnswersEach answers core (take made frames) (replies ++ unwritten) mid
+  is : found ≡ Parts (parts_of mid)
 
--- a plugin was opened and served all frames of its input
-record RanWell {X C : Type 0} (records : Records X) (IsAsked : C → Type 0) (answers : C → Frame → Option Frame → C → Type 0) (parts_of : C → List StoredPart) (head : StoredPart) (content : List StoredPart) (after : Store) (io : Streams) : Type 0 where
-  core : C
-  asked : IsAsked core
-  opened : OpensTo records head content (parts_of core)
-  is_record : records.are present (parts_of core)
-  bytes : List ℕ
-  read : Consumes io.unread_before io.unread_after bytes
-  ended : IsAtEnd io.unread_after
-  frames : List Frame
-  stream : FramesOf bytes frames []
-  replies : List (Option Frame)
-  now : C
-  runs : RunsAgain IsAsked answers parts_of core frames replies now
-  kept : IsOnly after (parts_of now)
-  written : Appends io.written_before io.written_after (output_of replies)
+module _ {C : Type 0} (answers : C → Frame → Option Frame → C → Type 0) (parts_of : C → List StoredPart) (core : C) (before after : Store) (io : Streams) (bytes : List ℕ) (honest : after.honest) (only : IsOnly before (Parts (parts_of core))) (found : Found) (left : after.leaves found) where
+  -- those that were counted
+  counted-mark : (IsCount : ℕ → Type 0) (frames : List Frame) (replies : List (Option Frame)) (now : C) (counted : ℕ) → IsCount counted → AnswersEach answers core (take counted frames) replies now
+      → found ≡ Parts (parts_of now) → Marked answers parts_of core frames replies IsCount found
+  counted-mark IsCount frames replies now counted are runs is = record {
+    made = counted;
+    are_made = are;
+    unwritten = [];
+    mid = now;
+    runs = subst (λ (rs : List (Option Frame)). AnswersEach answers core (take counted frames) rs now) (sym (append-nil replies)) runs;
+    is = is;
+  }
+
+  -- by why serving stopped
+  kind-mark : (kind : ServeFaultKind) (frames : List Frame) (rest : List ℕ) (counted : ℕ) (replies : List (Option Frame)) (now : C) → AnswersEach answers core (take counted frames) replies now
+      → StopsBy (setting_of answers parts_of core before after io bytes) frames rest counted replies now kind → Marked answers parts_of core frames replies (AreMadeBy kind counted) found
+  kind-mark kinds.Input frames rest counted replies now runs stop = counted-mark (AreMadeBy kinds.Input counted) frames replies now counted refl runs ((stop.3.kept honest only).alone found left)
+  kind-mark kinds.Output frames rest counted replies now runs stop = counted-mark (AreMadeBy kinds.Output counted) frames replies now counted refl runs ((stop.1.kept honest only).alone found left)
+  kind-mark (kinds.Frame kind place) frames rest counted replies now runs stop = counted-mark (AreMadeBy (kinds.Frame kind place) counted) frames replies now counted refl runs ((stop.3.kept honest only).alone found left)
+  kind-mark kinds.NoMemory frames rest counted replies now runs stop = counted-mark (AreMadeBy kinds.NoMemory counted) frames replies now counted refl runs ((stop.kept honest only).alone found left)
+  kind-mark kinds.Endless frames rest counted replies now runs stop = counted-mark (AreMadeBy kinds.Endless counted) frames replies now counted refl runs ((stop.3.kept honest only).alone found left)
+  kind-mark (kinds.Keep fault) frames rest counted replies now runs stop =
+      let refused = stop.2 in
+      elim ((refused.left honest only).each found left) [
+        | inl old ↦ counted-mark (AreMadeBy (kinds.Keep fault) counted) frames replies now counted (inl refl) runs old
+        | inr new ↦
+            let one_more : counted + 1 ≡ suc counted = omega arith in
+            record {
+              made = counted + 1;
+              are_made = inr refl;
+              unwritten = refused.reply ∷ [];
+              mid = refused.next;
+              runs = subst (λ (fs : List Frame). AnswersEach answers core fs (replies ++ refused.reply ∷ []) refused.next) (sym (ap (λ (n : ℕ). take n frames) one_more ∙ take-next frames counted stop.0 stop.1))
+                  (answers-push answers core (take counted frames) replies now stop.0 refused.reply refused.next runs refused.answered);
+              is = new;
+            }
+      ]
+
+  -- by what it answered
+  mark : (result : Result Served ServeFault) (s : Serves (setting_of answers parts_of core before after io bytes) bytes result) → Marked answers parts_of core s.frames s.replies (AreMade result) found
+  mark (Ok served) s = counted-mark (AreMade (Ok served)) s.frames s.replies s.now served.frames refl s.runs ((s.ends.4.kept honest only).alone found left)
+  mark (Err fault) s = kind-mark fault.kind s.frames s.rest fault.frames s.replies s.now s.runs s.ends
+
+-- ---- two runs
 
 module _ {X C K : Type 0} (seen : K → Store) (records : Records X) (IsAsked : C → Type 0) (answers : C → Frame → Option Frame → C → Type 0) (parts_of : C → List StoredPart) (head : StoredPart)
-    (keeps : (old new : C) (frame : Frame) (reply : Option Frame) → answers old frame reply new → IsAsked old → IsAsked new)
-    (again : (core other : C) → OpensTo records head (parts_of core) (parts_of other) → parts_of other ≡ parts_of core) where
-  -- the plugin was opened, and the store was honest before
-  opened-well : (before after : K) (io : Streams) → Runs seen records IsAsked answers parts_of head before after io Done → IsOpened seen records IsAsked answers parts_of before after head io Done
-  opened-well before after io (inl refused) = absurd (no-refusal refused.fault refused.ends)
-  opened-well before after io (inr opened) = opened
+    (keeps : (old new : C) (frame : Frame) (reply : Option Frame) → answers old frame reply new → IsAsked old → IsAsked new × records.are present (parts_of new))
+    (told : (parts : List StoredPart) (version : RecordVersion) → records.are present parts → records.are version parts → version ≡ present)
+    (some : (parts : List StoredPart) → records.are present parts → parts ≡ [] → ⊥)
+    (whole : (parts : List StoredPart) (place : ℕ) → records.are present parts → IsRefusedAt (IsInSome records.are) parts place → ⊥) where
+  -- each core on the way is as it was asked for, and has a record in the present version
+  along : (core : C) (frames : List Frame) (replies : List (Option Frame)) (now : C) → AnswersEach answers core frames replies now → IsAsked core → records.are present (parts_of core) → records.are present (parts_of now)
+  along core [] [] now is asked here = subst (λ (c : C). records.are present (parts_of c)) (sym is) here
+  along core [] (r ∷ rs) now is asked here = absurd is
+  along core (f ∷ fs) [] now is asked here = absurd is
+  along core (f ∷ fs) (r ∷ rs) now is asked here = let next = keeps core is.0 f r is.1 asked in along is.0 fs rs now is.2 next.0 next.1
 
-  -- a store that is honest after a run was so before it
-  was-honest : (before after : K) (io : Streams) → IsOpened seen records IsAsked answers parts_of before after head io Done → (seen after).honest → (seen before).honest
-  was-honest before after io o honest = o.honest (o.served.honest honest)
+  -- opening commits nothing over such a record
+  no-becomes : (parts new : List StoredPart) → records.are present parts → Becomes records head parts new → ⊥
+  no-becomes parts new is (inl none) = some parts is none.0
+  no-becomes parts new is (inr renewed) = renewed.earlier (told parts renewed.version is renewed.stored)
 
-  -- a run that is done, over a store that has one content alone, ran well
-  ran-well : (before after : K) (content : List StoredPart) (io : Streams) → (seen after).honest → IsOnly (seen before) content → IsOpened seen records IsAsked answers parts_of before after head io Done
-      → RanWell records IsAsked answers parts_of head content (seen after) io
-  ran-well before after content io honest only o =
-      let found = o.found (o.served.honest honest) content only.there in
-      let only_opened : IsOnly (seen o.opened) (parts_of o.core) = found.2.only only in
-      let ok = served-ok o.served.result o.served.ends in
-      let s = subst (Serves (setting_of answers parts_of o.core (seen o.opened) (seen after) io o.served.bytes) o.served.bytes) ok.1 o.served.serves in
-      let all : take ok.0.frames s.frames ≡ s.frames = ap (λ (n : ℕ). take n s.frames) s.ends.0 ∙ take-length s.frames in
-      record {
-        core = o.core;
-        asked = o.asked;
-        opened = found.0;
-        is_record = found.1;
-        bytes = o.served.bytes;
-        read = o.served.consumed;
-        ended = s.ends.3;
-        frames = s.frames;
-        stream = subst (λ (rest : List ℕ). FramesOf o.served.bytes s.frames rest) s.ends.1 s.stream;
-        replies = s.replies;
-        now = s.now;
-        runs = again-of IsAsked answers parts_of keeps o.core s.frames s.replies s.now o.asked (subst (λ (fs : List Frame). AnswersEach answers o.core fs s.replies s.now) all s.runs);
-        kept = s.ends.4.kept honest only_opened;
-        written = s.ends.4.written;
-      }
+  -- and leaves it
+  opens-same : (parts new : List StoredPart) → records.are present parts → OpensTo records head parts new → new ≡ parts
+  opens-same parts new is (inl same) = same.1
+  opens-same parts new is (inr becomes) = absurd (no-becomes parts new is becomes)
 
-  -- the second began with what the first left
-  pub one-run : (before between after : K) (content : List StoredPart) (first second : Streams) → (seen after).honest → IsSettled (seen before) → (seen before).holds content
-      → Runs seen records IsAsked answers parts_of head before between first Done → Runs seen records IsAsked answers parts_of head between after second Done
-      → AreOneRun records IsAsked answers parts_of head content (seen after) first second
-  one-run before between after content first second honest settled holds ran ran_too =
-      let o = opened-well before between first ran in
-      let p = opened-well between after second ran_too in
-      let mid = was-honest between after second p honest in
-      let one = ran-well before between content first mid (settled (was-honest before between first o mid) content holds) o in
-      let two = ran-well between after (parts_of one.now) second honest one.kept p in
-      record {
-        core = one.core;
-        asked = one.asked;
-        opened = one.opened;
-        is_record = one.is_record;
-        bytes = one.bytes;
-        more = two.bytes;
-        read = one.read;
-        read_too = two.read;
-        ended = one.ended;
-        ended_too = two.ended;
-        frames = one.frames ++ two.frames;
-        stream = both-streams one.bytes two.bytes one.frames two.frames one.stream two.stream;
-        replies = one.replies;
-        later = two.replies;
-        now = two.now;
-        runs = joined IsAsked answers parts_of one.core one.now two.core two.now one.frames two.frames one.replies two.replies one.runs (again one.now two.core two.opened) two.runs;
-        kept = two.kept;
-        written = one.written;
-        written_too = two.written;
-      }
+  module _ (before after : Store) (io : Streams) (ending : Ending) (parts : List StoredPart) (is : records.are present parts) (honest : after.honest) (holds : before.holds parts) where
+    -- only want of memory and a failing device keep it from being opened
+    hindrance : (fault : KeepFault) → IsOpenFault records before after head fault → IsHindrance before after fault
+    hindrance faults.Device cause = cause
+    hindrance faults.NoMemory cause = tt
+    hindrance (faults.BadRecord place) cause = whole parts place is (cause honest parts holds)
+    hindrance faults.Full cause = let full = cause honest parts holds in no-becomes parts full.0 is full.1
+
+    -- where a plugin isn't opened again, it was hindered
+    hindered : IsRefused records before after head io ending → IsHindered before after io ending
+    hindered refused = record {
+      fault = refused.fault;
+      cause = hindrance refused.fault refused.cause;
+      left = λ found leaves. elim (refused.left.parts honest parts holds found leaves) [ inl old ↦ old | inr new ↦ absurd (no-becomes parts new.new is new.becomes) ];
+      untouched = refused.untouched;
+      ends = refused.ends;
+    }
+
+  module _ (before between again after : K) (content : List StoredPart) (first second : Streams) (ending ending_too : Ending) (honest : (seen between).honest) (honest_too : (seen after).honest) (holds : (seen before).holds content) (reopens : Reopens (seen between) (seen again)) where
+    -- the first was opened
+    module _ (o : IsOpened seen records IsAsked answers parts_of before between head first ending) where
+      here : OpensTo records head content (parts_of o.core) × records.are present (parts_of o.core) × IsOnly (seen o.opened) (Parts (parts_of o.core))
+      here = o.found (o.served.honest honest) content holds
+
+      marked : Marked answers parts_of o.core o.served.serves.frames o.served.serves.replies (AreMade o.served.result) reopens.0
+      marked = mark answers parts_of o.core (seen o.opened) (seen between) first o.served.bytes honest here.2 reopens.0 reopens.1 o.served.result o.served.serves
+
+      is_record : records.are present (parts_of marked.mid)
+      is_record = along o.core (take marked.made o.served.serves.frames) (o.served.serves.replies ++ marked.unwritten) marked.mid marked.runs o.asked here.1
+
+      there : (seen again).holds (parts_of marked.mid)
+      there = subst (Has (seen again)) marked.is reopens.2
+
+      both : IsOpened seen records IsAsked answers parts_of again after head second ending_too → AreOneRun seen records IsAsked answers parts_of head content between after first second ending ending_too
+      both p =
+          let here_too = p.found (p.served.honest honest_too) (parts_of marked.mid) there in
+          let asks = λ (old new : C) (frame : Frame) (reply : Option Frame) (answered : answers old frame reply new) (asked : IsAsked old). (keeps old new frame reply answered asked).0 in
+          record {
+            one = record { core = o.core; asked = o.asked; before = o.opened; only = here.2; served = o.served };
+            two = record { core = p.core; asked = p.asked; before = p.opened; only = here_too.2; served = p.served };
+            opened = here.0;
+            is_record = here.1;
+            made = marked.made;
+            are_made = marked.are_made;
+            unwritten = marked.unwritten;
+            runs = joined IsAsked answers parts_of o.core marked.mid p.core p.served.serves.now (take marked.made o.served.serves.frames) (take (frames_counted p.served.result) p.served.serves.frames) (o.served.serves.replies ++ marked.unwritten) p.served.serves.replies
+                (again-of IsAsked answers parts_of asks o.core (take marked.made o.served.serves.frames) (o.served.serves.replies ++ marked.unwritten) marked.mid o.asked marked.runs)
+                (opens-same (parts_of marked.mid) (parts_of p.core) is_record here_too.0)
+                (again-of IsAsked answers parts_of asks p.core (take (frames_counted p.served.result) p.served.serves.frames) p.served.serves.replies p.served.serves.now p.asked p.served.serves.runs);
+          }
+
+      onward : Runs seen records IsAsked answers parts_of head again after second ending_too
+          → IsHindered (seen again) (seen after) second ending_too ⊎ AreOneRun seen records IsAsked answers parts_of head content between after first second ending ending_too
+      onward (inl refused) = inl (hindered (seen again) (seen after) second ending_too (parts_of marked.mid) is_record honest_too there refused)
+      onward (inr p) = inr (both p)
+
+    -- the second began with what opening again found
+    pub one-run : Runs seen records IsAsked answers parts_of head before between first ending → Runs seen records IsAsked answers parts_of head again after second ending_too
+        → Joins seen records IsAsked answers parts_of head content before between again after first second ending ending_too
+    one-run (inl refused) ran_too = inl refused
+    one-run (inr o) ran_too = inr (onward o ran_too)

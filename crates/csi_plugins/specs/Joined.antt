@@ -1,23 +1,43 @@
--- Two runs of a plugin over one store, one after another, as one run of all their frames. This profile's own.
-use Rattle.std.specs.Prelude.{◌≡◌, ⊤, ℕ, List, [], ◌∷◌, ◌++◌, Option, Some}
-use Rattle.std.specs.Io.KnownBytes.{Consumes, Appends, IsAtEnd}
+-- Two runs of a plugin over one store, one after another, however each ended, as one run. This profile's own.
+use Rattle.std.specs.Prelude.{◌≡◌, ◌⊎◌, ℕ, ◌+◌, List, [], ◌∷◌, ◌++◌, take, Option, Some, Result, Ok, Err}
 use Rattle.csi_types.specs.Frame.{Frame}
-use Rattle.csi_frames.specs.Stream.{FramesOf}
-use Rattle.csi_stores.specs.Part.{StoredPart}
-use Rattle.csi_stores.specs.Stores.{Store, IsOnly, IsSettled}
-use Rattle.csi_records.specs.Spelling.{present, controller_head, node_head}
+use Rattle.csi_counted.specs.Counting.{HasRisen}
 use Rattle.csi_counted.specs.declared.counted.Counted.{Counted}
-use Rattle.csi_serving.specs.Serving.{output_of}
-use Rattle.csi_service.specs.declared.controller_service.ControllerService.{ControllerService}
-use Rattle.csi_service.specs.declared.node_service.NodeService.{NodeService}
+use Rattle.csi_stores.specs.declared.keep.KeepFault.{KeepFault}
+use Rattle.csi_stores.specs.declared.keep.KeepFault.TheVariants as faults
+use Rattle.csi_stores.specs.Part.{StoredPart}
+use Rattle.csi_stores.specs.Stores.{Store, Found, Parts, Has, IsOnly}
+use Rattle.csi_records.specs.Spelling.{present, controller_head, node_head}
+use Rattle.csi_serving.specs.declared.serving.fault.Served.{Served}
+use Rattle.csi_serving.specs.declared.serving.fault.ServeFault.{ServeFault}
+use Rattle.csi_serving.specs.declared.serving.fault.ServeFaultKind.{ServeFaultKind}
+use Rattle.csi_serving.specs.declared.serving.fault.ServeFaultKind.TheVariants as kinds
+use Rattle.csi_serving.specs.Serving.{frames_counted}
 use Rattle.csi_service.specs.Opening.{Records, controller_records, node_records, OpensTo}
-use Rattle.csi_service.specs.Services.{controller_service_parts, ControllerAnswers, node_service_parts}
-use Rattle.csi_service.specs.NodeServices.{NodeServiceAnswers}
-use Rattle.csi_endings.specs.declared.ending.Ending.TheVariants.{Done}
+use Rattle.csi_service.specs.Services.{controller_service_parts, node_service_parts}
+use Rattle.csi_endings.specs.declared.ending.Ending.{Ending}
 use Rattle.csi_plugins.specs.declared.kind.Plugin.{Plugin}
 use Rattle.csi_plugins.specs.declared.kind.Plugin.TheVariants.{Controller, Node}
-use Rattle.csi_plugins.specs.Service.{Streams, streams}
-use Rattle.csi_plugins.specs.Running.{PluginRuns}
+use Rattle.csi_plugins.specs.Ending.{ending_of_store}
+use Rattle.csi_plugins.specs.Service.{Streams, streams, IsServed}
+use Rattle.csi_plugins.specs.Serving.{IsControllerUnder, ControllerServes, IsNodeNamed, NodeServes}
+use Rattle.csi_plugins.specs.Running.{IsRefused, PluginRuns}
+
+-- ---- the second run begins with what the first left
+
+-- opening the store again found this, which it might find
+abbrev pub Reopens : Store → Store → Type 0
+Reopens left now = (found : Found) × left.leaves found × Has now found
+
+-- How many frames left their mark in the store: those that are counted; or one more, where its commit was refused.
+abbrev pub AreMadeBy : ServeFaultKind → ℕ → ℕ → Type 0
+AreMadeBy (kinds.Keep fault) counted made = (made ≡ counted) ⊎ (made ≡ counted + 1)
+AreMadeBy _ counted made = made ≡ counted
+
+-- by what serving answered
+abbrev pub AreMade : Result Served ServeFault → ℕ → Type 0
+AreMade (Ok served) made = made ≡ served.frames
+AreMade (Err fault) made = AreMadeBy fault.kind fault.frames made
 
 -- From one core to another, frame after frame, where before each frame the plugin may have been opened again: the core that answers
 -- is one as it was asked for, with the parts of the core before.
@@ -28,50 +48,66 @@ RunsAgain IsAsked answers parts_of core (frame ∷ frames) [] now = ⊥
 RunsAgain {C} IsAsked answers parts_of core (frame ∷ frames) (reply ∷ replies) now =
     (same : C) × IsAsked same × (parts_of same ≡ parts_of core) × (next : C) × answers same frame reply next × RunsAgain IsAsked answers parts_of next frames replies now
 
--- From a store with this content, in which a head is put first where it has no part, and a record in an earlier version is put in the
--- present one, a core with that record answered all frames of what two readers had, one behind the other, and each reader has ended. The store has the last core's parts, which is all that opening it
--- again may find, and each reply is written: those of the first run to the first writer, the others to the second.
-pub record AreOneRun {X C : Type 0} (records : Records X) (IsAsked : C → Type 0) (answers : C → Frame → Option Frame → C → Type 0) (parts_of : C → List StoredPart) (head : StoredPart) (content : List StoredPart) (after : Store) (first second : Streams) : Type 0 where
+-- a core as it was asked for was served, over a store that had its parts alone, and it ended so
+pub record Ran {C K : Type 0} (seen : K → Store) (IsAsked : C → Type 0) (answers : C → Frame → Option Frame → C → Type 0) (parts_of : C → List StoredPart) (after : K) (io : Streams) (ending : Ending) : Type 0 where
   pub core : C
   pub asked : IsAsked core
-  pub opened : OpensTo records head content (parts_of core)
-  pub is_record : records.are present (parts_of core)
-  pub bytes : List ℕ
-  pub more : List ℕ
-  pub read : Consumes first.unread_before first.unread_after bytes
-  pub read_too : Consumes second.unread_before second.unread_after more
-  pub ended : IsAtEnd first.unread_after
-  pub ended_too : IsAtEnd second.unread_after
-  pub frames : List Frame
-  pub stream : FramesOf (bytes ++ more) frames []
-  pub replies : List (Option Frame)
-  pub later : List (Option Frame)
-  pub now : C
-  pub runs : RunsAgain IsAsked answers parts_of core frames (replies ++ later) now
-  pub kept : IsOnly after (parts_of now)
-  pub written : Appends first.written_before first.written_after (output_of replies)
-  pub written_too : Appends second.written_before second.written_after (output_of later)
+  pub before : K
+  pub only : IsOnly (seen before) (Parts (parts_of core))
+  pub served : IsServed answers parts_of core (seen before) (seen after) io ending
 
--- the same of either plugin
-abbrev pub PluginJoins : Plugin → List StoredPart → Store → Streams → Streams → Type 0
-PluginJoins (Controller config) = AreOneRun controller_records (λ (service : ControllerService). service.controller.config ≡ config) ControllerAnswers controller_service_parts (controller_head present 1 (Some 0))
-PluginJoins (Node id) = AreOneRun (node_records id) (λ (service : NodeService). ⊤) NodeServiceAnswers node_service_parts (node_head present id (Some 0))
+-- Both are one run, from a store with this content, in which a head is put first where it has no part, and a record in an earlier
+-- version is put in the present one: of the first frames of the first input, as many as left their mark, and then of those that are counted
+-- of the second. The replies are those of both runs, but of a frame whose commit was refused.
+pub record AreOneRun {X C K : Type 0} (seen : K → Store) (records : Records X) (IsAsked : C → Type 0) (answers : C → Frame → Option Frame → C → Type 0) (parts_of : C → List StoredPart) (head : StoredPart) (content : List StoredPart) (between after : K)
+    (first second : Streams) (ending ending_too : Ending) : Type 0 where
+  pub one : Ran seen IsAsked answers parts_of between first ending
+  pub two : Ran seen IsAsked answers parts_of after second ending_too
+  pub opened : OpensTo records head content (parts_of one.core)
+  pub is_record : records.are present (parts_of one.core)
+  pub made : ℕ
+  pub are_made : AreMade one.served.result made
+  pub unwritten : List (Option Frame)
+  pub runs : RunsAgain IsAsked answers parts_of one.core (take made one.served.serves.frames ++ take (frames_counted two.served.result) two.served.serves.frames)
+      ((one.served.serves.replies ++ unwritten) ++ two.served.serves.replies) two.served.serves.now
 
--- Two runs of a plugin that both ended well, the second over the store as the first left it, are one run of all frames: where the
--- store had a content, which was all that opening it again might find, and is honest after both.
+-- ---- where a run began not at all
+
+-- what keeps a plugin from being opened again from its own record: want of memory, or the device, which failed
+abbrev pub IsHindrance : Store → Store → KeepFault → Type 0
+IsHindrance before after faults.Device = HasRisen before.faults after.faults
+IsHindrance before after faults.NoMemory = Unit {0}
+IsHindrance before after (faults.BadRecord place) = ⊥
+IsHindrance before after faults.Full = ⊥
+
+-- it wasn't opened, for such a cause: nothing was read nor written, and opening again finds what it would have found before
+pub record IsHindered (before after : Store) (io : Streams) (ending : Ending) : Type 0 where
+  pub fault : KeepFault
+  pub cause : IsHindrance before after fault
+  pub left : (found : Found) → after.leaves found → before.leaves found
+  pub untouched : io.untouched
+  pub ends : ending ≡ ending_of_store fault
+
+-- the first run wasn't opened; or the second was hindered; or both are one run
+abbrev pub Joins : {X C K : Type 0} → (K → Store) → Records X → (C → Type 0) → (C → Frame → Option Frame → C → Type 0) → (C → List StoredPart) → StoredPart → List StoredPart → K → K → K → K → Streams → Streams → Ending → Ending → Type 0
+Joins seen records IsAsked answers parts_of head content before between again after first second ending ending_too =
+    IsRefused records (seen before) (seen between) head first ending
+    ⊎ (IsHindered (seen again) (seen after) second ending_too ⊎ AreOneRun seen records IsAsked answers parts_of head content between after first second ending ending_too)
+
+-- of either plugin, under the same configuration or of the same id
+abbrev pub PluginJoins : {K : Type 0} → (K → Store) → Plugin → List StoredPart → K → K → K → K → Streams → Streams → Ending → Ending → Type 0
+PluginJoins seen (Controller config) = Joins seen controller_records (IsControllerUnder config) ControllerServes controller_service_parts (controller_head present 1 (Some 0))
+PluginJoins seen (Node id) = Joins seen (node_records id) (IsNodeNamed id) NodeServes node_service_parts (node_head present id (Some 0))
+
+-- ---- the law
+
+-- Two runs of a plugin, the second over what opening the store again found after the first: where the store had a content before, and was
+-- honest after both.
 abbrev pub RunsLaw : {K R W : Type 0} → (K → Store) → (R → Option (List ℕ)) → (W → Option (List ℕ)) → Type 0
 RunsLaw {K} {R} {W} seen remaining contents =
-    (asked : Plugin) (before between after : K) (content : List StoredPart) (r r_read s s_read : Counted R) (w w_written v v_written : Counted W)
-    → (seen after).honest → IsSettled (seen before) → (seen before).holds content
-    → PluginRuns seen asked before between (streams remaining contents r r_read w w_written) Done
-    → PluginRuns seen asked between after (streams remaining contents s s_read v v_written) Done
-    → PluginJoins asked content (seen after) (streams remaining contents r r_read w w_written) (streams remaining contents s s_read v v_written)
-
--- the same of a keeper whose stores are all so that what they have is all that opening them again may find
-abbrev pub SettledRunsLaw : {K R W : Type 0} → (K → Store) → (R → Option (List ℕ)) → (W → Option (List ℕ)) → Type 0
-SettledRunsLaw {K} {R} {W} seen remaining contents =
-    (asked : Plugin) (before between after : K) (content : List StoredPart) (r r_read s s_read : Counted R) (w w_written v v_written : Counted W)
-    → (seen after).honest → (seen before).holds content
-    → PluginRuns seen asked before between (streams remaining contents r r_read w w_written) Done
-    → PluginRuns seen asked between after (streams remaining contents s s_read v v_written) Done
-    → PluginJoins asked content (seen after) (streams remaining contents r r_read w w_written) (streams remaining contents s s_read v v_written)
+    (asked : Plugin) (before between again after : K) (content : List StoredPart) (r r_read s s_read : Counted R) (w w_written v v_written : Counted W) (ending ending_too : Ending)
+    → (seen between).honest → (seen after).honest → (seen before).holds content
+    → PluginRuns seen asked before between (streams remaining contents r r_read w w_written) ending
+    → Reopens (seen between) (seen again)
+    → PluginRuns seen asked again after (streams remaining contents s s_read v v_written) ending_too
+    → PluginJoins seen asked content before between again after (streams remaining contents r r_read w w_written) (streams remaining contents s s_read v v_written) ending ending_too

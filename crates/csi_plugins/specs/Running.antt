@@ -1,21 +1,19 @@
 -- What a plugin's process does: the plugin is opened from its store, and served. This profile's own.
-use Rattle.std.specs.Prelude.{◌≡◌, ◌⊎◌, ⊤, ℕ, List, Option, Some}
+use Rattle.std.specs.Prelude.{◌≡◌, ◌⊎◌, ℕ, List, Option, Some}
 use Rattle.csi_types.specs.Frame.{Frame}
 use Rattle.csi_types.specs.Config.{Config}
 use Rattle.csi_stores.specs.Part.{StoredPart}
 use Rattle.csi_records.specs.Spelling.{present, controller_head, node_head}
 use Rattle.csi_stores.specs.declared.keep.KeepFault.{KeepFault}
-use Rattle.csi_service.specs.declared.controller_service.ControllerService.{ControllerService}
-use Rattle.csi_service.specs.declared.node_service.NodeService.{NodeService}
 use Rattle.csi_stores.specs.Stores.{Store}
 use Rattle.csi_service.specs.Opening.{Records, controller_records, node_records, HasRecord, IsOpenFault, LeavesOpened}
-use Rattle.csi_service.specs.Services.{controller_service_parts, ControllerAnswers, node_service_parts}
-use Rattle.csi_service.specs.NodeServices.{NodeServiceAnswers}
+use Rattle.csi_service.specs.Services.{controller_service_parts, node_service_parts}
 use Rattle.csi_endings.specs.declared.ending.Ending.{Ending}
 use Rattle.csi_plugins.specs.declared.kind.Plugin.{Plugin}
 use Rattle.csi_plugins.specs.declared.kind.Plugin.TheVariants.{Controller, Node}
 use Rattle.csi_plugins.specs.Ending.{ending_of_store}
 use Rattle.csi_plugins.specs.Service.{Streams, IsServed}
+use Rattle.csi_plugins.specs.Serving.{IsControllerUnder, ControllerServes, IsNodeNamed, NodeServes}
 
 -- the plugin couldn't be opened from its store: nothing was read nor written, and it ended by the refusal
 pub record IsRefused {X : Type 0} (records : Records X) (before after : Store) (head : StoredPart) (io : Streams) (ending : Ending) : Type 0 where
@@ -42,11 +40,11 @@ Runs seen records IsAsked answers parts_of head before after io ending =
 
 -- the process of the controller plugin under a configuration, over a store that is seen so
 abbrev pub ControllerRuns : {K : Type 0} → (K → Store) → Config → K → K → Streams → Ending → Type 0
-ControllerRuns seen config = Runs seen controller_records (λ (service : ControllerService). service.controller.config ≡ config) ControllerAnswers controller_service_parts (controller_head present 1 (Some 0))
+ControllerRuns seen config = Runs seen controller_records (IsControllerUnder config) ControllerServes controller_service_parts (controller_head present 1 (Some 0))
 
 -- the process of a node's plugin
 abbrev pub NodeRuns : {K : Type 0} → (K → Store) → List ℕ → K → K → Streams → Ending → Type 0
-NodeRuns seen id = Runs seen (node_records id) (λ (service : NodeService). ⊤) NodeServiceAnswers node_service_parts (node_head present id (Some 0))
+NodeRuns seen id = Runs seen (node_records id) (IsNodeNamed id) NodeServes node_service_parts (node_head present id (Some 0))
 
 -- of either
 abbrev pub PluginRuns : {K : Type 0} → (K → Store) → Plugin → K → K → Streams → Ending → Type 0

@@ -1,21 +1,25 @@
 //! Two runs over one store.
 ghost use Rattle.csi_stores.specs.Memory.{memory_store};
-ghost use Rattle.csi_plugins.specs.Joined.{RunsLaw, SettledRunsLaw};
+ghost use Rattle.csi_plugins.specs.Joined.{RunsLaw};
 
+use csi_records::record_laws;
 use csi_service::{Keep, MemoryKeep};
 use std::io::{Read, Write};
 
-/// A law, and nothing that runs: two runs of one plugin over one store, one after another, that both ended `Done` are one run of all
-/// their frames, in which the plugin was opened again between. It asks that the store had a content, which was all that opening it again
-/// might find, as the keeper's `settled_law` says, and that it is honest afterwards. This profile's own.
+/// A law, and nothing that runs: two runs of one plugin over one store, one after another, however each ended, are one run, in which the
+/// plugin was opened again between: of as many of the first run's frames as were committed, or one more where its commit was refused, and
+/// then of the second's. The second begins with what opening the store again found, which it may always: only want of memory and a
+/// failing device keep it from that, and then it changes nothing. It asks that the store had a content, and is honest after each run. This
+/// profile's own.
 pub fn runs_law<K: Keep, R: Read, W: Write>()
     ensures { RunsLaw K.store R.remaining W.contents }
-{}
-
-/// The same law of stores in memory, whose content is always all that is found again. This profile's own.
-pub fn memory_runs_law<R: Read, W: Write>()
-    ensures { SettledRunsLaw memory_store R.remaining W.contents }
 {
-    MemoryKeep::settled_law();
+    record_laws();
+}
+
+/// The same law of stores in memory. This profile's own.
+pub fn memory_runs_law<R: Read, W: Write>()
+    ensures { RunsLaw memory_store R.remaining W.contents }
+{
     runs_law::<MemoryKeep, R, W>();
 }

@@ -4,8 +4,8 @@ use Rattle.sqlite.specs.Held.{Held}
 use Rattle.sqlite.specs.State.{State}
 use Rattle.csi_sqlite.specs.declared.sqlite_keep.SqliteKeep.{SqliteKeep}
 use Rattle.csi_sqlite.specs.Kept.{sqlite_store}
-use Rattle.csi_plugins.specs.Joined.{SettledRunsLaw}
+use Rattle.csi_plugins.specs.Joined.{RunsLaw}
 
--- two runs over one store that both end well are one run of all frames, where the store had a content and the disk is clean after both
+-- two runs over one store are one run, where the store had a content and the disk is clean after each
 abbrev pub SqliteRunsLaw : {S R W : Type 0} → (Held S → State) → (R → Option (List ℕ)) → (W → Option (List ℕ)) → Type 0
-SqliteRunsLaw {S} seen remaining contents = SettledRunsLaw (λ (keep : SqliteKeep S). sqlite_store (seen keep.connection) keep.faults) remaining contents
+SqliteRunsLaw {S} seen remaining contents = RunsLaw (λ (keep : SqliteKeep S). sqlite_store (seen keep.connection) keep.faults) remaining contents

@@ -7,11 +7,10 @@ use csi_sqlite::SqliteKeep;
 use sqlite::Alter;
 use std::io::{Read, Write};
 
-/// A law, and nothing that runs: `runs_law` of a store in SQLite. Two runs of one plugin over it, one after another, that both ended
-/// `Done` are one run of all their frames, where the disk gave back what was written until the end of the second. This profile's own.
+/// A law, and nothing that runs: `runs_law` of a store in SQLite. Two runs of one plugin over it, one after another, however each ended, are
+/// one run, where the disk gave back what was written until the end of each. This profile's own.
 pub fn sqlite_runs_law<S: Alter, R: Read, W: Write>()
     ensures { SqliteRunsLaw (state S.Store) R.remaining W.contents }
 {
-    SqliteKeep::<S>::settled_law();
     runs_law::<SqliteKeep<S>, R, W>();
 }

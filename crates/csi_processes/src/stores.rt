@@ -1,8 +1,12 @@
 //! What a process does with the store in a file.
+ghost use Rattle.std.specs.Prelude.{◌≡◌};
+ghost use Rattle.csi_processes.specs.Closing.{ending_done, ending_closed};
+
 use csi_counted::Counted;
 use csi_endings::Ending;
 use csi_plugins::{Plugin, ending_unopened, plugin, record};
 use csi_sqlite::{SqliteKeep, close_file, close_found, find_at};
+use csi_stores::KeepFault;
 use sqlite::{Alter, Unknown};
 use std::rt::Files;
 use std::{fs, io};
@@ -14,6 +18,27 @@ fn serve<S: Alter>(rt: &HostRuntime, asked: Plugin, keep: &mut SqliteKeep<S>) ->
     plugin(rt.alloc(), asked, keep, &mut reader, &mut writer)
 }
 
+// How a process ends that did all, once its store was closed so.
+fn done(closing: Result<(), KeepFault>) -> Ending
+    ensures { result ≡ ending_done closing }
+{
+    match closing {
+        Ok(()) => Ending::Done,
+        Err(KeepFault::NoMemory) => Ending::Memory,
+        Err(_) => Ending::Device,
+    }
+}
+
+// How a process ends whose store was closed so: that the log couldn't be put back is told where nothing else is.
+fn closed(ending: Ending, closing: Result<(), KeepFault>) -> Ending
+    ensures { result ≡ ending_closed ending closing }
+{
+    match ending {
+        Ending::Done => done(closing),
+        other => other,
+    }
+}
+
 // Serves by the plugin of the store in this file. After a crash it is read as SQLite reads it: a write that was cut short left each
 // byte old or new.
 fn serve_from(rt: &HostRuntime, path: &str, asked: Plugin) -> Ending {
@@ -22,8 +47,7 @@ fn serve_from(rt: &HostRuntime, path: &str, asked: Plugin) -> Ending {
         Err(fault) => return asked.unopened(fault),
     };
     let ending = serve(rt, asked, &mut keep);
-    close_file(keep);
-    ending
+    closed(ending, close_file(keep))
 }
 
 // The controller plugin under the configuration in this file.
@@ -37,7 +61,8 @@ fn controller_of(rt: &(impl Files + AllocGlobal), path: &str) -> Result<Plugin, 
 /// Serves standard input to standard output, by the controller plugin under the configuration in the file at `config`, over the store
 /// in the SQLite file at `store`, which is made where there is none. The answer is how the process ends: `Device` or `Memory` where
 /// that file can't be read, or as `Plugin::of_config` says; `StoreNotOpened`, or `Memory` where that was the cause; and then
-/// as `plugin` says. The store is opened after the configuration was taken, and standard input is read after that. This profile's own.
+/// as `plugin` says, but `Device` in place of `Done`, or `Memory`, where the log couldn't be put back: then each commit is in the
+/// file and its log, and not in the file alone. The store is opened after the configuration was taken, and standard input is read after that. This profile's own.
 pub fn serve_controller(rt: &HostRuntime, store: &str, config: &str) -> Ending {
     match controller_of(rt, config) {
         Ok(asked) => serve_from(rt, store, asked),

@@ -48,7 +48,7 @@ at-shown id rows =
     ∙ ap (option_map (volume_part present)) (find-of_map (λ (row : VolumeRow). row.volume.id == id) volume_row rows)
 
 -- rows that say the same are spelled the same
-same-shown : (old new : ControllerRow) → IsSameRow old new → volume_row new ≡ volume_row old
+pub same-shown : (old new : ControllerRow) → IsSameRow old new → volume_row new ≡ volume_row old
 same-shown old new same = λ i. record { volume = same.volume i; holdings = same.items i }
 
 -- so are rows that may be there

@@ -6,6 +6,7 @@ pub mod StayingRows
 pub mod ControllerChanges
 pub mod SameShown
 pub mod NodeChanges
+pub mod FitRows
 pub mod SameNode
 pub mod RecordParts
 pub mod RenewedParts

@@ -68,6 +68,10 @@ found-own row (other ∷ others) = by (nat_lt other.id row.id) (other.id == row.
     by false true t u rest = own-first row others
     by false false t u rest = own-first row (other ∷ others)
 
+-- so where rows are those with it
+pub row-found : (id : ℕ) (row : RowShown) (rows all : List RowShown) → row.id ≡ id → all ≡ put_row row rows → row_by_id id all ≡ Some row
+row-found id row rows all own are = ap (row_by_id id) are ∙ ap (λ (n : ℕ). row_by_id n (put_row row rows)) (sym own) ∙ found-own row rows
+
 -- and leaves what is found of any other
 found-other : (row : RowShown) (rows : List RowShown) (id : ℕ) → (row.id == id) ≡ false → row_by_id id (put_row row rows) ≡ row_by_id id rows
 found-other row [] id differs = rw differs refl
@@ -132,7 +136,7 @@ module _ (old new : NodeParts) (row : Option ℕ) (number : Number) (rising : Is
   row-put (Some id) e =
       let put = changes.put id e in
       let there : RowShown = put.0 in
-      let found : row_by_id id (parts new.rows) ≡ Some there = ap (row_by_id id) put.3 ∙ ap (λ (n : ℕ). row_by_id n (put_row there (staying old.session number (parts old.rows)))) (sym put.1) ∙ found-own there (staying old.session number (parts old.rows)) in
+      let found : row_by_id id (parts new.rows) ≡ Some there = row-found id there (staying old.session number (parts old.rows)) (parts new.rows) put.1 put.3 in
       ap (λ (r : Option RowShown). all_changed (row_change r) (shown_parts (staying old.session number (parts old.rows)))) found
       ∙ sym (put-parts there (staying old.session number (parts old.rows))) ∙ ap shown_parts (sym put.3)
 
@@ -161,7 +165,7 @@ module _ (old new : NodeParts) (row : Option ℕ) (number : Number) (rising : Is
   named-differs id named same =
       let put = changes.put id named in
       let there : RowShown = put.0 in
-      let found : row_by_id id (parts new.rows) ≡ Some there = ap (row_by_id id) put.3 ∙ ap (λ (n : ℕ). row_by_id n (put_row there (staying old.session number (parts old.rows)))) (sym put.1) ∙ found-own there (staying old.session number (parts old.rows)) in
+      let found : row_by_id id (parts new.rows) ≡ Some there = row-found id there (staying old.session number (parts old.rows)) (parts new.rows) put.1 put.3 in
       let was = some-from_map (λ (r : RowShown). r.kept.number) (row_by_id id (parts old.rows)) there.kept.number (sym same ∙ ap (option_map (λ (r : RowShown). r.kept.number)) found) in
       changes.fresh id was.0 named was.1 (was.2 ∙ put.2)
 

@@ -1,16 +1,17 @@
 -- What opening gives and leaves, by what is made of the parts that were there.
-use Rattle.std.proofs.Common.{◌≡◌, ◌≤◌, ◌∙◌, ◌⊎◌, List, [], ◌∷◌, length, map, sym, ap, subst, inl, inr, arith}
+use Rattle.std.proofs.Common.{◌≡◌, ◌≤◌, ◌∙◌, ◌⊎◌, ℕ, List, [], ◌∷◌, length, map, sym, ap, subst, inl, inr, arith}
 use Rattle.csi_stores.specs.declared.keep.KeepFault.{KeepFault}
 use Rattle.csi_stores.specs.declared.keep.KeepFault.TheVariants.{Device, NoMemory, BadRecord, Full}
 use Rattle.csi_stores.specs.declared.part.Part.{Part}
 use Rattle.csi_stores.specs.Part.{StoredPart, Change, all_stored_in, put_all, change_of}
 use Rattle.csi_stores.specs.Content.{all_changed}
-use Rattle.csi_stores.specs.Stores.{Store, IsOnly, IsLoadFault, IsCommitFault}
+use Rattle.csi_stores.specs.Stores.{Store, Found, Parts, Foreign, Unlisted, IsOnly, FindsSome, IsLoadFault, IsCommitFault}
 use Rattle.csi_records.specs.declared.fault.RecordStop.{RecordStop}
 use Rattle.csi_records.specs.declared.fault.RecordStop.TheVariants as stops
 use Rattle.csi_records.specs.Refusing.{fault_of_stop}
+use Rattle.csi_records.specs.Spelling.{present}
 use Rattle.csi_records.specs.Records.{IsRefusedAt, IsInSome}
-use Rattle.csi_service.specs.Opening.{Records, Becomes, OpensTo, HasRecord, IsOpenFault, LeavesOpened, IsMade, IsUnmade}
+use Rattle.csi_service.specs.Opening.{Records, Becomes, OpensTo, HasRecord, IsOpenFault, IsRewritten, LeavesOpened, IsMade, IsUnmade}
 use Rattle.csi_service.proofs.LoadedParts.{all-put}
 
 -- ---- of the parts alone
@@ -38,8 +39,10 @@ module _ {X : Type 0} (records : Records X) (head : StoredPart) (found now : Lis
 pub record HasLoaded (before after : Store) (parts : List Part) : Type 0 where
   pub honest : after.honest → before.honest
   pub given : after.honest → (content : List StoredPart) → before.holds content → map change_of parts ≡ put_all content
-  pub stays : after.honest → (content : List StoredPart) → before.holds content → after.holds content
-  pub left : after.honest → (content : List StoredPart) → after.leaves content → before.leaves content
+  pub stays : after.honest → (content : List StoredPart) → before.holds content → IsOnly after (Parts content)
+  pub listed : after.honest → (place : ℕ) → before.foreign place → ⊥
+  pub left : after.honest → (found : Found) → after.leaves found → before.leaves found
+  pub some : after.honest → (found : Found) → IsOnly before found → FindsSome after
   pub room : (content : List StoredPart) → before.fits content → after.fits content
   pub faults : before.faults ≤ after.faults
 
@@ -50,9 +53,14 @@ load-cause records before after head NoMemory cause = tt
 load-cause records before after head (BadRecord place) cause = λ honest content holds. absurd (cause honest content holds)
 load-cause records before after head Full cause = absurd cause
 
--- and leaves what was there
-pub load-left : {X : Type 0} (records : Records X) (before after : Store) (head : StoredPart) → (after.honest → (content : List StoredPart) → after.leaves content → before.leaves content) → LeavesOpened records before after head
-load-left records before after head left = λ honest content holds other leaves. inl (left honest other leaves)
+-- a call that leaves what was there leaves what opening may
+pub load-left : {X : Type 0} (records : Records X) (before after : Store) (head : StoredPart) → (after.honest → (found : Found) → after.leaves found → before.leaves found)
+    → (after.honest → (found : Found) → IsOnly before found → FindsSome after) → LeavesOpened records before after head
+load-left records before after head left some = record {
+  parts = λ honest content holds other leaves. inl (left honest other leaves);
+  foreign = λ honest place foreign other leaves. left honest other leaves;
+  some = some;
+}
 
 module _ {X : Type 0} (records : Records X) (head : StoredPart) (before loaded : Store) (parts : List Part) (load : HasLoaded before loaded parts) where
   -- the parts are what the store has
@@ -72,42 +80,50 @@ module _ {X : Type 0} (records : Records X) (head : StoredPart) (before loaded :
         let same = stays-as records head (all_stored_in parts) (parts_of core) changes made none ∙ are in (
           subst (λ (ps : List StoredPart). OpensTo records head ps (parts_of core)) are (opens-to records head (all_stored_in parts) (parts_of core) changes made),
           made.is,
-          record {
-            there = subst loaded.holds (sym same) (load.stays honest content holds);
-            only = λ only. subst (IsOnly loaded) (sym same) (record { there = load.stays honest content holds; alone = λ other leaves. only.alone other (load.left honest other leaves) });
-          },
+          subst (λ (ps : List StoredPart). IsOnly loaded (Parts ps)) (sym same) (load.stays honest content holds),
         )
 
     module _ (after : Store) where
       -- it was committed
       pub opened-changed : (after.honest → loaded.honest)
-          → (after.honest → (content : List StoredPart) → loaded.holds content → after.holds (all_changed changes content))
-          → (after.honest → (content : List StoredPart) → loaded.holds content → (other : List StoredPart) → after.leaves other → other ≡ all_changed changes content)
+          → (after.honest → (content : List StoredPart) → loaded.holds content → IsOnly after (Parts (all_changed changes content)))
           → HasRecord records parts_of before after head core
-      opened-changed was done alone = λ honest content holds.
+      opened-changed was done = λ honest content holds.
           let is = was honest in
           let are = parts-are is content holds in
-          let there = load.stays is content holds in
           let leads : all_changed changes content ≡ parts_of core = ap (all_changed changes) (sym are) ∙ leads-to records head (all_stored_in parts) (parts_of core) changes made in (
             subst (λ (ps : List StoredPart). OpensTo records head ps (parts_of core)) are (opens-to records head (all_stored_in parts) (parts_of core) changes made),
             made.is,
-            record {
-              there = subst after.holds leads (done honest content there);
-              only = λ only. record { there = subst after.holds leads (done honest content there); alone = λ other leaves. alone honest content there other leaves ∙ leads };
-            },
+            subst (λ (ps : List StoredPart). IsOnly after (Parts ps)) leads (done honest content (load.stays is content holds).there),
           )
 
       -- opening again finds what it would have found before, or what was to be committed
       pub commit-left : (changes ≡ [] → ⊥) → (after.honest → loaded.honest)
-          → (after.honest → (content : List StoredPart) → loaded.holds content → (other : List StoredPart) → after.leaves other → loaded.leaves other ⊎ (other ≡ all_changed changes content))
-          → LeavesOpened records before after head
-      commit-left some was left = λ honest content holds other leaves.
-          let is = was honest in
-          let are = parts-are is content holds in
-          elim (left honest content (load.stays is content holds) other leaves) [
-            | inl old ↦ inl (load.left is other old)
-            | inr new ↦ inr (subst (λ (ps : List StoredPart). Becomes records head ps other) are (becomes-by records head (all_stored_in parts) (parts_of core) changes made some other (new ∙ ap (all_changed changes) (sym are))))
-          ]
+          → (after.honest → (content : List StoredPart) → loaded.holds content → (other : Found) → after.leaves other → loaded.leaves other ⊎ (other ≡ Parts (all_changed changes content)))
+          → (after.honest → (content : List StoredPart) → IsOnly loaded (Parts content) → FindsSome after) → LeavesOpened records before after head
+      commit-left some was left finds = record {
+        parts = λ honest content holds other leaves.
+            let is = was honest in
+            let are = parts-are is content holds in
+            let leads : all_changed changes content ≡ parts_of core = ap (all_changed changes) (sym are) ∙ leads-to records head (all_stored_in parts) (parts_of core) changes made in
+            elim (left honest content (load.stays is content holds).there other leaves) [
+              | inl old ↦ inl (load.left is other old)
+              | inr new ↦ inr (record {
+                new = all_changed changes content;
+                is = new;
+                becomes = subst (λ (ps : List StoredPart). Becomes records head ps (all_changed changes content)) are
+                    (becomes-by records head (all_stored_in parts) (parts_of core) changes made some (all_changed changes content) (ap (all_changed changes) (sym are)));
+                is_record = subst (records.are present) (sym leads) made.is;
+              })
+            ];
+        foreign = λ honest place foreign other leaves. absurd (load.listed (was honest) place foreign);
+        some = by;
+      }
+        where
+          by : after.honest → (found : Found) → IsOnly before found → FindsSome after
+          by honest (Parts content) only = finds honest content (load.stays (was honest) content only.there)
+          by honest (Foreign place) only = absurd (load.listed (was honest) place only.there)
+          by honest Unlisted only = absurd only.there
 
       -- a commit that is refused
       pub commit-cause : (changes ≡ [] → ⊥) → (after.honest → loaded.honest) → loaded.faults ≤ after.faults → (fault : KeepFault) → IsCommitFault loaded after (all_changed changes) fault → IsOpenFault records before after head fault
@@ -119,7 +135,7 @@ module _ {X : Type 0} (records : Records X) (head : StoredPart) (before loaded :
           let are = parts-are is content holds in (
             all_changed changes content,
             subst (λ (ps : List StoredPart). Becomes records head ps (all_changed changes content)) are (becomes-by records head (all_stored_in parts) (parts_of core) changes made some (all_changed changes content) (ap (all_changed changes) (sym are))),
-            λ fits. cause honest content (load.stays is content holds) (load.room (all_changed changes content) fits),
+            λ fits. cause honest content (load.stays is content holds).there (load.room (all_changed changes content) fits),
           )
 
 -- some parts are some changes

@@ -1,5 +1,6 @@
 -- A node's plugin that is served: what a step changed of its record's parts, and what it answers. This profile's own.
-use Rattle.std.specs.Prelude.{◌≡◌, ℕ, if◌then◌else◌, List, [], ◌∷◌, ◌++◌, map, filter, Option, Some, None, option_map, is_none}
+use Rattle.std.specs.Prelude.{◌≡◌, ℕ, if◌then◌else◌, List, [], ◌∷◌, ◌++◌, map, filter, Option, Some, None, option_map, is_none, IfSome}
+use Rattle.std.specs.List.{AllByRecursion}
 use Rattle.csi_types.specs.declared.number.Number.{Number}
 use Rattle.csi_types.specs.Frame.{Frame}
 use Rattle.csi_fence.specs.Fence.{begins}
@@ -10,6 +11,7 @@ use Rattle.csi_node.specs.Record.{NodeParts, Shows, parts}
 use Rattle.csi_node.specs.Changes.{row_by_id}
 use Rattle.csi_stores.specs.Part.{StoredPart, Change, put_all, take_all}
 use Rattle.csi_records.specs.Spelling.{present, node_head, node_parts, answered_part}
+use Rattle.csi_records.specs.Records.{IsAnsweredRow}
 use Rattle.csi_service.specs.declared.changed.Changed.{Changed}
 use Rattle.csi_service.specs.declared.node_service.NodeService.{NodeService}
 use Rattle.csi_service.specs.Changed.{head_change, AllDiffer}
@@ -53,6 +55,18 @@ last_in node id = option_map (λ row. row.kept.number) (row_by_id id (parts node
 -- what a step tells as changed is other than it was
 abbrev pub NodeDiffers : Changed → NodeParts → NodeParts → Type 0
 NodeDiffers changed old new = AllDiffer changed old.session new.session (last_in old) (last_in new)
+
+-- all that rows have is within its limits
+abbrev pub AreFitRows : List RowShown → Type 0
+AreFitRows rows = AllByRecursion (IsAnsweredRow present) rows
+
+-- so is all that the row of a volume has, if one is named and there
+abbrev pub IsNamedFit : Option ℕ → List RowShown → Type 0
+IsNamedFit named rows = IfSome named (λ id. IfSome (row_by_id id rows) (IsAnsweredRow present))
+
+-- where all that the old rows have is, and what a step changed, all that the new rows have is
+abbrev pub NodeStaysFit : NodeService → NodeService → Type 0
+NodeStaysFit old new = AreFitRows (parts old.node.rows) → IsNamedFit new.changed.row (parts new.node.rows) → AreFitRows (parts new.node.rows)
 
 -- for every state that the old node shows, the reply and the state that the new one shows are the fence's over the table, and the
 -- node keeps its id

@@ -11,7 +11,7 @@ use Rattle.csi_stores.specs.declared.keep.KeepFault.{KeepFault}
 use Rattle.csi_stores.specs.declared.keep.KeepFault.TheVariants.{Device, NoMemory, BadRecord, Full}
 use Rattle.csi_stores.specs.Part.{StoredPart, Change, put_all, take_all}
 use Rattle.csi_stores.specs.Content.{all_changed}
-use Rattle.csi_stores.specs.Stores.{Store, IsOnly}
+use Rattle.csi_stores.specs.Stores.{Store, Found, Parts, IsOnly, FindsSome}
 use Rattle.csi_records.specs.declared.fault.RecordStop.{RecordStop}
 use Rattle.csi_records.specs.declared.fault.RecordStop.TheVariants as stops
 use Rattle.csi_records.specs.Spelling.{present, controller_parts, node_parts, volume_row}
@@ -61,16 +61,11 @@ OpensTo records head old new = (records.are present old × (new ≡ old)) ⊎ Be
 
 -- ---- what becomes of the store
 
--- the store that had the old parts has the new ones now
-pub record HasOpened (before after : Store) (old new : List StoredPart) : Type 0 where
-  pub there : after.holds new
-  pub only : IsOnly before old → IsOnly after new
-
--- a core with the record that was there, or with a new one, in the present version; and the store has it so
+-- a core with the record that was there, or with a new one, in the present version; and the store has it alone
 abbrev pub HasRecord : {X C : Type 0} → Records X → (C → List StoredPart) → Store → Store → StoredPart → C → Type 0
 HasRecord records parts_of before after head core =
     after.honest → (content : List StoredPart) → before.holds content →
-    OpensTo records head content (parts_of core) × records.are present (parts_of core) × HasOpened before after content (parts_of core)
+    OpensTo records head content (parts_of core) × records.are present (parts_of core) × IsOnly after (Parts (parts_of core))
 
 -- Why a store isn't opened: the device only where it failed in this call; parts that are a record in no version, at the first that is
 -- refused; and Full only where what the commit of opening would make doesn't fit.
@@ -80,10 +75,19 @@ IsOpenFault records before after head NoMemory = Unit {0}
 IsOpenFault records before after head (BadRecord place) = after.honest → (content : List StoredPart) → before.holds content → IsRefusedAt (IsInSome records.are) content place
 IsOpenFault records before after head Full = after.honest → (content : List StoredPart) → before.holds content → (new : List StoredPart) × Becomes records head content new × (before.fits new → ⊥)
 
--- whether it is opened or not, opening again finds what it would have found before, or what the commit of opening makes
-abbrev pub LeavesOpened : {X : Type 0} → Records X → Store → Store → StoredPart → Type 0
-LeavesOpened records before after head =
-    after.honest → (content : List StoredPart) → before.holds content → (other : List StoredPart) → after.leaves other → before.leaves other ⊎ Becomes records head content other
+-- what the commit of opening makes, a record in the present version, is found
+pub record IsRewritten {X : Type 0} (records : Records X) (head : StoredPart) (content : List StoredPart) (found : Found) : Type 0 where
+  pub new : List StoredPart
+  pub is : found ≡ Parts new
+  pub becomes : Becomes records head content new
+  pub is_record : records.are present new
+
+-- Whether it is opened or not, opening again finds what it would have found before, or what the commit of opening makes; of what is no
+-- list of parts nothing is changed; and it finds something.
+pub record LeavesOpened {X : Type 0} (records : Records X) (before after : Store) (head : StoredPart) : Type 0 where
+  pub parts : after.honest → (content : List StoredPart) → before.holds content → (other : Found) → after.leaves other → before.leaves other ⊎ IsRewritten records head content other
+  pub foreign : after.honest → (place : ℕ) → before.foreign place → (other : Found) → after.leaves other → before.leaves other
+  pub some : after.honest → (found : Found) → IsOnly before found → FindsSome after
 
 -- ---- what is made of the parts before the store is changed
 

@@ -1,6 +1,7 @@
 -- The plugins that are served: the parts of their records in the present version, what a step changed of them, and how they answer.
 -- This profile's own.
-use Rattle.std.specs.Prelude.{◌≡◌, ℕ, not, if◌then◌else◌, List, [], ◌∷◌, ◌++◌, map, filter, Option, Some, None, option_map}
+use Rattle.std.specs.Prelude.{◌≡◌, ℕ, not, if◌then◌else◌, List, [], ◌∷◌, ◌++◌, map, filter, Option, Some, None, option_map, IfSome}
+use Rattle.std.specs.List.{AllByRecursion}
 use Rattle.csi_types.specs.declared.number.Number.{Number}
 use Rattle.csi_types.specs.Frame.{Frame}
 use Rattle.csi_fence.specs.Fence.{begins}
@@ -11,6 +12,7 @@ use Rattle.csi_controller.specs.Core.{Parts, Shows}
 use Rattle.csi_controller.specs.RowsLaw.{row_by_id}
 use Rattle.csi_node.specs.OneRow.{shown}
 use Rattle.csi_records.specs.Spelling.{present, controller_head, controller_parts, volume_part, volume_row, node_parts}
+use Rattle.csi_records.specs.Records.{IsVolumeRow}
 use Rattle.csi_service.specs.declared.changed.Changed.{Changed}
 use Rattle.csi_service.specs.declared.controller_service.ControllerService.{ControllerService}
 use Rattle.csi_service.specs.declared.node_service.NodeService.{NodeService}
@@ -63,6 +65,18 @@ last_in controller id = option_map (λ row. row.last) (row_by_id id controller.r
 -- what a step tells as changed is other than it was
 abbrev pub ControllerDiffers : Changed → Parts → Parts → Type 0
 ControllerDiffers changed old new = AllDiffer {H = ℕ × ℕ} changed (old.next_id, old.session) (new.next_id, new.session) (last_in old) (last_in new)
+
+-- all that rows have is within its limits
+abbrev pub AreFitRows : List ControllerRow → Type 0
+AreFitRows rows = AllByRecursion (IsVolumeRow present) (map volume_row rows)
+
+-- so is all that the row of a volume has, if one is named and there
+abbrev pub IsNamedFit : Option ℕ → List ControllerRow → Type 0
+IsNamedFit named rows = IfSome named (λ id. IfSome (row_by_id id rows) (λ row. IsVolumeRow present (volume_row row)))
+
+-- where all that the old rows have is, and what a step changed, all that the new rows have is
+abbrev pub ControllerStaysFit : ControllerService → ControllerService → Type 0
+ControllerStaysFit old new = AreFitRows old.controller.rows → IsNamedFit new.changed.row new.controller.rows → AreFitRows new.controller.rows
 
 -- Reply and new state are those of the controller's own definitions, for every state that the old one shows; the configuration
 -- stays.

@@ -1,8 +1,10 @@
 //! What a call changes of a controller's record, and the parts that say so.
-ghost use Rattle.std.specs.Prelude.{◌≡◌, ◌↔◌, ◌++◌, ◌==◌, find, map, IfOk, IsTrue, OnOk};
+ghost use Rattle.std.specs.Prelude.{◌≡◌, ◌↔◌, ◌++◌, ◌==◌, find, map, IfOk, IfSome, IsTrue, OnOk};
 ghost use Rattle.std.specs.List.{AllByRecursion};
 ghost use Rattle.csi_types.specs.VolumeId.{IsVolumeId};
 ghost use Rattle.csi_stores.specs.Part.{change_of};
+ghost use Rattle.csi_records.specs.Records.{IsVolumeRow};
+ghost use Rattle.csi_records.specs.Spelling.{present, volume_row};
 ghost use Rattle.csi_service.specs.Services.{forgotten_by, row_change};
 
 use crate::changed::ids_law;
@@ -19,7 +21,8 @@ pub(crate) fn push_row(
     controller: &Controller,
     id: VolumeId,
 ) -> Result<(), NoMemory>
-    ensures { OnOk result (map change_of parts.new.items ≡ map change_of parts.old.items ++ row_change (find (λ row. row.id == id) controller.now.rows)) }
+    ensures parts { OnOk result (map change_of parts.new.items ≡ map change_of parts.old.items ++ row_change (find (λ row. row.id == id) controller.now.rows)) }
+    ensures fit { OnOk result (IfSome (find (λ row. row.id == id) controller.now.rows) (λ row. IsVolumeRow present (volume_row row))) }
 {
     sound_law(controller);
     match controller.row_with_id(id) {

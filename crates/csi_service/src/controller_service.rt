@@ -18,14 +18,14 @@ ghost use Rattle.csi_serving.specs.Answering.{Steps};
 ghost use Rattle.csi_service.specs.Appending.{AppendsReply};
 ghost use Rattle.csi_service.specs.Calls.{IsNoCallFor};
 ghost use Rattle.csi_service.specs.Opening.{controller_records, IsOpenFault, LeavesOpened, HasRecord};
-ghost use Rattle.csi_service.specs.Services.{controller_service_parts, controller_service_changes, ControllerAnswers, ControllerDiffers};
+ghost use Rattle.csi_service.specs.Services.{controller_service_parts, controller_service_changes, AreFitRows, IsNamedFit, ControllerStaysFit, ControllerAnswers, ControllerDiffers};
 
 use crate::calls::{call_for, texts_law};
 use crate::changed::{Changed, id_law, nothing};
 use crate::controller_changes::{forgotten, is_same_head, push_row};
 use crate::opening::{Opens, head_part, open, renewal};
 use crate::replies::{MOST_BYTES, append, frame_of};
-use csi_controller::{Controller, ControllerRecord, showing_law, sound_law};
+use csi_controller::{Controller, ControllerRecord, current_law, showing_law, sound_law};
 use csi_fence::Answer;
 use csi_frames::FrameRef;
 use csi_records::{Record, RecordStop, Stored, controller_head_value, push_removals};
@@ -56,7 +56,7 @@ impl Opens for ControllerService {
 
     ghost parts_of = { controller_service_parts };
 
-    ghost is_new = { λ config service. (service.controller.config ≡ config) × (controller_service_changes service ≡ []) };
+    ghost is_new = { λ config service. (service.controller.config ≡ config) × (controller_service_changes service ≡ []) × AreFitRows service.controller.rows };
 
     fn made(
         alloc: Global,
@@ -141,6 +141,7 @@ impl ControllerService {
     ) -> Result<ControllerService, KeepFault>
         ensures opened { IfOk result (HasRecord controller_records controller_service_parts (K.store keep.old) (K.store keep.new) (controller_head present 1 (Some 0))) }
         ensures config { IfOk result (λ service. service.controller.config ≡ config) }
+        ensures fit { IfOk result (λ service. AreFitRows service.controller.rows) }
         ensures changes { IfOk result (λ service. controller_service_changes service ≡ []) }
         ensures cause { IfErr result (IsOpenFault controller_records (K.store keep.old) (K.store keep.new) (controller_head present 1 (Some 0))) }
         ensures honest { (K.store keep.new).honest → (K.store keep.old).honest }
@@ -166,6 +167,7 @@ impl ControllerService {
         ensures err { OnErr result (controller_service_parts self.new ≡ controller_service_parts self.old) }
         ensures err_changes { OnErr result (controller_service_changes self.new ≡ controller_service_changes self.old) }
         ensures differs { OnOk result (ControllerDiffers self.new.changed self.old.controller self.new.controller) }
+        ensures fit { OnOk result (ControllerStaysFit self.old self.new) }
     {
         sound_law(&self.controller);
         showing_law(&self.controller);
@@ -194,6 +196,7 @@ impl ControllerService {
         ensures config { self.new.controller.config ≡ self.old.controller.config }
         ensures changes { controller_service_changes self.new ≡ [] }
         ensures differs { ControllerDiffers self.new.changed self.old.controller self.new.controller }
+        ensures fit { AreFitRows self.old.controller.rows → AreFitRows self.new.controller.rows }
     {
         self.changed = nothing(self.alloc);
     }
@@ -208,6 +211,7 @@ impl ControllerService {
         ensures nothing { (state : ControllerState) → Shows self.old.controller state → (fenced self.old.controller.config state (lent frame.now)).state ≡ state → OnOk result (controller_service_changes self.new ≡ []) }
         ensures config { self.new.controller.config ≡ self.old.controller.config }
         ensures differs { OnOk result (ControllerDiffers self.new.changed self.old.controller self.new.controller) }
+        ensures fit { OnOk result (ControllerStaysFit self.old self.new) }
         ensures err_shows { (state : ControllerState) → Shows self.old.controller state → OnErr result (Shows self.new.controller state) }
         ensures err { OnErr result (controller_service_parts self.new ≡ controller_service_parts self.old) }
         ensures err_changes { OnErr result (controller_service_changes self.new ≡ controller_service_changes self.old) }
@@ -239,6 +243,10 @@ impl Core for ControllerService {
 
     ghost changes = { controller_service_changes };
 
+    ghost is_fit = { λ service. AreFitRows service.controller.rows };
+
+    ghost is_fit_change = { λ service. IsNamedFit service.changed.row service.controller.rows };
+
     ghost answers = { ControllerAnswers };
 
     /// The controller's own answer. A frame that leaves its state changes no part: a reply, another plugin's call, a stale call and one
@@ -252,6 +260,7 @@ impl Core for ControllerService {
         ensures err_changes { OnErr result (controller_service_changes self.new ≡ controller_service_changes self.old) }
         // A part is told only where what it says is other than it was.
         ensures differs { OnOk result (ControllerDiffers self.new.changed self.old.controller self.new.controller) }
+        ensures fit { OnOk result (ControllerStaysFit self.old self.new) }
     {
         // the proof has to be told the types of a lent call's parts
         let _parts: Option<(&CapabilityList, CapabilityRef<'_>)> = None;
@@ -275,6 +284,7 @@ impl Core for ControllerService {
         ensures parts { OnOk result (controller_service_parts self.new ≡ all_changed (controller_service_changes self.new) (controller_service_parts self.old)) }
         ensures nothing { (state : ControllerState) → Shows self.old.controller state → (fenced self.old.controller.config state (lent frame.now)).state ≡ state → OnOk result (controller_service_changes self.new ≡ []) }
         ensures differs { OnOk result (ControllerDiffers self.new.changed self.old.controller self.new.controller) }
+        ensures fit { OnOk result (ControllerStaysFit self.old self.new) }
         ensures config { self.new.controller.config ≡ self.old.controller.config }
     {
         let mut bytes = Vec::new(self.alloc);
@@ -288,7 +298,8 @@ impl Core for ControllerService {
     /// The head where a volume was made or a session began, what takes out the rows that were forgotten, and the row of the one volume
     /// that was changed or made. The row is found by its id.
     fn parts(&self) -> Result<Vec<Part>, NoMemory>
-        ensures { IfOk result (λ parts. map change_of parts.items ≡ controller_service_changes self.now) }
+        ensures changes { IfOk result (λ parts. map change_of parts.items ≡ controller_service_changes self.now) }
+        ensures fit { OnOk result (IsNamedFit self.now.changed.row self.now.controller.rows) }
     {
         let mut parts = Vec::new(self.alloc);
         if self.changed.new_head {
@@ -307,5 +318,10 @@ impl Core for ControllerService {
         Ok(parts)
     }
 
-    fn record_law() {}
+    fn record_law(&self) {
+        sound_law(&self.controller);
+        current_law(&self.controller);
+        let _next = self.controller.next_id();
+        let _session = self.controller.session();
+    }
 }

@@ -1,10 +1,12 @@
 //! What a call changes of a node's record, and the parts that say so.
-ghost use Rattle.std.specs.Prelude.{◌≡◌, ◌++◌, map, IfOk, OnOk};
+ghost use Rattle.std.specs.Prelude.{◌≡◌, ◌++◌, map, IfOk, IfSome, OnOk};
 ghost use Rattle.std.specs.List.{AllByRecursion};
 ghost use Rattle.csi_types.specs.VolumeId.{IsVolumeId};
 ghost use Rattle.csi_node.specs.Changes.{row_by_id};
 ghost use Rattle.csi_node.specs.Record.{parts as rows_shown};
 ghost use Rattle.csi_stores.specs.Part.{change_of};
+ghost use Rattle.csi_records.specs.Records.{IsAnsweredRow};
+ghost use Rattle.csi_records.specs.Spelling.{present};
 ghost use Rattle.csi_service.specs.NodeServices.{forgotten_by, row_change};
 
 use crate::changed::ids_law;
@@ -21,7 +23,8 @@ pub(crate) fn push_row(
     node: &Node,
     id: VolumeId,
 ) -> Result<(), NoMemory>
-    ensures { OnOk result (map change_of parts.new.items ≡ map change_of parts.old.items ++ row_change (row_by_id id (rows_shown node.now.rows))) }
+    ensures parts { OnOk result (map change_of parts.new.items ≡ map change_of parts.old.items ++ row_change (row_by_id id (rows_shown node.now.rows))) }
+    ensures fit { OnOk result (IfSome (row_by_id id (rows_shown node.now.rows)) (IsAnsweredRow present)) }
 {
     match node.row_with_id(id) {
         Some(row) => {

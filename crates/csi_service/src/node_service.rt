@@ -32,9 +32,9 @@ pub struct NodeService {
 
 impl Opens for NodeService {
     ghost use Rattle.std.specs.Prelude.{◌≡◌, Some, []};
-    ghost use Rattle.csi_node.specs.Record.{NodeParts};
+    ghost use Rattle.csi_node.specs.Record.{NodeParts, parts as shown_rows};
     ghost use Rattle.csi_records.specs.Spelling.{present, node_head};
-    ghost use Rattle.csi_service.specs.NodeServices.{node_service_changes};
+    ghost use Rattle.csi_service.specs.NodeServices.{node_service_changes, AreFitRows};
     ghost use Rattle.csi_service.specs.Opening.{node_records};
     ghost use Rattle.csi_service.specs.Services.{node_service_parts};
 
@@ -48,7 +48,7 @@ impl Opens for NodeService {
 
     ghost parts_of = { node_service_parts };
 
-    ghost is_new = { λ id service. node_service_changes service ≡ [] };
+    ghost is_new = { λ id service. (node_service_changes service ≡ []) × (service.node.id ≡ id) × AreFitRows (shown_rows service.node.rows) };
 
     fn made(
         alloc: Global,
@@ -76,7 +76,7 @@ impl NodeService {
     ghost use Rattle.csi_types.specs.Replies.{call_frame};
     ghost use Rattle.csi_node.specs.Fenced.{fenced, answer_frame};
     ghost use Rattle.csi_node.specs.OneRow.{shown};
-    ghost use Rattle.csi_node.specs.Record.{Shows};
+    ghost use Rattle.csi_node.specs.Record.{Shows, parts as shown_rows};
     ghost use Rattle.csi_node.specs.State.{NodeState};
     ghost use Rattle.csi_records.specs.Spelling.{present, node_head, node_parts};
     ghost use Rattle.csi_stores.specs.Content.{all_changed};
@@ -84,7 +84,7 @@ impl NodeService {
     ghost use Rattle.csi_frames.specs.Lent.{lent};
     ghost use Rattle.csi_service.specs.Appending.{AppendsReply};
     ghost use Rattle.csi_service.specs.Calls.{IsNoCallFor};
-    ghost use Rattle.csi_service.specs.NodeServices.{node_service_changes, NodeDiffers, NodeServiceAnswers};
+    ghost use Rattle.csi_service.specs.NodeServices.{node_service_changes, AreFitRows, IsNamedFit, NodeStaysFit, NodeDiffers, NodeServiceAnswers};
     ghost use Rattle.csi_service.specs.Opening.{node_records, IsOpenFault, LeavesOpened, HasRecord};
     ghost use Rattle.csi_service.specs.Services.{node_service_parts};
 
@@ -149,6 +149,8 @@ impl NodeService {
     /// was there, or what it would commit. This profile's own.
     pub fn open<K: Keep>(alloc: Global, id: NodeId, keep: &mut K) -> Result<NodeService, KeepFault>
         ensures changes { IfOk result (λ service. node_service_changes service ≡ []) }
+        ensures id { IfOk result (λ service. service.node.id ≡ id) }
+        ensures fit { IfOk result (λ service. AreFitRows (shown_rows service.node.rows)) }
         ensures opened { IfOk result (HasRecord (node_records id) node_service_parts (K.store keep.old) (K.store keep.new) (node_head present id (Some 0))) }
         ensures cause { IfErr result (IsOpenFault (node_records id) (K.store keep.old) (K.store keep.new) (node_head present id (Some 0))) }
         ensures honest { (K.store keep.new).honest → (K.store keep.old).honest }
@@ -172,6 +174,7 @@ impl NodeService {
         ensures err { OnErr result (node_service_parts self.new ≡ node_service_parts self.old) }
         ensures err_changes { OnErr result (node_service_changes self.new ≡ node_service_changes self.old) }
         ensures differs { OnOk result (NodeDiffers self.new.changed self.old.node self.new.node) }
+        ensures fit { OnOk result (NodeStaysFit self.old self.new) }
     {
         record_law(&self.node);
         showing_law(&self.node);
@@ -196,6 +199,7 @@ impl NodeService {
         ensures parts { node_service_parts self.new ≡ all_changed (node_service_changes self.new) (node_service_parts self.old) }
         ensures changes { node_service_changes self.new ≡ [] }
         ensures differs { NodeDiffers self.new.changed self.old.node self.new.node }
+        ensures fit { AreFitRows (shown_rows self.old.node.rows) → AreFitRows (shown_rows self.new.node.rows) }
     {
         self.changed = nothing(self.alloc);
     }
@@ -209,6 +213,7 @@ impl NodeService {
         ensures parts { OnOk result (node_service_parts self.new ≡ all_changed (node_service_changes self.new) (node_service_parts self.old)) }
         ensures nothing { (state : NodeState) → Shows self.old.node state → (fenced self.old.node.id state (lent frame.now)).state ≡ state → OnOk result (node_service_changes self.new ≡ []) }
         ensures differs { OnOk result (NodeDiffers self.new.changed self.old.node self.new.node) }
+        ensures fit { OnOk result (NodeStaysFit self.old self.new) }
         ensures err_shows { (state : NodeState) → Shows self.old.node state → OnErr result (Shows self.new.node state) }
         ensures err { OnErr result (node_service_parts self.new ≡ node_service_parts self.old) }
         ensures err_changes { OnErr result (node_service_changes self.new ≡ node_service_changes self.old) }
@@ -234,14 +239,14 @@ impl Core for NodeService {
     ghost use Rattle.csi_frames.specs.Lent.{lent};
     ghost use Rattle.csi_node.specs.Fenced.{fenced};
     ghost use Rattle.csi_node.specs.OneRow.{shown};
-    ghost use Rattle.csi_node.specs.Record.{Shows};
+    ghost use Rattle.csi_node.specs.Record.{Shows, parts as shown_rows};
     ghost use Rattle.csi_node.specs.State.{NodeState};
     ghost use Rattle.csi_records.specs.Records.{node_layout, AreParts};
     ghost use Rattle.csi_records.specs.Spelling.{present};
     ghost use Rattle.csi_serving.specs.Answering.{Steps};
     ghost use Rattle.csi_stores.specs.Content.{all_changed};
     ghost use Rattle.csi_stores.specs.Part.{change_of};
-    ghost use Rattle.csi_service.specs.NodeServices.{node_service_changes, NodeDiffers, NodeServiceAnswers};
+    ghost use Rattle.csi_service.specs.NodeServices.{node_service_changes, AreFitRows, IsNamedFit, NodeStaysFit, NodeDiffers, NodeServiceAnswers};
     ghost use Rattle.csi_service.specs.Services.{node_service_parts};
 
     type Record = NodeRecord;
@@ -253,6 +258,10 @@ impl Core for NodeService {
     ghost parts_of = { node_service_parts };
 
     ghost changes = { node_service_changes };
+
+    ghost is_fit = { λ service. AreFitRows (shown_rows service.node.rows) };
+
+    ghost is_fit_change = { λ service. IsNamedFit service.changed.row (shown_rows service.node.rows) };
 
     ghost answers = { NodeServiceAnswers };
 
@@ -266,6 +275,7 @@ impl Core for NodeService {
         ensures err_changes { OnErr result (node_service_changes self.new ≡ node_service_changes self.old) }
         // A part is told only where what it says is other than it was.
         ensures differs { OnOk result (NodeDiffers self.new.changed self.old.node self.new.node) }
+        ensures fit { OnOk result (NodeStaysFit self.old self.new) }
     {
         // the proof has to be told the types of a lent call's parts
         let _parts: Option<(&CapabilityList, CapabilityRef<'_>)> = None;
@@ -290,6 +300,7 @@ impl Core for NodeService {
         ensures parts { OnOk result (node_service_parts self.new ≡ all_changed (node_service_changes self.new) (node_service_parts self.old)) }
         ensures nothing { (state : NodeState) → Shows self.old.node state → (fenced self.old.node.id state (lent frame.now)).state ≡ state → OnOk result (node_service_changes self.new ≡ []) }
         ensures differs { OnOk result (NodeDiffers self.new.changed self.old.node self.new.node) }
+        ensures fit { OnOk result (NodeStaysFit self.old self.new) }
     {
         let mut bytes = Vec::new(self.alloc);
         if self.answer_into(frame, &mut bytes)? {
@@ -302,7 +313,8 @@ impl Core for NodeService {
     /// The head where a session began, what takes out the rows that were forgotten, and the row of the one volume that was changed or
     /// made. The row is found by its id.
     fn parts(&self) -> Result<Vec<Part>, NoMemory>
-        ensures { IfOk result (λ parts. map change_of parts.items ≡ node_service_changes self.now) }
+        ensures changes { IfOk result (λ parts. map change_of parts.items ≡ node_service_changes self.now) }
+        ensures fit { OnOk result (IsNamedFit self.now.changed.row (shown_rows self.now.node.rows)) }
     {
         let mut parts = Vec::new(self.alloc);
         if self.changed.new_head {
@@ -316,5 +328,9 @@ impl Core for NodeService {
         Ok(parts)
     }
 
-    fn record_law() {}
+    fn record_law(&self) {
+        record_law(&self.node);
+        let _id = self.node.id().as_str();
+        let _session = self.node.session();
+    }
 }

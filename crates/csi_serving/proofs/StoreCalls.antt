@@ -1,21 +1,30 @@
 -- Stores, one call after another.
-use Rattle.std.proofs.Common.{◌≡◌, ◌∙◌, inl, inr, sym, subst, ℕ, ◌≤◌, List, arith}
+use Rattle.std.proofs.Common.{◌≡◌, ◌∙◌, inl, inr, sym, ap, subst, ℕ, ◌≤◌, List, arith}
 use Rattle.std.specs.Prelude.{◌⊎◌}
 use Rattle.csi_stores.specs.declared.keep.KeepFault.{KeepFault}
 use Rattle.csi_stores.specs.declared.keep.KeepFault.TheVariants.{Device, NoMemory, BadRecord, Full}
 use Rattle.csi_stores.specs.Part.{StoredPart}
 use Rattle.csi_counted.specs.Counting.{HasRisen}
-use Rattle.csi_stores.specs.Stores.{Store, IsCommitFault, Follows, LeavesOnly, LeavesEither, IsContentRefusal}
+use Rattle.csi_stores.specs.Stores.{Store, Found, Parts, IsOnly, FindsSome, IsCommitFault, Follows, LeavesOnly, LeavesEither, IsContentRefusal}
 
--- ---- a commit that was refused
+-- ---- a commit
+
+-- one that was made leaves what it was to lead to
+pub done-only : (before after : Store) (first next : List StoredPart) (change : List StoredPart → List StoredPart) → change first ≡ next
+    → (after.honest → (content : List StoredPart) → before.holds content → IsOnly after (Parts (change content))) → LeavesOnly before after first next
+done-only before after first next change leads done = λ honest only. subst (λ (parts : List StoredPart). IsOnly after (Parts parts)) leads (done honest first only.there)
+
+-- one that was refused leaves what was there, or that
 pub refused-left : (before after : Store) (first next : List StoredPart) (change : List StoredPart → List StoredPart) → change first ≡ next
-    → (after.honest → (content : List StoredPart) → before.holds content → (other : List StoredPart) → after.leaves other → before.leaves other ⊎ (other ≡ change content))
-    → LeavesEither before after first first next
-refused-left before after first next change leads refused = λ honest only other leaves.
-    elim (refused honest first only.there other leaves) [
-      | inl old ↦ inl (only.alone other old)
-      | inr new ↦ inr (new ∙ leads)
-    ]
+    → (after.honest → (content : List StoredPart) → before.holds content → (other : Found) → after.leaves other → before.leaves other ⊎ (other ≡ Parts (change content)))
+    → (after.honest → (content : List StoredPart) → IsOnly before (Parts content) → FindsSome after) → LeavesEither before after first first next
+refused-left before after first next change leads refused some = λ honest only. record {
+  some = some honest first only;
+  each = λ other leaves. elim (refused honest first only.there other leaves) [
+    | inl old ↦ inl (only.alone other old)
+    | inr new ↦ inr (new ∙ ap Parts leads)
+  ];
+}
 
 -- the cause of a commit's refusal is that of the content to which it was to lead
 pub refused-cause : (before after : Store) (first next : List StoredPart) (change : List StoredPart → List StoredPart) (fault : KeepFault) → change first ≡ next

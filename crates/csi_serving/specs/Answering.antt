@@ -14,6 +14,14 @@ use Rattle.csi_serving.specs.Serving.{Setting, AllDone, LastUnwritten, NextRefus
 abbrev pub IsSpelledAs : Option Frame → Option (Vec ℕ) → Type 0
 IsSpelledAs reply bytes = option_map bytes_in bytes ≡ option_map spelling reply
 
+-- these parts are a record's
+abbrev pub AreRecord : {R : Type 0} → (R → List StoredPart → Type 0) → List StoredPart → Type 0
+AreRecord {R} spells parts = (kept : R) × spells kept parts
+
+-- a core answers so; and where all in it was within its limits, all is, and its parts are those of a record
+abbrev pub AnswersInRecord : {R C : Type 0} → (C → Type 0) → (R → List StoredPart → Type 0) → (C → List StoredPart) → (C → Frame → Option Frame → C → Type 0) → C → Frame → Option Frame → C → Type 0
+AnswersInRecord IsFit spells parts_of answers old frame reply new = answers old frame reply new × (IsFit old → IsFit new × AreRecord spells (parts_of new))
+
 -- the frame was answered, with a reply of these bytes
 pub record Steps {C : Type 0} (answers : C → Frame → Option Frame → C → Type 0) (old : C) (frame : Frame) (new : C) (bytes : Option (Vec ℕ)) : Type 0 where
   pub reply : Option Frame

@@ -2,6 +2,7 @@
 ghost use Rattle.std.specs.Prelude.{◌≡◌, ◌≤◌, ◌+◌, ◌<◌, ◌^◌, ℕ, List, length};
 ghost use Rattle.std.specs.Io.KnownBytes.{Consumes, IsAtEnd};
 ghost use Rattle.csi_counted.specs.Counting.{HasRisen};
+ghost use Rattle.csi_serving.specs.Answering.{AnswersInRecord};
 ghost use Rattle.csi_serving.specs.Failing.{Stays, ReaderStaysAt, WriterStaysAt};
 ghost use Rattle.csi_stores.specs.Stores.{Follows};
 ghost use Rattle.csi_serving.specs.Serving.{Serves};
@@ -44,7 +45,8 @@ fn ended(splitter: &Splitter, served: Served) -> Result<Served, ServeFault>
 /// frames. The core is spent at an `Err`: the store is opened again.
 ///
 /// Some bytes were read, which are frames and a rest; as many of the first frames were answered, one after another, as the
-/// result counts. Where the store had the first core's parts alone:
+/// result counts, and each led to the parts of a record, which can be opened again, where all in the
+/// first core was within its limits. Where the store had the first core's parts alone:
 /// - at `Ok` these are all frames, nothing is left over nor unread, the store has the last core's parts, and all replies are
 ///   written;
 /// - at `Input`, `Frame` and `Endless` too all frames are answered, committed and written; the reader failed in this call, the
@@ -52,7 +54,7 @@ fn ended(splitter: &Splitter, served: Served) -> Result<Served, ServeFault>
 ///   the fault is `Short` nothing is left unread;
 /// - at `Output` the frames that are counted are committed, and of the last one's reply a front is written;
 /// - at `Keep` opening the store again finds the parts of the last core or those that the next frame would have led to, whose
-///   reply isn't written; the device failed in this call, or those parts don't fit;
+///   reply isn't written, and nothing else; the device failed in this call, or those parts don't fit;
 /// - at `NoMemory` what is counted is committed and written.
 ///
 /// The reader failed at no end but `Input`, the writer at none but `Output`. A store that is honest after the call was before.
@@ -63,7 +65,7 @@ pub fn serve<C: Core, K: Keep, R: Read, W: Write>(
     reader: &mut Counted<R>,
     writer: &mut Counted<W>,
 ) -> Result<Served, ServeFault>
-    ensures serves { (bytes : List ℕ) × Consumes (R.remaining reader.old.inner) (R.remaining reader.new.inner) bytes × Serves (record { answers = C.answers; parts_of = C.parts_of; core = core; before = K.store keep.old; after = K.store keep.new; written_before = W.contents writer.old.inner; written_after = W.contents writer.new.inner; at_end = IsAtEnd (R.remaining reader.new.inner); reader_failed = HasRisen reader.old.faults reader.new.faults; writer_failed = HasRisen writer.old.faults writer.new.faults; endless = 2 ^ 63 ≤ length bytes }) bytes result }
+    ensures serves { (bytes : List ℕ) × Consumes (R.remaining reader.old.inner) (R.remaining reader.new.inner) bytes × Serves (record { answers = AnswersInRecord C.is_fit C.spells C.parts_of C.answers; parts_of = C.parts_of; core = core; before = K.store keep.old; after = K.store keep.new; written_before = W.contents writer.old.inner; written_after = W.contents writer.new.inner; at_end = IsAtEnd (R.remaining reader.new.inner); reader_failed = HasRisen reader.old.faults reader.new.faults; writer_failed = HasRisen writer.old.faults writer.new.faults; endless = 2 ^ 63 ≤ length bytes }) bytes result }
     ensures reader { Stays ReaderStaysAt reader.old.faults reader.new.faults result }
     ensures writer { Stays WriterStaysAt writer.old.faults writer.new.faults result }
     ensures follows { Follows (K.store keep.old) (K.store keep.new) }

@@ -7,15 +7,16 @@ use Rattle.std.proofs.lemmas.List.Sorted.{IsPermutation-sym, IsPermutation-trans
 use Rattle.sqlite_value.specs.Order.{Row}
 use Rattle.sqlite_keyed.proofs.SortLemmas.{sorted_unique}
 use Rattle.sqlite.specs.State.{State}
+use Rattle.sqlite.specs.Tree.{Trees}
 use Rattle.csi_tables.specs.Rows.{cells, AreByKey}
 use Rattle.csi_stores.specs.declared.part.Part.{Part}
 use Rattle.csi_stores.specs.Part.{StoredPart}
 use Rattle.csi_stores.specs.declared.keep.KeepFault.{KeepFault}
 use Rattle.csi_stores.specs.declared.keep.KeepFault.TheVariants.{Device, NoMemory, BadRecord, Full}
 use Rattle.csi_stores.specs.Keeping.{RefusesAt}
-use Rattle.csi_sqlite.specs.Tables.{row_of, HasParts}
-use Rattle.csi_sqlite.specs.Loading.{IsRowOf, IsFirstBad, IsLoaded, IsForeign}
-use Rattle.csi_sqlite.proofs.Tabled.{by_key, by_key_total, sorted_from}
+use Rattle.csi_sqlite.specs.Tables.{row_of, StoresParts}
+use Rattle.csi_sqlite.specs.Loading.{IsRowOf, IsFirstBad, IsLoaded, IsForeign, StoresForeign}
+use Rattle.csi_sqlite.proofs.Tabled.{by_key, by_key_total, sorted_from, stores}
 use Rattle.csi_sqlite.proofs.Loading.{none_refused}
 
 -- the rows of some columns stand in one order by their first one
@@ -41,17 +42,29 @@ one_first rows place at bad also = elim (cases_order at place) [
   ]
 ]
 
--- a table of parts has no such row
-none_foreign : (s : State) (content : List StoredPart) (place : ℕ) → HasParts s content → ¬ IsForeign s place
-none_foreign s content place has foreign =
-    let moved = IsPermutation-trans _ _ _ (IsPermutation-sym _ _ has.rows.stores.stored.same) foreign.has.stores.stored.same in
-    let rows = foreign.first.1 in
+-- a database with parts alone has no such row
+pub none_foreign : (db : Trees) (content : List StoredPart) (place : ℕ) → StoresParts db content → ¬ StoresForeign db place
+none_foreign db content place has foreign =
+    let moved = IsPermutation-trans _ _ _ (IsPermutation-sym _ _ has.rows.stored.same) foreign.1.stored.same in
+    let rows = foreign.2.1 in
     none_refused content place has.keys
-    (foreign.first.0, record { same = IsPermutation-trans (map cells (map row_of content)) _ _ moved rows.same; wide = rows.wide; rising = rows.rising }, foreign.first.2)
+    (foreign.2.0, record { same = IsPermutation-trans (map cells (map row_of content)) _ _ moved rows.same; wide = rows.wide; rising = rows.rising }, foreign.2.2)
+
+-- one row of a database is the first that is no part
+pub one_foreign : (db : Trees) (place at : ℕ) → StoresForeign db place → StoresForeign db at → at ≡ place
+one_foreign db place at is also =
+    let moved = IsPermutation-trans _ _ _ (IsPermutation-sym _ _ is.1.stored.same) also.1.stored.same in
+    let rows = also.2.1 in
+    let by : AreByKey is.0 also.2.0 = record { same = IsPermutation-trans is.0 _ _ moved rows.same; wide = rows.wide; rising = rows.rising } in
+    one_first is.2.0 place at is.2.2 (subst (λ l. IsFirstBad l at) (one_order is.0 is.2.0 also.2.0 is.2.1 by) also.2.2)
+
+-- what a connection sees is what the database has
+pub foreign_seen : (s : State) (place : ℕ) → IsForeign s place → StoresForeign s.now.trees place
+foreign_seen s place foreign = (foreign.columns, foreign.has.stores, foreign.first)
 
 -- what loading answers, whatever columns are looked at, is said of these
 pub refuses_at : (s : State) (place : ℕ) (r : Result (Vec Part) KeepFault) → (foreign : IsForeign s place) → IsLoaded s foreign.columns r → RefusesAt place r
-refuses_at s place (Ok parts) foreign is = none_foreign s is.0 place is.1 foreign
+refuses_at s place (Ok parts) foreign is = none_foreign s.now.trees is.0 place (stores s is.0 is.1) (foreign_seen s place foreign)
 refuses_at s place (Err Device) foreign is = tt
 refuses_at s place (Err NoMemory) foreign is = tt
 refuses_at s place (Err (BadRecord at)) foreign is =

@@ -19,7 +19,7 @@ use Rattle.sqlite.specs.State.{State, IsUnchanged}
 use Rattle.csi_tables.specs.Rows.{KeyedRow, cells, without, AreRising, StoresRows, HasRows}
 use Rattle.csi_stores.specs.Part.{StoredPart}
 use Rattle.csi_stores.specs.Content.{put_in, take_out, IsRising}
-use Rattle.csi_sqlite.specs.Tables.{row_of, AreKeys, StoresParts, HasParts, HoldsParts, LeavesParts}
+use Rattle.csi_sqlite.specs.Tables.{row_of, AreKeys, StoresParts, HasParts, HoldsParts}
 use Rattle.csi_stores.proofs.RisingChanges.{AreAbove, rising-all}
 use Rattle.csi_sqlite.proofs.KeyOrder.{key_below, key_back, same_key}
 
@@ -95,12 +95,6 @@ still_holds old new content same has = (
   },
   record { autocommit = same.0.mode ∙ has.1.autocommit; committed = same.0.now_is ∙ has.1.committed ∙ sym same.0.committed_is },
 )
-
--- while the database is open, a crash leaves what it holds
-pub only_left : (s : State) (content other : List StoredPart) → ((db : Trees) → s.may_leave db → db ≡ s.committed.trees) → HoldsParts s content → LeavesParts s other → other ≡ content
-only_left s content other settled has left =
-    let is : left.db ≡ s.now.trees = settled left.db left.may ∙ ap (λ (d : Database). d.trees) (sym has.1.committed) in
-    one_content s.now.trees content other (stores s content has.0) (subst (λ db. StoresParts db other) is left.parts)
 
 -- ---- changes
 

@@ -7,12 +7,15 @@ use Rattle.sqlite.specs.declared.types.Value.{Value}
 use Rattle.sqlite.specs.declared.types.Value.TheVariants.{Null, Int, Real, Text, Blob}
 use Rattle.sqlite.specs.Order.{Row, column}
 use Rattle.sqlite.specs.State.{State}
-use Rattle.csi_tables.specs.Rows.{AreByKey, HasColumns}
+use Rattle.sqlite.specs.Tree.{Trees}
+use Rattle.csi_tables.specs.Rows.{AreByKey, StoresColumns, HasColumns}
 use Rattle.csi_stores.specs.declared.keep.KeepFault.{KeepFault}
 use Rattle.csi_stores.specs.declared.keep.KeepFault.TheVariants.{Device, NoMemory, BadRecord, Full}
 use Rattle.csi_stores.specs.declared.part.Part.{Part}
 use Rattle.csi_stores.specs.Part.{StoredPart, Change, change_of, put_all}
-use Rattle.csi_sqlite.specs.Tables.{HasParts}
+use Rattle.csi_stores.specs.Stores.{Found}
+use Rattle.csi_stores.specs.Stores.Found.{Parts, Foreign, Unlisted}
+use Rattle.csi_sqlite.specs.Tables.{StoresParts, HasParts}
 
 -- a row is this part: its columns are two BLOBs, the eight bytes of the key and the value
 pub record IsRowOf (row : Row) (part : StoredPart) : Type 0 where
@@ -50,6 +53,24 @@ pub record IsForeign (s : State) (place : ℕ) : Type 0 where
   pub columns : List Row
   pub has : HasColumns s columns
   pub first : IsNotGiven columns (BadRecord place)
+
+-- ---- what is found again
+
+-- a database whose one table has rows, and the one at this place, by rising key, is the first that is no part
+abbrev pub StoresForeign : Trees → ℕ → Type 0
+StoresForeign db place = (columns : List Row) × StoresColumns db columns × IsNotGiven columns (BadRecord place)
+
+-- a database that has these parts, such a row, or neither
+abbrev pub Stores : Trees → Found → Type 0
+Stores db (Parts content) = StoresParts db content
+Stores db (Foreign place) = StoresForeign db place
+Stores db Unlisted = ((content : List StoredPart) → ¬ StoresParts db content) × ((place : ℕ) → ¬ StoresForeign db place)
+
+-- a crash may leave a database that has this
+pub record LeavesFound (s : State) (found : Found) : Type 0 where
+  pub db : Trees
+  pub may : s.may_leave db
+  pub stored : Stores db found
 
 -- ---- row after row
 

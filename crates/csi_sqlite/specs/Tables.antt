@@ -35,12 +35,6 @@ pub record HasParts (s : State) (content : List StoredPart) : Type 0 where
 abbrev pub HoldsParts : State → List StoredPart → Type 0
 HoldsParts s content = HasParts s content × IsAtRest s
 
--- a crash may leave such a database
-pub record LeavesParts (s : State) (content : List StoredPart) : Type 0 where
-  pub db : Trees
-  pub may : s.may_leave db
-  pub parts : StoresParts db content
-
 -- What opening leaves, also where it is refused or crashes: what was left before, or, where nothing was listed, a table without a part.
 pub record OpensOver (before after : State) : Type 0 where
   pub honest : HasCleanDisk after → HasCleanDisk before

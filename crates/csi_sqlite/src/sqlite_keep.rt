@@ -4,15 +4,19 @@ ghost use Rattle.sqlite.specs.Held.{Held, state};
 ghost use Rattle.sqlite.specs.State.{HasCleanDisk};
 ghost use Rattle.sqlite.specs.Order.{Row};
 ghost use Rattle.sqlite.specs.Tree.{Trees};
-ghost use Rattle.csi_tables.specs.Listed.{ListsParts, ListsOther};
+ghost use Rattle.csi_tables.specs.Declared.{parts_schema};
+ghost use Rattle.csi_tables.specs.Listed.{ListsOther};
 ghost use Rattle.csi_tables.specs.Rows.{IsBlank, HasColumns};
 ghost use Rattle.csi_stores.specs.Part.{StoredPart, change_of, put_all};
 ghost use Rattle.csi_stores.specs.Content.{all_changed};
 ghost use Rattle.csi_stores.specs.Keeping.{RefusesAt};
-ghost use Rattle.csi_stores.specs.Stores.{IsLoadFault, IsCommitFault, IsSettled};
-ghost use Rattle.csi_sqlite.specs.Kept.{sqlite_store, IsNotMade};
-ghost use Rattle.csi_sqlite.specs.Loading.{IsLoaded, IsForeign};
-ghost use Rattle.csi_sqlite.specs.Tables.{StoresParts, HoldsParts, LeavesParts, OpensOver, IsCounted, CountsFault, CountsOnce};
+ghost use Rattle.csi_stores.specs.Stores.{Found, IsOnly, IsSettled, FindsSome, IsLoadFault, IsCommitFault};
+ghost use Rattle.csi_stores.specs.Stores.Found.{Parts};
+ghost use Rattle.csi_tables.specs.Statements.{RefusesToMake};
+ghost use Rattle.csi_sqlite.specs.Kept.{sqlite_store};
+ghost use Rattle.csi_sqlite.specs.Refusals.{IsTold, IsNotLoaded, RefusesChanges};
+ghost use Rattle.csi_sqlite.specs.Loading.{IsLoaded, IsForeign, LeavesFound};
+ghost use Rattle.csi_sqlite.specs.Tables.{StoresParts, HoldsParts, OpensOver, IsCounted, CountsFault, CountsOnce};
 
 use csi_stores::{Keep, KeepFault, Part};
 use csi_tables::{all_rows, make_table};
@@ -32,8 +36,8 @@ use reading::parts_of;
 /// A store in a SQLite database: a part is a row of the table `parts`, its key in eight bytes, the greatest first. A commit is
 /// one transaction, and costs what it changes. It never answers `Full`. This profile's own.
 ///
-/// Its promises hold while the disk gives back what was written and nobody else writes the database, and where a table `parts`
-/// that was found is declared as the one that `new` makes. A database with another table, index, view or trigger is refused.
+/// Its promises hold while the disk gives back what was written and nobody else writes the database. A database with another table,
+/// index, view or trigger is refused, and so is one whose table `parts` isn't declared as the one that `new` makes.
 pub struct SqliteKeep<S: Alter> {
     alloc: Global,
     connection: Connection<S>,
@@ -72,8 +76,8 @@ fn refused(faults: &mut u64, error: &Error) -> KeepFault
 }
 
 impl<S: Alter> SqliteKeep<S> {
-    /// A store in this database, in which the table `parts` is made where nothing is listed. A database that lists such a table
-    /// alone is taken as it is, and one that lists anything else is refused, as it is. At a refusal the connection comes back:
+    /// A store in this database, in which the table `parts` is made where nothing is listed. A database that lists that table as it is
+    /// declared, alone, is taken as it is, and one that lists anything else is refused, as it is. At a refusal the connection comes back:
     /// `Device` stands for all but want of memory, as for a transaction that is open; where none is open, and nothing else is listed, it
     /// is what SQLite answers to the statement that makes the table.
     pub fn new(
@@ -82,14 +86,14 @@ impl<S: Alter> SqliteKeep<S> {
     ) -> Result<SqliteKeep<S>, (KeepFault, Connection<S>)>
         ensures blank { IfOk result (λ keep. HasCleanDisk (state S.Store keep.connection) → IsBlank (state S.Store connection) → HoldsParts (state S.Store keep.connection) []) }
         ensures found { IfOk result (λ keep. HasCleanDisk (state S.Store keep.connection) → (content : List StoredPart) → IsTrue (state S.Store connection).is_open → StoresParts (state S.Store connection).now.trees content → HoldsParts (state S.Store keep.connection) content) }
-        ensures there { IfOk result (λ keep. ListsParts (state S.Store connection).now.schema → keep.connection ≡ connection) }
+        ensures there { IfOk result (λ keep. (state S.Store connection).now.schema ≡ parts_schema → keep.connection ≡ connection) }
         ensures other { ListsOther (state S.Store connection).now.schema → IsErrAnd result (λ refusal. (refusal.0 ≡ KeepFault.Device) × (refusal.1 ≡ connection)) }
         ensures left { IfOk result (λ keep. OpensOver (state S.Store connection) (state S.Store keep.connection)) }
         ensures faults { IfOk result (λ keep. keep.faults ≡ 0) }
         ensures back { IfErr result (λ refusal. OpensOver (state S.Store connection) (state S.Store refusal.1)) }
         ensures cause { IfErr result (λ refusal. (refusal.0 ≡ KeepFault.Device) ⊎ (refusal.0 ≡ KeepFault.NoMemory)) }
-        ensures device { IfErr result (λ refusal. HasCleanDisk (state S.Store refusal.1) → (state S.Store connection).in_transaction ≡ false → ¬ ListsOther (state S.Store connection).now.schema → IsNotMade (state S.Store connection) (state S.Store refusal.1) refusal.0) }
-        ensures opens { (state S.Store connection).in_transaction ≡ false → ListsParts (state S.Store connection).now.schema → IsOk result }
+        ensures device { IfErr result (λ refusal. HasCleanDisk (state S.Store refusal.1) → (state S.Store connection).in_transaction ≡ false → ¬ ListsOther (state S.Store connection).now.schema → IsTold (RefusesToMake (state S.Store connection) (state S.Store refusal.1)) refusal.0) }
+        ensures opens { (state S.Store connection).in_transaction ≡ false → (state S.Store connection).now.schema ≡ parts_schema → IsOk result }
     {
         if !connection.is_autocommit() {
             return Err((KeepFault::Device, connection));
@@ -128,18 +132,22 @@ impl<S: Alter> Keep for SqliteKeep<S> {
 
     /// All parts, by rising key, where the table is as declared and each of its rows is a part. A row that is none is `BadRecord`,
     /// with the position, from 0, of the first such row in SQLite's order of keys. Nothing is written: whatever the database has,
-    /// a crash leaves nothing new.
+    /// a crash leaves nothing new, and no transaction is left open. `Device` stands for what SQLite answers, to the statement that reads
+    /// the table.
     fn load(&mut self) -> Result<Vec<Part>, KeepFault>
         ensures honest { HasCleanDisk (state S.Store self.new.connection) → HasCleanDisk (state S.Store self.old.connection) }
         ensures parts { HasCleanDisk (state S.Store self.new.connection) → (content : List StoredPart) → HoldsParts (state S.Store self.old.connection) content → IfOk result (λ parts. map change_of parts.items ≡ put_all content) }
-        ensures stays { HasCleanDisk (state S.Store self.new.connection) → (content : List StoredPart) → HoldsParts (state S.Store self.old.connection) content → OnOk result (HoldsParts (state S.Store self.new.connection) content) }
-        ensures left { HasCleanDisk (state S.Store self.new.connection) → (content : List StoredPart) → LeavesParts (state S.Store self.new.connection) content → LeavesParts (state S.Store self.old.connection) content }
+        ensures stays { HasCleanDisk (state S.Store self.new.connection) → (content : List StoredPart) → HoldsParts (state S.Store self.old.connection) content → OnOk result (IsOnly (sqlite_store (state S.Store self.new.connection) self.new.faults) (Parts content)) }
+        ensures left { HasCleanDisk (state S.Store self.new.connection) → (found : Found) → LeavesFound (state S.Store self.new.connection) found → LeavesFound (state S.Store self.old.connection) found }
+        ensures some { HasCleanDisk (state S.Store self.new.connection) → (found : Found) → IsOnly (sqlite_store (state S.Store self.old.connection) self.old.faults) found → FindsSome (sqlite_store (state S.Store self.new.connection) self.new.faults) }
         ensures faults { self.old.faults ≤ self.new.faults }
         ensures foreign { HasCleanDisk (state S.Store self.new.connection) → (place : ℕ) → IsForeign (state S.Store self.old.connection) place → RefusesAt place result }
         ensures counted { CountsOnce self.old.faults self.new.faults result }
         ensures crash { HasCleanDisk (state S.Store self.new.connection) → (db : Trees) → (state S.Store self.new.connection).may_leave db → (state S.Store self.old.connection).may_leave db }
         ensures cause { IfErr result (λ fault. IsLoadFault (sqlite_store (state S.Store self.old.connection) self.old.faults) (sqlite_store (state S.Store self.new.connection) self.new.faults) fault) }
         ensures judged { HasCleanDisk (state S.Store self.new.connection) → (columns : List Row) → HasColumns (state S.Store self.old.connection) columns → IsLoaded (state S.Store self.old.connection) columns result }
+        ensures told { HasCleanDisk (state S.Store self.new.connection) → IfErr result (IsNotLoaded (state S.Store self.old.connection) (state S.Store self.new.connection)) }
+        ensures outside { (state S.Store self.old.connection).in_transaction ≡ false → (state S.Store self.new.connection).in_transaction ≡ false }
     {
         match all_rows(&mut self.connection) {
             Ok(rows) => parts_of(self.alloc, &rows),
@@ -149,16 +157,19 @@ impl<S: Alter> Keep for SqliteKeep<S> {
     }
 
     /// One transaction. Whatever it answers, a crash leaves what it would have left before, or a database whose one table has the
-    /// parts as they are to be. It is never `Full`.
+    /// parts as they are to be, and no transaction is left open. It is never `Full`: a refusal is what SQLite answers to one of the
+    /// changes, or to their commit.
     fn commit(&mut self, parts: &[Part]) -> Result<(), KeepFault>
         ensures honest { HasCleanDisk (state S.Store self.new.connection) → HasCleanDisk (state S.Store self.old.connection) }
-        ensures done { HasCleanDisk (state S.Store self.new.connection) → (content : List StoredPart) → HoldsParts (state S.Store self.old.connection) content → OnOk result (HoldsParts (state S.Store self.new.connection) (all_changed (map change_of parts.now) content)) }
-        ensures alone { HasCleanDisk (state S.Store self.new.connection) → (content : List StoredPart) → HoldsParts (state S.Store self.old.connection) content → OnOk result ((other : List StoredPart) → LeavesParts (state S.Store self.new.connection) other → other ≡ all_changed (map change_of parts.now) content) }
-        ensures refused { HasCleanDisk (state S.Store self.new.connection) → (content : List StoredPart) → HoldsParts (state S.Store self.old.connection) content → OnErr result ((other : List StoredPart) → LeavesParts (state S.Store self.new.connection) other → LeavesParts (state S.Store self.old.connection) other ⊎ (other ≡ all_changed (map change_of parts.now) content)) }
+        ensures done { HasCleanDisk (state S.Store self.new.connection) → (content : List StoredPart) → HoldsParts (state S.Store self.old.connection) content → OnOk result (IsOnly (sqlite_store (state S.Store self.new.connection) self.new.faults) (Parts (all_changed (map change_of parts.now) content))) }
+        ensures refused { HasCleanDisk (state S.Store self.new.connection) → (content : List StoredPart) → HoldsParts (state S.Store self.old.connection) content → OnErr result ((other : Found) → LeavesFound (state S.Store self.new.connection) other → LeavesFound (state S.Store self.old.connection) other ⊎ (other ≡ Parts (all_changed (map change_of parts.now) content))) }
+        ensures some { HasCleanDisk (state S.Store self.new.connection) → (content : List StoredPart) → IsOnly (sqlite_store (state S.Store self.old.connection) self.old.faults) (Parts content) → FindsSome (sqlite_store (state S.Store self.new.connection) self.new.faults) }
         ensures faults { self.old.faults ≤ self.new.faults }
         ensures cause { IfErr result (λ fault. IsCommitFault (sqlite_store (state S.Store self.old.connection) self.old.faults) (sqlite_store (state S.Store self.new.connection) self.new.faults) (all_changed (map change_of parts.now)) fault) }
         ensures counted { CountsOnce self.old.faults self.new.faults result }
         ensures crash { HasCleanDisk (state S.Store self.new.connection) → (content : List StoredPart) → HoldsParts (state S.Store self.old.connection) content → (db : Trees) → (state S.Store self.new.connection).may_leave db → (state S.Store self.old.connection).may_leave db ⊎ StoresParts db (all_changed (map change_of parts.now) content) }
+        ensures told { HasCleanDisk (state S.Store self.new.connection) → (state S.Store self.old.connection).in_transaction ≡ false → IfErr result (IsTold (RefusesChanges S.Store (map change_of parts.now) self.old.connection self.new.connection)) }
+        ensures outside { (state S.Store self.old.connection).in_transaction ≡ false → (state S.Store self.new.connection).in_transaction ≡ false }
     {
         if parts.is_empty() {
             return Ok(());

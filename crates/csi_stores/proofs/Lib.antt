@@ -1,3 +1,4 @@
 pub mod EntryPlaces
 pub mod EntrySizes
+pub mod MemoryStores
 pub mod RisingChanges

@@ -3,7 +3,7 @@ use Rattle.std.specs.Prelude.{◌≡◌, ◌≤◌, ⊤, ℕ, List, map}
 use Rattle.csi_stores.specs.declared.entries.Entry.{Entry}
 use Rattle.csi_stores.specs.Part.{StoredPart}
 use Rattle.csi_stores.specs.Content.{IsRising, size_of}
-use Rattle.csi_stores.specs.Stores.{Store}
+use Rattle.csi_stores.specs.Stores.{Store, Parts}
 
 -- its limit in bytes, and its parts
 pub record Memory : Type 0 where
@@ -29,7 +29,7 @@ memory_store memory = record {
   honest = ⊤;
   holds = λ content. memory.parts ≡ content;
   foreign = λ place. ⊥;
-  leaves = λ content. memory.parts ≡ content;
+  leaves = λ found. found ≡ Parts memory.parts;
   fits = λ content. size_of content ≤ memory.limit;
   faults = 0;
 }

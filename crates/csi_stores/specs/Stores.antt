@@ -5,16 +5,46 @@ use Rattle.csi_stores.specs.declared.keep.KeepFault.TheVariants.{Device, NoMemor
 use Rattle.csi_stores.specs.Part.{StoredPart}
 use Rattle.csi_counted.specs.Counting.{HasRisen}
 
+-- What opening a store may find: these parts, by rising key; a list in which the thing at this place, from 0, is the first that is no
+-- part; or no list at all.
+pub data Found : Type 0 where
+  Parts : (content : List StoredPart) → Found
+  Foreign : (place : ℕ) → Found
+  Unlisted : Found
+
 -- What a store is at some time, as its keeper tells it: whether all that is outside it did as it says so far (a disk gave back what
 -- was written, and nobody else wrote); which parts it has, by rising key; or that it has no list of parts, and where, from 0, the first
--- thing stands that is none; which parts opening it again now may find; for which parts it has room; and how often the device under it failed.
+-- thing stands that is none; what opening it again now, after a stop, may find; for which parts it has room; and how often the device
+-- under it failed.
 pub record Store : Type 1 where
   pub honest : Type 0
   pub holds : List StoredPart → Type 0
   pub foreign : ℕ → Type 0
-  pub leaves : List StoredPart → Type 0
+  pub leaves : Found → Type 0
   pub fits : List StoredPart → Type 0
   pub faults : ℕ
+
+-- ---- what opening it again finds
+
+-- what it has
+abbrev pub Has : Store → Found → Type 0
+Has now (Parts content) = now.holds content
+Has now (Foreign place) = now.foreign place
+Has now Unlisted = ⊥
+
+-- it has this, and opening it again finds this and nothing else
+pub record IsOnly (now : Store) (found : Found) : Type 0 where
+  pub there : Has now found
+  pub left : now.leaves found
+  pub alone : (other : Found) → now.leaves other → other ≡ found
+
+-- what it has is what opening it again finds, and nothing else is
+abbrev pub IsSettled : Store → Type 0
+IsSettled now = now.honest → (found : Found) → Has now found → IsOnly now found
+
+-- opening it again finds something
+abbrev pub FindsSome : Store → Type 0
+FindsSome now = ∥ ((found : Found) × now.leaves found) ∥₁
 
 -- ---- why a call of a keeper was refused
 
@@ -36,15 +66,6 @@ IsCommitFault before after change Full = after.honest → (content : List Stored
 
 -- ---- what callers say of stores
 
--- it has this content, and opening it again finds this alone
-pub record IsOnly (now : Store) (content : List StoredPart) : Type 0 where
-  pub there : now.holds content
-  pub alone : (other : List StoredPart) → now.leaves other → other ≡ content
-
--- what it has is all that opening it again may find
-abbrev pub IsSettled : Store → Type 0
-IsSettled now = now.honest → (content : List StoredPart) → now.holds content → IsOnly now content
-
 -- what calls never change, or only raise
 pub record Follows (before after : Store) : Type 0 where
   pub honest : after.honest → before.honest
@@ -54,11 +75,16 @@ pub record Follows (before after : Store) : Type 0 where
 
 -- where it had the first content alone, it has the second alone
 abbrev pub LeavesOnly : Store → Store → List StoredPart → List StoredPart → Type 0
-LeavesOnly before after first second = after.honest → IsOnly before first → IsOnly after second
+LeavesOnly before after first second = after.honest → IsOnly before (Parts first) → IsOnly after (Parts second)
+
+-- opening it again finds one of the two, and nothing else
+pub record FindsEither (now : Store) (old new : List StoredPart) : Type 0 where
+  pub some : FindsSome now
+  pub each : (other : Found) → now.leaves other → (other ≡ Parts old) ⊎ (other ≡ Parts new)
 
 -- where it had the first content alone, opening it again finds one of the two others
 abbrev pub LeavesEither : Store → Store → List StoredPart → List StoredPart → List StoredPart → Type 0
-LeavesEither before after first old new = after.honest → IsOnly before first → (other : List StoredPart) → after.leaves other → (other ≡ old) ⊎ (other ≡ new)
+LeavesEither before after first old new = after.honest → IsOnly before (Parts first) → FindsEither after old new
 
 -- Why a commit was refused that was to lead to this content: the device only where it failed meanwhile, Full only where the
 -- content doesn't fit.
@@ -66,4 +92,4 @@ abbrev pub IsContentRefusal : Store → Store → List StoredPart → List Store
 IsContentRefusal before after first next Device = HasRisen before.faults after.faults
 IsContentRefusal before after first next NoMemory = Unit {0}
 IsContentRefusal before after first next (BadRecord place) = ⊥
-IsContentRefusal before after first next Full = after.honest → IsOnly before first → before.fits next → ⊥
+IsContentRefusal before after first next Full = after.honest → IsOnly before (Parts first) → before.fits next → ⊥

@@ -3,7 +3,7 @@ ghost use Rattle.std.specs.Prelude.{◌≡◌, ◌≤◌, ◌⊎◌, ℕ, List, 
 ghost use Rattle.csi_stores.specs.Part.{StoredPart, put_all, change_of};
 ghost use Rattle.csi_stores.specs.Content.{all_changed};
 ghost use Rattle.csi_stores.specs.Keeping.{RefusesAt};
-ghost use Rattle.csi_stores.specs.Stores.{Store, IsLoadFault, IsCommitFault};
+ghost use Rattle.csi_stores.specs.Stores.{Store, Found, Parts, IsOnly, FindsSome, IsLoadFault, IsCommitFault};
 
 use crate::part::Part;
 use csi_types::NoMemory;
@@ -43,27 +43,28 @@ pub trait Keep {
     ghost store: { Self → Store };
 
     /// All parts, by rising key. Where there is no list of parts that is refused, with the place of the first thing that is none.
-    /// What opening again may find only gets less, and where the parts were given the store is as it was.
+    /// What opening again may find only gets less, and never nothing; where the parts were given, opening again finds them alone.
     fn load(&mut self) -> Result<Vec<Part>, KeepFault>
         ensures honest { (store self.new).honest → (store self.old).honest }
         ensures parts { (store self.new).honest → (content : List StoredPart) → (store self.old).holds content → IfOk result (λ parts. map change_of parts.items ≡ put_all content) }
-        ensures stays { (store self.new).honest → (content : List StoredPart) → (store self.old).holds content → OnOk result ((store self.new).holds content) }
+        ensures stays { (store self.new).honest → (content : List StoredPart) → (store self.old).holds content → OnOk result (IsOnly (store self.new) (Parts content)) }
         ensures foreign { (store self.new).honest → (place : ℕ) → (store self.old).foreign place → RefusesAt place result }
-        ensures left { (store self.new).honest → (content : List StoredPart) → (store self.new).leaves content → (store self.old).leaves content }
+        ensures left { (store self.new).honest → (found : Found) → (store self.new).leaves found → (store self.old).leaves found }
+        ensures some { (store self.new).honest → (found : Found) → IsOnly (store self.old) found → FindsSome (store self.new) }
         ensures room { (content : List StoredPart) → (store self.old).fits content → (store self.new).fits content }
         ensures no_more_room { (content : List StoredPart) → (store self.new).fits content → (store self.old).fits content }
         ensures faults { (store self.old).faults ≤ (store self.new).faults }
         ensures cause { IfErr result (λ fault. IsLoadFault (store self.old) (store self.new) fault) };
 
-    /// Puts parts in and takes them out, one after another, all or none. After a refusal opening again finds what it would
-    /// have found before, or all of them done.
+    /// Puts parts in and takes them out, one after another, all or none. Where all is done, opening again finds that alone. After a refusal
+    /// it finds what it would have found before, or all of them done.
     fn commit(&mut self, parts: &[Part]) -> Result<(), KeepFault>
         ensures honest { (store self.new).honest → (store self.old).honest }
-        ensures done { (store self.new).honest → (content : List StoredPart) → (store self.old).holds content → OnOk result ((store self.new).holds (all_changed (map change_of parts.now) content)) }
-        ensures alone { (store self.new).honest → (content : List StoredPart) → (store self.old).holds content →
-            OnOk result ((other : List StoredPart) → (store self.new).leaves other → other ≡ all_changed (map change_of parts.now) content) }
+        ensures done { (store self.new).honest → (content : List StoredPart) → (store self.old).holds content →
+            OnOk result (IsOnly (store self.new) (Parts (all_changed (map change_of parts.now) content))) }
         ensures refused { (store self.new).honest → (content : List StoredPart) → (store self.old).holds content →
-            OnErr result ((other : List StoredPart) → (store self.new).leaves other → (store self.old).leaves other ⊎ (other ≡ all_changed (map change_of parts.now) content)) }
+            OnErr result ((other : Found) → (store self.new).leaves other → (store self.old).leaves other ⊎ (other ≡ Parts (all_changed (map change_of parts.now) content))) }
+        ensures some { (store self.new).honest → (content : List StoredPart) → IsOnly (store self.old) (Parts content) → FindsSome (store self.new) }
         ensures room { (content : List StoredPart) → (store self.old).fits content → (store self.new).fits content }
         ensures no_more_room { (content : List StoredPart) → (store self.new).fits content → (store self.old).fits content }
         ensures faults { (store self.old).faults ≤ (store self.new).faults }

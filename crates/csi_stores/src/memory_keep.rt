@@ -57,7 +57,7 @@ impl MemoryKeep {
         }
     }
 
-    /// A law, and nothing that runs: what a store in memory has is all that opening it again may find.
+    /// A law, and nothing that runs: what a store in memory has is what opening it again finds, and nothing else is.
     pub fn settled_law()
         ensures { (memory : Memory) → IsSettled (memory_store memory) }
     {}

@@ -177,7 +177,7 @@ module _ {H : Type 0} (has_handled : H → List Frame → Type 0) (gives : List 
       → HandlesNext has_handled gives splitter new handler handler' between after (Ok true) → HandlesOn has_handled gives fed given new (min (count + 1) (2 ^ 64 - 1)) handler' before after
   going_on fed given before between after splitter new count handler handler' on next =
       let p = on.progress in
-      let h = next.3 p.done p.handled in
+      let h = next.3 p.done p.handled p.taken in
       record {
         more = on.more ++ h.more;
         appended = h.appended ∙ ap (λ (bytes : List ℕ). bytes ++ h.more) on.appended ∙ append_assoc before on.more h.more;

@@ -13,7 +13,7 @@ use Rattle.csi_streams.specs.declared.answers.AnswerFault.{AnswerFault}
 use Rattle.csi_streams.specs.declared.answers.AnswerFault.TheVariants as faults
 use Rattle.csi_streams.specs.Handling.{HandlesWhole, StopsIn, EndsIn}
 use Rattle.csi_streams.specs.Progress.{Progress, WaitsForMore}
-use Rattle.csi_streams.specs.Replay.{IsFaultOf, Grows}
+use Rattle.csi_streams.specs.Replay.{IsFaultOf}
 use Rattle.csi_streams.proofs.Progress.{all_done, waits-open}
 
 module _ {H : Type 0} (has_handled : H → List Frame → Type 0) (gives : List Frame → List ℕ → Type 0) where
@@ -67,9 +67,3 @@ whole_stopped gives fed behind given before after (faults.Frame kind place) are 
 whole_stopped gives fed behind given before after faults.NoMemory are stops appended frames rest of =
     let stop = stops behind rest frames are of in
     (stop.0, stop.1, record { more = given; appended = appended; given = stop.2 })
-
--- what was there stays at the front
-pub whole_grows : (gives : List Frame → List ℕ → Type 0) (frames : List Frame) (rest before after : List ℕ) (result : Result ℕ AnswerFault) → HandlesWhole gives frames rest before after result → Grows before after
-whole_grows gives frames rest before after (Ok count) h = record { more = h.2.more; appended = h.2.appended }
-whole_grows gives frames rest before after (Err (faults.Frame kind place)) h = record { more = h.1.more; appended = h.1.appended }
-whole_grows gives frames rest before after (Err faults.NoMemory) h = record { more = h.2.more; appended = h.2.appended }

@@ -1,8 +1,10 @@
 -- How the frames of a stream are handled. Private functions alone cite it.
 use Rattle.std.specs.Prelude.{◌≡◌, ◌≢◌, ℕ, ◌+◌, ◌-◌, ◌^◌, ◌≤◌, min, Bool, true, false, List, [], ◌∷◌, ◌++◌, length, take, Some, Result, Ok, Err}
+use Rattle.std.specs.List.{flat_map}
 use Rattle.csi_types.specs.Frame.{Frame}
 use Rattle.csi_frames.specs.declared.fault.FaultKind.TheVariants.{Short}
 use Rattle.csi_frames.specs.Bytes.{AreBytes}
+use Rattle.csi_frames.specs.Spelling.{spelling}
 use Rattle.csi_frames.specs.Splitting.{Splitting, after_next, IsNext}
 use Rattle.csi_frames.specs.Stream.{FramesOf}
 use Rattle.csi_streams.specs.declared.answers.AnswerFault.{AnswerFault}
@@ -21,7 +23,7 @@ pub record Handles {H : Type 0} (has_handled : H → List Frame → Type 0) (giv
 abbrev pub HandlesNext : {H : Type 0} → (H → List Frame → Type 0) → (List Frame → List ℕ → Type 0) → Splitting → Splitting → H → H → List ℕ → List ℕ → Result Bool AnswerFault → Type 0
 HandlesNext has_handled gives old new handler handler' before after (Ok true) =
     (frame : Frame) × IsNext old.fault old.kept (Ok (Some frame)) × (new ≡ after_next old (Ok (Some frame)))
-    × ((frames : List Frame) → has_handled handler frames → Handles has_handled gives frames frame handler' before after)
+    × ((frames : List Frame) → has_handled handler frames → old.taken ≡ length (flat_map spelling frames) → Handles has_handled gives frames frame handler' before after)
 HandlesNext has_handled gives old new handler handler' before after (Ok false) = WaitsForMore old × (new ≡ old) × (handler' ≡ handler) × (after ≡ before)
 HandlesNext has_handled gives old new handler handler' before after (Err (faults.Frame kind place)) =
     (at : ℕ) × IsNext old.fault old.kept (Err (record { kind = kind; place = at })) × (place ≡ min (old.taken + at) (2 ^ 64 - 1)) × (after ≡ before)

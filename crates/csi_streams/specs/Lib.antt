@@ -1,4 +1,6 @@
 pub mod Replay
+pub mod Shown
+pub mod Lines
 pub mod Streaming
 pub mod Failing
 pub mod Answering
@@ -6,3 +8,4 @@ pub mod Showing
 pub mod Progress
 pub mod Handling
 pub mod Passing
+pub mod Worked

@@ -37,24 +37,18 @@ pub record Grows (old new : List ℕ) : Type 0 where
   pub more : List ℕ
   pub appended : new ≡ old ++ more
 
--- The rest is at fault; or memory ran out.
-abbrev pub Stops : List Frame → List ℕ → AnswerFault → Type 0
-Stops frames rest (faults.Frame kind place) = IsFaultOf frames rest kind place
-Stops frames rest faults.NoMemory = Unit {0}
-
--- the replies to the first k frames were appended, for some k
-pub record AnswersFront (frames : List Frame) (old new : List ℕ) : Type 0 where
+-- the bytes for the first k frames were appended, for some k
+pub record AppendsFront (text : List Frame → List ℕ) (frames : List Frame) (old new : List ℕ) : Type 0 where
   pub count : ℕ
   pub within : count ≤ length frames
-  pub appended : new ≡ old ++ answered (take count frames)
+  pub appended : new ≡ old ++ text (take count frames)
 
--- The frames of the stream, and the rest, were answered so. The rest is empty: all frames are counted and answered.
-pub record AnswersAll (frames : List Frame) (rest old new : List ℕ) (count : ℕ) : Type 0 where
+-- The bytes for all frames of the stream were appended, and the rest is empty.
+pub record AppendsAll (text : List Frame → List ℕ) (frames : List Frame) (rest old new : List ℕ) : Type 0 where
   pub whole : rest ≡ []
-  pub counted : count ≡ length frames
-  pub appended : new ≡ old ++ answered frames
+  pub appended : new ≡ old ++ text frames
 
--- The rest is at fault, and all frames before it are answered; or memory ran out.
-abbrev pub Fails : List Frame → List ℕ → List ℕ → List ℕ → AnswerFault → Type 0
-Fails frames rest old new (faults.Frame kind place) = IsFaultOf frames rest kind place × (new ≡ old ++ answered frames)
-Fails frames rest old new faults.NoMemory = AnswersFront frames old new
+-- The rest is at fault, and the bytes for all frames before it were appended; or memory ran out.
+abbrev pub Fails : (List Frame → List ℕ) → List Frame → List ℕ → List ℕ → List ℕ → AnswerFault → Type 0
+Fails text frames rest old new (faults.Frame kind place) = IsFaultOf frames rest kind place × (new ≡ old ++ text frames)
+Fails text frames rest old new faults.NoMemory = AppendsFront text frames old new

@@ -8,14 +8,15 @@ use Rattle.csi_frames.specs.Stream.{FramesOf}
 use Rattle.csi_streams.specs.declared.streaming.StreamFault.{StreamFault}
 use Rattle.csi_streams.specs.declared.streaming.StreamFault.TheVariants.{Frame as Faulty, NoMemory, Input, Output, Endless}
 use Rattle.csi_streams.specs.Replay.{answered, IsFaultOf, Grows}
+use Rattle.csi_streams.specs.Lines.{lines}
 
 -- these are the spellings of a new controller's replies to these frames
 abbrev pub AreReplies : List Frame → List ℕ → Type 0
 AreReplies frames bytes = bytes ≡ answered frames
 
--- of the lines that are shown no text is said
+-- these are the lines of these frames
 abbrev pub AreLines : List Frame → List ℕ → Type 0
-AreLines frames bytes = Unit {0}
+AreLines frames bytes = bytes ≡ lines frames
 
 -- the bytes wait for more: they are fewer than a length and its body take, or none
 abbrev pub Waits : List ℕ → Type 0

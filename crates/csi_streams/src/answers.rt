@@ -1,5 +1,5 @@
 //! A stream of frames, answered by a new controller.
-ghost use Rattle.std.specs.Prelude.{◌≡◌, ◌++◌, ◌∷◌, [], ℕ, List, IfOk, IfErr, OnOk, OnErr};
+ghost use Rattle.std.specs.Prelude.{◌≡◌, ◌++◌, ◌∷◌, [], ℕ, List, length, IfOk, IfErr, OnOk, OnErr};
 ghost use Rattle.std.specs.List.{flat_map};
 ghost use Rattle.csi_frames.specs.Spelling.{spelling};
 ghost use Rattle.csi_types.specs.declared.call.Party.{Party as OneParty};
@@ -10,7 +10,7 @@ ghost use Rattle.csi_frames.specs.Stream.{FramesOf};
 ghost use Rattle.csi_controller.specs.State.{ControllerState, empty_controller};
 ghost use Rattle.csi_controller.specs.Core.{Shows};
 ghost use Rattle.csi_controller.specs.Step.{answer_frame};
-ghost use Rattle.csi_streams.specs.Replay.{replay_config, AnswersAll, Fails};
+ghost use Rattle.csi_streams.specs.Replay.{replay_config, answered, AppendsAll, Fails};
 ghost use Rattle.csi_streams.specs.Answering.{HasAnswered};
 ghost use Rattle.csi_streams.specs.Failing.{TellsReader, TellsWriter};
 ghost use Rattle.csi_streams.specs.Streaming.{AreReplies, Streams};
@@ -147,9 +147,9 @@ pub fn answer(alloc: Global, input: &[u8], out: &mut Vec<u8>) -> Result<u64, Ans
     ensures stream { (frames : List FrameParts) × (rest : List ℕ) × FramesOf input.now frames rest }
     // and these frames were answered.
     ensures ok { (frames : List FrameParts) (rest : List ℕ) → FramesOf input.now frames rest →
-        IfOk result (AnswersAll frames rest out.old.items out.new.items) }
+        IfOk result (λ count. (count ≡ length frames) × AppendsAll answered frames rest out.old.items out.new.items) }
     ensures fault { (frames : List FrameParts) (rest : List ℕ) → FramesOf input.now frames rest →
-        IfErr result (Fails frames rest out.old.items out.new.items) }
+        IfErr result (Fails answered frames rest out.old.items out.new.items) }
 {
     let mut controller = new_controller(alloc);
     handle_slice(alloc, &mut controller, input, out)

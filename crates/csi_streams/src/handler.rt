@@ -1,7 +1,9 @@
 //! What is done with the frames of a stream.
-ghost use Rattle.std.specs.Prelude.{◌≡◌, ℕ, List, IfErr, OnOk, OnErr};
+ghost use Rattle.std.specs.Prelude.{◌≡◌, ℕ, List, length, IfErr, OnOk, OnErr};
+ghost use Rattle.std.specs.List.{flat_map};
 ghost use Rattle.csi_types.specs.Frame.{Frame};
 ghost use Rattle.csi_frames.specs.Lent.{lent};
+ghost use Rattle.csi_frames.specs.Spelling.{spelling};
 ghost use Rattle.csi_streams.specs.Handling.{Handles};
 
 use crate::answers::AnswerFault;
@@ -25,7 +27,7 @@ pub(crate) trait Handler {
         frame: &FrameRef<'_>,
         out: &mut Vec<u8>,
     ) -> Result<(), AnswerFault>
-        ensures ok { (frames : List Frame) → has_handled self.old frames →
+        ensures ok { (frames : List Frame) → has_handled self.old frames → place ≡ length (flat_map spelling frames) →
             OnOk result (Handles has_handled gives frames (lent frame.now) self.new out.old.items out.new.items) }
         ensures fault { IfErr result (λ fault. fault ≡ AnswerFault.NoMemory) }
         ensures err { OnErr result (out.new.items ≡ out.old.items) };

@@ -8,6 +8,7 @@ mod lines;
 mod shown;
 mod slices;
 mod streaming;
+mod worked;
 
 pub use answers::{AnswerFault, answer, answer_from};
 pub use lines::{show, show_from};

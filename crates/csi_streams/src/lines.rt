@@ -1,8 +1,9 @@
 //! A stream of frames, shown in lines.
-ghost use Rattle.std.specs.Prelude.{◌≡◌, ℕ, List, [], IfErr, OnOk, OnErr};
+ghost use Rattle.std.specs.Prelude.{◌≡◌, ◌++◌, ℕ, List, [], IfErr, OnOk, OnErr};
 ghost use Rattle.csi_types.specs.Frame.{Frame as FrameParts};
 ghost use Rattle.csi_frames.specs.Stream.{FramesOf};
-ghost use Rattle.csi_streams.specs.Replay.{Grows, Stops};
+ghost use Rattle.csi_streams.specs.Lines.{frame_line, lines as lines_of};
+ghost use Rattle.csi_streams.specs.Replay.{AppendsAll, Fails};
 ghost use Rattle.csi_streams.specs.Showing.{HasShown};
 ghost use Rattle.csi_streams.specs.Failing.{TellsReader, TellsWriter};
 ghost use Rattle.csi_streams.specs.Streaming.{AreLines, Streams};
@@ -25,13 +26,13 @@ fn append_line(
     frame: &Frame,
     out: &mut Vec<u8>,
 ) -> Result<(), AnswerFault>
-    ensures ok { OnOk result (Grows out.old.items out.new.items) }
+    ensures ok { OnOk result (out.new.items ≡ out.old.items ++ frame_line place frame.now) }
     ensures fault { IfErr result (λ fault. fault ≡ AnswerFault.NoMemory) }
     ensures err { OnErr result (out.new.items ≡ out.old.items) }
 {
     let frame = ShownFrame(frame);
     line.clear();
-    writeln!(line, "{place} {frame}")?;
+    writeln!(line, "{place}{frame}")?;
     out.extend_from_slice(line.as_bytes())?;
     Ok(())
 }
@@ -65,15 +66,17 @@ fn new_lines(alloc: Global) -> Lines {
     Lines { line }
 }
 
-/// Appends a line for each frame of `input`: the place of its first byte, its number, its party and its body. At an `Err`
-/// the lines of the frames before it were appended. The lines are this profile's own.
+/// Appends the line of each frame of `input`, in order: the place of its first byte, its number, its party and its body. What was
+/// appended before an `Err` stays: at `Frame` the lines of all frames before the fault, at `NoMemory` those of some of the first frames.
+/// The lines are this profile's own.
 pub fn show(alloc: Global, input: &[u8], out: &mut Vec<u8>) -> Result<(), AnswerFault>
-    // What was there stays at the front.
-    ensures grows { Grows out.old.items out.new.items }
-    // The input is frames, or the first fault is that of the rest.
-    ensures ok { (frames : List FrameParts) (rest : List ℕ) → FramesOf input.now frames rest → OnOk result (rest ≡ []) }
+    // The input is frames and a rest that begins with none,
+    ensures stream { (frames : List FrameParts) × (rest : List ℕ) × FramesOf input.now frames rest }
+    // and of these frames are the lines.
+    ensures ok { (frames : List FrameParts) (rest : List ℕ) → FramesOf input.now frames rest →
+        OnOk result (AppendsAll lines_of frames rest out.old.items out.new.items) }
     ensures fault { (frames : List FrameParts) (rest : List ℕ) → FramesOf input.now frames rest →
-        IfErr result (Stops frames rest) }
+        IfErr result (Fails lines_of frames rest out.old.items out.new.items) }
 {
     let mut lines = new_lines(alloc);
     match handle_slice(alloc, &mut lines, input, out) {

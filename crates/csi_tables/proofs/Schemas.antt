@@ -12,7 +12,6 @@ use Rattle.sqlite_schema.specs.declared.schema.Schema.{Schema}
 use Rattle.sqlite_resolve.specs.Compile.{table_defined_by}
 use Rattle.sqlite_catalog.specs.Listing.{IsTableRow, IsIndexRow, IsViewRow, IsDefined, IsSound, automatic, is_table_row, is_index_row, is_view_row}
 use Rattle.csi_tables.specs.Declared.{parts_table, parts_schema, no_schema}
-use Rattle.csi_tables.specs.Listed.{ListsParts}
 
 -- what stands beside nothing is nothing
 beside_none : {A B C : Type 0} (R : A → B → Type 0) (S : A → C → Type 0) (xs : List A) (zs : List C) → AllZip R xs [] → AllZip S xs zs → zs ≡ []
@@ -77,10 +76,11 @@ nothing_listed schema db none it =
     λ i. record { tables = tables i; indexes = indexes i; views = views i }
 
 -- so it doesn't list the table
-pub not_both : (schema : Schema) (db : Trees) → IsSound no_schema db → IsSound schema db → ¬ ListsParts schema
+pub not_both : (schema : Schema) (db : Trees) → IsSound no_schema db → IsSound schema db → ¬ (schema ≡ parts_schema)
+unfolding parts_schema
 not_both schema db none it lists =
     let nothing : schema.tables ≡ [] = ap (λ (s : Schema). s.tables) (nothing_listed schema db none it) in
-    let some = lists.tables.1 in
+    let some : schema.tables ≡ parts_table ∷ [] = ap (λ (s : Schema). s.tables) lists in
     absurd (cc)
 
 -- a database that lists the declared table and its index has the declared schema

@@ -1,20 +1,27 @@
--- What a database lists: nothing, the table `parts` alone, or something else. This profile's own.
-use Rattle.std.specs.Prelude.{◌≡◌, ◌≤◌, List, [], ◌∷◌, length, codes}
+-- What a database lists: nothing, the table as it is declared, or something else. This profile's own.
+use Rattle.std.specs.Prelude.{◌≡◌, false, None, [], ◌∷◌}
 use Rattle.sqlite.specs.Schema.{Schema}
 use Rattle.sqlite.specs.Table.{Table}
-use Rattle.csi_tables.specs.Declared.{no_schema}
+use Rattle.csi_tables.specs.Declared.{no_schema, parts_schema}
 
--- one table, with this name
-abbrev pub IsParts : List Table → Type 0
-IsParts tables = (table : Table) × (tables ≡ table ∷ []) × (table.name ≡ codes "parts")
-
--- a table of this name, however it is declared, and beside it one index at most: the one that SQLite makes for a primary key
-pub record ListsParts (schema : Schema) : Type 0 where
-  pub tables : IsParts schema.tables
-  pub indexes : length schema.indexes ≤ 1
-  pub views : schema.views ≡ []
-
--- neither that nor nothing: another table, index or view, a trigger, or what SQLite doesn't understand
+-- neither the table as it is declared, alone, nor nothing: another table, index or view, a trigger, or what SQLite doesn't understand
 pub record ListsOther (schema : Schema) : Type 0 where
   pub something : ¬ (schema ≡ no_schema)
-  pub else : ¬ ListsParts schema
+  pub else : ¬ (schema ≡ parts_schema)
+
+-- ---- of a table
+
+-- its first column is its one key, and its primary one, by the order of bytes
+pub record IsKeyedByFirst (table : Table) : Type 0 where
+  pub unique : table.uniques ≡ (1 ∷ []) ∷ []
+  pub primary : table.primary ≡ 1 ∷ []
+  pub other : table.key ≡ None
+  pub order : table.orders ≡ record { digits = 0 } ∷ []
+
+-- it has no check, no reference, no default but a literal, and no count
+pub record IsPlain (table : Table) : Type 0 where
+  pub checks : table.checks ≡ []
+  pub references : table.references ≡ []
+  pub computed : table.computed ≡ []
+  pub stamps : table.stamps ≡ record { places = []; terms = []; formats = [] }
+  pub counted : table.is_counted ≡ false

@@ -1,8 +1,10 @@
--- The four statements on the table: what makes it, reads it, puts a row in and takes one out; and how SQLite refuses three of them.
-use Rattle.std.specs.Prelude.{ℕ, List, [], ◌∷◌, codes, Err}
+-- The four statements on the table: what makes it, reads it, puts a row in and takes one out; and how SQLite carries them out, or
+-- refuses them.
+use Rattle.std.specs.Prelude.{ℕ, List, [], ◌∷◌, codes, Ok, Err}
 use Rattle.sqlite.specs.declared.types.Value.TheVariants.{Blob}
 use Rattle.sqlite.specs.declared.error.Error.{Error}
-use Rattle.sqlite.specs.State.{State, Executes, ExecutesInside}
+use Rattle.sqlite.specs.Order.{Row}
+use Rattle.sqlite.specs.State.{State, Executes, ExecutesInside, FailsToQuery, Shown}
 
 -- makes the table, if it isn't there
 abbrev pub make_text : List ℕ
@@ -20,14 +22,29 @@ put_text = codes "INSERT INTO parts (key, value) VALUES (?1, ?2) ON CONFLICT (ke
 abbrev pub remove_text : List ℕ
 remove_text = codes "DELETE FROM parts WHERE key = ?1"
 
--- SQLite refuses by this error, from the first state to the second: to make the table; and, in a transaction, to put a row in, or to
--- take one out
+-- SQLite refuses to make the table, with this error, and goes from the first state to the second
 abbrev pub RefusesToMake : State → State → Error → Type 0
 RefusesToMake before after error = Executes make_text [] before after (Err error)
+
+-- SQLite gives these rows, as all that the table has
+abbrev pub GivesRows : List Row → State → State → Type 0
+GivesRows rows before after = Shown read_text [] before after rows
+
+-- SQLite refuses to read the table, with this error
+abbrev pub RefusesToRead : State → State → Error → Type 0
+RefusesToRead before after error = FailsToQuery read_text [] before after error
+
+-- SQLite puts this row in, in a transaction
+abbrev pub PutsRow : List ℕ → List ℕ → State → State → Type 0
+PutsRow key value before after = (count : ℕ) × ExecutesInside 0 put_text (Blob key ∷ Blob value ∷ []) before after (Ok count)
 
 -- SQLite refuses to put this row in, with this error
 abbrev pub RefusesToPut : List ℕ → List ℕ → State → State → Error → Type 0
 RefusesToPut key value before after error = ExecutesInside 0 put_text (Blob key ∷ Blob value ∷ []) before after (Err error)
+
+-- SQLite takes the row of this key out, if there is one, in a transaction
+abbrev pub RemovesRow : List ℕ → State → State → Type 0
+RemovesRow key before after = (count : ℕ) × ExecutesInside 0 remove_text (Blob key ∷ []) before after (Ok count)
 
 -- SQLite refuses to take the row of this key out, with this error
 abbrev pub RefusesToRemove : List ℕ → State → State → Error → Type 0

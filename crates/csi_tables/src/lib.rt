@@ -4,4 +4,4 @@
 mod listed;
 mod rows;
 
-pub use rows::{all_rows, has_table, make_table, put_row, remove_row};
+pub use rows::{all_rows, has_other, has_table, make_table, put_row, remove_row};

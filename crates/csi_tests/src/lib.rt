@@ -5,6 +5,8 @@
 #[cfg(test)]
 mod assembled;
 #[cfg(test)]
+mod full;
+#[cfg(test)]
 mod orchestrator;
 #[cfg(test)]
 mod values;

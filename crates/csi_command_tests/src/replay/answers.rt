@@ -1,4 +1,4 @@
-//! The replies to a stream, whole or in want of memory.
+//! The replies to a stream, whole, and before that in want of memory.
 use super::running::bytes;
 use super::{CONTROLLER_PUBLISH, CREATE, CREATED, NO_NODE};
 use csi_commands::{AnswerFault, answer};
@@ -15,20 +15,22 @@ const CALLS: &[&str] = &[CREATE, CONTROLLER_PUBLISH, DELETE];
 // Of 33, 37 and 33 bytes.
 const REPLIES: &[&str] = &[CREATED, NO_NODE, DELETED];
 
-// Whether these are the replies before one of the three frames, and the fault is want of memory.
-fn is_wanting(fault: AnswerFault, out: &[u8], replies: &[u8]) -> bool {
-    fault == AnswerFault::NoMemory
-        && (out.is_empty() || out.len() == 33 || out.len() == 70)
-        && replies.starts_with(out)
+// Whether these are the replies to some of the first frames, and not to all.
+fn is_front(out: &[u8], replies: &[u8]) -> bool {
+    (out.is_empty() || out.len() == 33 || out.len() == 70) && replies.starts_with(out)
 }
 
-// Whether all replies are given and so many frames counted, or memory is wanted after the replies to some of the first frames.
+// Whether all replies are given and so many frames counted. Where memory is refused those to some of the first frames are given, and all
+// the second time.
 fn is_answered(alloc: Global, calls: &[u8], replies: &[u8], frames: u64) -> bool {
     let mut out = Vec::new(alloc);
-    match answer(alloc, calls, &mut out) {
-        Ok(count) => count == frames && out.as_slice() == replies,
-        Err(fault) => is_wanting(fault, out.as_slice(), replies),
+    let first = answer(alloc, calls, &mut out);
+    if first != Err(AnswerFault::NoMemory) {
+        return first == Ok(frames) && out.as_slice() == replies;
     }
+    let has_front = is_front(out.as_slice(), replies);
+    out.clear();
+    has_front && answer(alloc, calls, &mut out) == Ok(frames) && out.as_slice() == replies
 }
 
 #[test]

@@ -1,7 +1,7 @@
 //! Long runs, made by loops. Each is run to its whole report, and its world is audited.
 use super::listed::Listed;
 use super::running::gives;
-use super::scripts::{Place, Script};
+use super::scripts::{FOUR, Place, Script};
 use csi_endings::{Ending, FileCommand, ScheduleCommand};
 use csi_json::read_schedule;
 use csi_types::Config;
@@ -10,9 +10,9 @@ use std::alloc::{AllocError, Global};
 use std::process::Abort;
 
 // A schedule and its report, as texts.
-type Texts = (String, String);
+pub(super) type Texts = (String, String);
 
-fn written(
+pub(super) fn written(
     alloc: Global,
     script: &Script,
     listed: &Listed,
@@ -46,7 +46,7 @@ fn leads_to_safety(rt: &(impl Abort + AllocGlobal), schedule: &str) -> bool {
 }
 
 // The schedule is run to its report, and the world that its events lead to is safe.
-fn runs(rt: &(impl Abort + AllocGlobal), (schedule, report): &Texts) {
+pub(super) fn runs(rt: &(impl Abort + AllocGlobal), (schedule, report): &Texts) {
     let asked = (
         FileCommand::Schedule(ScheduleCommand::Run),
         schedule.as_bytes(),
@@ -97,7 +97,7 @@ fn take_turns(script: &mut Script, listed: &mut Listed) -> Result<(), AllocError
 }
 
 fn try_turns(alloc: Global) -> Result<Texts, AllocError> {
-    let mut script = Script::new(alloc, false);
+    let mut script = Script::new(alloc, FOUR, false);
     let mut listed = Listed::new(alloc);
     take_turns(&mut script, &mut listed)?;
     written(alloc, &script, &listed, 1)
@@ -142,7 +142,7 @@ fn everywhere(script: &mut Script, listed: &mut Listed, volume: u64) -> Result<(
 
 // Three volumes, while everything restarts: the orchestrator before each of 15 commands, the plugins before each delivery.
 fn try_restarts(alloc: Global) -> Result<Texts, AllocError> {
-    let mut script = Script::new(alloc, true);
+    let mut script = Script::new(alloc, FOUR, true);
     let mut listed = Listed::new(alloc);
     for volume in 1..=3u64 {
         everywhere(&mut script, &mut listed, volume)?;
@@ -194,7 +194,7 @@ fn sixteen(script: &mut Script, listed: &mut Listed) -> Result<(), AllocError> {
 }
 
 fn try_targets(alloc: Global) -> Result<Texts, AllocError> {
-    let mut script = Script::new(alloc, false);
+    let mut script = Script::new(alloc, FOUR, false);
     let mut listed = Listed::new(alloc);
     sixteen(&mut script, &mut listed)?;
     written(alloc, &script, &listed, 1)

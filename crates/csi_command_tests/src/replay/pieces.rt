@@ -1,8 +1,10 @@
 //! Commands on readers that give little at once or fail, and on writers that take little or nothing.
+mod counts;
+
 use super::drawing::Pictures;
 use super::running::bytes;
 use super::{CONTROLLER_PUBLISH, CREATE, CREATED, Case, DAMAGED, DELETE, DELETED, NO_NODE};
-use csi_commands::{StreamFault, answer_from, show_from, stream};
+use csi_commands::{StreamFault, answer_from, stream};
 use csi_counted::Counted;
 use csi_endings::{Ending, FileCommand, ScheduleCommand};
 use csi_frames::FaultKind;
@@ -359,30 +361,4 @@ fn is_stuck(alloc: Global, frames: &[u8]) -> bool {
 fn nothing_is_read_after_a_write_that_failed(rt: HostRuntime) {
     let frames = bytes(&rt, &[DELETE, DELETE, DELETE]);
     assert!(&rt; is_stuck(rt.alloc(), &frames) || is_stuck(rt.alloc(), &frames));
-}
-
-// The count of these three frames, where memory is there.
-fn counts_three(counted: Result<u64, StreamFault>) -> bool {
-    match counted {
-        Ok(count) => count == 3,
-        Err(fault) => fault == StreamFault::NoMemory,
-    }
-}
-
-#[test]
-fn answer_from_succeeds_with_memory(rt: HostRuntime) {
-    let frames = bytes(&rt, &[CREATE, CONTROLLER_PUBLISH, DELETE]);
-    let mut reader = Counted::new(reader_of(&frames, BYTE_BY_BYTE));
-    let mut writer = Counted::new(new_writer(AT_ONCE));
-    let result = answer_from(rt.alloc(), &mut reader, &mut writer);
-    assert!(&rt; counts_three(result));
-}
-
-#[test]
-fn show_from_succeeds_with_memory(rt: HostRuntime) {
-    let frames = bytes(&rt, &[CREATE, CONTROLLER_PUBLISH, DELETE]);
-    let mut reader = Counted::new(reader_of(&frames, BYTE_BY_BYTE));
-    let mut writer = Counted::new(new_writer(AT_ONCE));
-    let result = show_from(rt.alloc(), &mut reader, &mut writer);
-    assert!(&rt; counts_three(result));
 }

@@ -1,11 +1,21 @@
 //! Schedules that loops write, each with the texts of what is to come of its events, by the rules of the lifecycle. Volume 1 is
-//! `v10`, volume 2 `v11` and so on, a raw device of 10 bytes; node 1 is `n1`, and target 10 is `/t10`.
+//! `v1000`, volume 2 `v1001` and so on, a raw device of 10 bytes; node 1 is `n1`, and target 10 is `/t10`.
 use std::alloc::{AllocError, Global};
 use std::fmt::Write;
 
-// Four nodes.
-const CONFIG: &str =
-    "{\"greatest\":1000,\"nodes\":[{\"id\":\"n1\",\"slots\":9},{\"id\":\"n2\",\"slots\":9},{\"id\":\"n3\",\"slots\":9},{\"id\":\"n4\",\"slots\":9}]}";
+/// The nodes of a schedule: so many, from the one of this number on, each with so many slots.
+#[derive(Clone, Copy)]
+pub(super) struct Nodes {
+    pub first: u64,
+    pub count: u64,
+    pub slots: u64,
+}
+
+pub(super) const FOUR: Nodes = Nodes {
+    first: 1,
+    count: 4,
+    slots: 9,
+};
 
 /// A volume at a target of a node.
 #[derive(Clone, Copy)]
@@ -23,6 +33,9 @@ pub(super) struct Script {
     pub outcomes: String,
     /// How many frames are sent. The last of them is the one that is waited for.
     pub frames: u64,
+    /// How many events there are.
+    pub count: u64,
+    nodes: Nodes,
     // Whether the controller and one of the nodes restart before each delivery.
     restarts: bool,
 }
@@ -37,28 +50,45 @@ pub(super) fn comma(list: &mut String) -> Result<(), AllocError> {
 
 /// The number in a volume's name.
 pub(super) fn name_of(volume: u64) -> u64 {
-    volume.wrapping_add(9)
+    volume.wrapping_add(999)
+}
+
+/// The configuration of these nodes.
+pub(super) fn config_of(alloc: Global, nodes: Nodes) -> Result<String, AllocError> {
+    let slots = nodes.slots;
+    let mut list = String::new(alloc);
+    for place in 0..nodes.count {
+        let node = nodes.first.wrapping_add(place);
+        comma(&mut list)?;
+        write!(list, "{{\"id\":\"n{node}\",\"slots\":{slots}}}")?;
+    }
+    let list = list.as_str();
+    format!(in alloc; "{{\"greatest\":1000,\"nodes\":[{list}]}}")
 }
 
 impl Script {
-    pub(super) fn new(alloc: Global, restarts: bool) -> Script {
+    pub(super) fn new(alloc: Global, nodes: Nodes, restarts: bool) -> Script {
         Script {
             events: String::new(alloc),
             outcomes: String::new(alloc),
             frames: 0,
+            count: 0,
+            nodes,
             restarts,
         }
     }
 
     /// The schedule.
     pub(super) fn schedule(&self, alloc: Global) -> Result<String, AllocError> {
-        let config = CONFIG;
+        let config = config_of(alloc, self.nodes)?;
+        let config = config.as_str();
         let events = self.events.as_str();
         format!(in alloc; "{{\"config\":{config},\"events\":[{events}]}}")
     }
 
     // Another event.
     fn next(&mut self) -> Result<(), AllocError> {
+        self.count = self.count.wrapping_add(1);
         comma(&mut self.events)?;
         comma(&mut self.outcomes)
     }

@@ -29,7 +29,7 @@ fn makes_volume(
 }
 
 // Volumes 1 to 4,096, `v1` to `v4096`, made by calls 1 to 4,096.
-fn full(rt: &(impl Abort + AllocGlobal)) -> Controller {
+pub(super) fn full(rt: &(impl Abort + AllocGlobal)) -> Controller {
     let mut controller = new_controller(rt, &[]);
     for volume in 1..=4096u64 {
         makes_volume(rt, &mut controller, number(volume), volume);
@@ -37,7 +37,10 @@ fn full(rt: &(impl Abort + AllocGlobal)) -> Controller {
     controller
 }
 
-fn record_of(rt: &(impl Abort + AllocGlobal), controller: &Controller) -> ControllerRecord {
+pub(super) fn record_of(
+    rt: &(impl Abort + AllocGlobal),
+    controller: &Controller,
+) -> ControllerRecord {
     controller.record().expect(rt, "memory")
 }
 

@@ -133,7 +133,7 @@ fn a_frame_byte_by_byte(rt: HostRuntime) {
 
 // Writes the frames that are there, each once.
 fn write_frames(rt: &(impl Abort + AllocGlobal), splitter: &mut Splitter, out: &mut Vec<u8>) {
-    for _ in 0..100 {
+    for _ in 0..10_000 {
         match splitter.next() {
             Ok(Some(lent)) => {
                 let frame = lent.to_frame(rt.alloc()).expect(rt, "memory");
@@ -168,6 +168,24 @@ fn a_stream_in_pieces_of_any_size(rt: HostRuntime) {
         }
     }
     for size in 1..=stream.len() {
+        assert!(rt;
+            is_written_again(&rt, stream.as_slice(), size),
+            "pieces of {size}"
+        );
+    }
+    drop(stream);
+}
+
+// The same frames again and again, in pieces as large as the largest that a program reads, and about as large.
+#[test]
+fn a_long_stream_in_full_pieces(rt: HostRuntime) {
+    let mut stream = Vec::new(rt.alloc());
+    for _ in 0..2000u64 {
+        for bytes in [CREATE.as_slice(), DELETE.as_slice()] {
+            stream.extend_from_slice(bytes).expect(&rt, "memory");
+        }
+    }
+    for size in [299, 301, 65_535, 65_536, 65_537, 150_000] {
         assert!(rt;
             is_written_again(&rt, stream.as_slice(), size),
             "pieces of {size}"

@@ -3,7 +3,7 @@ ghost use Rattle.std.specs.Prelude.{◌≡◌, ◌≤◌, IfOk, IfErr, OnOk, Err
 ghost use Rattle.csi_counted.specs.Counting.{HasRisen};
 ghost use Rattle.csi_frames.specs.Lent.{lent};
 ghost use Rattle.csi_stores.specs.Stores.{LeavesOnly, Follows};
-ghost use Rattle.csi_serving.specs.Answering.{Steps, StopsUnwritten, AnswersOne};
+ghost use Rattle.csi_serving.specs.Answering.{Steps, AnswersInRecord, StopsUnwritten, AnswersOne};
 ghost use Rattle.csi_serving.specs.Failing.{Stays, FrameStays};
 
 use crate::plugin_core::Core;
@@ -38,13 +38,14 @@ fn carry_out<C: Core, K: Keep>(
     keep: &mut K,
     frame: &FrameRef<'_>,
 ) -> Result<Option<Vec<u8>>, FrameStop>
-    ensures steps { IfOk result (Steps C.answers core.old (lent frame.now) core.new) }
+    ensures steps { IfOk result (Steps (AnswersInRecord C.is_fit C.spells C.parts_of C.answers) core.old (lent frame.now) core.new) }
     ensures kept { OnOk result (LeavesOnly (K.store keep.old) (K.store keep.new) (C.parts_of core.old) (C.parts_of core.new)) }
-    ensures err { IfErr result (StopsUnwritten C.answers C.parts_of (K.store keep.old) (K.store keep.new) core.old (lent frame.now) core.new) }
+    ensures err { IfErr result (StopsUnwritten (AnswersInRecord C.is_fit C.spells C.parts_of C.answers) C.parts_of (K.store keep.old) (K.store keep.new) core.old (lent frame.now) core.new) }
     ensures untouched { result ≡ Err FrameStop.NoMemory → keep.new ≡ keep.old }
     ensures follows { Follows (K.store keep.old) (K.store keep.new) }
 {
     let bytes = core.answer(frame)?;
+    core.record_law();
     let parts = core.parts()?;
     match keep.commit(&parts) {
         Ok(()) => Ok(bytes),
@@ -59,7 +60,7 @@ pub(crate) fn answer_frame<C: Core, K: Keep, W: Write>(
     writer: &mut Counted<W>,
     frame: &FrameRef<'_>,
 ) -> Result<bool, FrameStop>
-    ensures answer { AnswersOne (record { answers = C.answers; parts_of = C.parts_of; core = core.old; before = K.store keep.old; after = K.store keep.new; written_before = W.contents writer.old.inner; written_after = W.contents writer.new.inner; at_end = ⊥; reader_failed = ⊥; writer_failed = HasRisen writer.old.faults writer.new.faults; endless = ⊥ }) (lent frame.now) core.new result }
+    ensures answer { AnswersOne (record { answers = AnswersInRecord C.is_fit C.spells C.parts_of C.answers; parts_of = C.parts_of; core = core.old; before = K.store keep.old; after = K.store keep.new; written_before = W.contents writer.old.inner; written_after = W.contents writer.new.inner; at_end = ⊥; reader_failed = ⊥; writer_failed = HasRisen writer.old.faults writer.new.faults; endless = ⊥ }) (lent frame.now) core.new result }
     ensures follows { Follows (K.store keep.old) (K.store keep.new) }
     ensures faults { writer.old.faults ≤ writer.new.faults }
     ensures quiet { Stays FrameStays writer.old.faults writer.new.faults result }

@@ -2,6 +2,7 @@
 ghost use Rattle.std.specs.Prelude.{◌≡◌, ◌≤◌, ◌<◌, ◌+◌, ◌^◌, None, length};
 ghost use Rattle.csi_counted.specs.Counting.{HasRisen};
 ghost use Rattle.csi_stores.specs.Stores.{Follows};
+ghost use Rattle.csi_serving.specs.Answering.{AnswersInRecord};
 ghost use Rattle.csi_serving.specs.Failing.{Stays, WriterStays};
 ghost use Rattle.csi_serving.specs.Stopping.{AnswersNext, kind_of_stop, one_more_served, stopped_by};
 
@@ -33,7 +34,7 @@ pub(crate) fn answer_next<C: Core, K: Keep, W: Write>(
 ) -> Result<Option<bool>, ServeFaultKind>
     requires clear { splitter.old.fault ≡ None }
     requires few { splitter.old.taken + length splitter.old.kept < 2 ^ 64 }
-    ensures answer { AnswersNext (record { answers = C.answers; parts_of = C.parts_of; core = core.old; before = K.store keep.old; after = K.store keep.new; written_before = W.contents writer.old.inner; written_after = W.contents writer.new.inner; at_end = ⊥; reader_failed = ⊥; writer_failed = HasRisen writer.old.faults writer.new.faults; endless = ⊥ }) splitter.old splitter.new core.new result }
+    ensures answer { AnswersNext (record { answers = AnswersInRecord C.is_fit C.spells C.parts_of C.answers; parts_of = C.parts_of; core = core.old; before = K.store keep.old; after = K.store keep.new; written_before = W.contents writer.old.inner; written_after = W.contents writer.new.inner; at_end = ⊥; reader_failed = ⊥; writer_failed = HasRisen writer.old.faults writer.new.faults; endless = ⊥ }) splitter.old splitter.new core.new result }
     ensures follows { Follows (K.store keep.old) (K.store keep.new) }
     ensures faults { writer.old.faults ≤ writer.new.faults }
     ensures quiet { Stays WriterStays writer.old.faults writer.new.faults result }

@@ -1,21 +1,27 @@
 //! Changes of the table.
-ghost use Rattle.std.specs.Prelude.{◌≡◌, ◌⊎◌, List, map, OnOk};
-ghost use Rattle.sqlite.specs.Held.{state};
+ghost use Rattle.std.specs.Prelude.{◌≡◌, ◌⊎◌, List, map, false, IsTrue, IfErr, OnOk};
+ghost use Rattle.sqlite.specs.Held.{Held, state};
 ghost use Rattle.sqlite.specs.State.{HasCleanDisk, Survives};
+ghost use Rattle.sqlite.specs.Steps.{FailsToCommit};
 ghost use Rattle.sqlite.specs.Tree.{Trees};
 ghost use Rattle.csi_stores.specs.Part.{StoredPart, change_of};
 ghost use Rattle.csi_stores.specs.Content.{changed_to, all_changed};
+ghost use Rattle.csi_sqlite.specs.Refusals.{MakesChange, RefusesChange, IsUndone, RefusesOneOf, RefusesChanges};
 ghost use Rattle.csi_sqlite.specs.Tables.{StoresParts, HasParts, HoldsParts};
 
 use csi_stores::Part;
 use csi_tables::{put_row, remove_row};
 use sqlite::{Alter, Connection, Error, ErrorCode, Transaction};
 
-// Makes one change.
+// Makes one change. An error is SQLite's own at its statement.
 fn change<S: Alter>(transaction: &mut Transaction<'_, S>, part: &Part) -> Result<(), Error>
     ensures same_reference { transaction.new.conn.ghost_name ≡ transaction.old.conn.ghost_name }
     ensures changed { HasCleanDisk (state S.Store transaction.new.conn.now) → (content : List StoredPart) → HasParts (state S.Store transaction.old.conn.now) content
         → OnOk result (HasParts (state S.Store transaction.new.conn.now) (changed_to (change_of part.now).key (change_of part.now).value content)) }
+    ensures made { HasCleanDisk (state S.Store transaction.new.conn.now) → IsTrue (state S.Store transaction.old.conn.now).in_transaction
+        → OnOk result (MakesChange (change_of part.now).key (change_of part.now).value (state S.Store transaction.old.conn.now) (state S.Store transaction.new.conn.now)) }
+    ensures refused { HasCleanDisk (state S.Store transaction.new.conn.now) → IsTrue (state S.Store transaction.old.conn.now).in_transaction
+        → IfErr result (RefusesChange (change_of part.now).key (change_of part.now).value (state S.Store transaction.old.conn.now) (state S.Store transaction.new.conn.now)) }
     ensures survives { Survives (state S.Store transaction.old.conn.now) (state S.Store transaction.new.conn.now) (λ _. ⊥) }
 {
     let key = part.key.to_be_bytes();
@@ -25,11 +31,15 @@ fn change<S: Alter>(transaction: &mut Transaction<'_, S>, part: &Part) -> Result
     }
 }
 
-// Makes the changes, one after another.
+// Makes the changes, one after another. An error is SQLite's own at one of them, and one that follows at the commit is after them all.
 fn change_all<S: Alter>(transaction: &mut Transaction<'_, S>, parts: &[Part]) -> Result<(), Error>
     ensures same_reference { transaction.new.conn.ghost_name ≡ transaction.old.conn.ghost_name }
     ensures changed { HasCleanDisk (state S.Store transaction.new.conn.now) → (content : List StoredPart) → HasParts (state S.Store transaction.old.conn.now) content
         → OnOk result (HasParts (state S.Store transaction.new.conn.now) (all_changed (map change_of parts.now) content)) }
+    ensures made { HasCleanDisk (state S.Store transaction.new.conn.now) → IsTrue (state S.Store transaction.old.conn.now).in_transaction → (after : Held S) (error : Error)
+        → FailsToCommit (state S.Store transaction.new.conn.now) (state S.Store after) error → OnOk result (RefusesOneOf S.Store (map change_of parts.now) transaction.old.conn.now after error) }
+    ensures refused { HasCleanDisk (state S.Store transaction.new.conn.now) → IsTrue (state S.Store transaction.old.conn.now).in_transaction → (after : Held S)
+        → IsUndone S.Store transaction.new.conn.now after → IfErr result (RefusesOneOf S.Store (map change_of parts.now) transaction.old.conn.now after) }
     ensures survives { Survives (state S.Store transaction.old.conn.now) (state S.Store transaction.new.conn.now) (λ _. ⊥) }
 {
     for part in parts {
@@ -38,7 +48,8 @@ fn change_all<S: Alter>(transaction: &mut Transaction<'_, S>, parts: &[Part]) ->
     Ok(())
 }
 
-/// Makes the changes in a transaction of their own: all, or none.
+/// Makes the changes in a transaction of their own: all, or none. Where none is open before, an error is SQLite's own, to one of the
+/// changes or to the commit.
 pub(crate) fn change_at_once<S: Alter>(
     connection: &mut Connection<S>,
     parts: &[Part],
@@ -49,6 +60,8 @@ pub(crate) fn change_at_once<S: Alter>(
     ensures crash { HasCleanDisk (state S.Store connection.new) → (content : List StoredPart) → HoldsParts (state S.Store connection.old) content
         → (db : Trees) → (state S.Store connection.new).may_leave db
         → (state S.Store connection.old).may_leave db ⊎ StoresParts db (all_changed (map change_of parts.now) content) }
+    ensures refused { HasCleanDisk (state S.Store connection.new) → (state S.Store connection.old).in_transaction ≡ false → IfErr result (RefusesChanges S.Store (map change_of parts.now) connection.old connection.new) }
+    ensures outside { (state S.Store connection.old).in_transaction ≡ false → (state S.Store connection.new).in_transaction ≡ false }
 {
     if !connection.is_autocommit() {
         return Err(Error::SqliteFailure(ErrorCode::TransactionState));

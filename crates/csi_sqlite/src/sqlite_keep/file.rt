@@ -1,16 +1,18 @@
 //! A store in a file.
-ghost use Rattle.std.specs.Prelude.{◌≡◌, ◌⊎◌, List, IsTrue, IfOk, IfErr};
+ghost use Rattle.std.specs.Prelude.{◌≡◌, ◌⊎◌, List, IsTrue, IfOk, IfErr, OnOk};
 ghost use Rattle.sqlite_wal.specs.Files.{image_at};
-ghost use Rattle.sqlite_wal.specs.Reads.{AreClean};
 ghost use Rattle.sqlite_trees.specs.Tree.{Trees};
-ghost use Rattle.sqlite_store.specs.FileStore.{recovers};
+ghost use Rattle.sqlite_trees.specs.View.{IsClean};
+ghost use Rattle.sqlite_store.specs.FileStore.{view, recovers};
 ghost use Rattle.sqlite.specs.Held.{state};
 ghost use Rattle.sqlite.specs.State.{HasCleanDisk};
-ghost use Rattle.sqlite.specs.Files.{file_state, HoldsDatabase};
+ghost use Rattle.sqlite.specs.Files.{file_state, HoldsDatabase, FailsToClose};
 ghost use Rattle.csi_stores.specs.Part.{StoredPart};
 ghost use Rattle.csi_sqlite.specs.Tables.{StoresParts, HoldsParts, OpensOver};
-ghost use Rattle.csi_sqlite.specs.Closing.{AreWhole};
+ghost use Rattle.csi_sqlite.specs.Refusals.{IsTold};
+ghost use Rattle.csi_sqlite.specs.Closing.{PutsBack, IsPutBack, IsNotPutBack};
 
+use crate::sqlite_keep::found::look_at;
 use crate::sqlite_keep::{SqliteKeep, is_memory};
 use csi_stores::KeepFault;
 use sqlite::{Alter, Connection, FileFrom, FileStore, Files, Start, Unknown};
@@ -35,7 +37,8 @@ fn kept<S: Alter + Drop>(
 impl<S: Start> SqliteKeep<FileStore<FileFrom<S>>> {
     /// The store in the SQLite file at this path, which is made where there is none, as is the table `parts`. `S` stands for what the
     /// file and its log held, and for how a crash is read. `Device` stands for all refusals but want of memory: the path can't be
-    /// opened, another process has the file, or it is no database.
+    /// opened, another process has the file, or it is no database that may be a store. Such a file is left as it is, as is what lies
+    /// beside it: both are looked at in copies first.
     pub fn open_file(
         rt: &HostRuntime,
         path: &str,
@@ -45,6 +48,7 @@ impl<S: Start> SqliteKeep<FileStore<FileFrom<S>>> {
         ensures faults { IfOk result (λ keep. keep.faults ≡ 0) }
         ensures cause { IfErr result (λ fault. (fault ≡ KeepFault.Device) ⊎ (fault ≡ KeepFault.NoMemory)) }
     {
+        look_at(rt, path)?;
         let connection = match Connection::open_from(rt, path, false, start) {
             Ok(connection) => connection,
             Err((error, _left)) if is_memory(&error) => return Err(KeepFault::NoMemory),
@@ -58,9 +62,10 @@ impl<D: Disk + Drop> SqliteKeep<FileStore<D>> {
     /// Puts the log back into the database file, and gives the two files back: then that file alone has the parts, also after a
     /// crash. Where a device fails, or memory is wanted, the store under the connection comes back: the parts are in the file and
     /// its log, as they were.
-    pub fn close_files(self) -> Result<Files<D>, FileStore<D>>
-        ensures whole { IfOk result (λ files. AreClean D.Disk files.log files.db → (content : List StoredPart) → HoldsParts (file_state self.connection) content → AreWhole D.Disk files content) }
-        ensures left { IfErr result (λ store. (db : Trees) → recovers store db → (file_state self.connection).may_leave db) }
+    pub fn close_files(self) -> Result<Files<D>, (KeepFault, FileStore<D>)>
+        ensures whole { IfOk result (PutsBack self.connection) }
+        ensures left { IfErr result (λ refusal. (db : Trees) → recovers refusal.1 db → (file_state self.connection).may_leave db) }
+        ensures told { IfErr result (λ refusal. IsClean (view refusal.1) → IsTold (FailsToClose self.connection refusal.1) refusal.0) }
     {
         let SqliteKeep {
             alloc: _,
@@ -69,25 +74,28 @@ impl<D: Disk + Drop> SqliteKeep<FileStore<D>> {
         } = self;
         match back.close_files() {
             Ok(files) => Ok(files),
-            Err((_error, store)) => Err(store),
+            Err((error, store)) if is_memory(&error) => Err((KeepFault::NoMemory, store)),
+            Err((_, store)) => Err((KeepFault::Device, store)),
         }
     }
 
-    /// Closes the files as `close_files` does, whether the log could be put back or not: every commit is in the one or in the two.
-    /// The answer is how often its device had failed before.
-    pub fn close(self) -> u64
-        ensures { result ≡ self.faults }
+    /// The same, and the files are closed. Where the log couldn't be put back, every commit is in the one or in the two.
+    pub fn close(self) -> Result<(), KeepFault>
+        ensures whole { OnOk result (IsPutBack self.connection) }
+        ensures told { IfErr result (IsNotPutBack self.connection) }
     {
-        let count = self.faults;
-        drop(self.close_files());
-        count
+        match self.close_files() {
+            Ok(_files) => Ok(()),
+            Err((fault, _store)) => Err(fault),
+        }
     }
 }
 
 /// Closes a store in a file of which nothing is supposed, as `SqliteKeep::close` does. A program that closes its store by this function
 /// proves nothing of how files are dropped.
-pub fn close_file(keep: SqliteKeep<FileStore<FileFrom<Unknown>>>) -> u64
-    ensures { result ≡ keep.faults }
+pub fn close_file(keep: SqliteKeep<FileStore<FileFrom<Unknown>>>) -> Result<(), KeepFault>
+    ensures whole { OnOk result (IsPutBack keep.connection) }
+    ensures told { IfErr result (IsNotPutBack keep.connection) }
 {
     keep.close()
 }

@@ -1,16 +1,17 @@
-//! A store that is found in its files, which are only read.
-ghost use Rattle.std.specs.Prelude.{◌≡◌, ◌⊎◌, List, IsTrue, IfOk, IfErr};
+//! Files that are looked at in copies, and a store that is found there: the files are only read.
+ghost use Rattle.std.specs.Prelude.{◌≡◌, ◌⊎◌, List, IsTrue, IfOk, IfErr, OnOk};
 ghost use Rattle.sqlite_disk.specs.Memory.{memory_bytes, memory_is_usable};
 ghost use Rattle.sqlite_trees.specs.Tree.{Trees};
 ghost use Rattle.sqlite.specs.Held.{state};
 ghost use Rattle.sqlite.specs.State.{HasCleanDisk};
 ghost use Rattle.sqlite.specs.Files.{file_state, image_of, Finds, HoldsDatabase};
 ghost use Rattle.csi_stores.specs.Part.{StoredPart};
+ghost use Rattle.csi_sqlite.specs.Looking.{IsTaken};
 ghost use Rattle.csi_sqlite.specs.Tables.{StoresParts, HoldsParts};
 
 use crate::sqlite_keep::{SqliteKeep, is_memory};
 use csi_stores::KeepFault;
-use csi_tables::has_table;
+use csi_tables::{has_other, has_table};
 use csi_types::NoMemory;
 use sqlite::{Alter, Connection, FileStore, Files, Options};
 use sqlite_disk::{Disk, Memory};
@@ -125,13 +126,11 @@ fn read_both(rt: &(impl Reads + AllocGlobal), path: &str) -> Result<(Vec<u8>, Ve
     Ok((db, log))
 }
 
-/// The store in the SQLite file at this path, as the file and the log beside it are now, in copies of the two: nothing is written
-/// to them, and where there is no file none is made. `Device` stands for all refusals but want of memory: a file can't be read, or
-/// was written meanwhile, it is no database that lists the table `parts` alone, or SQLite left a rollback journal beside it.
-pub fn find_at(
-    rt: &(impl Reads + AllocGlobal),
-    path: &str,
-) -> Result<SqliteKeep<FileStore<Memory>>, KeepFault>
+// Copies of the database file at this path, and of the log beside it, as they are now. There are none of what is no file, and where
+// SQLite left a rollback journal; one that begins with a 0 has nothing to play back.
+fn copies_at(rt: &(impl Reads + AllocGlobal), path: &str) -> Result<Files<Memory>, KeepFault>
+    ensures db_usable { IfOk result (λ files. IsTrue (memory_is_usable files.db)) }
+    ensures log_usable { IfOk result (λ files. IsTrue (memory_is_usable files.log)) }
     ensures cause { IfErr result (λ fault. (fault ≡ KeepFault.Device) ⊎ (fault ≡ KeepFault.NoMemory)) }
 {
     let real = match fs::canonicalize(rt, path) {
@@ -144,19 +143,56 @@ pub fn find_at(
         Err(error) => return Err(unread(error.kind())),
     }
     let journal = beside(rt, real.as_str(), "-journal")?;
-    if !journal.is_empty() {
+    if !journal.is_empty() && journal[0] != 0 {
         return Err(KeepFault::Device);
     }
     let (db, log) = read_both(rt, real.as_str())?;
-    let Ok(files) = copies(rt.alloc(), &db, &log) else {
-        return Err(KeepFault::NoMemory);
-    };
+    match copies(rt.alloc(), &db, &log) {
+        Ok(files) => Ok(files),
+        Err(_) => Err(KeepFault::NoMemory),
+    }
+}
+
+/// The store in the SQLite file at this path, as the file and the log beside it are now, in copies of the two: nothing is written
+/// to them, and where there is no file none is made. `Device` stands for all refusals but want of memory: a file can't be read, or
+/// was written meanwhile, it is no database that lists the table `parts` alone, or SQLite left a rollback journal beside it.
+pub fn find_at(
+    rt: &(impl Reads + AllocGlobal),
+    path: &str,
+) -> Result<SqliteKeep<FileStore<Memory>>, KeepFault>
+    ensures cause { IfErr result (λ fault. (fault ≡ KeepFault.Device) ⊎ (fault ≡ KeepFault.NoMemory)) }
+{
+    let files = copies_at(rt, path)?;
     SqliteKeep::find(rt.alloc(), files)
 }
 
-/// Closes a store that `find_at` found, with its copies. The answer is how often its device had failed before.
-pub fn close_found(keep: SqliteKeep<FileStore<Memory>>) -> u64
-    ensures { result ≡ keep.faults }
+// Refuses files that are no database, or one that lists anything but the table `parts`.
+fn judge<D: Disk + Drop>(alloc: Global, files: Files<D>) -> Result<(), KeepFault>
+    requires log { IsTrue (D.Disk.is_usable files.log) }
+    requires db { IsTrue (D.Disk.is_usable files.db) }
+    ensures taken { OnOk result (IsTaken D.Disk files) }
+    ensures cause { IfErr result (λ fault. (fault ≡ KeepFault.Device) ⊎ (fault ≡ KeepFault.NoMemory)) }
 {
-    keep.close()
+    match Connection::open_files(alloc, files, Options::new(1)) {
+        Ok(connection) if has_other(&connection) => Err(KeepFault::Device),
+        Ok(_connection) => Ok(()),
+        Err((error, _left)) if is_memory(&error) => Err(KeepFault::NoMemory),
+        Err(_) => Err(KeepFault::Device),
+    }
+}
+
+/// Looks at the file at this path and at the log beside it, in copies of the two, before they are opened to be written: opening
+/// makes a log and changes it, and what is no store has to stay as it is. Where there is no file nothing is done.
+pub(crate) fn look_at(rt: &(impl Reads + AllocGlobal), path: &str) -> Result<(), KeepFault>
+    ensures cause { IfErr result (λ fault. (fault ≡ KeepFault.Device) ⊎ (fault ≡ KeepFault.NoMemory)) }
+{
+    match fs::metadata(rt, path) {
+        Err(error) if error.kind() == ErrorKind::NotFound => Ok(()),
+        _ => judge(rt.alloc(), copies_at(rt, path)?),
+    }
+}
+
+/// Lets a store go that `find_at` found, with its copies, as `close_file` does with a store in a file.
+pub fn close_found(keep: SqliteKeep<FileStore<Memory>>) {
+    drop(keep);
 }

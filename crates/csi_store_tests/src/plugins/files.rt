@@ -23,10 +23,10 @@ fn a_controller_goes_on_over_a_file(rt: HostRuntime) {
     fs::create_dir(&rt, FOLDER).expect(&rt, "a folder");
     let mut keep = opened(&rt, &rt);
     assert!(&rt; goes_on(&rt, &mut keep));
-    assert!(&rt; keep.close() == 0);
+    assert!(&rt; keep.close().is_ok());
     let mut again = opened(&rt, &rt);
     let calls = (Asked::Controller, CALLS);
     assert!(&rt; ends(&rt, &mut again, calls, Ending::Done, LATER_REPLIES));
-    assert!(&rt; again.close() == 0);
+    assert!(&rt; again.close().is_ok());
     fs::remove_dir_all(&rt, FOLDER).expect(&rt, "a folder");
 }

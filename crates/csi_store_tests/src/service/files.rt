@@ -25,7 +25,7 @@ fn opened(host: &HostRuntime, path: &str) -> Option<Store> {
 fn fault_of(host: &HostRuntime, path: &str) -> Option<KeepFault> {
     match SqliteKeep::open_file(host, path, Unknown) {
         Ok(keep) => {
-            keep.close();
+            let _closed = keep.close();
             None
         }
         Err(fault) => Some(fault),
@@ -39,7 +39,7 @@ fn is_served(host: &HostRuntime, rt: &(impl Abort + AllocGlobal)) -> bool {
     let is_replied = is_replied(end, written.as_slice());
     drop(written);
     let is_busy = fault_of(host, PATH) == Some(KeepFault::Device);
-    is_end(end, 6) && is_replied && is_busy && keep.close() == 0
+    is_end(end, 6) && is_replied && is_busy && keep.close().is_ok()
 }
 
 // Whether a connection finds so many rows in the file.
@@ -71,6 +71,6 @@ fn a_file_that_is_closed_has_the_record_alone(rt: HostRuntime) {
     assert!(&rt; has_rows(&rt, &rt, 3) && is_plain(&rt));
     let mut again = opened(&rt, PATH).expect(&rt, "a store");
     assert!(&rt; is_after(&mut again, 6));
-    assert!(&rt; again.close() == 0);
+    assert!(&rt; again.close().is_ok());
     fs::remove_dir_all(&rt, FOLDER).expect(&rt, "a folder");
 }

@@ -192,7 +192,7 @@ fn a_store_in_a_file_is_told_and_left_as_it_is(rt: HostRuntime) {
     let (_end, written) = played(&rt, &mut keep, SCRIPT);
     drop(written);
     assert!(&rt; is_shown(&rt));
-    keep.close();
+    keep.close().expect(&rt, "a file");
     assert!(&rt; is_shown(&rt));
     fs::remove_dir_all(&rt, FOLDER).expect(&rt, "a folder");
 }

@@ -121,7 +121,7 @@ pub(super) fn left_closed(
 ) -> (bool, Image) {
     match keep.close_files() {
         Ok(files) => (true, image_of(rt, files, power_fails)),
-        Err(store) => (false, image_of(rt, store.close(), power_fails)),
+        Err((_fault, store)) => (false, image_of(rt, store.close(), power_fails)),
     }
 }
 

@@ -51,15 +51,17 @@ fn a_row_that_is_no_part_is_refused_at_its_place(rt: HostRuntime) {
     }
 }
 
-#[test]
-fn another_table_of_that_name_is_refused_at_0(rt: HostRuntime) {
-    let mut keep = store(&rt, "CREATE TABLE parts (name TEXT, size INTEGER)", "");
-    assert!(&rt; refused_at(&mut keep) == Some(0));
-    drop(keep);
-}
-
-// What a database may list beside nothing, or a table `parts` alone; and how often it lists such a table.
+// What a database may list beside nothing, or a table `parts` alone as it is declared; and how often it lists such a table.
 const OTHERS: &[(&str, i64)] = &[
+    ("CREATE TABLE parts (name TEXT, size INTEGER)", 1),
+    (
+        "CREATE TABLE parts (key BLOB NOT NULL, value BLOB NOT NULL)",
+        1,
+    ),
+    (
+        "CREATE TABLE parts (key BLOB NOT NULL, value BLOB NOT NULL); CREATE INDEX more ON parts (key)",
+        1,
+    ),
     ("CREATE TABLE other (x)", 0),
     ("CREATE TABLE other (x); CREATE INDEX more ON other (x)", 0),
     ("CREATE VIEW seen AS SELECT 1", 0),

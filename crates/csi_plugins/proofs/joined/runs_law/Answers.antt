@@ -1,51 +1,50 @@
 -- By the plugin that was asked for.
-use Rattle.std.proofs.Common.{◌≡◌, ◌∙◌, ℕ, [], ◌∷◌, Some, sym, ap}
-use Rattle.std.specs.Prelude.{⊤, List}
-use Rattle.std.proofs.lemmas.Option.{same_Some}
-use Rattle.csi_stores.specs.Part.{StoredPart}
-use Rattle.csi_stores.specs.Stores.{Store, IsSettled}
-use Rattle.csi_records.specs.declared.version.RecordVersion.{RecordVersion}
-use Rattle.csi_records.specs.Version.{version_number, version_from_number}
-use Rattle.csi_records.specs.Spelling.{present, controller_head, node_head}
-use Rattle.csi_records.proofs.FieldReaders.{version-found}
+use Rattle.std.proofs.Common.{◌≡◌, ◌∙◌, ℕ, [], None, Some, map, length, sym, ap, subst, arith}
+use Rattle.std.specs.Prelude.{List}
+use Rattle.csi_node.specs.OneRow.{shown}
+use Rattle.csi_stores.specs.Stores.{Store}
+use Rattle.csi_records.specs.Laws.{RecordLaws}
+use Rattle.csi_records.specs.Records.{node_layout, IsRecordOf}
+use Rattle.csi_records.specs.Spelling.{present, controller_head, node_head, volume_row}
 use Rattle.csi_service.specs.Opening.{controller_records, node_records}
-use Rattle.csi_service.specs.declared.controller_service.ControllerService.{ControllerService}
-use Rattle.csi_service.specs.declared.node_service.NodeService.{NodeService}
-use Rattle.csi_service.specs.Services.{controller_service_parts, ControllerAnswers, node_service_parts}
-use Rattle.csi_service.specs.NodeServices.{NodeServiceAnswers}
-use Rattle.csi_endings.specs.declared.ending.Ending.TheVariants.{Done}
+use Rattle.csi_service.specs.Services.{controller_service_parts, node_service_parts}
+use Rattle.csi_service.proofs.RecordParts.{node-wanted}
+use Rattle.csi_stores.specs.Part.{StoredPart}
+use Rattle.csi_endings.specs.declared.ending.Ending.{Ending}
 use Rattle.csi_plugins.specs.declared.kind.Plugin.{Plugin}
 use Rattle.csi_plugins.specs.declared.kind.Plugin.TheVariants.{Controller, Node}
 use Rattle.csi_plugins.specs.Service.{Streams}
+use Rattle.csi_plugins.specs.Serving.{IsControllerUnder, ControllerServes, IsNodeNamed, NodeServes}
 use Rattle.csi_plugins.specs.Running.{PluginRuns}
-use Rattle.csi_plugins.specs.Joined.{PluginJoins}
-use Rattle.csi_plugins.proofs.JoinedRuns.{one-run, opened-again}
+use Rattle.csi_plugins.specs.Joined.{Reopens, PluginJoins}
+use Rattle.csi_plugins.proofs.JoinedRuns.{one-run}
 use Rattle.csi_plugins.proofs.joined.runs_law.Goals as goal
 
--- the byte that parts begin with
-abbrev first_byte : List ℕ → ℕ
-first_byte [] = 0
-first_byte (byte ∷ bytes) = byte
-
-abbrev lead : List StoredPart → ℕ
-lead [] = 0
-lead (part ∷ parts) = first_byte part.value
-
--- it tells the version
-same-version : (version : RecordVersion) → version_number present ≡ version_number version → version ≡ present
-same-version version same = same_Some version present (sym (version-found version) ∙ ap version_from_number (sym same) ∙ version-found present)
-
-either : {K : Type 0} (seen : K → Store) (asked : Plugin) (before between after : K) (content : List StoredPart) (first second : Streams) → (seen after).honest → IsSettled (seen before) → (seen before).holds content
-    → PluginRuns seen asked before between first Done → PluginRuns seen asked between after second Done → PluginJoins asked content (seen after) first second
-either seen (Controller config) =
-    one-run seen controller_records (λ (service : ControllerService). service.controller.config ≡ config) ControllerAnswers controller_service_parts (controller_head present 1 (Some 0))
-    (λ old new frame reply answered asked. answered.config ∙ asked)
-    (opened-again controller_records (controller_head present 1 (Some 0)) controller_service_parts (λ core version is. same-version version (ap lead is.spelled.are)) (λ core none. cc))
-either seen (Node id) =
-    one-run seen (node_records id) (λ (service : NodeService). ⊤) NodeServiceAnswers node_service_parts (node_head present id (Some 0))
-    (λ old new frame reply answered asked. tt)
-    (opened-again (node_records id) (node_head present id (Some 0)) node_service_parts (λ core version is. same-version version (ap lead is.spelled.are)) (λ core none. cc))
+either : {K : Type 0} (seen : K → Store) → RecordLaws → (asked : Plugin) (before between again after : K) (content : List StoredPart) (first second : Streams) (ending ending_too : Ending) → (seen between).honest → (seen after).honest → (seen before).holds content
+    → Reopens (seen between) (seen again) → PluginRuns seen asked before between first ending → PluginRuns seen asked again after second ending_too → PluginJoins seen asked content before between again after first second ending ending_too
+either seen laws (Controller config) before between again after content first second ending ending_too honest honest_too holds reopens =
+    one-run seen controller_records (IsControllerUnder config) ControllerServes controller_service_parts (controller_head present 1 (Some 0))
+    (λ old new frame reply answered asked.
+    let next = answered.1 asked.1 in
+    let kept = next.1.0 in
+    ((answered.0.config ∙ asked.0, next.0), record { first = record { own = kept.next_id; session = Some kept.session }; rows = map volume_row kept.rows; spelled = next.1.1 }))
+    (λ parts version is other. sym (laws.controller.parts present version is.first other.first is.rows other.rows parts is.spelled other.spelled).0)
+    (λ parts is none. omega (arith, ap length (sym none ∙ is.spelled.are)))
+    (λ parts place is at. (laws.controller.refusals parts).none place (record { version = present; there = is }) at)
+    before between again after content first second ending ending_too honest honest_too holds reopens
+either seen laws (Node id) before between again after content first second ending ending_too honest honest_too holds reopens =
+    one-run seen (node_records id) (IsNodeNamed id) NodeServes node_service_parts (node_head present id (Some 0))
+    (λ old new frame reply answered asked.
+    let next = answered.1 asked.1 in
+    let kept = next.1.0 in
+    let own : new.node.id ≡ id = answered.0.id ∙ asked.0 in
+    let is : IsRecordOf (node_layout present None) (node_service_parts new) = record { first = record { own = kept.id; session = Some kept.session }; rows = map shown kept.rows; spelled = next.1.1 } in
+    ((own, next.0), subst (λ (n : List ℕ). IsRecordOf (node_layout present (Some n)) (node_service_parts new)) own (node-wanted new.node.id (Some new.node.session) (map shown new.node.rows) is)))
+    (λ parts version is other. sym ((laws.node (Some id)).parts present version is.first other.first is.rows other.rows parts is.spelled other.spelled).0)
+    (λ parts is none. omega (arith, ap length (sym none ∙ is.spelled.are)))
+    (λ parts place is at. ((laws.node (Some id)).refusals parts).none place (record { version = present; there = is }) at)
+    before between again after content first second ending ending_too honest honest_too holds reopens
 
 pub returns : goal.returns
-returns g c = λ asked before between after content r r_read s s_read w w_written v v_written honest settled holds ran ran_too.
-    either g.K.Keep.store asked before between after content _ _ honest settled holds ran ran_too
+returns g c = λ asked before between again after content r r_read s s_read w w_written v v_written ending ending_too honest honest_too holds ran reopens ran_too.
+    either g.K.Keep.store c.record_laws.ensures asked before between again after content _ _ ending ending_too honest honest_too holds reopens ran ran_too

@@ -5,7 +5,7 @@ use Rattle.csi_plugins.proofs.running.run_controller.Goals as goal
 pub returns-in-Ok-clause-runs : goal.returns-in-Ok-clause-runs
 returns-in-Ok-clause-runs g c = inr (record {
   core = c.in-Ok.core;
-  asked = c.in-Ok.ensures.config;
+  asked = (c.in-Ok.ensures.config, c.in-Ok.ensures.fit);
   opened = c.open.new.keep;
   honest = c.in-Ok.ensures.honest;
   found = c.in-Ok.ensures.opened;

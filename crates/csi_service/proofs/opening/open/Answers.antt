@@ -5,7 +5,7 @@ use Rattle.std.proofs.lemmas.List.{nil_from_length}
 use Rattle.csi_stores.specs.declared.part.Part.{Part}
 use Rattle.csi_stores.specs.Part.{all_stored_in, change_of}
 use Rattle.csi_service.specs.Opening.{IsOpenFault, IsMade, IsUnmade}
-use Rattle.csi_service.proofs.OpeningAnswers.{HasLoaded, unmade-cause, opened-same, opened-changed, commit-left, commit-cause, some-changes}
+use Rattle.csi_service.proofs.OpeningAnswers.{HasLoaded, load-left, unmade-cause, opened-same, opened-changed, commit-left, commit-cause, some-changes}
 use Rattle.csi_service.proofs.opening.open.Goals as goal
 
 pub returns-in-Err-made-clause-cause : goal.returns-in-Err-made-clause-cause
@@ -15,7 +15,7 @@ returns-in-Err-made-clause-cause g c =
     let records = g.S.Opens.records c.args.asked in
     let head = g.S.Opens.head c.args.asked in
     let e = c.in-Ok.ensures in
-    let load : HasLoaded before loaded c.in-Ok.parts.items = record { honest = e.honest; given = e.parts; stays = e.stays; left = e.left; room = e.room; faults = e.faults } in
+    let load : HasLoaded before loaded c.in-Ok.parts.items = record { honest = e.honest; given = e.parts; stays = e.stays; listed = e.foreign; left = e.left; some = e.some; room = e.room; faults = e.faults } in
     let unmade = subst (λ (ps : List Part). IsUnmade records (all_stored_in ps) c.in-Err-made.stop) c.deref.ensures.value c.in-Err-made.ensures.refused in
     subst (IsOpenFault records before loaded head) (sym c.from.ensures) (unmade-cause records head before loaded c.in-Ok.parts.items load c.in-Err-made.stop unmade)
 
@@ -26,7 +26,7 @@ returns-then-is_empty-clause-opened g c =
     let records = g.S.Opens.records c.args.asked in
     let head = g.S.Opens.head c.args.asked in
     let e = c.in-Ok.ensures in
-    let load : HasLoaded before loaded c.in-Ok.parts.items = record { honest = e.honest; given = e.parts; stays = e.stays; left = e.left; room = e.room; faults = e.faults } in
+    let load : HasLoaded before loaded c.in-Ok.parts.items = record { honest = e.honest; given = e.parts; stays = e.stays; listed = e.foreign; left = e.left; some = e.some; room = e.room; faults = e.faults } in
     let changed = c.in-Ok-made.made.1.items in
     let made = subst (λ (ps : List Part). IsMade records head (all_stored_in ps) (g.S.Opens.parts_of c.in-Ok-made.made.0) (map change_of changed)) c.deref.ensures.value c.in-Ok-made.ensures.made in
     let zero : length changed ≡ 0 = grind (arith, nat_tests) in
@@ -40,12 +40,12 @@ returns-in-Ok-commit-clause-opened g c =
     let records = g.S.Opens.records c.args.asked in
     let head = g.S.Opens.head c.args.asked in
     let e = c.in-Ok.ensures in
-    let load : HasLoaded before loaded c.in-Ok.parts.items = record { honest = e.honest; given = e.parts; stays = e.stays; left = e.left; room = e.room; faults = e.faults } in
+    let load : HasLoaded before loaded c.in-Ok.parts.items = record { honest = e.honest; given = e.parts; stays = e.stays; listed = e.foreign; left = e.left; some = e.some; room = e.room; faults = e.faults } in
     let changed = c.deref-2.result.now in
     let found = subst (λ (ps : List Part). IsMade records head (all_stored_in ps) (g.S.Opens.parts_of c.in-Ok-made.made.0) (map change_of c.in-Ok-made.made.1.items)) c.deref.ensures.value c.in-Ok-made.ensures.made in
     let made = subst (λ (ps : List Part). IsMade records head (all_stored_in c.in-Ok.parts.items) (g.S.Opens.parts_of c.in-Ok-made.made.0) (map change_of ps)) (sym c.deref-2.ensures.value) found in
     opened-changed records head before loaded c.in-Ok.parts.items load g.S.Opens.parts_of c.in-Ok-made.made.0 (map change_of changed) made after
-    c.in-Ok-commit.ensures.honest c.in-Ok-commit.ensures.done c.in-Ok-commit.ensures.alone
+    c.in-Ok-commit.ensures.honest c.in-Ok-commit.ensures.done
 
 pub returns-in-Ok-commit-clause-left : goal.returns-in-Ok-commit-clause-left
 returns-in-Ok-commit-clause-left g c =
@@ -55,14 +55,14 @@ returns-in-Ok-commit-clause-left g c =
     let records = g.S.Opens.records c.args.asked in
     let head = g.S.Opens.head c.args.asked in
     let e = c.in-Ok.ensures in
-    let load : HasLoaded before loaded c.in-Ok.parts.items = record { honest = e.honest; given = e.parts; stays = e.stays; left = e.left; room = e.room; faults = e.faults } in
+    let load : HasLoaded before loaded c.in-Ok.parts.items = record { honest = e.honest; given = e.parts; stays = e.stays; listed = e.foreign; left = e.left; some = e.some; room = e.room; faults = e.faults } in
     let changed = c.deref-2.result.now in
     let found = subst (λ (ps : List Part). IsMade records head (all_stored_in ps) (g.S.Opens.parts_of c.in-Ok-made.made.0) (map change_of c.in-Ok-made.made.1.items)) c.deref.ensures.value c.in-Ok-made.ensures.made in
     let made = subst (λ (ps : List Part). IsMade records head (all_stored_in c.in-Ok.parts.items) (g.S.Opens.parts_of c.in-Ok-made.made.0) (map change_of ps)) (sym c.deref-2.ensures.value) found in
     let some : 1 ≤ length c.in-Ok-made.made.1.items = grind (arith, nat_tests) in
     commit-left records head before loaded c.in-Ok.parts.items load g.S.Opens.parts_of c.in-Ok-made.made.0 (map change_of changed) made after
     (some-changes changed (subst (λ (ps : List Part). 1 ≤ length ps) (sym c.deref-2.ensures.value) some)) c.in-Ok-commit.ensures.honest
-    (λ honest content holds other leaves. inr (c.in-Ok-commit.ensures.alone honest content holds other leaves))
+    (λ honest content holds other leaves. inr ((c.in-Ok-commit.ensures.done honest content holds).alone other leaves)) c.in-Ok-commit.ensures.some
 
 pub returns-in-Err-commit-clause-cause : goal.returns-in-Err-commit-clause-cause
 returns-in-Err-commit-clause-cause g c =
@@ -72,7 +72,7 @@ returns-in-Err-commit-clause-cause g c =
     let records = g.S.Opens.records c.args.asked in
     let head = g.S.Opens.head c.args.asked in
     let e = c.in-Ok.ensures in
-    let load : HasLoaded before loaded c.in-Ok.parts.items = record { honest = e.honest; given = e.parts; stays = e.stays; left = e.left; room = e.room; faults = e.faults } in
+    let load : HasLoaded before loaded c.in-Ok.parts.items = record { honest = e.honest; given = e.parts; stays = e.stays; listed = e.foreign; left = e.left; some = e.some; room = e.room; faults = e.faults } in
     let changed = c.deref-2.result.now in
     let found = subst (λ (ps : List Part). IsMade records head (all_stored_in ps) (g.S.Opens.parts_of c.in-Ok-made.made.0) (map change_of c.in-Ok-made.made.1.items)) c.deref.ensures.value c.in-Ok-made.ensures.made in
     let made = subst (λ (ps : List Part). IsMade records head (all_stored_in c.in-Ok.parts.items) (g.S.Opens.parts_of c.in-Ok-made.made.0) (map change_of ps)) (sym c.deref-2.ensures.value) found in
@@ -88,10 +88,22 @@ returns-in-Err-commit-clause-left g c =
     let records = g.S.Opens.records c.args.asked in
     let head = g.S.Opens.head c.args.asked in
     let e = c.in-Ok.ensures in
-    let load : HasLoaded before loaded c.in-Ok.parts.items = record { honest = e.honest; given = e.parts; stays = e.stays; left = e.left; room = e.room; faults = e.faults } in
+    let load : HasLoaded before loaded c.in-Ok.parts.items = record { honest = e.honest; given = e.parts; stays = e.stays; listed = e.foreign; left = e.left; some = e.some; room = e.room; faults = e.faults } in
     let changed = c.deref-2.result.now in
     let found = subst (λ (ps : List Part). IsMade records head (all_stored_in ps) (g.S.Opens.parts_of c.in-Ok-made.made.0) (map change_of c.in-Ok-made.made.1.items)) c.deref.ensures.value c.in-Ok-made.ensures.made in
     let made = subst (λ (ps : List Part). IsMade records head (all_stored_in c.in-Ok.parts.items) (g.S.Opens.parts_of c.in-Ok-made.made.0) (map change_of ps)) (sym c.deref-2.ensures.value) found in
     let some : 1 ≤ length c.in-Ok-made.made.1.items = grind (arith, nat_tests) in
     commit-left records head before loaded c.in-Ok.parts.items load g.S.Opens.parts_of c.in-Ok-made.made.0 (map change_of changed) made after
-    (some-changes changed (subst (λ (ps : List Part). 1 ≤ length ps) (sym c.deref-2.ensures.value) some)) c.in-Err-commit.ensures.honest c.in-Err-commit.ensures.refused
+    (some-changes changed (subst (λ (ps : List Part). 1 ≤ length ps) (sym c.deref-2.ensures.value) some)) c.in-Err-commit.ensures.honest c.in-Err-commit.ensures.refused c.in-Err-commit.ensures.some
+
+pub returns-in-Err-clause-left : goal.returns-in-Err-clause-left
+returns-in-Err-clause-left g c =
+    load-left (g.S.Opens.records c.args.asked) (g.K.Keep.store c.args.keep.now) (g.K.Keep.store c.load.new.self) (g.S.Opens.head c.args.asked) c.in-Err.ensures.left c.in-Err.ensures.some
+
+pub returns-in-Err-made-clause-left : goal.returns-in-Err-made-clause-left
+returns-in-Err-made-clause-left g c =
+    load-left (g.S.Opens.records c.args.asked) (g.K.Keep.store c.args.keep.now) (g.K.Keep.store c.load.new.self) (g.S.Opens.head c.args.asked) c.in-Ok.ensures.left c.in-Ok.ensures.some
+
+pub returns-then-is_empty-clause-left : goal.returns-then-is_empty-clause-left
+returns-then-is_empty-clause-left g c =
+    load-left (g.S.Opens.records c.args.asked) (g.K.Keep.store c.args.keep.now) (g.K.Keep.store c.load.new.self) (g.S.Opens.head c.args.asked) c.in-Ok.ensures.left c.in-Ok.ensures.some

@@ -2,6 +2,7 @@
 use Rattle.std.proofs.Common.{◌∙◌, refl, ◌++◌, [], ◌≤◌, ◌^◌, length, arith}
 use Rattle.std.specs.Io.KnownBytes.{IsAtEnd}
 use Rattle.csi_counted.specs.Counting.{HasRisen}
+use Rattle.csi_serving.specs.Answering.{AnswersInRecord}
 use Rattle.csi_serving.proofs.StoreCalls.{risen-more, follows-more}
 use Rattle.csi_serving.proofs.Failures.{reader-same, writer-more, reader-more, writer-same, reader-ends, writer-ends}
 use Rattle.std.proofs.KnownBytes.{Consumes-nil, Consumes-trans}
@@ -15,7 +16,7 @@ frames-init g c =
     record {
       stream = [];
       consumed = Consumes-nil (g.R.Read.remaining c.args.reader.now.inner);
-      progress = rw c.new-splitter.ensures (start g.C.Core.answers g.C.Core.parts_of c.args.core (now c.args.keep.now) (g.W.Write.contents c.args.writer.now.inner));
+      progress = rw c.new-splitter.ensures (start (AnswersInRecord g.C.Core.is_fit g.C.Core.spells g.C.Core.parts_of g.C.Core.answers) g.C.Core.parts_of c.args.core (now c.args.keep.now) (g.W.Write.contents c.args.writer.now.inner));
       reader_faults = omega arith;
       writer_faults = omega arith;
       reader_same = refl;
@@ -24,19 +25,19 @@ frames-init g c =
 
 pub one_more-served-requires-clause-frames : goal.one_more-served-requires-clause-frames
 one_more-served-requires-clause-frames g c =
-    more_frames g.C.Core.answers g.C.Core.parts_of c.args.core c.frames.core _ _ _ _ c.frames.invariant.stream c.frames.splitter c.frames.served c.frames.invariant.progress
+    more_frames (AnswersInRecord g.C.Core.is_fit g.C.Core.spells g.C.Core.parts_of g.C.Core.answers) g.C.Core.parts_of c.args.core c.frames.core _ _ _ _ c.frames.invariant.stream c.frames.splitter c.frames.served c.frames.invariant.progress
 
 pub one_more-served-requires-clause-replies : goal.one_more-served-requires-clause-replies
 one_more-served-requires-clause-replies g c =
-    more_replies g.C.Core.answers g.C.Core.parts_of c.args.core c.frames.core _ _ _ _ c.frames.invariant.stream c.frames.splitter c.frames.served c.frames.invariant.progress
+    more_replies (AnswersInRecord g.C.Core.is_fit g.C.Core.spells g.C.Core.parts_of g.C.Core.answers) g.C.Core.parts_of c.args.core c.frames.core _ _ _ _ c.frames.invariant.stream c.frames.splitter c.frames.served c.frames.invariant.progress
 
 pub stopped-requires : goal.stopped-requires
 stopped-requires g c =
-    more_frames g.C.Core.answers g.C.Core.parts_of c.args.core c.frames.core _ _ _ _ c.frames.invariant.stream c.frames.splitter c.frames.served c.frames.invariant.progress
+    more_frames (AnswersInRecord g.C.Core.is_fit g.C.Core.spells g.C.Core.parts_of g.C.Core.answers) g.C.Core.parts_of c.args.core c.frames.core _ _ _ _ c.frames.invariant.stream c.frames.splitter c.frames.served c.frames.invariant.progress
 
 pub stopped-requires-in-Err : goal.stopped-requires-in-Err
 stopped-requires-in-Err g c =
-    more_frames g.C.Core.answers g.C.Core.parts_of c.args.core c.frames.core _ _ _ _ c.frames.invariant.stream c.frames.splitter c.frames.served c.frames.invariant.progress
+    more_frames (AnswersInRecord g.C.Core.is_fit g.C.Core.spells g.C.Core.parts_of g.C.Core.answers) g.C.Core.parts_of c.args.core c.frames.core _ _ _ _ c.frames.invariant.stream c.frames.splitter c.frames.served c.frames.invariant.progress
 
 pub frames-preserved-in-Ok-Some : goal.frames-preserved-in-Ok-Some
 frames-preserved-in-Ok-Some g c =
@@ -46,7 +47,7 @@ frames-preserved-in-Ok-Some g c =
     record {
       stream = i.stream;
       consumed = i.consumed;
-      progress = rw c.one_more-served.ensures (more g.C.Core.answers g.C.Core.parts_of c.args.core c.frames.core (now c.args.keep.now) (now c.frames.keep) (contents c.args.writer.now.inner) (contents c.frames.writer.inner)
+      progress = rw c.one_more-served.ensures (more (AnswersInRecord g.C.Core.is_fit g.C.Core.spells g.C.Core.parts_of g.C.Core.answers) g.C.Core.parts_of c.args.core c.frames.core (now c.args.keep.now) (now c.frames.keep) (contents c.args.writer.now.inner) (contents c.frames.writer.inner)
           i.stream c.frames.splitter c.frames.served c.answer_next.new.core (now c.answer_next.new.keep) (contents c.answer_next.new.writer.inner) (HasRisen c.frames.writer.faults c.answer_next.new.writer.faults)
           c.answer_next.new.splitter c.in-Ok-Some.field-0 c.in-Ok-Some.replied c.in-Ok-Some.field-0-is i.progress c.in-Ok-Some.ensures.follows c.in-Ok-Some.ensures.answer);
       reader_faults = i.reader_faults;
@@ -60,7 +61,7 @@ frames-smaller-in-Ok-Some g c =
     let now = g.K.Keep.store in
     let contents = g.W.Write.contents in
     let i = c.frames.invariant in
-    let off = takes_off g.C.Core.answers g.C.Core.parts_of c.args.core c.frames.core (now c.args.keep.now) (now c.frames.keep) (contents c.args.writer.now.inner) (contents c.frames.writer.inner) i.stream c.frames.splitter c.frames.served
+    let off = takes_off (AnswersInRecord g.C.Core.is_fit g.C.Core.spells g.C.Core.parts_of g.C.Core.answers) g.C.Core.parts_of c.args.core c.frames.core (now c.args.keep.now) (now c.frames.keep) (contents c.args.writer.now.inner) (contents c.frames.writer.inner) i.stream c.frames.splitter c.frames.served
     c.answer_next.new.core (now c.answer_next.new.keep) (contents c.answer_next.new.writer.inner) (HasRisen c.frames.writer.faults c.answer_next.new.writer.faults) c.answer_next.new.splitter c.in-Ok-Some.field-0 c.in-Ok-Some.replied c.in-Ok-Some.field-0-is i.progress c.in-Ok-Some.ensures.answer in
     omega (arith, off.0, off.1, i.progress.total, i.progress.few)
 
@@ -70,13 +71,13 @@ frames-preserved g c =
     let contents = g.W.Write.contents in
     let remaining = g.R.Read.remaining in
     let i = c.frames.invariant in
-    let waiting = waits g.C.Core.answers g.C.Core.parts_of c.args.core c.frames.core (now c.args.keep.now) (now c.frames.keep) (contents c.args.writer.now.inner) (contents c.frames.writer.inner) i.stream c.frames.splitter c.frames.served
+    let waiting = waits (AnswersInRecord g.C.Core.is_fit g.C.Core.spells g.C.Core.parts_of g.C.Core.answers) g.C.Core.parts_of c.args.core c.frames.core (now c.args.keep.now) (now c.frames.keep) (contents c.args.writer.now.inner) (contents c.frames.writer.inner) i.stream c.frames.splitter c.frames.served
     c.answer_next.new.core (now c.answer_next.new.keep) (contents c.answer_next.new.writer.inner) (HasRisen c.frames.writer.faults c.answer_next.new.writer.faults) c.answer_next.new.splitter c.in-Ok-None.field-0 c.in-Ok-None.field-0-is i.progress c.in-Ok-None.ensures.follows c.in-Ok-None.ensures.answer in
     let read = c.in-Ok-true.ensures.read in
     record {
       stream = i.stream ++ read.bytes;
       consumed = Consumes-trans (remaining c.args.reader.now.inner) (remaining c.frames.reader.inner) (remaining c.read_piece.new.reader.inner) i.stream read.bytes i.consumed read.consumed;
-      progress = fed g.C.Core.answers g.C.Core.parts_of c.args.core c.answer_next.new.core (now c.args.keep.now) (now c.answer_next.new.keep) (contents c.args.writer.now.inner) (contents c.answer_next.new.writer.inner) i.stream c.answer_next.new.splitter c.frames.served
+      progress = fed (AnswersInRecord g.C.Core.is_fit g.C.Core.spells g.C.Core.parts_of g.C.Core.answers) g.C.Core.parts_of c.args.core c.answer_next.new.core (now c.args.keep.now) (now c.answer_next.new.keep) (contents c.args.writer.now.inner) (contents c.answer_next.new.writer.inner) i.stream c.answer_next.new.splitter c.frames.served
           (remaining c.frames.reader.inner) (remaining c.read_piece.new.reader.inner) c.frames.reader.faults c.read_piece.new.reader.faults c.read_piece.new.splitter c.in-Ok-true.field-0 c.in-Ok-true.field-0-test waiting.0 read;
       reader_faults = omega (arith, i.reader_faults, c.in-Ok-true.ensures.faults);
       writer_faults = omega (arith, i.writer_faults, c.in-Ok-None.ensures.faults);
@@ -92,7 +93,7 @@ returns-in-Err-clause-serves g c =
     let i = c.frames.invariant in (
       i.stream,
       i.consumed,
-      rw c.stopped-in-Err.ensures (halted g.C.Core.answers g.C.Core.parts_of c.args.core c.frames.core (now c.args.keep.now) (now c.frames.keep) (contents c.args.writer.now.inner) (contents c.frames.writer.inner) i.stream c.frames.splitter c.frames.served
+      rw c.stopped-in-Err.ensures (halted (AnswersInRecord g.C.Core.is_fit g.C.Core.spells g.C.Core.parts_of g.C.Core.answers) g.C.Core.parts_of c.args.core c.frames.core (now c.args.keep.now) (now c.frames.keep) (contents c.args.writer.now.inner) (contents c.frames.writer.inner) i.stream c.frames.splitter c.frames.served
           c.answer_next.new.core (now c.answer_next.new.keep) (contents c.answer_next.new.writer.inner) (IsAtEnd (remaining c.frames.reader.inner)) (HasRisen c.args.reader.now.faults c.frames.reader.faults) (HasRisen c.args.writer.now.faults c.answer_next.new.writer.faults)
           (HasRisen c.frames.writer.faults c.answer_next.new.writer.faults) (2 ^ 63 ≤ length i.stream) c.in-Err.kind c.answer_next.new.splitter i.progress c.in-Err.ensures.follows
           (λ risen. risen-more c.args.writer.now.faults c.frames.writer.faults c.answer_next.new.writer.faults i.writer_faults risen) c.in-Err.ensures.answer),
@@ -104,12 +105,12 @@ returns-in-Err-read_piece-clause-serves g c =
     let contents = g.W.Write.contents in
     let remaining = g.R.Read.remaining in
     let i = c.frames.invariant in
-    let waiting = waits g.C.Core.answers g.C.Core.parts_of c.args.core c.frames.core (now c.args.keep.now) (now c.frames.keep) (contents c.args.writer.now.inner) (contents c.frames.writer.inner) i.stream c.frames.splitter c.frames.served
+    let waiting = waits (AnswersInRecord g.C.Core.is_fit g.C.Core.spells g.C.Core.parts_of g.C.Core.answers) g.C.Core.parts_of c.args.core c.frames.core (now c.args.keep.now) (now c.frames.keep) (contents c.args.writer.now.inner) (contents c.frames.writer.inner) i.stream c.frames.splitter c.frames.served
     c.answer_next.new.core (now c.answer_next.new.keep) (contents c.answer_next.new.writer.inner) (HasRisen c.frames.writer.faults c.answer_next.new.writer.faults) c.answer_next.new.splitter c.in-Ok-None.field-0 c.in-Ok-None.field-0-is i.progress c.in-Ok-None.ensures.follows c.in-Ok-None.ensures.answer in
     let read = c.in-Err-read_piece.ensures.read in (
       i.stream ++ read.bytes,
       Consumes-trans (remaining c.args.reader.now.inner) (remaining c.frames.reader.inner) (remaining c.read_piece.new.reader.inner) i.stream read.bytes i.consumed read.consumed,
-      rw c.stopped.ensures (stopped_reading g.C.Core.answers g.C.Core.parts_of c.args.core c.answer_next.new.core (now c.args.keep.now) (now c.answer_next.new.keep) (contents c.args.writer.now.inner) (contents c.answer_next.new.writer.inner) i.stream c.answer_next.new.splitter c.frames.served
+      rw c.stopped.ensures (stopped_reading (AnswersInRecord g.C.Core.is_fit g.C.Core.spells g.C.Core.parts_of g.C.Core.answers) g.C.Core.parts_of c.args.core c.answer_next.new.core (now c.args.keep.now) (now c.answer_next.new.keep) (contents c.args.writer.now.inner) (contents c.answer_next.new.writer.inner) i.stream c.answer_next.new.splitter c.frames.served
           (IsAtEnd (remaining c.read_piece.new.reader.inner)) (HasRisen c.args.reader.now.faults c.read_piece.new.reader.faults) (HasRisen c.args.writer.now.faults c.answer_next.new.writer.faults) (2 ^ 63 ≤ length (i.stream ++ read.bytes))
           (remaining c.frames.reader.inner) (remaining c.read_piece.new.reader.inner) c.frames.reader.faults c.read_piece.new.reader.faults c.read_piece.new.splitter c.in-Err-read_piece.kind waiting.0 waiting.1 read
           (λ risen. risen-more c.args.reader.now.faults c.frames.reader.faults c.read_piece.new.reader.faults i.reader_faults risen) (λ endless. endless)),
@@ -121,12 +122,12 @@ returns-in-Ok-false-clause-serves g c =
     let contents = g.W.Write.contents in
     let remaining = g.R.Read.remaining in
     let i = c.frames.invariant in
-    let waiting = waits g.C.Core.answers g.C.Core.parts_of c.args.core c.frames.core (now c.args.keep.now) (now c.frames.keep) (contents c.args.writer.now.inner) (contents c.frames.writer.inner) i.stream c.frames.splitter c.frames.served
+    let waiting = waits (AnswersInRecord g.C.Core.is_fit g.C.Core.spells g.C.Core.parts_of g.C.Core.answers) g.C.Core.parts_of c.args.core c.frames.core (now c.args.keep.now) (now c.frames.keep) (contents c.args.writer.now.inner) (contents c.frames.writer.inner) i.stream c.frames.splitter c.frames.served
     c.answer_next.new.core (now c.answer_next.new.keep) (contents c.answer_next.new.writer.inner) (HasRisen c.frames.writer.faults c.answer_next.new.writer.faults) c.answer_next.new.splitter c.in-Ok-None.field-0 c.in-Ok-None.field-0-is i.progress c.in-Ok-None.ensures.follows c.in-Ok-None.ensures.answer in
     let read = c.in-Ok-false.ensures.read in (
       i.stream ++ read.bytes,
       Consumes-trans (remaining c.args.reader.now.inner) (remaining c.frames.reader.inner) (remaining c.read_piece.new.reader.inner) i.stream read.bytes i.consumed read.consumed,
-      rw c.ended.ensures (at_end_of g.C.Core.answers g.C.Core.parts_of c.args.core c.answer_next.new.core (now c.args.keep.now) (now c.answer_next.new.keep) (contents c.args.writer.now.inner) (contents c.answer_next.new.writer.inner) i.stream c.answer_next.new.splitter c.frames.served
+      rw c.ended.ensures (at_end_of (AnswersInRecord g.C.Core.is_fit g.C.Core.spells g.C.Core.parts_of g.C.Core.answers) g.C.Core.parts_of c.args.core c.answer_next.new.core (now c.args.keep.now) (now c.answer_next.new.keep) (contents c.args.writer.now.inner) (contents c.answer_next.new.writer.inner) i.stream c.answer_next.new.splitter c.frames.served
           (IsAtEnd (remaining c.read_piece.new.reader.inner)) (HasRisen c.args.reader.now.faults c.read_piece.new.reader.faults) (HasRisen c.args.writer.now.faults c.answer_next.new.writer.faults) (2 ^ 63 ≤ length (i.stream ++ read.bytes))
           (remaining c.frames.reader.inner) (remaining c.read_piece.new.reader.inner) c.frames.reader.faults c.read_piece.new.reader.faults c.read_piece.new.splitter c.in-Ok-false.field-0 c.in-Ok-false.field-0-test waiting.0 waiting.1 read (λ at_end. at_end)),
     )

@@ -1,6 +1,7 @@
 -- All frames that the splitter gave of what was read were answered; each answer takes of what it keeps, each read of what is still allowed.
 use Rattle.std.proofs.Common.{◌≡◌, ℕ, List, ◌+◌, ◌-◌, ◌*◌, ◌^◌, ◌≤◌, length}
 use Rattle.std.specs.Io.KnownBytes.{Consumes}
+use Rattle.csi_serving.specs.Answering.{AnswersInRecord}
 use Rattle.csi_serving.proofs.Progress.{Progress}
 use Rattle.csi_serving.proofs.serving.serve.Given as goal
 
@@ -12,7 +13,7 @@ invariant-frames g l =
     record {
       stream : List ℕ;
       consumed : Consumes (g.R.Read.remaining l.fn.reader.inner) (g.R.Read.remaining l.reader.inner) stream;
-      progress : Progress g.C.Core.answers g.C.Core.parts_of l.fn.core (now l.fn.keep) (now l.keep) (contents l.fn.writer.inner) (contents l.writer.inner) stream l.splitter l.served l.core;
+      progress : Progress (AnswersInRecord g.C.Core.is_fit g.C.Core.spells g.C.Core.parts_of g.C.Core.answers) g.C.Core.parts_of l.fn.core (now l.fn.keep) (now l.keep) (contents l.fn.writer.inner) (contents l.writer.inner) stream l.splitter l.served l.core;
       reader_faults : l.fn.reader.faults ≤ l.reader.faults;
       writer_faults : l.fn.writer.faults ≤ l.writer.faults;
       reader_same : l.reader.faults ≡ l.fn.reader.faults;

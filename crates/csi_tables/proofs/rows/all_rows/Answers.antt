@@ -38,3 +38,12 @@ pub returns-clause-survives : goal.returns-clause-survives
 returns-clause-survives g c =
     let old = state g.S.Store c.args.connection.now in
     survives_weaker old (state g.S.Store c.query_all.new.self) _ (λ _. ⊥) (λ _ db h. reading_commits_nothing old _ db h) c.query_all.ensures.survives
+
+pub returns-clause-given : goal.returns-clause-given
+returns-clause-given g c clean = c.query_all.ensures.ok clean
+
+pub returns-clause-refused : goal.returns-clause-refused
+returns-clause-refused g c clean = c.query_all.ensures.err clean
+
+pub returns-clause-outside : goal.returns-clause-outside
+returns-clause-outside g c out = c.query_all.ensures.mode out

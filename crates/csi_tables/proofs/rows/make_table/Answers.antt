@@ -2,7 +2,7 @@ use Rattle.std.proofs.Common.{◌≡◌, inl, inr, Result, Ok, Err, IfErr, subst
 use Rattle.csi_tables.specs.Statements.{RefusesToMake}
 use Rattle.sqlite.specs.Held.{state}
 use Rattle.csi_tables.proofs.MakingTable.{makes, may_make, finds, may_find}
-use Rattle.csi_tables.specs.Listed.{ListsParts}
+use Rattle.csi_tables.specs.Declared.{parts_schema}
 use Rattle.csi_tables.proofs.Schemas.{parts_listed, not_both}
 use Rattle.csi_tables.proofs.rows.make_table.Goals as goal
 
@@ -44,7 +44,7 @@ pub returns-then-lists_parts-clause-made : goal.returns-then-lists_parts-clause-
 returns-then-lists_parts-clause-made g c clean blank rest =
     let live = (c.schema-schema.ensures.live blank.is_open).0 in
     let now = (state g.S.Store c.args.connection.now).now in
-    absurd (not_both now.schema now.trees blank.empty live (subst ListsParts c.schema-schema.ensures.value (c.lists_parts.ensures.0 c.if-lists_parts.true)))
+    absurd (not_both now.schema now.trees blank.empty live (subst (λ s. s ≡ parts_schema) c.schema-schema.ensures.value (c.lists_parts.ensures.0 c.if-lists_parts.true)))
 
 pub returns-then-lists_parts-clause-found : goal.returns-then-lists_parts-clause-found
 returns-then-lists_parts-clause-found g c clean rows is_open stores rest =

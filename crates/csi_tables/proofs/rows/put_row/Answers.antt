@@ -12,3 +12,6 @@ returns-clause-put g c clean rows has =
           (rw (c.params-to_sql.ensures, c.params-to_sql-2.ensures) at (c.in_ok-execute.ensures.runs clean inside)).0
       | inr outside ↦ absurd (let ended = (c.in_ok-execute.ensures.ended outside).0 in cc)
     ]
+
+pub returns-clause-ran : goal.returns-clause-ran
+returns-clause-ran g c clean inside = (c.in_ok-execute.field-0, rw (c.params-to_sql.ensures, c.params-to_sql-2.ensures) at (c.in_ok-execute.ensures.runs clean inside))

@@ -9,6 +9,7 @@ use Rattle.csi_controller.specs.RowsLaw.{Changes}
 use Rattle.csi_controller.specs.Step.{answer_frame}
 use Rattle.csi_service.proofs.AnsweredFrames.{has-reply, some-answer, told-answer}
 use Rattle.csi_service.proofs.ControllerChanges.{parts-changed, heads-tell, head-stays, all-differ}
+use Rattle.csi_service.proofs.FitRows.{controller-fit}
 use Rattle.csi_service.proofs.SameShown.{same-all, same-changes, nothing-told}
 use Rattle.csi_service.proofs.controller_service.ControllerService.answer_call.Goals as goal
 
@@ -57,3 +58,10 @@ returns-clause-nothing c = λ state shown same.
     let old = c.args.self.now.controller in
     let new = c.answer-answered.new.self in
     nothing-told old new state shown (subst (Shows new) same (c.in-Ok.ensures.state state Controller shown c.requires.allowed c.requires.texts)) _ (returns-clause-differs c)
+
+pub returns-clause-fit : goal.returns-clause-fit
+returns-clause-fit c = λ fit named.
+    let old = c.args.self.now.controller in
+    let new = c.answer-answered.new.self in
+    let changes = told-answer (λ a. Changes a.row c.args.number old new) c.in-Ok.answer c.unwrap-answer.result c.unwrap-answer.ensures c.in-Ok.ensures.changes in
+    controller-fit old new c.unwrap-answer.result.row c.args.number c.sound_law-2.ensures.rising changes fit named

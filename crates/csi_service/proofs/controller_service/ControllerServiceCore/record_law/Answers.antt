@@ -1,5 +1,5 @@
--- A spelling is one value's.
-use Rattle.std.proofs.Common.{ap, map}
+-- Rows within their limits, which keep a controller's rules, are a record; and a spelling is one value's.
+use Rattle.std.proofs.Common.{ap, map, refl, arith}
 use Rattle.std.proofs.lemmas.Option.{same_Some}
 use Rattle.std.specs.Prelude.{ℕ}
 use Rattle.csi_records.specs.Spelling.{present, volume_row}
@@ -8,7 +8,19 @@ use Rattle.csi_records.proofs.Layouts.{parts-same}
 use Rattle.csi_records.proofs.PluginLayouts.{controller_one}
 use Rattle.csi_service.proofs.controller_service.ControllerServiceCore.record_law.Goals as goal
 
-pub returns : goal.returns
-returns c = λ parts one other spelled also.
+pub returns-clause-alone : goal.returns-clause-alone
+returns-clause-alone c = λ parts one other spelled also.
     let same = parts-same (controller_layout present) (controller_one present) _ _ (map volume_row one.rows) (map volume_row other.rows) parts spelled also in
     (ap (λ (head : Head ℕ). head.own) same.0, same_Some one.session other.session (ap (λ (head : Head ℕ). head.session) same.0), same.1)
+
+pub returns-clause-there : goal.returns-clause-there
+returns-clause-there c = λ fit.
+    let controller = c.args.self.now.controller in (
+      record { next_id = controller.next_id; session = controller.session; rows = controller.rows },
+      record {
+        head_fits = record { own = omega (arith, c.next_id-next.ensures.value); session = omega (arith, c.session-session.ensures.value) };
+        rows_fit = fit;
+        rules = (controller.rows, refl, (c.sound_law.ensures, c.current_law.ensures));
+        are = refl;
+      },
+    )

@@ -1,12 +1,14 @@
 -- What is made of no parts, and of a record that was read.
-use Rattle.std.proofs.Common.{◌≡◌, ◌∙◌, List, [], ◌∷◌, ℕ, map, length, ap, Some, arith}
+use Rattle.std.proofs.Common.{◌≡◌, ◌∙◌, List, [], ◌∷◌, ℕ, map, length, ap, subst, sym, Some, arith}
 use Rattle.std.proofs.lemmas.Bool.Decides.{nat_tests}
 use Rattle.std.proofs.lemmas.List.{nil_from_length}
 use Rattle.csi_stores.specs.Part.{all_stored_in, put_all, change_of}
 use Rattle.csi_records.specs.Spelling.{present, controller_head}
 use Rattle.csi_service.specs.Opening.{controller_records}
-use Rattle.csi_service.specs.Services.{controller_service_parts}
+use Rattle.csi_controller.specs.Core.{Parts}
+use Rattle.csi_service.specs.Services.{controller_service_parts, AreFitRows}
 use Rattle.csi_service.proofs.MadeCores.{made-new, controller-made, new-controller}
+use Rattle.csi_service.proofs.FitRows.{controller-read, controller-none}
 use Rattle.csi_service.proofs.controller_service.ControllerServiceOpens.made.Goals as goal
 
 pub returns-then-is_empty-clause-made : goal.returns-then-is_empty-clause-made
@@ -20,3 +22,12 @@ pub returns-in_ok-from_record-in-Ok-clause-made : goal.returns-in_ok-from_record
 returns-in_ok-from_record-in-Ok-clause-made c =
     controller-made (all_stored_in c.args.parts.now) (controller_service_parts c.in_ok-from_record-in-Ok.field-0) (map change_of c.in_ok-changed-in-Ok.changed.items) c.in-Ok.field-0.version c.in-Ok.field-0.kept
     c.in-Ok.ensures c.in_ok-from_record-in-Ok.ensures.parts c.in_ok-changed-in-Ok.ensures
+
+pub returns-then-is_empty-clause-new : goal.returns-then-is_empty-clause-new
+returns-then-is_empty-clause-new c = (c.new.ensures.config, c.new.ensures.changes, controller-none _ _ c.new.result.controller.rows c.new.ensures.parts)
+
+pub returns-in_ok-from_record-in-Ok-clause-new : goal.returns-in_ok-from_record-in-Ok-clause-new
+returns-in_ok-from_record-in-Ok-clause-new c =
+    let made = c.in_ok-from_record-in-Ok.ensures in
+    let fit = controller-read c.in-Ok.field-0.version (all_stored_in c.args.parts.now) c.in-Ok.field-0.kept c.in-Ok.ensures.1 in
+    (made.config, made.changes, subst (λ (controller : Parts). AreFitRows controller.rows) (sym made.has) fit)

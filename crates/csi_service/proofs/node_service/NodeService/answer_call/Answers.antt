@@ -12,6 +12,7 @@ use Rattle.csi_node.specs.Fenced.{node_at, answer_frame, fenced}
 use Rattle.csi_node.specs.Record.{Shows}
 use Rattle.csi_service.proofs.AnsweredFrames.{has-reply, some-answer, told-answer}
 use Rattle.csi_service.proofs.NodeChanges.{parts-changed, all-differ, same-session, other-session, carries-reply}
+use Rattle.csi_service.proofs.FitRows.{node-fit}
 use Rattle.csi_service.proofs.SameNode.{nothing-told}
 use Rattle.csi_service.proofs.node_service.NodeService.answer_call.Goals as goal
 
@@ -66,3 +67,10 @@ returns-clause-nothing c = λ state shown same.
     let service = c.args.self.now in
     let new = c.answer.new.self in
     nothing-told service.node new state shown (subst (Shows new) same ((returns-clause-answered c).shows state shown)) _ (returns-clause-differs c)
+
+pub returns-clause-fit : goal.returns-clause-fit
+returns-clause-fit c = λ fit named.
+    let old = c.args.self.now.node in
+    let new = c.answer.new.self in
+    let changes = told-answer (λ a. Changes a.row c.args.number old new) c.in-Ok.answer c.unwrap-answer.result c.unwrap-answer.ensures c.in-Ok.ensures.changes in
+    node-fit old new c.unwrap-answer.result.row c.args.number changes fit named

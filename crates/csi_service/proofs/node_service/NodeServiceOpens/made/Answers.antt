@@ -1,12 +1,15 @@
 -- What is made of no parts, and of a record that was read.
-use Rattle.std.proofs.Common.{◌≡◌, ◌∙◌, List, [], ◌∷◌, ℕ, map, length, ap, Some, arith}
+use Rattle.std.proofs.Common.{◌≡◌, ◌∙◌, List, [], ◌∷◌, ℕ, map, length, ap, subst, sym, Some, arith}
 use Rattle.std.proofs.lemmas.Bool.Decides.{nat_tests}
 use Rattle.std.proofs.lemmas.List.{nil_from_length}
 use Rattle.csi_stores.specs.Part.{all_stored_in, put_all, change_of}
 use Rattle.csi_records.specs.Spelling.{present, node_head}
 use Rattle.csi_service.specs.Opening.{node_records}
+use Rattle.csi_node.specs.Record.{NodeParts, parts}
+use Rattle.csi_service.specs.NodeServices.{AreFitRows}
 use Rattle.csi_service.specs.Services.{node_service_parts}
 use Rattle.csi_service.proofs.MadeCores.{made-new, node-made, new-node, of-node}
+use Rattle.csi_service.proofs.FitRows.{node-read, node-none}
 use Rattle.csi_service.proofs.node_service.NodeServiceOpens.made.Goals as goal
 
 pub of_record-requires : goal.of_record-requires
@@ -23,3 +26,16 @@ pub returns-in_ok-of_record-in-Ok-clause-made : goal.returns-in_ok-of_record-in-
 returns-in_ok-of_record-in-Ok-clause-made c =
     node-made c.args.id (all_stored_in c.args.parts.now) (node_service_parts c.in_ok-of_record-in-Ok.field-0) (map change_of c.in_ok-changed-in-Ok.changed.items) c.in-Ok.field-0.version c.in-Ok.field-0.kept
     c.in-Ok.ensures c.in_ok-of_record-in-Ok.ensures.parts c.in_ok-changed-in-Ok.ensures
+
+pub returns-then-is_empty-clause-new : goal.returns-then-is_empty-clause-new
+returns-then-is_empty-clause-new c = (c.in_ok-new.ensures.changes, c.in_ok-new.ensures.node, node-none _ _ (parts c.in_ok-new.field-0.node.rows) c.in_ok-new.ensures.parts)
+
+pub returns-in_ok-of_record-in-Ok-clause-new : goal.returns-in_ok-of_record-in-Ok-clause-new
+returns-in_ok-of_record-in-Ok-clause-new c =
+    let made = c.in_ok-of_record-in-Ok.ensures in
+    let tell = c.in-Ok.ensures.1 in
+    let fit = node-read c.in-Ok.field-0.version (Some c.args.id) (all_stored_in c.args.parts.now) c.in-Ok.field-0.kept tell in (
+      made.changes,
+      ap (λ (node : NodeParts). node.id) made.has ∙ of-node c.in-Ok.field-0.version c.args.id (all_stored_in c.args.parts.now) c.in-Ok.field-0.kept tell,
+      subst (λ (node : NodeParts). AreFitRows (parts node.rows)) (sym made.has) fit,
+    )

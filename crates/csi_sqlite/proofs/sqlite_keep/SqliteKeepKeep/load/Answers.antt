@@ -1,17 +1,19 @@
-use Rattle.std.proofs.Common.{◌≡◌, ◌⊎◌, inl, inr, ℕ, List, Result, Ok, Err, IfErr, OnOk, map, sym, subst}
+use Rattle.std.proofs.Common.{◌≡◌, ◌⊎◌, inl, inr, ℕ, List, [], Result, Ok, Err, IfErr, OnOk, map, sym, subst}
 use Rattle.sqlite.specs.Order.{Row}
 use Rattle.sqlite.specs.Held.{state}
 use Rattle.csi_tables.specs.Rows.{cells, AreByKey}
 use Rattle.csi_stores.specs.declared.keep.KeepFault.{KeepFault}
 use Rattle.csi_stores.specs.declared.keep.KeepFault.TheVariants.{NoMemory, BadRecord}
 use Rattle.csi_stores.specs.Part.{StoredPart}
-use Rattle.csi_stores.specs.Stores.{Store, IsLoadFault}
-use Rattle.csi_sqlite.specs.Tables.{row_of, HoldsParts}
+use Rattle.csi_stores.specs.Stores.{Store, IsOnly, IsLoadFault}
+use Rattle.csi_stores.specs.Stores.Found.{Parts}
+use Rattle.csi_sqlite.specs.Tables.{row_of}
 use Rattle.csi_sqlite.specs.Kept.{sqlite_store}
 use Rattle.csi_sqlite.specs.Loading.{IsFirstBad}
 use Rattle.csi_sqlite.proofs.Tabled.{still_holds}
 use Rattle.csi_sqlite.proofs.Loading.{loaded, loaded_content, none_refused}
 use Rattle.csi_sqlite.proofs.ForeignRows.{refuses_at}
+use Rattle.csi_sqlite.proofs.FoundAgain.{still_open, only_found, some_found}
 use Rattle.csi_sqlite.proofs.sqlite_keep.SqliteKeepKeep.load.Goals as goal
 
 -- what is so anyway is so of an OK
@@ -41,7 +43,10 @@ pub returns-in-Ok-clause-stays : goal.returns-in-Ok-clause-stays
 returns-in-Ok-clause-stays g c clean content has =
     let old = state g.S.Store c.args.self.now.connection in
     let new = state g.S.Store c.all_rows.new.connection in
-    done (HoldsParts new content) c.parts_of.result (still_holds old new content (c.in-Ok.ensures.same clean (map cells (map row_of content)) has.0.rows) has)
+    let holds = still_holds old new content (c.in-Ok.ensures.same clean (map cells (map row_of content)) has.0.rows) has in
+    let is_open = holds.0.rows.is_open in
+    let alone = only_found new c.args.self.now.faults (Parts content) holds (g.met.S.Store.stays c.all_rows.new.connection.store is_open) (λ db may. g.met.S.Store.settled c.all_rows.new.connection.store db is_open may) in
+    done (IsOnly (sqlite_store new c.args.self.now.faults) (Parts content)) c.parts_of.result alone
 
 pub returns-in-Ok-clause-cause : goal.returns-in-Ok-clause-cause
 returns-in-Ok-clause-cause g c =
@@ -64,3 +69,27 @@ returns-in-Ok-clause-foreign g c clean place foreign =
 pub returns-in-Err-SqlInputError-clause-foreign : goal.returns-in-Err-SqlInputError-clause-foreign
 returns-in-Err-SqlInputError-clause-foreign g c clean place foreign =
     absurd (c.in-Err-SqlInputError.ensures.known clean foreign.columns foreign.has (c.in-Err-SqlInputError.field-0-0, c.in-Err-SqlInputError.field-0-is))
+
+pub returns-in-Ok-clause-some : goal.returns-in-Ok-clause-some
+returns-in-Ok-clause-some g c clean found only =
+    let old = c.args.self.now.connection in
+    let now = c.all_rows.new.connection in
+    let is_open = still_open (state g.S.Store old) c.args.self.now.faults found only.there in
+    some_found (state g.S.Store old) (state g.S.Store now) c.args.self.now.faults c.args.self.now.faults found [] only.there (λ db may. g.met.S.Store.settled old.store db is_open may)
+    (λ db may. elim (c.all_rows.ensures.survives.crash clean db may) [ inl before ↦ inl before | inr none ↦ absurd none ]) (g.met.S.Store.survives now.store clean)
+
+pub returns-in-Err-SqlInputError-clause-some : goal.returns-in-Err-SqlInputError-clause-some
+returns-in-Err-SqlInputError-clause-some g c clean found only =
+    let old = c.args.self.now.connection in
+    let now = c.all_rows.new.connection in
+    let is_open = still_open (state g.S.Store old) c.args.self.now.faults found only.there in
+    some_found (state g.S.Store old) (state g.S.Store now) c.args.self.now.faults c.args.self.now.faults found [] only.there (λ db may. g.met.S.Store.settled old.store db is_open may)
+    (λ db may. elim (c.all_rows.ensures.survives.crash clean db may) [ inl before ↦ inl before | inr none ↦ absurd none ]) (g.met.S.Store.survives now.store clean)
+
+pub returns-in-Err-clause-some : goal.returns-in-Err-clause-some
+returns-in-Err-clause-some g c clean found only =
+    let old = c.args.self.now.connection in
+    let now = c.all_rows.new.connection in
+    let is_open = still_open (state g.S.Store old) c.args.self.now.faults found only.there in
+    some_found (state g.S.Store old) (state g.S.Store now) c.args.self.now.faults c.refused.new.faults found [] only.there (λ db may. g.met.S.Store.settled old.store db is_open may)
+    (λ db may. elim (c.all_rows.ensures.survives.crash clean db may) [ inl before ↦ inl before | inr none ↦ absurd none ]) (g.met.S.Store.survives now.store clean)

@@ -14,3 +14,13 @@ returns-in-Ok-clause-whole g c clean content holds =
 
 pub returns-in-Err-clause-left : goal.returns-in-Err-clause-left
 returns-in-Err-clause-left g c db may = c.in-Err.ensures.err.0.quiet.outcomes db may
+
+pub returns-in-Err-2-clause-left : goal.returns-in-Err-2-clause-left
+returns-in-Err-2-clause-left g c db may = c.in-Err.ensures.err.0.quiet.outcomes db may
+
+pub returns-in-Err-2-clause-told : goal.returns-in-Err-2-clause-told
+returns-in-Err-2-clause-told g c clean = (
+  c.in-Err.error,
+  λ memory. let told = c.is_memory.ensures.1 memory in absurd (let no = c.if-is_memory.false in cc),
+  c.in-Err.ensures.err.1 clean,
+)
