@@ -1,7 +1,8 @@
 //! The record of a controller that made a volume, cut short at each of its bytes, longer by one, and with values that no record has:
 //! from its bytes, and from stores; in all versions.
-use super::records::{FIRST_RECORD, RECORD, SECOND_RECORD, changed, refused_at};
+use super::records::{FIRST_RECORD, RECORD, SECOND_RECORD, changed, is_refused_at, read_fault};
 use super::{controller_fault, part};
+use csi_controller::ControllerRecord;
 use csi_service::{Keep, KeepFault, MemoryKeep};
 use csi_sqlite::SqliteKeep;
 use sqlite::Connection;
@@ -28,7 +29,7 @@ const FIRST: Whole = (FIRST_RECORD, 27, &[(26, 1, 1), (50, 0, 1), (71, 0x85, 1)]
 fn is_cut(alloc: Global, whole: Whole, count: usize) -> bool {
     let place = if count < whole.1 { 0 } else { 1 };
     match whole.0.get(..count) {
-        Some(front) => refused_at(alloc, front) == Some(place),
+        Some(front) => is_refused_at(alloc, front, place),
         None => false,
     }
 }
@@ -40,7 +41,7 @@ fn each_beginning_of_a_record_is_refused(rt: HostRuntime) {
         for count in 0..size {
             assert!(&rt; is_cut(rt.alloc(), whole, count), "{count} bytes");
         }
-        assert!(&rt; refused_at(rt.alloc(), whole.0).is_none());
+        assert!(&rt; read_fault::<ControllerRecord>(rt.alloc(), whole.0).is_none());
     }
 }
 
@@ -60,7 +61,7 @@ const COUNTS: &[(&[u8], u64)] = &[
 #[test]
 fn a_record_without_its_parts_is_refused(rt: HostRuntime) {
     for (bytes, place) in COUNTS {
-        assert!(&rt; refused_at(rt.alloc(), bytes) == Some(*place));
+        assert!(&rt; is_refused_at(rt.alloc(), bytes, *place));
     }
 }
 
@@ -148,38 +149,58 @@ fn is_opened<K: Keep>(rt: &(impl Abort + AllocGlobal), keep: &mut K, whole: Whol
     .is_none()
 }
 
-// Heads that are longer by one byte, and one of version 2 with a session.
-const LONGER: &[&[u8]] = &[
-    &[3, 0, 0, 0, 0, 0, 0, 0, 0, 2, 0, 0, 0, 0, 0, 0, 0, 1, 0],
-    &[2, 0, 0, 0, 0, 0, 0, 0, 0, 2, 0],
-    &[2, 0, 0, 0, 0, 0, 0, 0, 0, 2, 0, 0, 0, 0, 0, 0, 0, 1],
+// Heads of versions 2 and 1 with a session, and records that have the rows.
+const WITH_SESSION: &[(&[u8], Whole)] = &[
+    (
+        &[2, 0, 0, 0, 0, 0, 0, 0, 0, 2, 0, 0, 0, 0, 0, 0, 0, 1],
+        SECOND,
+    ),
+    (
+        &[1, 0, 0, 0, 0, 0, 0, 0, 0, 2, 0, 0, 0, 0, 0, 0, 0, 1],
+        FIRST,
+    ),
 ];
 
-// Whether a store of the record is refused at such a head, and at a row or a list of parts that is longer by one.
-fn refuses_longer<K: Keep>(rt: &(impl Abort + AllocGlobal), keep: &mut K) {
-    let (head, row) = (head_of(RECORD, WHOLE.1), row_of(RECORD, WHOLE.1));
-    for longer in LONGER {
-        assert!(rt; fault_of(rt, keep, longer, row) == Some(KeepFault::BadRecord(0)));
-    }
-    let mut long = Vec::from_slice(rt.alloc(), row).expect(rt, "memory");
+// These bytes, and one more.
+fn longer(rt: &(impl Abort + AllocGlobal), bytes: &[u8]) -> Vec<u8> {
+    let mut long = Vec::from_slice(rt.alloc(), bytes).expect(rt, "memory");
     long.push(0).expect(rt, "memory");
-    assert!(rt; fault_of(rt, keep, head, &long) == Some(KeepFault::BadRecord(1)));
-    drop(long);
+    long
+}
+
+// A store of the record is refused at a head and at a row that is longer by one byte.
+fn refuses_longer<K: Keep>(rt: &(impl Abort + AllocGlobal), keep: &mut K, whole: Whole) {
+    let (head, row) = (head_of(whole.0, whole.1), row_of(whole.0, whole.1));
+    let long_head = longer(rt, head);
+    assert!(rt; fault_of(rt, keep, &long_head, row) == Some(KeepFault::BadRecord(0)));
+    drop(long_head);
+    let long_row = longer(rt, row);
+    assert!(rt; fault_of(rt, keep, head, &long_row) == Some(KeepFault::BadRecord(1)));
+    drop(long_row);
     assert!(rt; fault_of(rt, keep, head, row).is_none());
+}
+
+// All these stores are refused; and at last one of which the list of parts is longer by one.
+fn refuses_whole<K: Keep>(rt: &(impl Abort + AllocGlobal), keep: &mut K) {
+    for (head, whole) in WITH_SESSION {
+        let row = row_of(whole.0, whole.1);
+        assert!(rt; fault_of(rt, keep, head, row) == Some(KeepFault::BadRecord(0)));
+    }
+    for whole in [FIRST, SECOND, WHOLE] {
+        refuses_all(rt, keep, whole);
+        refuses_longer(rt, keep, whole);
+    }
     let more = [part(rt, 2, &[])];
     keep.commit(&more).expect(rt, "a commit");
     drop(more);
     assert!(rt; controller_fault(rt, keep) == Some(KeepFault::BadRecord(2)));
+    assert!(rt; keep.faults() == 0);
 }
 
 #[test]
 fn a_damaged_store_in_memory_is_refused(rt: HostRuntime) {
     let mut keep = MemoryKeep::new(rt.alloc(), 1000);
-    for whole in [FIRST, SECOND, WHOLE] {
-        refuses_all(&rt, &mut keep, whole);
-    }
-    refuses_longer(&rt, &mut keep);
-    assert!(&rt; keep.faults() == 0);
+    refuses_whole(&rt, &mut keep);
     drop(keep);
 }
 
@@ -189,10 +210,6 @@ fn a_damaged_store_in_a_database_is_refused(rt: HostRuntime) {
     let Ok(mut keep) = SqliteKeep::new(rt.alloc(), connection) else {
         return assert!(&rt; false);
     };
-    for whole in [FIRST, SECOND, WHOLE] {
-        refuses_all(&rt, &mut keep, whole);
-    }
-    refuses_longer(&rt, &mut keep);
-    assert!(&rt; keep.faults() == 0);
+    refuses_whole(&rt, &mut keep);
     drop(keep);
 }

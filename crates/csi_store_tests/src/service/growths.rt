@@ -1,6 +1,7 @@
 //! Refused growths of records, stores and services. With memory to spare each test compares the whole answers. Run with one
 //! allocation refused, each in turn (`tools/refusals`), the call that sees it wants memory, and is then
 //! answered in full, for `open` and `serve` after opening again.
+mod databases;
 mod sessions;
 
 use super::older::{FIRST, FORGETS, FORGOTTEN, NODE_FORGETS, NODE_FORGOTTEN, parts_of};

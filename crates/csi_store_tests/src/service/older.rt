@@ -1,7 +1,8 @@
 //! Stores of versions 1 and 2. The plugin that is opened from one has all its parts put in again, in version 3 and by one commit, without
 //! the empty rows of earlier sessions: what is there then, what is left where that fails, and what serving goes on with.
 use super::playing::{
-    CREATED, Content, GONE, MADE, ONE_MADE, SCRIPT, has_parts, is_after, is_end, played,
+    CREATED, Content, GONE, MADE, ONE_MADE, OTHER, SCRIPT, TWO_MADE, has_parts, is_after, is_end,
+    played,
 };
 use super::{CONTROLLER_HEAD, NEW_NODE_HEAD, NODE_HEAD, controller_fault, node_fault, part};
 use csi_failing::{FailingKeep, Left};
@@ -50,7 +51,12 @@ const SECOND_OTHER: &[u8] = &[
     6, 129, 0, 0, 0, 0, 0, 0, 0, 0, 2, 0,
 ];
 
-// The row of `w` after a call of session 2; and the same in version 3, with the head then.
+// The row of `w` after a call of session 2, in versions 1 and 2; and the same in version 3, with the head then.
+const FIRST_LATER: &[u8] = &[
+    1, 1, 1, 119, 0, 0, 0, 0, 0, 0, 0, 10, 1, 0, 1, 0, 0, 0, 0, 0, 0, 0, 0, 2, 0, 0, 0, 0, 0, 0, 0,
+    1, 129, 0, 0, 0, 0, 0, 0, 0, 0, 2, 0,
+];
+
 const SECOND_LATER: &[u8] = &[
     2, 1, 1, 119, 0, 0, 0, 0, 0, 0, 0, 10, 1, 0, 1, 0, 0, 0, 0, 0, 0, 0, 0, 2, 0, 0, 0, 0, 0, 0, 0,
     1, 129, 0, 0, 0, 0, 0, 0, 0, 0, 2, 0,
@@ -70,6 +76,9 @@ const SECOND: Content = (SECOND_TWO_MADE, SECOND_GONE, SECOND_OTHER);
 
 /// The first was deleted in session 1, and the other one's last call is of session 2; and what becomes of that.
 pub(super) const FORGETS: Content = (SECOND_TWO_MADE, SECOND_GONE, SECOND_LATER);
+
+/// The same in version 1.
+pub(super) const FIRST_FORGETS: Content = (FIRST_TWO_MADE, FIRST_GONE, FIRST_LATER);
 
 pub(super) const FORGOTTEN: Content = (IN_SESSION_2, &[], LATER);
 
@@ -112,6 +121,17 @@ pub(super) const NODE_FORGETS: Content = (
     ],
 );
 
+/// The same in version 1.
+pub(super) const FIRST_NODE_FORGETS: Content = (
+    &[1, 1, 2, 110, 49],
+    &[
+        1, 0, 0, 0, 0, 0, 0, 0, 0, 0, 1, 0, 0, 0, 0, 0, 0, 0, 5, 134, 0, 0, 0, 0, 0, 0, 0, 0, 0, 0,
+    ],
+    &[
+        1, 0, 0, 0, 0, 0, 0, 0, 0, 0, 2, 0, 0, 0, 0, 0, 0, 0, 1, 134, 0, 0, 0, 0, 0, 0, 0, 0, 0, 0,
+    ],
+);
+
 pub(super) const NODE_FORGOTTEN: Content = (
     &[3, 1, 2, 110, 49, 0, 0, 0, 0, 0, 0, 0, 2],
     &[],
@@ -144,12 +164,16 @@ pub(super) fn puts<K: Keep>(rt: &(impl Abort + AllocGlobal), keep: &mut K, conte
     drop(parts);
 }
 
+// A store in version 3, of session 2, in which `v` lives since session 1.
+const LATER_BOTH: Content = (IN_SESSION_2, MADE, LATER);
+
 // What a store of a node has, and what it has once the node is opened of it; and the same of stores of controllers.
 const OF_NODES: &[(Content, Content)] = &[
     (FIRST_NODE, NODE),
     (SECOND_NODE, NODE),
     ((&[2, 1, 2, 110, 49], &[], &[]), (NEW_NODE_HEAD, &[], &[])),
     (NODE_FORGETS, NODE_FORGOTTEN),
+    (FIRST_NODE_FORGETS, NODE_FORGOTTEN),
 ];
 
 const OF_CONTROLLERS: &[(Content, Content)] = &[
@@ -160,6 +184,8 @@ const OF_CONTROLLERS: &[(Content, Content)] = &[
         (CONTROLLER_HEAD, &[], &[]),
     ),
     (FORGETS, FORGOTTEN),
+    (FIRST_FORGETS, FORGOTTEN),
+    (LATER_BOTH, LATER_BOTH),
 ];
 
 // A node and a controller are opened of stores of earlier versions, which have version 3 then.
@@ -209,7 +235,7 @@ fn a_store_of_an_earlier_version_is_rewritten_when_it_is_opened(rt: HostRuntime)
 
 // A volume of 0 bytes, and one in mode 6, which version 1 doesn't have.
 const EMPTY: &[u8] = &[
-    1, 1, 1, 118, 0, 0, 0, 0, 0, 0, 0, 0, 1, 0, 1, 0, 0, 0, 0, 0, 0, 0, 0, 1, 0, 0, 0, 0, 0, 0, 0,
+    1, 1, 1, 119, 0, 0, 0, 0, 0, 0, 0, 0, 1, 0, 1, 0, 0, 0, 0, 0, 0, 0, 0, 1, 0, 0, 0, 0, 0, 0, 0,
     1, 129, 0, 0, 0, 0, 0, 0, 0, 0, 1, 0,
 ];
 
@@ -228,7 +254,7 @@ const REFUSED: &[(Content, u64)] = &[
     ((FIRST_ONE_MADE, SECOND_MADE, &[]), 1),
     ((SECOND_ONE_MADE, MADE, &[]), 1),
     ((SECOND_ONE_MADE, FIRST_MADE, &[]), 1),
-    ((FIRST_TWO_MADE, FIRST_GONE, MADE), 2),
+    ((FIRST_TWO_MADE, FIRST_GONE, OTHER), 2),
     ((FIRST_ONE_MADE, EMPTY, &[]), 1),
     ((FIRST_ONE_MADE, IN_MODE_6, &[]), 1),
     ((FIRST_TWO_MADE, FIRST_GONE, EMPTY), 2),
@@ -243,7 +269,7 @@ const REFUSED: &[(Content, u64)] = &[
         0,
     ),
     (FIRST_NODE, 0),
-    ((ONE_MADE, MADE, LATER), 2),
+    ((TWO_MADE, MADE, LATER), 2),
     ((IN_SESSION_2, GONE, LATER), 1),
 ];
 

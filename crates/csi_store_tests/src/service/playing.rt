@@ -49,7 +49,7 @@ const NONE_MADE: &[u8] = &[3, 0, 0, 0, 0, 0, 0, 0, 0, 1, 0, 0, 0, 0, 0, 0, 0, 0]
 
 pub(super) const ONE_MADE: &[u8] = &[3, 0, 0, 0, 0, 0, 0, 0, 0, 2, 0, 0, 0, 0, 0, 0, 0, 1];
 
-const TWO_MADE: &[u8] = &[3, 0, 0, 0, 0, 0, 0, 0, 0, 3, 0, 0, 0, 0, 0, 0, 0, 1];
+pub(super) const TWO_MADE: &[u8] = &[3, 0, 0, 0, 0, 0, 0, 0, 0, 3, 0, 0, 0, 0, 0, 0, 0, 1];
 
 /// The row of `v` after each frame that changes it.
 pub(super) const MADE: &[u8] = &[
@@ -77,8 +77,8 @@ pub(super) const GONE: &[u8] = &[
     5, 130, 0, 0, 0, 0, 0, 0, 0, 0, 0, 0,
 ];
 
-// The row of `w`.
-const OTHER: &[u8] = &[
+/// The row of `w`.
+pub(super) const OTHER: &[u8] = &[
     3, 1, 1, 119, 0, 0, 0, 0, 0, 0, 0, 10, 1, 0, 1, 0, 0, 0, 0, 0, 0, 0, 0, 1, 0, 0, 0, 0, 0, 0, 0,
     6, 129, 0, 0, 0, 0, 0, 0, 0, 0, 2, 0,
 ];

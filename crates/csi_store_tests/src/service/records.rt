@@ -3,7 +3,7 @@ use super::{NO_NODES, config};
 use csi_controller::{Controller, ControllerRecord};
 use csi_frames::decode;
 use csi_node::NodeRecord;
-use csi_service::{KeepFault, read_record, write_record};
+use csi_service::{KeepFault, Record, read_record, write_record};
 use std::alloc::Global;
 use std::process::Abort;
 
@@ -72,24 +72,29 @@ fn recorded(rt: &(impl Abort + AllocGlobal)) -> ControllerRecord {
 }
 
 // The bytes of a record.
-fn written(rt: &(impl Abort + AllocGlobal), record: &ControllerRecord) -> Vec<u8> {
+fn written<T: Record>(rt: &(impl Abort + AllocGlobal), record: &T) -> Vec<u8> {
     write_record(rt.alloc(), record).expect(rt, "memory")
 }
 
-/// Where the bytes are refused as a controller's record, if they are.
-pub(super) fn refused_at(alloc: Global, bytes: &[u8]) -> Option<u64> {
-    match read_record::<ControllerRecord>(alloc, bytes) {
-        Err(KeepFault::BadRecord(place)) => Some(place),
-        _ => None,
+/// Why the bytes aren't read as a record, if they aren't.
+pub(super) fn read_fault<T: Record>(alloc: Global, bytes: &[u8]) -> Option<KeepFault> {
+    match read_record::<T>(alloc, bytes) {
+        Ok(record) => {
+            drop(record);
+            None
+        }
+        Err(fault) => Some(fault),
     }
 }
 
-// Where the bytes are refused as a node's record, if they are.
-fn node_refused_at(alloc: Global, bytes: &[u8]) -> Option<u64> {
-    match read_record::<NodeRecord>(alloc, bytes) {
-        Err(KeepFault::BadRecord(place)) => Some(place),
-        _ => None,
-    }
+/// Whether the bytes are refused as a controller's record, at this part.
+pub(super) fn is_refused_at(alloc: Global, bytes: &[u8], place: u64) -> bool {
+    read_fault::<ControllerRecord>(alloc, bytes) == Some(KeepFault::BadRecord(place))
+}
+
+// Whether they are as a node's record.
+fn is_node_refused_at(alloc: Global, bytes: &[u8], place: u64) -> bool {
+    read_fault::<NodeRecord>(alloc, bytes) == Some(KeepFault::BadRecord(place))
 }
 
 #[test]
@@ -101,23 +106,38 @@ fn write_record_succeeds_with_memory(rt: HostRuntime) {
     drop(bytes);
 }
 
-// Whether the bytes are read as a record of one volume that is written as these.
-fn is_written_as(rt: &(impl Abort + AllocGlobal), bytes: &[u8], wanted: &[u8]) -> bool {
-    let record: ControllerRecord = read_record(rt.alloc(), bytes).expect(rt, "a record");
-    let is_volume = record.next_id() == 2 && record.rows().len() == 1;
+// Whether the bytes are read as a record that is written as these.
+fn is_written_as<T: Record>(rt: &(impl Abort + AllocGlobal), bytes: &[u8], wanted: &[u8]) -> bool {
+    let record: T = read_record(rt.alloc(), bytes).expect(rt, "a record");
     let bytes = written(rt, &record);
     drop(record);
     let is_written = bytes.as_slice() == wanted;
     drop(bytes);
-    is_volume && is_written
+    is_written
 }
+
+// Records of controllers, and how they are written again; and records of nodes.
+const READ: &[(&[u8], &[u8])] = &[
+    (RECORD, RECORD),
+    (LATER_RECORD, LATER_RECORD),
+    (SECOND_RECORD, RECORD),
+    (FIRST_RECORD, RECORD),
+];
+
+const NODE_READ: &[(&[u8], &[u8])] = &[
+    (NODE_RECORD, NODE_RECORD),
+    (SECOND_NODE_RECORD, NODE_RECORD),
+    (FIRST_NODE_RECORD, NODE_RECORD),
+];
 
 #[test]
 fn a_record_is_read_as_it_was_written(rt: HostRuntime) {
-    assert!(&rt; is_written_as(&rt, RECORD, RECORD));
-    assert!(&rt; is_written_as(&rt, LATER_RECORD, LATER_RECORD));
-    assert!(&rt; is_written_as(&rt, SECOND_RECORD, RECORD));
-    assert!(&rt; is_written_as(&rt, FIRST_RECORD, RECORD));
+    for (bytes, wanted) in READ {
+        assert!(&rt; is_written_as::<ControllerRecord>(&rt, bytes, wanted));
+    }
+    for (bytes, wanted) in NODE_READ {
+        assert!(&rt; is_written_as::<NodeRecord>(&rt, bytes, wanted));
+    }
 }
 
 /// A record with one byte in place of another.
@@ -154,11 +174,9 @@ const CHANGES: &[(usize, u8, u64)] = &[
     (48, 3, 1),
     (58, 0, 1),
     (61, 8, 1),
-    // no name, one that is no UTF-8, no capability, 65 nodes, and a detail that isn't there
-    (49, 0, 1),
+    // a name that is no UTF-8, a node and a detail that aren't there
     (50, 255, 1),
-    (59, 0, 1),
-    (62, 65, 1),
+    (62, 1, 1),
     (89, 1, 1),
     // a reply of a node's
     (79, 0x85, 1),
@@ -200,9 +218,9 @@ const FIRST_CHANGES: &[(usize, u8, u64)] = &[
 fn are_refused(rt: &(impl Abort + AllocGlobal), record: &[u8], changes: &[(usize, u8, u64)]) {
     for (at, byte, place) in changes {
         let bytes = changed(rt, record, *at, *byte);
-        let refused = refused_at(rt.alloc(), bytes.as_slice());
+        let is_refused = is_refused_at(rt.alloc(), bytes.as_slice(), *place);
         drop(bytes);
-        assert!(rt; refused == Some(*place), "{byte} at {at}");
+        assert!(rt; is_refused, "{byte} at {at}");
     }
 }
 
@@ -220,9 +238,8 @@ const NODE_CHANGES: &[(usize, u8, u64)] = &[
     (0, 1, 0),
     (17, 1, 0),
     (4, 3, 2),
-    // a controller's head, an empty node id, a session that is over for the row, and a key that is there already
+    // a controller's head, a session that is over for the row, and a key that is there already
     (18, 0, 0),
-    (19, 0, 0),
     (29, 0, 1),
     (37, 0, 1),
     // a row of another version, neither staged nor not, in mode 8, with no target of one, with a flag of 2
@@ -235,31 +252,39 @@ const NODE_CHANGES: &[(usize, u8, u64)] = &[
     (67, 129, 1),
     (68, 17, 1),
     (76, 1, 1),
-    // an id that is no UTF-8, no target, one that is no UTF-8, and 17 of them
+    // an id that is no UTF-8, and a target that is none
     (20, 255, 0),
-    (47, 0, 1),
     (49, 255, 1),
-    (46, 17, 1),
 ];
 
 #[test]
 fn a_node_record_is_refused_at_its_first_bad_part(rt: HostRuntime) {
-    assert!(&rt; node_refused_at(rt.alloc(), NODE_RECORD).is_none());
-    assert!(&rt; node_refused_at(rt.alloc(), SECOND_NODE_RECORD).is_none());
-    assert!(&rt; node_refused_at(rt.alloc(), FIRST_NODE_RECORD).is_none());
     for (at, byte, place) in NODE_CHANGES {
         let bytes = changed(&rt, NODE_RECORD, *at, *byte);
-        let refused = node_refused_at(rt.alloc(), bytes.as_slice());
+        let is_refused = is_node_refused_at(rt.alloc(), bytes.as_slice(), *place);
         drop(bytes);
-        assert!(&rt; refused == Some(*place));
+        assert!(&rt; is_refused, "{byte} at {at}");
     }
 }
 
+// The record with one byte behind it.
+fn longer(rt: &(impl Abort + AllocGlobal), record: &[u8]) -> Vec<u8> {
+    let mut bytes = Vec::from_slice(rt.alloc(), record).expect(rt, "memory");
+    bytes.push(0).expect(rt, "memory");
+    bytes
+}
+
 #[test]
-fn bytes_behind_a_record_have_the_number_of_parts_as_place(rt: HostRuntime) {
-    let mut bytes = Vec::from_slice(rt.alloc(), RECORD).expect(&rt, "memory");
-    bytes.push(0).expect(&rt, "memory");
-    assert!(&rt; refused_at(rt.alloc(), bytes.as_slice()) == Some(2));
-    assert!(&rt; refused_at(rt.alloc(), &[]) == Some(0));
-    drop(bytes);
+fn a_byte_behind_a_record_has_the_number_of_parts_as_place(rt: HostRuntime) {
+    for (record, _) in READ {
+        let bytes = longer(&rt, record);
+        assert!(&rt; is_refused_at(rt.alloc(), &bytes, 2));
+        drop(bytes);
+    }
+    for (record, _) in NODE_READ {
+        let bytes = longer(&rt, record);
+        assert!(&rt; is_node_refused_at(rt.alloc(), &bytes, 2));
+        drop(bytes);
+    }
+    assert!(&rt; is_refused_at(rt.alloc(), &[], 0) && is_node_refused_at(rt.alloc(), &[], 0));
 }

@@ -1,6 +1,8 @@
-//! Stores of which much changes at once, of both plugins: a store of version 2 is opened, or a call begins a session, by which a row goes. What
+//! Stores of which much changes at once, of both plugins: a store of an earlier version is opened, or a call begins a session, by which a row goes. What
 //! such a store has before and after, and the frames that are served between.
-use super::older::{FORGETS, FORGOTTEN, NODE_FORGETS, NODE_FORGOTTEN};
+use super::older::{
+    FIRST_FORGETS, FIRST_NODE_FORGETS, FORGETS, FORGOTTEN, NODE_FORGETS, NODE_FORGOTTEN,
+};
 use super::playing::{Content, End, NEXT, NEXT_REPLY, PLAYED, PLAYED_NEXT, played, served};
 use super::{CONTROLLER_HEAD, NEW_NODE_HEAD, NODE_HEAD, node};
 use csi_service::Keep;
@@ -36,6 +38,24 @@ pub(super) const REWRITTEN: &[Turn] = &[
     Turn {
         plugin: Plugin::Node,
         before: NODE_FORGETS,
+        frames: &[],
+        replies: &[],
+        after: NODE_FORGOTTEN,
+    },
+];
+
+/// The same of version 1.
+pub(super) const FIRST_REWRITTEN: &[Turn] = &[
+    Turn {
+        plugin: Plugin::Controller,
+        before: FIRST_FORGETS,
+        frames: &[],
+        replies: &[],
+        after: FORGOTTEN,
+    },
+    Turn {
+        plugin: Plugin::Node,
+        before: FIRST_NODE_FORGETS,
         frames: &[],
         replies: &[],
         after: NODE_FORGOTTEN,

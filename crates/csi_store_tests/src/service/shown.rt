@@ -1,5 +1,6 @@
 //! What stores have, as lines of JSON.
 use super::playing::{HELD, ONE_MADE, SCRIPT, played};
+use super::stores::DECLARED_OTHERWISE;
 use super::{CONTROLLER_HEAD, NODE_HEAD, part};
 use csi_endings::Ending;
 use csi_plugins::record;
@@ -151,6 +152,8 @@ const NONE: &str = "csi_store_none";
 
 const OTHER: &str = "csi_store_none/other.db";
 
+const OTHER_LOG: &str = "csi_store_none/other.db-wal";
+
 // What is there after the script.
 const LINE: &str =
     "{\"next_id\":3,\"plugin\":\"controller\",\"session\":1,\"volumes\":[{\"attached\":[],\"capabilities\":[{\"access\":\"block\",\"mode\":1}],\"capacity\":10,\"id\":1,\"last\":{\"call\":5,\"session\":1},\"live\":false,\"name\":\"v\"},{\"attached\":[],\"capabilities\":[{\"access\":\"block\",\"mode\":1}],\"capacity\":10,\"id\":2,\"last\":{\"call\":6,\"session\":1},\"live\":true,\"name\":\"w\"}]}\n";
@@ -197,7 +200,38 @@ fn a_store_in_a_file_is_told_and_left_as_it_is(rt: HostRuntime) {
     fs::remove_dir_all(&rt, FOLDER).expect(&rt, "a folder");
 }
 
-// No file, a folder, an empty file, no database, a database with no table, and one with another.
+// Whether no store is opened there.
+fn is_not_opened(host: &HostRuntime, rt: &impl Abort) -> bool {
+    match SqliteKeep::open_file(host, OTHER, Unknown) {
+        Ok(keep) => {
+            keep.close().expect(rt, "a file");
+            false
+        }
+        Err(fault) => fault == KeepFault::Device,
+    }
+}
+
+// Whether no store is found there nor opened, and the file has the same bytes then, without a log.
+fn is_left(host: &HostRuntime, rt: &(impl Abort + AllocGlobal + Files)) -> bool {
+    let _gone = fs::remove_file(rt, OTHER_LOG);
+    let before = fs::read(rt, OTHER).expect(rt, "a file");
+    let is_refused = is_refused(rt, OTHER) && is_not_opened(host, rt);
+    let after = fs::read(rt, OTHER).expect(rt, "a file");
+    let is_same = before.as_slice() == after.as_slice();
+    drop((before, after));
+    is_refused && is_same && fs::read(rt, OTHER_LOG).is_err()
+}
+
+// Whether a new database with this table is no store, and left as it is.
+fn is_other(host: &HostRuntime, rt: &(impl Abort + AllocGlobal + Files), table: &str) -> bool {
+    fs::remove_file(rt, OTHER).expect(rt, "a file");
+    let mut other = Connection::open(host, OTHER).expect(rt, "a database");
+    other.execute(table, &[]).expect(rt, "a table");
+    other.close().expect(rt, "a file");
+    is_left(host, rt)
+}
+
+// No file, a folder, an empty file, no database, a database with no table, and one with another, or one that is declared otherwise.
 #[test]
 fn what_is_no_store_is_not_found_and_not_made(rt: HostRuntime) {
     let _gone = fs::remove_dir_all(&rt, NONE);
@@ -207,16 +241,14 @@ fn what_is_no_store_is_not_found_and_not_made(rt: HostRuntime) {
     fs::write(&rt, OTHER, b"").expect(&rt, "a file");
     assert!(&rt; is_refused(&rt, OTHER));
     fs::write(&rt, OTHER, b"{}").expect(&rt, "a file");
-    assert!(&rt; is_refused(&rt, OTHER));
+    assert!(&rt; is_left(&rt, &rt));
     fs::remove_file(&rt, OTHER).expect(&rt, "a file");
     let empty = Connection::open(&rt, OTHER).expect(&rt, "a database");
     empty.close().expect(&rt, "a file");
     assert!(&rt; is_refused(&rt, OTHER));
-    let mut other = Connection::open(&rt, OTHER).expect(&rt, "a database");
-    other
-        .execute("CREATE TABLE others (key BLOB)", &[])
-        .expect(&rt, "a table");
-    other.close().expect(&rt, "a file");
-    assert!(&rt; is_refused(&rt, OTHER));
+    assert!(&rt; is_other(&rt, &rt, "CREATE TABLE others (key BLOB)"));
+    for table in DECLARED_OTHERWISE {
+        assert!(&rt; is_other(&rt, &rt, table), "{table}");
+    }
     fs::remove_dir_all(&rt, NONE).expect(&rt, "a folder");
 }

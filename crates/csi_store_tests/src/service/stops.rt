@@ -2,7 +2,7 @@
 //! the same script once more comes to.
 use super::copied;
 use super::playing::{End, FRAMES, SCRIPT, is_after, is_end, is_replied, may_have, played};
-use csi_service::{Keep, MemoryKeep};
+use csi_service::{Keep, KeepFault, MemoryKeep};
 use csi_sqlite::SqliteKeep;
 use sqlite::{Connection, FileStore, Files, Options};
 use sqlite_disk::{Crash, Disk, Fuse, Memory};
@@ -66,8 +66,8 @@ pub(super) type Stop = (u64, u64, bool);
 
 pub(super) const NO_STOP: Stop = (u64::MAX, u64::MAX, false);
 
-// A database in files that hold this, all of it synced.
-fn connected(
+/// A database in files that hold this, all of it synced.
+pub(super) fn connected(
     rt: &(impl Abort + AllocGlobal),
     image: &Image,
     stop: Stop,
@@ -121,7 +121,10 @@ pub(super) fn left_closed(
 ) -> (bool, Image) {
     match keep.close_files() {
         Ok(files) => (true, image_of(rt, files, power_fails)),
-        Err((_fault, store)) => (false, image_of(rt, store.close(), power_fails)),
+        Err((fault, store)) => {
+            assert!(rt; fault == KeepFault::Device);
+            (false, image_of(rt, store.close(), power_fails))
+        }
     }
 }
 

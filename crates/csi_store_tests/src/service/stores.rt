@@ -53,15 +53,6 @@ fn a_row_that_is_no_part_is_refused_at_its_place(rt: HostRuntime) {
 
 // What a database may list beside nothing, or a table `parts` alone as it is declared; and how often it lists such a table.
 const OTHERS: &[(&str, i64)] = &[
-    ("CREATE TABLE parts (name TEXT, size INTEGER)", 1),
-    (
-        "CREATE TABLE parts (key BLOB NOT NULL, value BLOB NOT NULL)",
-        1,
-    ),
-    (
-        "CREATE TABLE parts (key BLOB NOT NULL, value BLOB NOT NULL); CREATE INDEX more ON parts (key)",
-        1,
-    ),
     ("CREATE TABLE other (x)", 0),
     ("CREATE TABLE other (x); CREATE INDEX more ON other (x)", 0),
     ("CREATE VIEW seen AS SELECT 1", 0),
@@ -77,6 +68,29 @@ const OTHERS: &[(&str, i64)] = &[
         "CREATE TABLE parts (key BLOB NOT NULL PRIMARY KEY, value BLOB NOT NULL); CREATE INDEX more ON parts (value)",
         1,
     ),
+];
+
+/// Tables `parts` that are declared otherwise: with other columns, without a key, with another key, order or kind of it, with a column more,
+/// and with more that is asked of a value.
+pub(super) const DECLARED_OTHERWISE: &[&str] = &[
+    "CREATE TABLE parts (name TEXT, size INTEGER)",
+    "CREATE TABLE parts (key BLOB NOT NULL, value BLOB NOT NULL)",
+    "CREATE TABLE parts (key BLOB NOT NULL UNIQUE, value BLOB NOT NULL)",
+    "CREATE TABLE parts (key BLOB NOT NULL, value BLOB NOT NULL PRIMARY KEY)",
+    "CREATE TABLE parts (key BLOB PRIMARY KEY, value BLOB NOT NULL)",
+    "CREATE TABLE parts (key TEXT NOT NULL PRIMARY KEY, value BLOB NOT NULL)",
+    "CREATE TABLE parts (key INTEGER PRIMARY KEY, value BLOB NOT NULL)",
+    "CREATE TABLE parts (key BLOB COLLATE NOCASE NOT NULL PRIMARY KEY, value BLOB NOT NULL)",
+    "CREATE TABLE parts (key BLOB NOT NULL PRIMARY KEY, value BLOB NOT NULL, more BLOB)",
+    "CREATE TABLE parts (key BLOB NOT NULL PRIMARY KEY, value BLOB)",
+    "CREATE TABLE parts (key BLOB NOT NULL PRIMARY KEY, value BLOB NOT NULL UNIQUE)",
+    "CREATE TABLE parts (key BLOB NOT NULL PRIMARY KEY, value BLOB NOT NULL DEFAULT x'00')",
+];
+
+// Two without a key, whose one index is another.
+const WITH_AN_INDEX: &[&str] = &[
+    "CREATE TABLE parts (key BLOB NOT NULL, value BLOB NOT NULL); CREATE INDEX more ON parts (key)",
+    "CREATE TABLE parts (key BLOB NOT NULL, value BLOB NOT NULL); CREATE UNIQUE INDEX more ON parts (key)",
 ];
 
 // Whether the database is refused, and lists as many tables `parts` as before.
@@ -100,6 +114,12 @@ fn is_other(rt: &(impl Abort + AllocGlobal), table: &str, count: i64) -> bool {
 fn a_database_that_lists_something_else_is_refused_as_it_is(rt: HostRuntime) {
     for (table, count) in OTHERS {
         assert!(&rt; is_other(&rt, table, *count));
+    }
+    for table in DECLARED_OTHERWISE {
+        assert!(&rt; is_other(&rt, table, 1), "{table}");
+    }
+    for table in WITH_AN_INDEX {
+        assert!(&rt; is_other(&rt, table, 1), "{table}");
     }
 }
 

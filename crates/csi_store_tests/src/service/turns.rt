@@ -2,7 +2,7 @@
 //! plugins. Both files of the store stop after 0, 1, 2 and more calls, until a run ends with no stop; also where the power fails.
 use super::older::puts;
 use super::playing::{Content, End, has_parts};
-use super::sessions::{BEGUN, REWRITTEN, Turn, taken};
+use super::sessions::{BEGUN, FIRST_REWRITTEN, REWRITTEN, Turn, taken};
 use super::stops::{
     DATABASE, Image, LOG, LOST_DATABASE, LOST_LOG, MANY, NO_STOP, Stop, Way, left_by, left_closed,
     new_image, opened, stop_of,
@@ -107,6 +107,26 @@ fn stops_of_the_log_that_lose_bytes_leave_version_2_or_version_3(rt: HostRuntime
 #[test]
 fn stops_of_the_database_file_that_lose_bytes_leave_version_2_or_version_3(rt: HostRuntime) {
     assert!(&rt; all_end(&rt, LOST_DATABASE, REWRITTEN));
+}
+
+#[test]
+fn stops_of_the_log_leave_version_1_or_version_3(rt: HostRuntime) {
+    assert!(&rt; all_end(&rt, LOG, FIRST_REWRITTEN));
+}
+
+#[test]
+fn stops_of_the_database_file_leave_version_1_or_version_3(rt: HostRuntime) {
+    assert!(&rt; all_end(&rt, DATABASE, FIRST_REWRITTEN));
+}
+
+#[test]
+fn stops_of_the_log_that_lose_bytes_leave_version_1_or_version_3(rt: HostRuntime) {
+    assert!(&rt; all_end(&rt, LOST_LOG, FIRST_REWRITTEN));
+}
+
+#[test]
+fn stops_of_the_database_file_that_lose_bytes_leave_version_1_or_version_3(rt: HostRuntime) {
+    assert!(&rt; all_end(&rt, LOST_DATABASE, FIRST_REWRITTEN));
 }
 
 #[test]

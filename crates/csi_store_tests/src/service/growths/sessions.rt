@@ -1,10 +1,13 @@
 //! Refused growths where a session begins, and where nothing changes.
-use super::super::is_part;
-use super::super::playing::{Content, NEXT, NEXT_REPLY, PLAYED, PLAYED_NEXT, has_parts};
+use super::super::playing::{
+    Content, HELD, NEXT, NEXT_REPLY, ONE_MADE, PLAYED, PLAYED_NEXT, REPLIES, SCRIPT, has_parts,
+    is_slice,
+};
 use super::super::records::CREATE;
 use super::super::sessions::{
     BEGUN, IN_SESSION_0, NODE_BEFORE, NODE_LATER, Turn, UNSTAGE_LATER, UNSTAGED_REPLY, taken,
 };
+use super::super::{NODE_HEAD, is_part, room};
 use super::{STAGE, changes, commits, count_of, frame_of, opened, opened_node, store_of};
 use csi_frames::Splitter;
 use csi_node::NodeRecord;
@@ -218,6 +221,65 @@ fn a_node_passes_over_what_is_lent_and_changes_nothing(rt: HostRuntime) {
         assert!(&rt; is_passed_over_lent(&rt, &mut service, *lent));
     }
     drop(service);
+}
+
+// The script's fourth frame takes the volume from its node. It takes no memory, also where it comes again.
+#[test]
+fn a_volume_is_unpublished_without_memory(rt: HostRuntime) {
+    let held = (ONE_MADE, HELD, NONE);
+    let mut keep = store_of(&rt, held);
+    let mut service = opened(&rt, &mut keep, (held, held));
+    drop(keep);
+    let mut splitter = fed(&rt, SCRIPT.get(118..152).expect(&rt, "a frame"));
+    let mut out = room(&rt, 544);
+    let Ok(Some(frame)) = splitter.next() else {
+        return assert!(&rt; false);
+    };
+    for _ in 0..2 {
+        out.clear();
+        let answered = service.answer_into(&frame, &mut out);
+        assert!(&rt; matches!(answered, Ok(true)) && is_slice(REPLIES.get(101..134), &out));
+    }
+    drop((splitter, out, service));
+}
+
+// Volume 1 is published at `/a`, and unpublished; and what that is replied.
+const PUBLISHED: Content = (
+    NODE_HEAD,
+    &[
+        3, 1, 0, 1, 1, 2, 47, 97, 0, 0, 0, 0, 0, 0, 0, 0, 1, 0, 0, 0, 0, 0, 0, 0, 2, 135, 0, 0, 0,
+        0, 0, 0, 0, 0, 0, 0,
+    ],
+    NONE,
+);
+
+const UNPUBLISH: &[u8] = &[
+    0, 0, 0, 33, 1, 8, 0, 0, 0, 0, 0, 0, 0, 1, 0, 0, 0, 0, 0, 0, 0, 4, 1, 2, 110, 49, 0, 0, 0, 0,
+    0, 0, 0, 1, 2, 47, 97,
+];
+
+const UNPUBLISHED: &[u8] = &[
+    0, 0, 0, 32, 1, 136, 0, 0, 0, 0, 0, 0, 0, 1, 0, 0, 0, 0, 0, 0, 0, 4, 1, 2, 110, 49, 0, 0, 0, 0,
+    0, 0, 0, 0, 0, 0,
+];
+
+// The same of a node.
+#[test]
+fn a_target_is_unpublished_without_memory(rt: HostRuntime) {
+    let mut keep = store_of(&rt, PUBLISHED);
+    let mut service = opened_node(&rt, &mut keep, (PUBLISHED, PUBLISHED));
+    drop(keep);
+    let mut splitter = fed(&rt, UNPUBLISH);
+    let mut out = room(&rt, 544);
+    let Ok(Some(frame)) = splitter.next() else {
+        return assert!(&rt; false);
+    };
+    for _ in 0..2 {
+        out.clear();
+        let answered = service.answer_into(&frame, &mut out);
+        assert!(&rt; matches!(answered, Ok(true)) && out.as_slice() == UNPUBLISHED);
+    }
+    drop((splitter, out, service));
 }
 
 // Whether the turn's frame was served, of a store that has this. Where it wasn't, memory was refused, and the store has it still.
