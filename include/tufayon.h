@@ -6,16 +6,22 @@
  * it had never stopped. docs/FORMATS.md says what frames and records are, byte by byte.
  *
  *     tufayon_plugin plugin = {0};
- *     tufayon_node_new(id, id_size, &plugin);            or tufayon_node_from_record, of what the store has
+ *     ending = tufayon_node_new(id, id_size, &plugin);            or tufayon_node_from_record, of what the store has
+ *     commit(ending == TUFAYON_RENEWED);                          what making it changed: a new head, or the whole record
  *     for (;;) {
- *         tufayon_answer(&plugin, frame, size, &used, reply, sizeof reply, &written);
- *         each tufayon_changed(&plugin, place, ..), place from 0, in one commit of the store;
+ *         ending = tufayon_answer(&plugin, frame, size, &used, reply, sizeof reply, &written);
+ *         commit(false);
  *         send the reply's `written` bytes, where there are any;
  *     }
  *     tufayon_free(&plugin);
  *
+ *     commit(bool anew): begin a transaction of the store, and delete all that it has if `anew`; for place 0, 1, 2 and so on
+ *         tufayon_changed(&plugin, place, &key, value, room, &written)
+ *     until that is TUFAYON_NO_MORE, put in or take out what it says, or give it more room and ask again; end the transaction.
+ *
  * Every call but tufayon_free returns a number, below. Unless it is TUFAYON_DONE, TUFAYON_RENEWED or TUFAYON_TAKE_OUT, the plugin and its changes
- * stay as they were: no call leaves anything half done, and after TUFAYON_NO_MEMORY it may be made again.
+ * stay as they were: no call leaves anything half done, and after TUFAYON_NO_MEMORY it may be made again. That this number comes only where an
+ * allocation was refused isn't proved: tools/library tests that each call succeeds where none is.
  *
  * What is proved of each call stands at crates/csi_embedded/src/exports.rt, where it is checked. It supposes of the calling program:
  *
@@ -28,7 +34,7 @@
  *     a process with threads.
  *
  * The library and the kit's liblibc_c.a, which is linked with it, need malloc, realloc, free, memcpy, memmove and memset of the C library, and
- * nothing else: no file, no clock, no thread, no output.
+ * nothing else: no file, no clock, no thread, no output. tools/embed compares this list with their symbols.
  */
 #ifndef TUFAYON_H
 #define TUFAYON_H

@@ -1,8 +1,8 @@
 /* Refuses a program its allocations, each in a process of its own. It is loaded before the C library (LD_PRELOAD) and counts the calls of
    malloc, calloc and realloc that the program itself makes. At each REFUSE-th of them the process forks. The child is answered with no
    memory and runs to its end, in a copy of the folder that lies in it under the allocation's number, so that what it writes is its own. The
-   process waits for it, tells to the descriptor REFUSALS what came of it, and goes on with memory: nothing is run twice from the start.
-   `refusals` reads what is told. */
+   process waits for it, tells to the descriptor REFUSALS what came of it, and goes on with memory: nothing is run twice from the start. At its
+   end it tells how many allocations there were; with a REFUSE of 0 it does nothing else. `refusals` reads what is told. */
 #define _GNU_SOURCE
 #include <dirent.h>
 #include <errno.h>
@@ -24,8 +24,8 @@ enum { CALLS = 511, FILES = 64, SECONDS = 600 };
 
 /* What is told of a refusal. */
 struct refusal {
-    uint64_t number; /* of the allocation, from 1 */
-    uint64_t status; /* how the child ended, as wait says it */
+    uint64_t number; /* of the allocation, from 1; at the end 0 */
+    uint64_t status; /* how the child ended, as wait says it; at the end how many allocations there were */
     struct {
         uint64_t place, callee; /* behind the call, and what was called, counted from the program's front */
     } calls[CALLS];             /* the calls that may have been under way, innermost first; then zeros */
@@ -132,7 +132,9 @@ int open(const char *path, int flags, ...) {
 }
 
 static int is_refused(uintptr_t caller) {
-    if (refusals < 0 || !is_code(caller) || ++made % every != 0) return 0;
+    if (refusals < 0 || !is_code(caller)) return 0;
+    made++;
+    if (every == 0 || made % every != 0) return 0;
     pid_t child = fork();
     if (child < 0) fail("fork");
     if (child == 0) {
@@ -150,6 +152,11 @@ static int is_refused(uintptr_t caller) {
     refusal.status = (uint64_t)status;
     if (write(refusals, &refusal, sizeof refusal) != sizeof refusal) fail("write");
     return 0;
+}
+
+__attribute__((destructor)) static void tell_how_many(void) {
+    struct refusal all = {.status = made};
+    if (refusals >= 0 && write(refusals, &all, sizeof all) != sizeof all) fail("write");
 }
 
 #define CALLER ((uintptr_t)__builtin_return_address(0))

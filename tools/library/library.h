@@ -1,0 +1,114 @@
+/* The test of the C library: what it is given and what it has to answer is spelled here from docs/FORMATS.md and include/tufayon.h, never by the
+ * library itself. `tools/embed` builds and runs it. */
+#ifndef LIBRARY_H
+#define LIBRARY_H
+
+#include "tufayon.h"
+#include <stdio.h>
+#include <stdlib.h>
+#include <string.h>
+
+/* Says which case fails, and ends the test. */
+_Noreturn void fail(const char *file, int line, const char *why);
+#define must(good, why) ((good) ? (void)0 : fail(__FILE__, __LINE__, why))
+extern char doing[1 << 12];           /* what the test is at */
+extern unsigned long cases, refusals; /* how many calls it compared, and of how many it refused an allocation */
+
+/* ---- memory (memory.c): the library's allocations, counted and refused; the test's own are made by `grow` */
+
+extern long held;              /* blocks that the library has */
+extern bool was_refused;       /* whether one was, since `refuse` */
+void refuse(unsigned long at); /* refuses this allocation from now, 1 the next one; with 0 none */
+void *grow(void *old, size_t size);
+void give_back(void *it);
+
+/* ---- bytes (spelling.c) */
+
+typedef struct bytes {
+    uint8_t *at;
+    size_t size, room;
+} bytes;
+
+/* A part, or one that is taken out. */
+typedef struct part {
+    uint64_t key;
+    bool gone;
+    bytes value;
+} part;
+
+typedef struct parts {
+    part *at;
+    size_t count, room;
+} parts;
+
+void put(bytes *to, const void *from, size_t size);
+void put_number(bytes *to, uint64_t number, int size);
+bool same(bytes a, bytes b);
+
+/* The frame of a line in the form of `csi-replay show`, without its place. A text with *N behind it is repeated so often. */
+bytes frame_of(const char *line);
+
+/* The part of a line, in a version:
+ *   head NEXT SESSION                    head "n1" SESSION                    gone ID
+ *   ID live "v" 10 block/1 ; "n1" block/1 rw ; 1.3 ControllerPublishVolume 0 0 ""
+ *   ID block/1 ; "/a" rw ; 1.4 NodePublishVolume 0 0 ""                       ID - ; ; 1.6 NodeUnstageVolume 0 0 "" */
+part part_of(const char *line, int version);
+void add(parts *to, part it);
+/* The parts of lines up to a null. */
+parts parts_of(int version, const char *const *lines);
+
+/* ---- stores (stores.c) */
+
+/* Puts a part into a store, or takes it out. */
+void change(parts *store, part it);
+/* The bytes of a whole record. */
+bytes record_of(const parts *store, int version);
+
+/* ---- calls (calls.c) */
+
+/* A handle, and what is expected of it. */
+typedef struct tested {
+    tufayon_plugin plugin;
+    bool has;     /* whether it has a plugin */
+    parts store;  /* its parts */
+    parts told;   /* the changes that it tells */
+    bytes record; /* of the store */
+} tested;
+
+/* How a plugin is asked for: a controller under a configuration or a node of an id, and a record or none. */
+typedef struct asked {
+    bool is_controller;
+    bytes name, record;
+    bool from_record;
+} asked;
+
+/* Every how many-th allocation is refused: with 1 each, and then all is compared at each call; with 0 none. */
+extern unsigned long stride;
+
+asked controller_of(const char *config);
+asked node_of(const char *id);
+asked of_record(asked it, bytes record);
+
+/* Makes a plugin, which ends so; where it is made it has this store and tells these changes. Each allocation is refused once. */
+void makes(tested *of, asked how, uint32_t ending, const parts *store, const parts *told);
+/* Answers a frame, with this reply (of no bytes: none) and these changes. It is cut at each byte, given with too little room, and each allocation
+ * is refused once. */
+void answers(tested *of, bytes frame, bytes reply, const parts *changes);
+/* These bytes are answered with this ending, and all stays. */
+void refuses(tested *of, bytes frame, uint32_t ending);
+/* The plugin has the store and tells the changes that are expected, and so has one of its record. */
+void compares(tested *of, asked how);
+void frees(tested *of);
+
+/* ---- cases */
+
+void test_examples(void);
+void test_handles(void);
+void test_controller(void);
+void test_node(void);
+void test_frames(void);
+void test_records(void);
+void test_damaged(void);
+void test_full(void);
+
+#endif

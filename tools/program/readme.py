@@ -1,0 +1,53 @@
+"""README.md: each command in it, and the output that the page gives."""
+import os
+import re
+import shutil
+import subprocess
+
+from .running import LIMIT, Case, need, wanted
+
+TOP = os.path.dirname(os.path.dirname(os.path.dirname(os.path.realpath(__file__))))
+# What proves or builds, by a word of the line.
+LEFT_OUT = ("rt ci", "rt try", "rt lib", ".ci/run", "tools/")
+MARK = "-- the next block"
+BLOCK = re.compile(r"^```(\w*)\n(.*?)^```$", re.MULTILINE | re.DOTALL)
+
+
+def blocks():
+    """The page's commands, each with the output behind it, or none; commands with one word of the list are left out."""
+    with open(f"{TOP}/README.md", encoding="utf-8") as file:
+        page = BLOCK.findall(file.read())
+    for at, (language, content) in enumerate(page):
+        if language == "sh":
+            follows = page[at + 1] if at + 1 < len(page) else ("none", "")
+            kept = [line for line in content.splitlines() if not any(word in line for word in LEFT_OUT)]
+            yield "\n".join(kept), follows[1] if follows[0] == "" else None
+
+
+def tree(box):
+    """A copy of what the commands read, where the program stands for the script."""
+    for name in ("examples", "docs", "include"):
+        shutil.copytree(f"{TOP}/{name}", box.at(name))
+    os.symlink(box.program, box.at("csi-replay"))
+
+
+def every_command(box):
+    """All commands of the page in one shell, in order."""
+    bash = need("bash")
+    tree(box)
+    with open(f"{TOP}/examples/late_detach.report", encoding="utf-8") as file:
+        report = file.read()
+    shown = [(commands, output) for commands, output in blocks() if commands]
+    script = "".join(f"echo '{MARK}'\n{commands}\n" for commands, _ in shown)
+    env = {"PATH": os.environ["PATH"], "TMPDIR": box.folder}
+    how = {"stdout": subprocess.PIPE, "stderr": subprocess.STDOUT, "timeout": LIMIT, "check": False}
+    came = subprocess.run([bash, "-c", script], cwd=box.folder, env=env, **how).stdout.decode().split(f"{MARK}\n")
+    wanted("how many blocks were run", len(came), len(shown) + 1)
+    for (commands, output), one in zip(shown, came[1:]):
+        # The one that has no output on the page prints the report of its schedule.
+        wanted(commands, one, report if output is None else output)
+    wanted("how many outputs were compared", sum(output is not None for _, output in shown) >= 5, True)
+
+
+def cases():
+    yield Case("README: its commands", every_command)

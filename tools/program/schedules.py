@@ -1,0 +1,158 @@
+"""`run`, `frames` and `draw` on schedules, and `answer` on frames: the examples, and what is refused."""
+import os
+
+from .frames import attach, create, delete, detach, publish, reply, stage
+from .running import Case, ended, of_rows, wanted
+
+TOP = os.path.dirname(os.path.dirname(os.path.dirname(os.path.realpath(__file__))))
+THREE = ("run", "frames", "draw")
+NO_FRAME = (
+    b'{"attached":[],"events":[%s],"frames":0,"known":[],"published":[],"safe":true,"session":1,"staged":[],"volumes":[]}\n'
+)
+
+
+def schedule(events=b"", config=b'{"greatest":1000,"nodes":[]}'):
+    return b'{"config":%s,"events":[%s]}' % (config, events)
+
+
+def refused(box, line, given):
+    """Each of the three says so, from a file and from a pipe, and gives nothing."""
+    box.put("f", given)
+    for name in THREE:
+        box.wants(ended(1, line), name, "f")
+        box.wants(ended(1, line), name, "/dev/stdin", given=given)
+
+
+def reported(box, out, given):
+    box.put("f", given)
+    box.wants(ended(0, out=out), "run", "f")
+    box.wants(ended(0, out=out), "run", "/dev/stdin", given=given)
+
+
+EVENT = b'{"deliver":1}'
+CREATE = b'{"create":{"capabilities":[{"access":"block","mode":%s}],"limit":%s,"name":"%s","required":10}}'
+
+
+def bad_event(*lines):
+    """Events of which the last alone is refused, at its number from 1."""
+    return f"schedule fault 2 at {len(lines)}", schedule(b",".join(lines))
+
+
+NOT_JSON = "schedule fault 1 at 0"
+BAD = "schedule fault 2 at 0"
+TOO_MANY = "schedule fault 3 at 0"
+REFUSED = [
+    ("an empty file", NOT_JSON, b""),
+    ("no JSON", NOT_JSON, b"{"),
+    ("bytes behind the object", NOT_JSON, schedule() + b"x"),
+    ("a number too large", NOT_JSON, schedule(b'{"deliver":1e999}')),
+    ("nested 128 deep", NOT_JSON, b"[" * 128 + b"]" * 128),
+    ("a list", BAD, b"[]"),
+    ("a null", BAD, b"null"),
+    ("nested 127 deep", BAD, b"[" * 127 + b"]" * 127),
+    ("no events", BAD, b'{"config":{"greatest":1000,"nodes":[]}}'),
+    ("no configuration", BAD, b'{"events":[]}'),
+    ("a key too many", BAD, b'{"config":{"greatest":1000,"nodes":[]},"events":[],"x":0}'),
+    ("events that are no list", BAD, b'{"config":{"greatest":1000,"nodes":[]},"events":{}}'),
+    ("a greatest of 0", BAD, schedule(config=b'{"greatest":0,"nodes":[]}')),
+    ("a last greatest of 0", BAD, schedule(config=b'{"greatest":1,"greatest":0,"nodes":[]}')),
+    ("100,001 events", TOO_MANY, schedule(b",".join([EVENT] * 100_001))),
+    ("100,001 events, one of them bad", TOO_MANY, schedule(b",".join([b"0"] + [EVENT] * 100_000))),
+    ("a bad first event", *bad_event(b"0")),
+    ("a bad third event", *bad_event(EVENT, EVENT, b'{"deliver":-0}')),
+    ("an unknown event", *bad_event(b'{"attach":1}')),
+    ("two keys in an event", *bad_event(b'{"deliver":1,"timeout":"v"}')),
+    ("a number with a point", *bad_event(EVENT, b'{"deliver":1.0}')),
+    ("a number with an exponent", *bad_event(EVENT, b'{"deliver":1e2}')),
+    ("a number above 2^64", *bad_event(b'{"deliver":18446744073709551616}')),
+    ("a mode of 8", *bad_event(CREATE % (b"8", b"0", b"v"))),
+    ("no name", *bad_event(CREATE % (b"1", b"0", b""))),
+    ("a name of 129 bytes", *bad_event(CREATE % (b"1", b"0", b"v" * 129))),
+    ("a restart of nothing", *bad_event(b'{"restart":"node"}')),
+    ("nine capabilities", *bad_event((CREATE % (b"1", b"0", b"v")).replace(b"}]", b'}' + b',{"access":"block","mode":1}' * 8 + b"]"))),
+    ("a bad event at the end of 100,000", *bad_event(*[EVENT] * 99_999, b"{}")),
+    ("no UTF-8", "not UTF-8", b"\xff"),
+    ("no UTF-8 in a name", "not UTF-8", schedule(b'{"delete":"\xc3"}')),
+    ("a cut character at the end", "not UTF-8", schedule() + b"\xe2\x82"),
+]
+
+SENT = b'{"create":{"capabilities":[{"access":"block","mode":1}],"limit":0,"name":"v","required":10}}'
+REPORTED = [
+    ("no events", NO_FRAME % b"", schedule()),
+    ("a frame that there isn't", NO_FRAME % b'"no such frame"', schedule(b'{"deliver":99}')),
+    ("100,000 events", NO_FRAME % b",".join([b'"no such frame"'] * 100_000), schedule(b",".join([EVENT] * 100_000))),
+    ("other keys' order, blanks, a repeated key", NO_FRAME % b"", b' { "events" : [ ] , "config" : [ ] , "config" : {"nodes":[],"greatest":1} } \n'),
+    (
+        "texts behind backslashes",
+        b'{"attached":[],"events":["sent 1"],"frames":1,"known":[{"known":"maybe","name":"\\u0000\\b\\t\\n\\f\\r\\u001f\\"\\\\/\x7f'
+        b'\xc3\xa9","thing":"exists"}],"published":[],"safe":true,"session":1,"staged":[],"volumes":[]}\n',
+        schedule(SENT.replace(b'"v"', b'"\\u0000\\b\\t\\n\\f\\r\\u001f\\"\\\\\\/\x7f\\u00e9"')),
+    ),
+]
+
+
+def frames_of(box):
+    """The frames that a schedule sends, as bytes: the orchestrator's calls and what they are answered."""
+    use = b'{"use":{"capability":{"access":"block","mode":1},"name":"v","node":"n1","readonly":false,"target":"/a"}}'
+    events = [SENT, b'{"deliver":1}', b'{"deliver":2}', use, b'{"deliver":3}', b'{"deliver":4}', b'{"deliver":5}', b'{"deliver":6}']
+    events += [b'{"deliver":7}', b'{"deliver":8}', b'{"restart_node":"n2"}']
+    right = [
+        *(create((1, 1), "v"), reply("CreateVolume", (1, 1), 0, 1)),
+        *(attach((1, 2), 1, "n1"), reply("ControllerPublishVolume", (1, 2))),
+        *(stage((1, 3), 1), reply("NodeStageVolume", (1, 3))),
+        *(publish((1, 4), 1, "/a"), reply("NodePublishVolume", (1, 4))),
+    ]
+    box.put("f", schedule(b",".join(events), b'{"greatest":1000,"nodes":[{"id":"n1","slots":1}]}'))
+    box.wants(ended(0, out=b"".join(right)), "frames", "f")
+
+
+def examples(box):
+    """Each schedule of examples/ has the report beside it, and the picture of the README is drawn."""
+    folder = f"{TOP}/examples"
+    names = sorted(name for name in os.listdir(folder) if name.endswith(".json"))
+    wanted("how many schedules examples/ has", len(names) > 6, True)
+    for name in names:
+        with open(f"{folder}/{name[:-5]}.report", "rb") as file:
+            box.wants(ended(0, out=file.read()), "run", f"{folder}/{name}")
+    with open(f"{TOP}/docs/late_detach.svg", "rb") as file:
+        box.wants(ended(0, out=file.read()), "draw", f"{folder}/late_detach.json")
+
+
+def answered(box):
+    """A new controller without nodes, that makes volumes of any size."""
+    frames = [
+        (create((1, 1), "v"), reply("CreateVolume", (1, 1), 0, 1)),
+        (create((1, 2), "w", 2**63 - 1), reply("CreateVolume", (1, 2), 0, 2)),
+        (create((1, 3), "x", 2**63), reply("CreateVolume", (1, 3), 3, 0, "capacity")),
+        (attach((1, 4), 1, "n1"), reply("ControllerPublishVolume", (1, 4), 5, 0, "node")),
+        (create((1, 2), "w"), reply("CreateVolume", (1, 2), 0, 2)),
+        (stage((1, 5), 1), b""),
+        (reply("DeleteVolume", (9, 9)), b""),
+        (create((1, 1), "v"), reply("CreateVolume", (1, 1), 10, 0, "stale")),
+        (detach((1, 5), 1, "n1"), reply("ControllerUnpublishVolume", (1, 5))),
+        (delete((2, 1), 1), reply("DeleteVolume", (2, 1))),
+        (create((1, 9), "v"), reply("CreateVolume", (1, 9), 10, 0, "stale")),
+        (create((2, 2), "v"), reply("CreateVolume", (2, 2), 6, 0, "name")),
+        (create((3, 1), "v"), reply("CreateVolume", (3, 1), 0, 3)),
+    ]
+    given, right = (b"".join(side) for side in zip(*frames))
+    box.put("f", given)
+    box.wants(ended(0, out=right), "answer", "f")
+    box.wants(ended(0, out=right), "answer", "/dev/stdin", given=given)
+
+
+def nothing(box):
+    """An empty file has no frames."""
+    box.put("f", b"")
+    for name in ("answer", "show"):
+        box.wants(ended(0), name, "f")
+
+
+def cases():
+    rows = [(f"refused: {name}", refused, *rest) for name, *rest in REFUSED]
+    rows += [(f"reported: {name}", reported, *rest) for name, *rest in REPORTED]
+    yield from of_rows("schedules", rows)
+    yield Case("schedules: the frames of one", frames_of)
+    yield Case("schedules: the examples", examples)
+    yield Case("answer: a new controller", answered)
+    yield Case("answer and show: an empty file", nothing)

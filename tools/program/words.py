@@ -1,0 +1,98 @@
+"""The words of the command line, and files that can't be read."""
+import os
+
+from .frames import create
+from .running import as_nobody, ended, of_rows, wanted
+
+ON_FILES = ("answer", "show", "run", "frames", "draw")
+TAKEN = {**{name: 1 for name in ON_FILES}, "controller": 2, "node": 2, "record": 1}  # how many words each takes
+USAGE = ended(2, "usage")
+
+
+def prepare(box):
+    box.put("f", create((1, 1), "v"))
+    box.put("config", b'{"greatest":1000,"nodes":[]}')
+    return box.files()
+
+
+def refused(box, *words):
+    """No command: nothing is done, and no file made."""
+    before = prepare(box)
+    box.wants(USAGE, *words)
+    wanted("the folder", box.files(), before)
+
+
+def counts(box):
+    """Each subcommand with any other count of words than it takes."""
+    before = prepare(box)
+    for name, right in TAKEN.items():
+        for count in range(6):
+            if count != right:
+                box.wants(USAGE, name, *["f", "config", "n1", "f", "f"][:count])
+    wanted("the folder", box.files(), before)
+
+
+def hyphens(box):
+    """A file whose name begins with a hyphen stands behind `--`, but for one that is called `-`."""
+    line = ended(0, out=b'0 1.1 controller CreateVolume "v" 10 0 block/1\n')
+    for name in ("-", "-f", "--help", "--", " "):
+        box.put(name, create((1, 1), "v"))
+        box.wants(line, "show", "--", name)
+    box.wants(line, "show", "-")
+    box.wants(line, "show", " ")
+    for name in ("-f", "--help", "--"):
+        box.wants(USAGE, "show", name)
+
+
+def unreadable(box, path, making=None):
+    """Each of the five ends so on a file that isn't there, or can't be read."""
+    if making:
+        making(box.at(path))
+    for name in ON_FILES:
+        box.wants(ended(3, "device"), name, path)
+
+
+def without_rights(box):
+    before = as_nobody()
+    box.put("f", create((1, 1), "v"))
+    os.chmod(box.at("f"), 0o600)
+    for name in ON_FILES:
+        box.wants(ended(3, "device"), name, "f", before=before)
+
+
+ROWS = [
+    ("no words", refused),
+    ("an empty word", refused, ""),
+    ("no subcommand", refused, "f"),
+    ("a subcommand in capitals", refused, "Show", "f"),
+    ("the front of a subcommand", refused, "sho", "f"),
+    ("a blank behind it", refused, "show ", "f"),
+    ("help", refused, "help"),
+    ("help on one", refused, "help", "show"),
+    ("--help", refused, "--help"),
+    ("-h", refused, "-h"),
+    ("--version", refused, "--version"),
+    ("--help behind one", refused, "show", "--help"),
+    ("-h behind one", refused, "controller", "-h"),
+    ("an option", refused, "show", "-x", "f"),
+    ("an option before", refused, "--quiet", "show", "f"),
+    ("an option with a value", refused, "show", "--file=f"),
+    ("two subcommands", refused, "show", "f", "answer", "f"),
+    ("no UTF-8", refused, b"show", b"\xff"),
+    ("no UTF-8 as a subcommand", refused, b"sh\xffow", b"f"),
+    ("no UTF-8 as an id", refused, b"node", b"db", b"n\xff"),
+    ("other counts of words", counts),
+    ("hyphens", hyphens),
+    ("a file that is missing", unreadable, "nothing"),
+    ("an empty name", unreadable, ""),
+    ("a file in a folder that is missing", unreadable, "nothing/f"),
+    ("a folder", unreadable, "folder", os.mkdir),
+    ("a link to nothing", unreadable, "link", lambda path: os.symlink("nothing", path)),
+    ("a link to itself", unreadable, "link", lambda path: os.symlink("link", path)),
+    ("a name of 256 bytes", unreadable, "f" * 256),
+    ("a file without rights", without_rights),
+]
+
+
+def cases():
+    yield from of_rows("words", ROWS)
