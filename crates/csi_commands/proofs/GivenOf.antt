@@ -1,10 +1,10 @@
 -- What a command gives of the world to which a schedule's events lead.
 use Rattle.std.proofs.Common.{◌≡◌, ℕ, List, Result, Ok, Err, IfOk}
-use Rattle.csi_json.specs.Schedule.{Schedule}
-use Rattle.csi_world.specs.After.{after}
-use Rattle.csi_world.specs.Simulated.{WorldParts, ShowsRun}
+use Rattle.csi_json.specs.Public.Schedule.{Schedule}
+use Rattle.csi_world.specs.Model.After.{after}
+use Rattle.csi_world.specs.Model.Simulated.{WorldParts, ShowsRun}
 use Rattle.csi_endings.specs.declared.command.ScheduleCommand.{ScheduleCommand}
-use Rattle.csi_commands.specs.Running.{Drawing, IsGivenOf, IsGiven}
+use Rattle.csi_commands.specs.Public.Running.{Drawing, IsGivenOf, IsGiven}
 
 -- what is given of a world that shows the schedule's run is given of the schedule
 pub given_is : {T E : Type 0} → (bytes : T → List ℕ) (draws : Drawing) (command : ScheduleCommand) (schedule : Schedule) (world : WorldParts) (result : Result T E) → world.config ≡ schedule.config → ShowsRun world (after schedule.config schedule.events) → IfOk result (λ given. IsGivenOf draws command schedule.events world (bytes given)) → IfOk result (λ given. IsGiven draws command schedule (bytes given))

@@ -3,25 +3,27 @@ use Rattle.std.proofs.Common.{◌≡◌, ◌∙◌, sym, ap, subst, refl, inl, i
 use Rattle.std.proofs.lemmas.List.{append-nil}
 use Rattle.std.specs.Io.KnownBytes.{Appends, Consumes, IsAtEnd}
 use Rattle.std.proofs.KnownBytes.{Appends-nil}
-use Rattle.csi_types.specs.Frame.{Frame}
-use Rattle.csi_frames.specs.Stream.{FramesOf}
-use Rattle.csi_counted.specs.declared.output.WriteFailed.{WriteFailed}
-use Rattle.csi_counted.specs.Counting.{HasRisen}
-use Rattle.csi_counted.specs.Writing.{WritesFront}
+use Rattle.csi_types.specs.Model.Frame.{Frame}
+use Rattle.csi_frames.specs.Public.Stream.{FramesOf}
+use Rattle.csi_stores.specs.declared.output.WriteFailed.{WriteFailed}
+use Rattle.csi_stores.specs.Public.Counting.{HasRisen}
+use Rattle.csi_stores.specs.Public.Writing.{WritesFront}
 use Rattle.csi_streams.specs.declared.streaming.StreamFault.{StreamFault}
 use Rattle.csi_streams.specs.declared.streaming.StreamFault.TheVariants as stops
-use Rattle.csi_streams.specs.Replay.{answered, Grows}
-use Rattle.csi_streams.specs.Lines.{lines}
-use Rattle.csi_streams.specs.Failing.{TellsReader, TellsWriter}
-use Rattle.csi_streams.specs.Streaming.{AreReplies, AreLines, GivesFront, StreamEnds, Streams, Waits}
-use Rattle.csi_streams.proofs.Streams.{one_stream}
+use Rattle.csi_streams.specs.Public.Replay.{spelled_replies, Grows}
+use Rattle.csi_streams.specs.Public.Lines.{lines}
+use Rattle.csi_streams.specs.Public.Failing.{TellsReader, TellsWriter}
+use Rattle.csi_driver.specs.Public.Frames.{Waits}
+use Rattle.csi_driver.proofs.Streams.{one_stream}
+use Rattle.csi_streams.specs.Public.Streaming.{AreReplies, AreLines, GivesFront, StreamEnds, IsStreamed}
 use Rattle.csi_endings.specs.declared.command.FileCommand.TheVariants.{Answer, Show, Schedule}
 use Rattle.csi_endings.specs.declared.command.ScheduleCommand.{ScheduleCommand}
 use Rattle.csi_endings.specs.declared.ending.Ending.{Ending}
 use Rattle.csi_endings.specs.declared.ending.Ending.TheVariants as endings
-use Rattle.csi_commands.specs.Ending.{EndsAs}
-use Rattle.csi_commands.specs.Running.{Drawing, Plays, IsRefused}
-use Rattle.csi_commands.specs.Streaming.{StreamsAs, StreamEndsAs, WasCut, TellsDevice, HasRead, ReadsWhole, ending_of_stream, ending_of_written}
+use Rattle.csi_commands.specs.Public.Ending.{EndsAs}
+use Rattle.csi_commands.specs.Public.Running.{Drawing, Plays, IsScheduleRefused}
+use Rattle.csi_commands.specs.Public.Streaming.{StreamsAs, StreamEndsAs, WasCut, TellsDevice}
+use Rattle.csi_commands.specs.Private.Streaming.{HasRead, ReadsWhole, ending_of_stream, ending_of_written}
 
 -- all bytes begin with themselves
 grows-none : (bytes : List ℕ) → Grows bytes bytes
@@ -48,7 +50,7 @@ module _ (draws : Drawing) (bytes rest : List ℕ) (frames : List Frame) (of : F
   answer_ends at_end out (Ok count) ends = (ends.0, (for_all (λ fs more. EndsAs Answer fs more [] out endings.Done) (record { whole = ends.1; appended = ends.3 }), tt))
   answer_ends at_end out (Err (stops.Frame kind place)) ends = (ends.0, (for_all (λ fs more. EndsAs Answer fs more [] out (endings.FrameFault kind place)) (ends.1, ends.2), tt))
   answer_ends at_end out (Err stops.NoMemory) ends = (tt, (for_all (λ fs more. EndsAs Answer fs more [] out endings.Memory) (record { count = ends.count; within = ends.within; appended = ends.given }), tt))
-  answer_ends at_end out (Err stops.Input) ends = record { all = out; appended = all_given answered out ends.1; grows = grows-none out }
+  answer_ends at_end out (Err stops.Input) ends = record { all = out; appended = all_given spelled_replies out ends.1; grows = grows-none out }
   answer_ends at_end out (Err stops.Output) ends = record { all = ends.0; appended = for_all (λ fs more. GivesFront AreReplies fs ends.0) ends.2; grows = ends.1 }
   answer_ends at_end out (Err stops.Endless) ends = (ends.0, for_all (λ fs more. Waits more × AreReplies fs out) (ends.1, ends.2))
 
@@ -62,15 +64,15 @@ module _ (draws : Drawing) (bytes rest : List ℕ) (frames : List Frame) (of : F
   show_ends at_end out (Err stops.Endless) ends = (ends.0, for_all (λ fs more. Waits more × AreLines fs out) (ends.1, ends.2))
 
 -- where the frames of a reader were answered, the command ends as on its bytes; and below where they were shown
-pub answers_so : (draws : Drawing) (left now had has : Option (List ℕ)) (result : Result ℕ StreamFault) → Streams AreReplies left now had has result → StreamsAs draws Answer left now had has (ending_of_stream result)
+pub answers_so : (draws : Drawing) (left now had has : Option (List ℕ)) (result : Result ℕ StreamFault) → IsStreamed AreReplies left now had has result → StreamsAs draws Answer left now had has (ending_of_stream result)
 answers_so draws left now had has result s = record { bytes = s.read; consumed = s.consumed; out = s.out; written = s.written; ends = answer_ends draws s.read s.rest s.frames s.stream (IsAtEnd now) s.out result s.ends }
 
 -- the same where they were shown
-pub shows_so : (draws : Drawing) (left now had has : Option (List ℕ)) (result : Result ℕ StreamFault) → Streams AreLines left now had has result → StreamsAs draws Show left now had has (ending_of_stream result)
+pub shows_so : (draws : Drawing) (left now had has : Option (List ℕ)) (result : Result ℕ StreamFault) → IsStreamed AreLines left now had has result → StreamsAs draws Show left now had has (ending_of_stream result)
 shows_so draws left now had has result s = record { bytes = s.read; consumed = s.consumed; out = s.out; written = s.written; ends = show_ends draws s.read s.rest s.frames s.stream (IsAtEnd now) s.out result s.ends }
 
 -- a schedule that is refused gives nothing
-pub refused_so : (draws : Drawing) (command : ScheduleCommand) (at_end : Type 0) (bytes : List ℕ) (ending : Ending) → at_end → IsRefused bytes ending → StreamEndsAs draws (Schedule command) at_end bytes [] ending
+pub refused_so : (draws : Drawing) (command : ScheduleCommand) (at_end : Type 0) (bytes : List ℕ) (ending : Ending) → at_end → IsScheduleRefused bytes ending → StreamEndsAs draws (Schedule command) at_end bytes [] ending
 refused_so draws command at_end bytes endings.Done end refused = absurd refused
 refused_so draws command at_end bytes (endings.FrameFault kind place) end refused = absurd refused
 refused_so draws command at_end bytes (endings.ScheduleFault fault) end refused = (end, (λ frames rest of. tt, (refused, refl)))
@@ -146,7 +148,7 @@ unread_told left now before after writer old new endings.StoreNotOpened unread =
 unread_told left now before after writer old new endings.Endless unread = absurd unread
 
 -- the ending of a schedule that is refused tells no failure of a device
-pub refused_told : (bytes : List ℕ) (before after writer : ℕ) (ending : Ending) → IsRefused bytes ending → after ≡ before → TellsDevice before after writer writer ending
+pub refused_told : (bytes : List ℕ) (before after writer : ℕ) (ending : Ending) → IsScheduleRefused bytes ending → after ≡ before → TellsDevice before after writer writer ending
 refused_told bytes before after writer endings.Device refused same = absurd refused
 refused_told bytes before after writer ending refused same = (same, refl)
 

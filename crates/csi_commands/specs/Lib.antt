@@ -1,3 +1,2 @@
-pub mod Running
-pub mod Ending
-pub mod Streaming
+pub mod Public
+pub mod Private

@@ -1,8 +1,9 @@
 //! The commands that read a file.
 ghost use Rattle.std.specs.Prelude.{List, ℕ, ◌≡◌};
-ghost use Rattle.csi_types.specs.Frame.{Frame};
-ghost use Rattle.csi_frames.specs.Stream.{FramesOf};
-ghost use Rattle.csi_commands.specs.Ending.{EndsAs, RunsAs, ending_of as ending};
+ghost use Rattle.csi_types.specs.Model.Frame.{Frame};
+ghost use Rattle.csi_frames.specs.Public.Stream.{FramesOf};
+ghost use Rattle.csi_commands.specs.Public.Ending.{EndsAs, RunsAs};
+ghost use Rattle.csi_commands.specs.Private.Ending.{ending_of_answer};
 
 use crate::drawing::Draws;
 use crate::running::play;
@@ -12,7 +13,7 @@ use std::alloc::Global;
 
 // The ending where not all frames were answered or shown.
 fn ending_of(fault: AnswerFault) -> Ending
-    ensures { result ≡ ending fault }
+    ensures { result ≡ ending_of_answer fault }
 {
     match fault {
         AnswerFault::Frame(kind, place) => Ending::FrameFault(kind, place),

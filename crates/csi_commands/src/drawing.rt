@@ -1,6 +1,6 @@
 //! What draws a run.
 ghost use Rattle.std.specs.Prelude.{IfOk};
-ghost use Rattle.csi_commands.specs.Running.{Drawing};
+ghost use Rattle.csi_commands.specs.Public.Running.{Drawing};
 
 use csi_types::NoMemory;
 use csi_world::{Event, World};

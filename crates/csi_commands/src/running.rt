@@ -2,9 +2,10 @@
 ghost use Rattle.std.specs.Prelude.{◌≡◌, IfOk, IfErr, OnOk, OnErr};
 ghost use Rattle.std.specs.List.{flat_map};
 ghost use Rattle.std.specs.Str.{IsUtf8};
-ghost use Rattle.csi_frames.specs.Spelling.{spelling};
-ghost use Rattle.csi_json.specs.Schedule.{text_schedule};
-ghost use Rattle.csi_commands.specs.Running.{IsReportLine, IsGivenOf, IsGiven, Plays, IsRefused, refusal_of as refusal};
+ghost use Rattle.csi_frames.specs.Public.Spelling.{spelling};
+ghost use Rattle.csi_json.specs.Public.Schedule.{text_schedule};
+ghost use Rattle.csi_commands.specs.Public.Running.{IsReportLine, IsGivenOf, IsGiven, Plays, IsScheduleRefused};
+ghost use Rattle.csi_commands.specs.Private.Running.{refusal_of as refusal};
 
 use crate::drawing::Draws;
 use csi_endings::{Ending, ScheduleCommand};
@@ -28,7 +29,7 @@ fn refusal_of(fault: ScheduleFault) -> Ending
 // The schedule that the bytes say.
 fn schedule_in(alloc: Global, input: &[u8]) -> Result<(Config, Vec<Event>), Ending>
     ensures read { IfOk result (λ made. text_schedule input.now ≡ Ok (record { config = made.0; events = made.1.items })) }
-    ensures refused { IfErr result (IsRefused input.now) }
+    ensures refused { IfErr result (IsScheduleRefused input.now) }
     ensures utf8 { OnOk result (IsUtf8 input.now) }
 {
     let Ok(text) = str::from_utf8(input) else {
@@ -101,7 +102,7 @@ pub fn play<D: Draws>(
     out: &mut Vec<u8>,
 ) -> Result<(), Ending>
     ensures ok { OnOk result (Plays D.draws command input.now out.old.items out.new.items) }
-    ensures refused { IfErr result (IsRefused input.now) }
+    ensures refused { IfErr result (IsScheduleRefused input.now) }
     ensures err { OnErr result (out.new.items ≡ out.old.items) }
 {
     let (config, events) = schedule_in(alloc, input)?;

@@ -1,12 +1,13 @@
 //! The commands on a reader and a writer.
 ghost use Rattle.std.specs.Prelude.{◌≡◌};
-ghost use Rattle.csi_commands.specs.Streaming.{StreamsAs, TellsDevice, ReadsWhole, ending_of_stream, ending_of_written};
+ghost use Rattle.csi_commands.specs.Public.Streaming.{StreamsAs, TellsDevice};
+ghost use Rattle.csi_commands.specs.Private.Streaming.{ReadsWhole, ending_of_stream, ending_of_written};
 ghost use Rattle.csi_endings.specs.declared.command.FileCommand.TheVariants as commands;
 
 use crate::drawing::Draws;
 use crate::running::play;
-use csi_counted::{Counted, WriteFailed, write_out};
 use csi_endings::{Ending, FileCommand, ScheduleCommand};
+use csi_stores::{Counted, WriteFailed, write_out};
 use csi_streams::{StreamFault, answer_from, show_from};
 use std::alloc::Global;
 use std::io::{Read, Write};
@@ -58,7 +59,8 @@ fn play_from<D: Draws, R: Read, W: Write>(
     input: &mut Counted<R>,
     out: &mut Counted<W>,
 ) -> Ending
-    ensures streams { StreamsAs D.draws (commands.Schedule command) (R.remaining input.old.inner) (R.remaining input.new.inner) (W.contents out.old.inner) (W.contents out.new.inner) result }
+    ensures streams { StreamsAs D.draws (commands.Schedule command) (R.remaining input.old.inner) (R.remaining input.new.inner)
+        (W.contents out.old.inner) (W.contents out.new.inner) result }
     ensures device { TellsDevice input.old.faults input.new.faults out.old.faults out.new.faults result }
 {
     let mut bytes = Vec::new(alloc);
@@ -84,7 +86,8 @@ pub fn stream<D: Draws, R: Read, W: Write>(
     input: &mut Counted<R>,
     out: &mut Counted<W>,
 ) -> Ending
-    ensures streams { StreamsAs D.draws command (R.remaining input.old.inner) (R.remaining input.new.inner) (W.contents out.old.inner) (W.contents out.new.inner) result }
+    ensures streams { StreamsAs D.draws command (R.remaining input.old.inner) (R.remaining input.new.inner) (W.contents out.old.inner)
+        (W.contents out.new.inner) result }
     ensures device { TellsDevice input.old.faults input.new.faults out.old.faults out.new.faults result }
 {
     match command {

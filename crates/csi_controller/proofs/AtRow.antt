@@ -9,7 +9,7 @@ use Rattle.std.proofs.lemmas.Bool.{eqb-true}
 use Rattle.std.proofs.lemmas.Bool.Decides.{nat_tests}
 use Rattle.csi_lists.proofs.Each.{each-at}
 use Rattle.csi_lists.proofs.Places.{FirstAt-is_at, FirstAt-passes, FirstAt-position}
-use Rattle.csi_lists.specs.Places.{AtMostOne, FirstAt}
+use Rattle.csi_lists.specs.Public.Places.{AtMostOne, FirstAt}
 use Rattle.csi_types.specs.declared.number.Number.{Number}
 use Rattle.csi_types.specs.declared.call.Kind.{Kind}
 use Rattle.csi_types.specs.declared.call.Kind.TheVariants as kinds
@@ -18,29 +18,33 @@ use Rattle.csi_types.specs.declared.call.Call.TheVariants.{CreateVolume, DeleteV
 use Rattle.csi_types.specs.declared.call.Party.TheVariants.{Controller}
 use Rattle.csi_fence.specs.declared.fence.Verdict.{Verdict}
 use Rattle.csi_fence.specs.declared.fence.Verdict.TheVariants.{Stale, Repeated, Fresh}
-use Rattle.csi_types.specs.Call.{kind_of, is_party_of}
-use Rattle.csi_types.specs.Config.{Config}
-use Rattle.csi_fence.specs.Delivery.{last_of}
-use Rattle.csi_fence.specs.Fence.{Kept, verdict_of, IsFresh}
-use Rattle.csi_types.specs.Frame.{Frame}
+use Rattle.csi_types.specs.Model.Call.{kind_of}
+use Rattle.csi_types.specs.Public.Call.{is_party_of}
+use Rattle.csi_types.specs.Model.Config.{Config}
+use Rattle.csi_fence.specs.Public.Delivery.{last_of}
+use Rattle.csi_fence.specs.Model.Fence.{Kept, verdict_of}
+use Rattle.csi_fence.specs.Public.Fence.{IsFresh}
+use Rattle.csi_types.specs.Model.Frame.{Frame}
 use Rattle.csi_types.specs.declared.reply.Reply.{Reply}
-use Rattle.csi_types.specs.Reply.{has_id_by_rule}
-use Rattle.csi_types.specs.Replies.{reply_frame}
+use Rattle.csi_types.specs.Public.Reply.{has_id_by_rule}
+use Rattle.csi_types.specs.Model.Replies.{reply_frame}
 use Rattle.csi_types.specs.declared.status.Status.TheVariants.{Ok}
 use Rattle.csi_controller.specs.declared.row.NodeHolding.{NodeHolding}
 use Rattle.csi_controller.specs.declared.row.ControllerRow.{ControllerRow}
-use Rattle.csi_controller.specs.Nowhere.{IsCreate, reply_nowhere}
-use Rattle.csi_controller.specs.Repeats.{IsPlainRepeat}
-use Rattle.csi_controller.specs.State.{Volume, ControllerState, is_row_for}
-use Rattle.csi_controller.specs.Table.{Outcome, Stays, controller_row, delete, publish, unpublish}
-use Rattle.csi_controller.specs.Fenced.{fenced_call, kept_for}
-use Rattle.csi_controller.specs.Shown.{volume_of_row}
-use Rattle.csi_controller.specs.Core.{Shows, IsSound, IsSoundRow, held_by, IsSameRow}
-use Rattle.csi_controller.specs.Step.{Answers}
-use Rattle.csi_controller.specs.OneRow.{RowOutcome}
-use Rattle.csi_controller.specs.AtRow.{RowGives, row_after}
-use Rattle.csi_controller.specs.RowTable.{row_line}
-use Rattle.csi_controller.specs.Counts.{AreCounted}
+use Rattle.csi_controller.specs.Private.Nowhere.{IsCreate, reply_nowhere}
+use Rattle.csi_controller.specs.Public.Repeats.{IsPlainRepeat}
+use Rattle.csi_controller.specs.Model.State.{Volume, ControllerState, is_row_for}
+use Rattle.csi_controller.specs.Model.Table.{Outcome, Stays, controller_row, delete, publish, unpublish}
+use Rattle.csi_controller.specs.Private.Fenced.{fenced_call}
+use Rattle.csi_controller.specs.Model.Fenced.{kept_for}
+use Rattle.csi_controller.specs.Model.Shown.{volume_of_row}
+use Rattle.csi_controller.specs.Model.Core.{Shows}
+use Rattle.csi_controller.specs.Public.Core.{AreSoundRows, IsSoundRow, volume_holding, IsSameRow}
+use Rattle.csi_controller.specs.Private.Step.{IsFencedAnswer}
+use Rattle.csi_controller.specs.Private.OneRow.{RowOutcome}
+use Rattle.csi_controller.specs.Private.AtRow.{RowGives, row_after}
+use Rattle.csi_controller.specs.Private.RowTable.{row_line}
+use Rattle.csi_controller.specs.Public.Counts.{AreCounted}
 use Rattle.csi_controller.proofs.RowTable.{line-told, live-nowhere, held-nowhere}
 use Rattle.csi_controller.proofs.Sound.{sound-after, sound-same, sound-set, rising-one}
 use Rattle.csi_controller.proofs.RowOutcomes.{IsGood, line-good}
@@ -51,7 +55,7 @@ pub at-place : (p : ControllerRow → Bool) (rows : List ControllerRow) (place :
 at-place p rows place row at is = FirstAt-position p rows place row (sym at) is
 
 -- the row at the place that a search gives keeps the rules
-pub sound-at : (p : ControllerRow → Bool) (n : ℕ) (rows : List ControllerRow) (place : ℕ) (row : ControllerRow) → IsSound n rows → Some place ≡ position p rows → row ≡ get_or rows place row → IsSoundRow n row
+pub sound-at : (p : ControllerRow → Bool) (n : ℕ) (rows : List ControllerRow) (place : ℕ) (row : ControllerRow) → AreSoundRows n rows → Some place ≡ position p rows → row ≡ get_or rows place row → IsSoundRow n row
 sound-at p n rows place row sound at is = each-at (IsSoundRow n) rows place row sound.each (FirstAt-is_at p rows place row (at-place p rows place row at is))
 
 -- whatever a row answers, its id and its name stay
@@ -68,8 +72,8 @@ same_name number kind outcome row Fresh = refl
 
 -- the rules hold after a row's answer, and after its refusal
 pub sound-gives : (p : ControllerRow → Bool) (n : ℕ) (rows : List ControllerRow) (place : ℕ) (row new : ControllerRow) (frame : Frame) (number : Number) (kind : Kind) (outcome : RowOutcome)
-    → IsSound n rows → Some place ≡ position p rows → row ≡ get_or rows place row → IsTrue (is_party_of kind Controller) → IsGood kind row outcome
-    → (verdict : Verdict) → RowGives new frame (row_after number kind outcome row verdict) → IsSound n (set rows place new)
+    → AreSoundRows n rows → Some place ≡ position p rows → row ≡ get_or rows place row → IsTrue (is_party_of kind Controller) → IsGood kind row outcome
+    → (verdict : Verdict) → RowGives new frame (row_after number kind outcome row verdict) → AreSoundRows n (set rows place new)
 sound-gives p n rows place row new frame number kind outcome sound at is party good verdict gives =
     sound-set n rows place row new sound (FirstAt-is_at p rows place row (at-place p rows place row at is))
     (ap (λ (v : Volume). v.id) gives.volume ∙ same_id number kind outcome row verdict)
@@ -77,20 +81,20 @@ sound-gives p n rows place row new frame number kind outcome sound at is party g
     (sound-after n row new frame number kind outcome (sound-at p n rows place row sound at is) party good.id outcome.change refl good.fit verdict gives)
 
 -- the rules hold where the row only says the same again
-pub sound-refused : (p : ControllerRow → Bool) (n : ℕ) (rows : List ControllerRow) (place : ℕ) (row new : ControllerRow) → IsSound n rows → Some place ≡ position p rows → row ≡ get_or rows place row → IsSameRow row new → IsSound n (set rows place new)
+pub sound-refused : (p : ControllerRow → Bool) (n : ℕ) (rows : List ControllerRow) (place : ℕ) (row new : ControllerRow) → AreSoundRows n rows → Some place ≡ position p rows → row ≡ get_or rows place row → IsSameRow row new → AreSoundRows n (set rows place new)
 sound-refused p n rows place row new sound at is same =
     sound-set n rows place row new sound (FirstAt-is_at p rows place row (at-place p rows place row at is))
     (ap (λ (v : Volume). v.id) same.volume) (ap (λ (v : Volume). v.name) same.volume)
     (sound-same n row new (sound-at p n rows place row sound at is) same.volume same.items)
 
 -- after a refusal the rows show the state that they showed
-pub shown-refused : (p : ControllerRow → Bool) (config : Config) (n s : ℕ) (rows : List ControllerRow) (state : ControllerState) (place : ℕ) (row new : ControllerRow) → IsSound n rows
+pub shown-refused : (p : ControllerRow → Bool) (config : Config) (n s : ℕ) (rows : List ControllerRow) (state : ControllerState) (place : ℕ) (row new : ControllerRow) → AreSoundRows n rows
     → Some place ≡ position p rows → row ≡ get_or rows place row → IsSameRow row new → Shows (record { config = config; next_id = n; session = s; rows = rows }) state → Shows (record { config = config; next_id = n; session = s; rows = set rows place new }) state
 shown-refused p config n s rows state place row new sound at is same shown =
     shown-same config n s rows state place row new shown (FirstAt-is_at p rows place row (at-place p rows place row at is)) (rising-one rows sound.rising) same.volume same.items
 
 -- a call finds one row at most
-pub one-row : (n : ℕ) (rows : List ControllerRow) (call : Call) → IsSound n rows → AtMostOne (λ (r : ControllerRow). is_row_for call (volume_of_row r)) rows
+pub one-row : (n : ℕ) (rows : List ControllerRow) (call : Call) → AreSoundRows n rows → AtMostOne (λ (r : ControllerRow). is_row_for call (volume_of_row r)) rows
 one-row n rows (CreateVolume name required limit capabilities) sound = sound.names name
 one-row n rows (DeleteVolume id) sound = rising-one rows sound.rising id
 one-row n rows (ControllerPublishVolume id node capability readonly) sound = rising-one rows sound.rising id
@@ -113,10 +117,10 @@ deletes rows place row (NodeUnpublishVolume id target) first kind = absurd (let 
 
 -- a call at its row
 pub there-answers : (config : Config) (n s : ℕ) (rows : List ControllerRow) (counts : List ℕ) (state : ControllerState) (number : Number) (call : Call) (place : ℕ) (row new : ControllerRow) (frame : Frame)
-    → IsSound n rows → AreCounted config.nodes rows counts → Shows (record { config = config; next_id = n; session = s; rows = rows }) state
+    → AreSoundRows n rows → AreCounted config.nodes rows counts → Shows (record { config = config; next_id = n; session = s; rows = rows }) state
     → FirstAt (λ (r : ControllerRow). is_row_for call (volume_of_row r)) rows place row
     → RowGives new frame (row_after number (kind_of call) (row_line config.nodes counts row call) row (verdict_of (Some row.last) number))
-    → Answers (record { config = config; next_id = n; session = s; rows = set rows place new }) frame (fenced_call config state number call (kept_for call state))
+    → IsFencedAnswer (record { config = config; next_id = n; session = s; rows = set rows place new }) frame (fenced_call config state number call (kept_for call state))
 there-answers config n s rows counts state number call place row new frame sound counted shown first gives =
     row-answers config n s rows state number call place row new frame (row_line config.nodes counts row call) shown first (one-row n rows call sound) (rising-one rows sound.rising)
     (λ ends. deletes rows place row call first ((line-good config.nodes counts row call).ends ends))
@@ -139,7 +143,7 @@ nowhere-told config n s rows state (CreateVolume name required limit capabilitie
 nowhere-told config n s rows state (DeleteVolume id) shown none party other = ap (delete state id) (live-nowhere n rows state id shown.shows none)
 nowhere-told config n s rows state (ControllerPublishVolume id node capability readonly) shown none party other =
     let wanted : NodeHolding = record { node = node; capability = capability; readonly = readonly } in
-    ap (publish config state (held_by id wanted)) (live-nowhere n rows state id shown.shows none)
+    ap (publish config state (volume_holding id wanted)) (live-nowhere n rows state id shown.shows none)
 nowhere-told config n s rows state (ControllerUnpublishVolume id node) shown none party other = ap (unpublish id node) (held-nowhere n rows state id node shown.shows none)
 nowhere-told config n s rows state (NodeStageVolume id capability) shown none party other = absurd cc
 nowhere-told config n s rows state (NodeUnstageVolume id) shown none party other = absurd cc
@@ -150,7 +154,7 @@ nowhere-told config n s rows state (NodeUnpublishVolume id target) shown none pa
 pub told-nowhere : (config : Config) (n s : ℕ) (rows : List ControllerRow) (state : ControllerState) (number : Number) (call : Call) (reply : Reply)
     → Shows (record { config = config; next_id = n; session = s; rows = rows }) state → find (λ (r : ControllerRow). is_row_for call (volume_of_row r)) rows ≡ None
     → IsTrue (is_party_of (kind_of call) Controller) → (IsCreate call → ⊥) → reply ≡ reply_nowhere call
-    → Answers (record { config = config; next_id = n; session = s; rows = rows }) (reply_frame number Controller (kind_of call) reply) (fenced_call config state number call (kept_for call state))
+    → IsFencedAnswer (record { config = config; next_id = n; session = s; rows = rows }) (reply_frame number Controller (kind_of call) reply) (fenced_call config state number call (kept_for call state))
 told-nowhere config n s rows state number call reply shown none party other is =
     nowhere-answers config n s rows state number call (reply_frame number Controller (kind_of call) reply) (reply_nowhere call) shown none
     (nowhere-told config n s rows state call shown none party other) (ap (reply_frame number Controller (kind_of call)) is)
@@ -173,7 +177,7 @@ repeat-now session (Some kept) number repeat = repeat.0
 
 -- a call that the table answers with 0 is let through at its row
 pub let_through : (config : Config) (n s : ℕ) (rows : List ControllerRow) (counts : List ℕ) (state : ControllerState) (number : Number) (call : Call) (place : ℕ) (row : ControllerRow)
-    → IsSound n rows → AreCounted config.nodes rows counts → Shows (record { config = config; next_id = n; session = s; rows = rows }) state
+    → AreSoundRows n rows → AreCounted config.nodes rows counts → Shows (record { config = config; next_id = n; session = s; rows = rows }) state
     → FirstAt (λ (r : ControllerRow). is_row_for call (volume_of_row r)) rows place row → IsFresh (last_of (kept_for call state)) number → (controller_row config state call).reply.status ≡ Ok
     → (verdict_of (Some row.last) number ≡ Fresh) × ((row_line config.nodes counts row call).reply.status ≡ Ok)
 let_through config n s rows counts state number call place row sound counted shown first fresh answered = (

@@ -4,17 +4,18 @@ use Rattle.std.specs.Prelude.{Option, Some, None, option_map, ◌==◌}
 use Rattle.std.proofs.lemmas.Option.{none-some, same_Some}
 use Rattle.csi_lists.proofs.Members.{among-find}
 use Rattle.csi_lists.proofs.Options.{some-from_map}
-use Rattle.csi_lists.specs.Members.{IsAmong}
+use Rattle.csi_lists.specs.Model.Members.{IsAmong}
 use Rattle.csi_types.specs.declared.number.Number.{Number}
 use Rattle.csi_types.specs.declared.call.Call.{Call}
 use Rattle.csi_types.specs.declared.call.Call.TheVariants as calls
-use Rattle.csi_types.specs.Key.{Key, Exists, Attached, Staged, Published, HasId}
-use Rattle.csi_types.specs.Same.{same_text}
+use Rattle.csi_types.specs.Public.Key.{Key, Exists, Attached, Staged, Published, HasId}
+use Rattle.csi_types.specs.Model.Same.{same_text}
 use Rattle.csi_fence.proofs.Begun.{HasBegun, IsUpTo, has-begun}
-use Rattle.csi_fence.specs.Fence.{Kept, begins}
-use Rattle.csi_controller.specs.State.{Volume, ControllerState, volume_with_id}
-use Rattle.csi_controller.specs.Fenced.{begun}
-use Rattle.csi_controller.specs.View.{held_in, kept_in_row, view_of, key_of}
+use Rattle.csi_fence.specs.Model.Fence.{Kept, begins}
+use Rattle.csi_controller.specs.Model.State.{Volume, ControllerState}
+use Rattle.csi_controller.specs.Public.State.{volume_with_id}
+use Rattle.csi_controller.specs.Model.Fenced.{begun}
+use Rattle.csi_controller.specs.Public.View.{held_in, kept_in_row, view_of, key_of}
 use Rattle.csi_controller.proofs.Forgotten.{live_named-begun, Remains, none_remains, live_remains, dead_goes, found_live, remains}
 use Rattle.csi_controller.proofs.LastCalls.{row_of, kept_of_row}
 use Rattle.csi_controller.proofs.OrderlyStates.{IsOrderly, is_named, is_with_id}

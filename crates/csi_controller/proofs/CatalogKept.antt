@@ -3,14 +3,15 @@ use Rattle.std.proofs.Common.{◌≡◌, ◌<◌, ℕ, Bool, true, false, cond, 
 use Rattle.std.specs.Prelude.{Option, Some, None, filter, find, option_map, ◌==◌}
 use Rattle.std.specs.Map.{lookup}
 use Rattle.std.proofs.lemmas.Bool.{eq-eqb, ne_eqb}
-use Rattle.csi_lists.specs.Members.{IsAmong}
+use Rattle.csi_lists.specs.Model.Members.{IsAmong}
 use Rattle.csi_lists.proofs.Filters.{filter-of_map}
 use Rattle.csi_lists.proofs.Members.{each_of}
 use Rattle.csi_controller.specs.declared.row.ControllerRow.{ControllerRow}
 use Rattle.csi_controller.specs.declared.catalog.Catalog.{Catalog}
-use Rattle.csi_controller.specs.Catalog.{rows_of, by_id, by_name, by_text, is_kept, is_row_kept, IsIndexed}
-use Rattle.csi_controller.specs.Core.{IsRising}
-use Rattle.csi_controller.specs.WithoutSession.{stays_in}
+use Rattle.csi_controller.specs.Public.Catalog.{rows_of, by_id, by_name, by_text, IsIndexed}
+use Rattle.csi_controller.specs.Private.Catalog.{is_kept, is_row_kept}
+use Rattle.csi_controller.specs.Public.Core.{AreRisingRows}
+use Rattle.csi_controller.specs.Public.WithoutSession.{stays_in}
 use Rattle.csi_controller.proofs.CatalogMaps.{lookup-keys}
 
 -- a row that is looked up by its id is the one that is found by it
@@ -30,7 +31,7 @@ filter-same_among p q (x ∷ xs) same =
     λ i. cond (own i) (x ∷ rest i) (rest i)
 
 -- where ids rise, each row is the one that is found by its id
-pub found-own : (rows : List ControllerRow) (row : ControllerRow) → IsRising rows → IsAmong row rows → find (λ (r : ControllerRow). r.id == row.id) rows ≡ Some row
+pub found-own : (rows : List ControllerRow) (row : ControllerRow) → AreRisingRows rows → IsAmong row rows → find (λ (r : ControllerRow). r.id == row.id) rows ≡ Some row
 found-own [] row rising among = absurd among
 found-own (r ∷ rs) row rising (inl here) =
     let passes : (r.id == row.id) ≡ true = eq-eqb r.id row.id (ap (λ (x : ControllerRow). x.id) (sym here)) in
@@ -41,7 +42,7 @@ found-own (r ∷ rs) row rising (inr there) =
     ap (λ (b : Bool). cond b (Some r) (find (λ (x : ControllerRow). x.id == row.id) rs)) fails ∙ found-own rs row rising.1 there
 
 -- so whether a row stays is told by its id
-kept-own : (session : ℕ) (rows : List ControllerRow) → IsRising rows → filter (λ (r : ControllerRow). is_kept session r.id rows) rows ≡ filter (stays_in session) rows
+kept-own : (session : ℕ) (rows : List ControllerRow) → AreRisingRows rows → filter (λ (r : ControllerRow). is_kept session r.id rows) rows ≡ filter (stays_in session) rows
 kept-own session rows rising =
     filter-same_among (λ (r : ControllerRow). is_kept session r.id rows) (stays_in session) rows (λ row among. ap (is_row_kept session) (found-own rows row rising among))
 
@@ -51,7 +52,7 @@ rows-kept old new session rows =
     ap (map (λ (e : ℕ × ControllerRow). e.1)) rows ∙ sym (filter-of_map (stays_in session) (λ (e : ℕ × ControllerRow). e.1) old.rows.entries)
 
 -- the maps belong together where the rows that don't stay were taken out of both
-pub indexed-kept : (old new : Catalog) (session : ℕ) → IsIndexed old → IsRising (rows_of old) → new.rows.entries ≡ filter (λ (e : ℕ × ControllerRow). stays_in session e.1) old.rows.entries
+pub indexed-kept : (old new : Catalog) (session : ℕ) → IsIndexed old → AreRisingRows (rows_of old) → new.rows.entries ≡ filter (λ (e : ℕ × ControllerRow). stays_in session e.1) old.rows.entries
     → new.ids.entries ≡ filter (λ e. is_kept session e.1 (rows_of old)) old.ids.entries → IsIndexed new
 indexed-kept old new session indexed rising rows ids =
     let all : rows_of new ≡ filter (stays_in session) (rows_of old) = rows-kept old new session rows in

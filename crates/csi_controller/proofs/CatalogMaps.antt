@@ -16,7 +16,7 @@ use Rattle.indexmap.specs.IndexMap.{IndexMap, values, with_value_at, insert_entr
 use Rattle.indexmap.specs.Layout.{set_value_at}
 use Rattle.csi_controller.specs.declared.row.ControllerRow.{ControllerRow}
 use Rattle.csi_controller.specs.declared.catalog.Catalog.{Catalog}
-use Rattle.csi_controller.specs.Catalog.{rows_of, by_id, by_name, by_text, IsIndexed}
+use Rattle.csi_controller.specs.Public.Catalog.{rows_of, by_id, by_name, by_text, IsIndexed}
 
 -- ---- searches of a list that is seen through a function
 

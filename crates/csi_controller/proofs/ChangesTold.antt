@@ -1,18 +1,19 @@
 -- What an answer changes of the rows, told by the row that was put in, by the row that was made, or by none.
-use Rattle.std.proofs.Common.{◌≡◌, ◌<◌, ℕ, Bool, true, false, List, [], ◌∷◌, ◌++◌, set, refl, sym, ◌∙◌, ap, subst, arith}
+use Rattle.std.proofs.Common.{◌≡◌, ◌<◌, ℕ, zero, suc, Bool, true, false, List, [], ◌∷◌, ◌++◌, length, set, slice_get, refl, sym, ◌∙◌, ap, subst, arith}
 use Rattle.std.specs.Prelude.{Option, Some, None, ◌==◌}
 use Rattle.std.proofs.lemmas.Bool.{eq-eqb, eqb-true, le-ltb, lt-ltb}
 use Rattle.std.proofs.lemmas.Option.{same_Some}
 use Rattle.csi_lists.proofs.Options.{some_is_not_none}
 use Rattle.csi_lists.proofs.Places.{FirstAt-find, FirstAt-only, find-set_first, find-set_other}
 use Rattle.csi_lists.proofs.Searches.{find-append_one, find-append_other}
-use Rattle.csi_lists.specs.Places.{AtMostOne, IsAt}
+use Rattle.csi_lists.specs.Public.Places.{AtMostOne, IsAt}
 use Rattle.csi_types.specs.declared.number.Number.{Number}
 use Rattle.csi_controller.specs.declared.row.ControllerRow.{ControllerRow}
-use Rattle.csi_controller.specs.Beginning.{live_rows}
-use Rattle.csi_controller.specs.Core.{Parts, IsSameRow}
-use Rattle.csi_controller.specs.RowsLaw.{Changes, IsSameAt, row_by_id, session_after, staying}
-use Rattle.csi_controller.specs.Views.{IsCopyOf}
+use Rattle.csi_controller.specs.Private.Beginning.{live_rows}
+use Rattle.csi_controller.specs.Model.Core.{ControllerParts}
+use Rattle.csi_controller.specs.Public.Core.{IsSameRow}
+use Rattle.csi_controller.specs.Public.RowsLaw.{Changes, IsSameAt, row_by_id, session_after, staying}
+use Rattle.csi_controller.specs.Public.Views.{IsCopyOf}
 
 -- ---- what stays of the rows
 
@@ -62,7 +63,7 @@ other_id own id differs = by (own == id) refl
 -- ---- the changes
 
 -- no row was changed
-pub none-changed : (number : Number) (old new : Parts) → new.session ≡ session_after old.session number → new.next_id ≡ old.next_id → new.rows ≡ staying old.session number old.rows → Changes None number old new
+pub none-changed : (number : Number) (old new : ControllerParts) → new.session ≡ session_after old.session number → new.next_id ≡ old.next_id → new.rows ≡ staying old.session number old.rows → Changes None number old new
 none-changed number old new session next_id rows =
     record {
       session = session;
@@ -73,7 +74,7 @@ none-changed number old new session next_id rows =
     }
 
 -- a row that says the same was put in the place of one
-pub same-put : (number : Number) (old new : Parts) (place : ℕ) (row put : ControllerRow) → new.session ≡ session_after old.session number → new.next_id ≡ old.next_id
+pub same-put : (number : Number) (old new : ControllerParts) (place : ℕ) (row put : ControllerRow) → new.session ≡ session_after old.session number → new.next_id ≡ old.next_id
     → ((id : ℕ) → AtMostOne (λ (r : ControllerRow). r.id == id) (staying old.session number old.rows)) → IsAt (staying old.session number old.rows) place row
     → new.rows ≡ set (staying old.session number old.rows) place put → put.id ≡ row.id → IsSameRow row put → Changes None number old new
 same-put number old new place row put session next_id one at rows same says =
@@ -97,7 +98,7 @@ same-put number old new place row put session next_id one at rows same says =
         subst (IsCopyOf (row_by_id id left)) (sym (find-set_other (λ (r : ControllerRow). r.id == id) left place row put at e (ap (λ (k : ℕ). k == id) same ∙ e))) (same-at id left)
 
 -- a row that has the call's number was put in the place of one that hadn't
-pub row-put : (number : Number) (old new : Parts) (place : ℕ) (row put : ControllerRow) → new.session ≡ session_after old.session number
+pub row-put : (number : Number) (old new : ControllerParts) (place : ℕ) (row put : ControllerRow) → new.session ≡ session_after old.session number
     → ((id : ℕ) → AtMostOne (λ (r : ControllerRow). r.id == id) (staying old.session number old.rows)) → IsAt (staying old.session number old.rows) place row
     → new.rows ≡ set (staying old.session number old.rows) place put → put.id ≡ row.id → put.last ≡ number → row_by_id row.id old.rows ≡ Some row → (row.last ≡ number → ⊥)
     → Changes (Some row.id) number old new
@@ -122,7 +123,7 @@ row-put number old new place row put session one at rows same last was differs =
     left = staying old.session number old.rows
 
 -- a row that has the call's number was made, of an id that no row had
-pub row-made : (number : Number) (old new : Parts) (row : ControllerRow) → new.session ≡ session_after old.session number → new.rows ≡ staying old.session number old.rows ++ row ∷ []
+pub row-made : (number : Number) (old new : ControllerParts) (row : ControllerRow) → new.session ≡ session_after old.session number → new.rows ≡ staying old.session number old.rows ++ row ∷ []
     → row_by_id row.id old.rows ≡ None → row_by_id row.id (staying old.session number old.rows) ≡ None → row.last ≡ number → Changes (Some row.id) number old new
 row-made number old new row session rows none none_left last =
     record {
@@ -138,3 +139,22 @@ row-made number old new row session rows none none_left last =
   where
     left : List ControllerRow
     left = staying old.session number old.rows
+
+-- ---- where the row is that was changed
+
+-- what stands at a place is got there
+pub at-got : {X : Type 0} (xs : List X) (place : ℕ) (x : X) → IsAt xs place x → slice_get xs place ≡ Some x
+at-got [] place x at = absurd at
+at-got (y ∷ ys) zero x at = ap Some at
+at-got (y ∷ ys) (suc place) x at = at-got ys place x at
+
+-- what is put in the place of something stands there
+pub set-at : {X : Type 0} (xs : List X) (place : ℕ) (x y : X) → IsAt xs place x → IsAt (set xs place y) place y
+set-at [] place x y at = absurd at
+set-at (z ∷ zs) zero x y at = refl
+set-at (z ∷ zs) (suc place) x y at = set-at zs place x y at
+
+-- what is put behind the others stands at the place that is their number
+pub last-got : {X : Type 0} (xs : List X) (x : X) → slice_get (xs ++ x ∷ []) (length xs) ≡ Some x
+last-got [] x = refl
+last-got (y ∷ ys) x = last-got ys x

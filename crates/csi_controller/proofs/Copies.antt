@@ -3,17 +3,18 @@ use Rattle.std.proofs.Common.{◌≡◌, ◌<◌, ◌≤◌, ℕ, zero, suc, len
 use Rattle.std.specs.Prelude.{Some, None, find, ◌==◌}
 use Rattle.std.specs.List.{AllByRecursion}
 use Rattle.std.proofs.lemmas.Bool.{eq-eqb}
-use Rattle.csi_lists.specs.Places.{AtMostOne, IsAt, FirstAt}
+use Rattle.csi_lists.specs.Public.Places.{AtMostOne, IsAt, FirstAt}
 use Rattle.csi_lists.proofs.Places.{FirstAt-only, find-not_none}
 use Rattle.csi_lists.proofs.Searches.{find-missed}
 use Rattle.csi_types.proofs.Equality.{same_text-tells}
-use Rattle.csi_types.specs.Config.{Config}
-use Rattle.csi_types.specs.Same.{same_text}
+use Rattle.csi_types.specs.Model.Config.{Config}
+use Rattle.csi_types.specs.Model.Same.{same_text}
 use Rattle.csi_controller.specs.declared.row.ControllerRow.{ControllerRow}
-use Rattle.csi_controller.specs.State.{Volume, ControllerState}
-use Rattle.csi_controller.specs.Shown.{volume_of_row, holdings_in}
-use Rattle.csi_controller.specs.Core.{Shows, IsSound, IsSoundRow, IsRising, IsSameRow, held_by}
-use Rattle.csi_controller.specs.Views.{AreSameRows}
+use Rattle.csi_controller.specs.Model.State.{Volume, ControllerState}
+use Rattle.csi_controller.specs.Model.Shown.{volume_of_row, holdings_in}
+use Rattle.csi_controller.specs.Model.Core.{Shows}
+use Rattle.csi_controller.specs.Public.Core.{AreSoundRows, IsSoundRow, AreRisingRows, IsSameRow, volume_holding}
+use Rattle.csi_controller.specs.Public.Views.{AreSameRows}
 use Rattle.csi_controller.proofs.Sound.{sound-same, rising-one}
 
 -- rows and copies that say the same say it with one more of each
@@ -39,9 +40,9 @@ holdings-same (r ∷ rs) (c ∷ cs) id same =
     let ids : c.id ≡ r.id = ap (λ (v : Volume). v.id) (same.0).volume in
     let items = (same.0).items in
     ap (λ k. holdings_in (cond (k == id) (Some c) (find (λ (x : ControllerRow). x.id == id) cs))) ids
-    ∙ by (r.id == id) (holdings-same rs cs id (same.1)) (ap (λ k. map (held_by k) c.holdings.items) ids ∙ ap (map (held_by r.id)) items)
+    ∙ by (r.id == id) (holdings-same rs cs id (same.1)) (ap (λ k. map (volume_holding k) c.holdings.items) ids ∙ ap (map (volume_holding r.id)) items)
   where
-    by : (b : Bool) → holdings_in (find (λ (r : ControllerRow). r.id == id) cs) ≡ holdings_in (find (λ (r : ControllerRow). r.id == id) rs) → map (held_by c.id) c.holdings.items ≡ map (held_by r.id) r.holdings.items
+    by : (b : Bool) → holdings_in (find (λ (r : ControllerRow). r.id == id) cs) ≡ holdings_in (find (λ (r : ControllerRow). r.id == id) rs) → map (volume_holding c.id) c.holdings.items ≡ map (volume_holding r.id) r.holdings.items
         → holdings_in (cond b (Some c) (find (λ (r : ControllerRow). r.id == id) cs)) ≡ holdings_in (cond b (Some r) (find (λ (r : ControllerRow). r.id == id) rs))
     by true h own = own
     by false h own = h
@@ -86,7 +87,7 @@ above-same id (r ∷ rs) [] same all = absurd same
 above-same id (r ∷ rs) (c ∷ cs) same all = (subst (λ k. id < k) (sym (ap (λ (v : Volume). v.id) (same.0).volume)) (all.0), above-same id rs cs (same.1) (all.1))
 
 -- ids that rise do so in the copies
-rising-same : (rows copies : List ControllerRow) → AreSameRows rows copies → IsRising rows → IsRising copies
+rising-same : (rows copies : List ControllerRow) → AreSameRows rows copies → AreRisingRows rows → AreRisingRows copies
 rising-same [] [] same rising = tt
 rising-same [] (c ∷ cs) same rising = absurd same
 rising-same (r ∷ rs) [] same rising = absurd same
@@ -120,7 +121,7 @@ names-same name (r ∷ rs) (c ∷ cs) same one =
     (λ e. none-same name rs cs (same.1) (one.0 (ap (λ k. same_text k name) (sym (ap (λ (v : Volume). v.name) (same.0).volume)) ∙ e)), names-same name rs cs (same.1) (one.1))
 
 -- copies of a record's rows are a record's
-pub sound-copies : (n : ℕ) (rows copies : List ControllerRow) → AreSameRows rows copies → IsSound n rows → IsSound n copies
+pub sound-copies : (n : ℕ) (rows copies : List ControllerRow) → AreSameRows rows copies → AreSoundRows n rows → AreSoundRows n copies
 sound-copies n rows copies same sound =
     record { limit = limit-same rows copies same sound.limit; each = each-same n rows copies same sound.each; rising = rising-same rows copies same sound.rising; names = λ name. names-same name rows copies same (sound.names name) }
 
@@ -133,13 +134,13 @@ before-find p (r ∷ rs) zero row first = refl
 before-find p (r ∷ rs) (suc place) row first = rw (first.0) (before-find p rs place row (first.1))
 
 -- no earlier row has its id
-pub id-before : (n : ℕ) (rows : List ControllerRow) (place : ℕ) (row : ControllerRow) → IsSound n rows → IsAt rows place row → find (λ (r : ControllerRow). r.id == row.id) (take place rows) ≡ None
+pub id-before : (n : ℕ) (rows : List ControllerRow) (place : ℕ) (row : ControllerRow) → AreSoundRows n rows → IsAt rows place row → find (λ (r : ControllerRow). r.id == row.id) (take place rows) ≡ None
 id-before n rows place row sound at =
     before-find (λ (r : ControllerRow). r.id == row.id) rows place row
     (FirstAt-only (λ (r : ControllerRow). r.id == row.id) rows place row at (eq-eqb row.id row.id refl) (rising-one rows sound.rising row.id))
 
 -- nor its name
-pub name-before : (n : ℕ) (rows : List ControllerRow) (place : ℕ) (row : ControllerRow) → IsSound n rows → IsAt rows place row → find (λ (r : ControllerRow). same_text r.name row.name) (take place rows) ≡ None
+pub name-before : (n : ℕ) (rows : List ControllerRow) (place : ℕ) (row : ControllerRow) → AreSoundRows n rows → IsAt rows place row → find (λ (r : ControllerRow). same_text r.name row.name) (take place rows) ≡ None
 name-before n rows place row sound at =
     before-find (λ (r : ControllerRow). same_text r.name row.name) rows place row
     (FirstAt-only (λ (r : ControllerRow). same_text r.name row.name) rows place row at ((same_text-tells row.name row.name).1 refl) (sound.names row.name))
@@ -156,14 +157,14 @@ id-none-same id (r ∷ rs) (c ∷ cs) same none =
     rw fails (id-none-same id rs cs (same.1) missed.1)
 
 -- no copy of an earlier row has the id of its copy
-pub copied_id-before : (n : ℕ) (rows copies : List ControllerRow) (place : ℕ) (row copy : ControllerRow) → IsSound n rows → IsAt rows place row → AreSameRows (take place rows) copies → IsSameRow row copy
+pub copied_id-before : (n : ℕ) (rows copies : List ControllerRow) (place : ℕ) (row copy : ControllerRow) → AreSoundRows n rows → IsAt rows place row → AreSameRows (take place rows) copies → IsSameRow row copy
     → find (λ (r : ControllerRow). r.id == copy.id) copies ≡ None
 copied_id-before n rows copies place row copy sound at same one =
     subst (λ k. find (λ (r : ControllerRow). r.id == k) copies ≡ None) (sym (ap (λ (v : Volume). v.id) one.volume))
     (id-none-same row.id (take place rows) copies same (id-before n rows place row sound at))
 
 -- nor its name
-pub copied_name-before : (n : ℕ) (rows copies : List ControllerRow) (place : ℕ) (row copy : ControllerRow) → IsSound n rows → IsAt rows place row → AreSameRows (take place rows) copies → IsSameRow row copy
+pub copied_name-before : (n : ℕ) (rows copies : List ControllerRow) (place : ℕ) (row copy : ControllerRow) → AreSoundRows n rows → IsAt rows place row → AreSameRows (take place rows) copies → IsSameRow row copy
     → find (λ (r : ControllerRow). same_text r.name copy.name) copies ≡ None
 copied_name-before n rows copies place row copy sound at same one =
     subst (λ k. find (λ (r : ControllerRow). same_text r.name k) copies ≡ None) (sym (ap (λ (v : Volume). v.name) one.volume))
@@ -184,9 +185,9 @@ split-find p (z ∷ zs) x ys one passes = by (p z) refl (split-find p zs x ys (o
     by false e rest = rest
 
 -- no row that stands before one of a record's has its id
-pub id-split : (n : ℕ) (rows : List ControllerRow) (row : ControllerRow) (others : List ControllerRow) → IsSound n (rows ++ row ∷ others) → find (λ (r : ControllerRow). r.id == row.id) rows ≡ None
+pub id-split : (n : ℕ) (rows : List ControllerRow) (row : ControllerRow) (others : List ControllerRow) → AreSoundRows n (rows ++ row ∷ others) → find (λ (r : ControllerRow). r.id == row.id) rows ≡ None
 id-split n rows row others sound = split-find (λ (r : ControllerRow). r.id == row.id) rows row others (rising-one (rows ++ row ∷ others) sound.rising row.id) (eq-eqb row.id row.id refl)
 
 -- nor its name
-pub name-split : (n : ℕ) (rows : List ControllerRow) (row : ControllerRow) (others : List ControllerRow) → IsSound n (rows ++ row ∷ others) → find (λ (r : ControllerRow). same_text r.name row.name) rows ≡ None
+pub name-split : (n : ℕ) (rows : List ControllerRow) (row : ControllerRow) (others : List ControllerRow) → AreSoundRows n (rows ++ row ∷ others) → find (λ (r : ControllerRow). same_text r.name row.name) rows ≡ None
 name-split n rows row others sound = split-find (λ (r : ControllerRow). same_text r.name row.name) rows row others (sound.names row.name) ((same_text-tells row.name row.name).1 refl)

@@ -19,19 +19,21 @@ use Rattle.csi_types.specs.declared.call.Call.{Call}
 use Rattle.csi_types.specs.declared.config.NodeSlots.{NodeSlots}
 use Rattle.csi_fence.specs.declared.fence.Verdict.{Verdict}
 use Rattle.csi_fence.specs.declared.fence.Verdict.TheVariants.{Stale, Repeated, Fresh}
-use Rattle.csi_types.specs.Config.{Config, has_node, has_same_node}
-use Rattle.csi_types.specs.Frame.{Frame}
-use Rattle.csi_types.specs.Same.{same_text}
+use Rattle.csi_types.specs.Model.Config.{Config, has_node}
+use Rattle.csi_types.specs.Public.Config.{has_same_node}
+use Rattle.csi_types.specs.Model.Frame.{Frame}
+use Rattle.csi_types.specs.Model.Same.{same_text}
 use Rattle.csi_controller.specs.declared.row.NodeHolding.{NodeHolding}
 use Rattle.csi_controller.specs.declared.row.ControllerRow.{ControllerRow}
 use Rattle.csi_controller.specs.declared.controller.core_parts.ControllerCore.{ControllerCore}
-use Rattle.csi_controller.specs.Catalog.{rows_of}
-use Rattle.csi_controller.specs.Core.{Parts}
-use Rattle.csi_controller.specs.OneRow.{RowChange, RowStays, RowEnds, RowAttaches, RowDetaches, items_after, count_change_by}
-use Rattle.csi_controller.specs.AtRow.{RowAnswers}
-use Rattle.csi_controller.specs.RowTable.{row_line}
-use Rattle.csi_controller.specs.CoreParts.{parts_of}
-use Rattle.csi_controller.specs.Counts.{is_held, count_held, place_of, AreCounted, count_at, is_full_with, is_node_full, count_after, counted_at, recounted}
+use Rattle.csi_controller.specs.Public.Catalog.{rows_of}
+use Rattle.csi_controller.specs.Model.Core.{ControllerParts}
+use Rattle.csi_controller.specs.Private.OneRow.{RowChange, RowStays, RowEnds, RowAttaches, RowDetaches, items_after, count_change_by}
+use Rattle.csi_controller.specs.Private.AtRow.{RowAnswers}
+use Rattle.csi_controller.specs.Private.RowTable.{row_line}
+use Rattle.csi_controller.specs.Public.CoreParts.{controller_parts_shown}
+use Rattle.csi_controller.specs.Public.Counts.{is_held, count_held, place_of, AreCounted}
+use Rattle.csi_controller.specs.Private.Counts.{count_at_place, is_full_with, is_node_full, count_after, counted_at, recounted}
 use Rattle.csi_controller.proofs.SameText.{text-turned}
 
 -- ---- where a node is configured
@@ -294,9 +296,9 @@ made-counted old new row config rows empty counts counted =
     (counted-alike old.config.nodes (rows_of old.catalog) (rows_of old.catalog ++ row ∷ []) old.counts (λ node. added-one node (rows_of old.catalog) row empty) counted)))
 
 -- the counts stay right where configuration and rows stay
-pub same-parts-counted : (old new : ControllerCore) → parts_of new ≡ parts_of old → new.counts ≡ old.counts → AreCounted old.config.nodes (rows_of old.catalog) old.counts → AreCounted new.config.nodes (rows_of new.catalog) new.counts
+pub same-parts-counted : (old new : ControllerCore) → controller_parts_shown new ≡ controller_parts_shown old → new.counts ≡ old.counts → AreCounted old.config.nodes (rows_of old.catalog) old.counts → AreCounted new.config.nodes (rows_of new.catalog) new.counts
 same-parts-counted old new parts counts counted =
-    subst (λ (k : Parts). AreCounted k.config.nodes k.rows new.counts) (sym parts) (subst (AreCounted old.config.nodes (rows_of old.catalog)) (sym counts) counted)
+    subst (λ (k : ControllerParts). AreCounted k.config.nodes k.rows new.counts) (sym parts) (subst (AreCounted old.config.nodes (rows_of old.catalog)) (sym counts) counted)
 
 -- ---- whether a node is full
 
@@ -341,6 +343,6 @@ full-told nodes rows counts node counted = full-first nodes node (count_held nod
     found : Option NodeSlots
     found = find (λ (entry : NodeSlots). same_text entry.id node) nodes
 
-    by : (place : Option ℕ) → place_of node nodes ≡ place → is_full_with (count_held node rows) found ≡ is_full_with (count_at place counts) found
+    by : (place : Option ℕ) → place_of node nodes ≡ place → is_full_with (count_held node rows) found ≡ is_full_with (count_at_place place counts) found
     by None none = none-full nodes node 0 (count_held node rows) (not-configured node nodes (sym none))
     by (Some place) at = ap (λ n. is_full_with n found) (sym (counted.each node place at))

@@ -16,22 +16,25 @@ use Rattle.csi_types.specs.declared.call.Party.TheVariants.{Controller}
 use Rattle.csi_types.specs.declared.holding.Holding.{Holding}
 use Rattle.csi_types.specs.declared.status.Status.TheVariants.{Ok}
 use Rattle.csi_types.specs.declared.reply.Reply.{Reply}
-use Rattle.csi_types.specs.Call.{kind_of, is_party_of}
-use Rattle.csi_types.specs.Config.{Config}
+use Rattle.csi_types.specs.Model.Call.{kind_of}
+use Rattle.csi_types.specs.Public.Call.{is_party_of}
+use Rattle.csi_types.specs.Model.Config.{Config}
 use Rattle.csi_fence.proofs.Delivered.{IsKeptFor, answered-delivered}
 use Rattle.csi_fence.proofs.Judged.{Judgement, was_over, was_fresh, was_repeated, was_stale, was_judged}
 use Rattle.csi_fence.proofs.Views.{Carries, carried-acts, closed-view, empty-view}
-use Rattle.csi_fence.specs.Delivery.{Delivery, view_by, Acts, Misses, Becomes, IsDelivered, IsEmpty, IsClosed, last_of}
-use Rattle.csi_fence.specs.Fence.{Kept, is_spent, is_over, begins}
-use Rattle.csi_fence.specs.Fenced.{Fenced, answered_in}
-use Rattle.csi_types.specs.Key.{Key, Exists, Attached, Staged, Published, HasId, asked}
-use Rattle.csi_types.specs.Reply.{has_id_by_rule}
-use Rattle.csi_types.specs.Same.{same_text}
-use Rattle.csi_controller.specs.State.{Volume, ControllerState, empty_controller, volume_with_id, live_volume, is_held_at, is_row_for, row_for}
-use Rattle.csi_controller.specs.Table.{Outcome, Change, Stays, changed, controller_row}
-use Rattle.csi_controller.specs.Fenced.{kept_in, keep, carried_out, kept_for, begun, controller_with, in_session}
-use Rattle.csi_controller.specs.Safe.{IsExclusive}
-use Rattle.csi_controller.specs.View.{held_in, kept_in_row, live_named, view_of, key_of, IsThingOf, IsDeliveredTo}
+use Rattle.csi_fence.specs.Public.Delivery.{Delivery, view_by, Acts, Misses, CallBecomes, IsDelivered, IsEmpty, IsClosed, last_of}
+use Rattle.csi_fence.specs.Model.Fence.{Kept, is_spent, is_over, begins}
+use Rattle.csi_fence.specs.Model.Fenced.{Fenced, answered_in}
+use Rattle.csi_types.specs.Public.Key.{Key, Exists, Attached, Staged, Published, HasId, asked}
+use Rattle.csi_types.specs.Public.Reply.{has_id_by_rule}
+use Rattle.csi_types.specs.Model.Same.{same_text}
+use Rattle.csi_controller.specs.Model.State.{Volume, ControllerState, empty_controller, live_volume, is_held_at, is_row_for, row_for}
+use Rattle.csi_controller.specs.Public.State.{volume_with_id}
+use Rattle.csi_controller.specs.Model.Table.{Outcome, Change, Stays, changed, controller_row}
+use Rattle.csi_controller.specs.Model.Fenced.{kept_in, keep, carried_out, kept_for, begun, controller_with}
+use Rattle.csi_controller.specs.Public.Fenced.{in_session}
+use Rattle.csi_controller.specs.Public.Safe.{IsExclusiveState}
+use Rattle.csi_controller.specs.Public.View.{held_in, kept_in_row, live_named, view_of, key_of, IsThingOf, IsDeliveredTo}
 use Rattle.csi_controller.proofs.BegunThings.{among_row, has_begun, known_before}
 use Rattle.csi_controller.proofs.LastCalls.{row_of, kept_of_row, IsFreshFor, kept_later, kept_after, row_known}
 use Rattle.csi_controller.proofs.TableOutcomes.{IsOutcome, was_refused, was_found, was_made, was_ended, was_ended_before, was_attached, was_attached_before, was_detached, was_detached_before, is_outcome}
@@ -129,7 +132,7 @@ row_unknown state (calls.NodePublishVolume id target capability readonly) party 
 row_unknown state (calls.NodeUnpublishVolume id target) party none = absurd (true≢false (sym party))
 
 -- what is attached has a row
-held_known : (state : ControllerState) (id : ℕ) (node : List ℕ) (held : Holding) → IsExclusive state → find (is_held_at id node) state.holdings ≡ Some held → volume_with_id id state ≡ None → ⊥
+held_known : (state : ControllerState) (id : ℕ) (node : List ℕ) (held : Holding) → IsExclusiveState state → find (is_held_at id node) state.holdings ≡ Some held → volume_with_id id state ≡ None → ⊥
 held_known state id node held safe is none =
     let at = and_parts (held.volume == id) (same_text held.node node) (find-passes (is_held_at id node) state.holdings held is) in
     let live = safe.attached_while_live held (among-find (is_held_at id node) state.holdings held is) in
@@ -138,7 +141,7 @@ held_known state id node held safe is none =
     true≢false (sym live ∙ ap is_some dead)
 
 -- the table changes nothing of a thing that isn't known
-unknown_stays : (config : Config) (state : ControllerState) (call : Call) (outcome : Outcome) → IsOrderly state → IsExclusive state → IsTrue (is_party_of (kind_of call) Controller) → row_for call state ≡ None
+unknown_stays : (config : Config) (state : ControllerState) (call : Call) (outcome : Outcome) → IsOrderly state → IsExclusiveState state → IsTrue (is_party_of (kind_of call) Controller) → row_for call state ≡ None
     → key_of state call ≡ None → IsOutcome config state call outcome → outcome.change ≡ Stays
 unknown_stays config state call outcome orderly safe party none key (was_refused _ status detail not_ok) = refl
 unknown_stays config state call outcome orderly safe party none key (was_found name required limit first others volume range named live serving) = refl
@@ -191,16 +194,16 @@ misses config state number call outcome orderly none key given =
     }
 
 -- a call of a thing that isn't known leaves the state, where it is carried out
-unknown_leaves : (config : Config) (state : ControllerState) (number : Number) (call : Call) → IsOrderly state → IsExclusive state → IsTrue (is_party_of (kind_of call) Controller)
+unknown_leaves : (config : Config) (state : ControllerState) (number : Number) (call : Call) → IsOrderly state → IsExclusiveState state → IsTrue (is_party_of (kind_of call) Controller)
     → key_of state call ≡ None → (carried_out state number call (controller_row config state call)).state ≡ state
 unknown_leaves config state number call orderly safe party is =
     let none = row_unknown state call party is in
     leaves state number call (controller_row config state call) none (unknown_stays config state call (controller_row config state call) orderly safe party none is (is_outcome config state call))
 
 -- a call that is carried out, by its thing
-carried_becomes : (config : Config) (state : ControllerState) (number : Number) (call : Call) (o : Option Key) → IsOrderly state → IsExclusive state
+carried_becomes : (config : Config) (state : ControllerState) (number : Number) (call : Call) (o : Option Key) → IsOrderly state → IsExclusiveState state
     → IsTrue (is_party_of (kind_of call) Controller) → key_of state call ≡ o → is_over state.session number ≡ false → is_spent (last_of (kept_for call state)) number ≡ false
-    → Becomes o (told number call (controller_row config state call).reply) (view_of state) (view_of (carried_out state number call (controller_row config state call)).state)
+    → CallBecomes o (told number call (controller_row config state call).reply) (view_of state) (view_of (carried_out state number call (controller_row config state call)).state)
 carried_becomes config state number call (Some key) orderly safe party is not_over fresh =
     let outcome : Outcome = controller_row config state call in
     let kept : Kept = record { number = number; kind = kind_of call; reply = outcome.reply } in
@@ -242,7 +245,7 @@ over_stays config state number over = in_its_session (λ now. now ≡ state) con
     not_both a b h k = grind (arith, nat_tests)
 
 -- a call of which nothing is known once its session has begun has no thing afterwards
-unknown_after : (config : Config) (state : ControllerState) (number : Number) (call : Call) (after : Fenced ControllerState) → IsOrderly (in_session config number state) → IsExclusive (in_session config number state)
+unknown_after : (config : Config) (state : ControllerState) (number : Number) (call : Call) (after : Fenced ControllerState) → IsOrderly (in_session config number state) → IsExclusiveState (in_session config number state)
     → IsTrue (is_party_of (kind_of call) Controller) → key_of (in_session config number state) call ≡ None → Judgement (controller_with config) state number call after → key_of after.state call ≡ None
 unknown_after config state number call _ orderly safe party none (was_over over) = subst (λ now. key_of now call ≡ None) (over_stays config state number over) none
 unknown_after config state number call _ orderly safe party none (was_fresh not_over fresh) =
@@ -250,7 +253,7 @@ unknown_after config state number call _ orderly safe party none (was_fresh not_
 unknown_after config state number call _ orderly safe party none (was_repeated kept not_over is spent same) = none
 unknown_after config state number call _ orderly safe party none (was_stale kept not_over is spent) = none
 
-module _ (config : Config) (state : ControllerState) (number : Number) (call : Call) (orderly : IsOrderly state) (safe : IsExclusive state) (recent : AreRecent state) (party : IsTrue (is_party_of (kind_of call) Controller)) where
+module _ (config : Config) (state : ControllerState) (number : Number) (call : Call) (orderly : IsOrderly state) (safe : IsExclusiveState state) (recent : AreRecent state) (party : IsTrue (is_party_of (kind_of call) Controller)) where
   -- the state in which the call is judged, unless it is over
   abbrev now : ControllerState
   now = in_session config number state
@@ -260,8 +263,8 @@ module _ (config : Config) (state : ControllerState) (number : Number) (call : C
   orderly_now = in_its_session IsOrderly config state number orderly (λ later. begun_orderly number.session state orderly)
 
   -- the state in which the call is judged is safe
-  safe_now : IsExclusive now
-  safe_now = in_its_session IsExclusive config state number safe (λ later. begun_keeps number.session state safe)
+  safe_now : IsExclusiveState now
+  safe_now = in_its_session IsExclusiveState config state number safe (λ later. begun_keeps number.session state safe)
 
   -- the call's thing is the one that it has then
   by_thing : (o : Option Key) → key_of now call ≡ o → IsThingOf state (answered_in (controller_with config) state number call).state call o

@@ -3,15 +3,15 @@ use Rattle.std.proofs.Common.{◌≡◌, ℕ, Bool, true, false, cond, List, [],
 use Rattle.std.specs.Prelude.{Some, None, find}
 use Rattle.std.specs.List.{AllByRecursion}
 use Rattle.csi_lists.proofs.Options.{some_is_not_none}
-use Rattle.csi_lists.specs.Members.{EachTwo}
-use Rattle.csi_lists.specs.Places.{AtMostOne}
+use Rattle.csi_lists.specs.Model.Members.{EachTwo}
+use Rattle.csi_lists.specs.Public.Places.{AtMostOne}
 use Rattle.csi_types.proofs.Equality.{same_text-tells}
-use Rattle.csi_types.specs.Holding.{is_compatible, AreApart}
-use Rattle.csi_types.specs.Same.{same_text}
+use Rattle.csi_types.specs.Model.Holding.{is_compatible, AreApart}
+use Rattle.csi_types.specs.Model.Same.{same_text}
 use Rattle.csi_controller.specs.declared.row.NodeHolding.{NodeHolding}
 use Rattle.csi_controller.specs.declared.row.ControllerRow.{ControllerRow}
-use Rattle.csi_controller.specs.Core.{AreCompatible, IsSoundRow, held_by}
-use Rattle.csi_controller.specs.Exclusive.{IsRowExclusive}
+use Rattle.csi_controller.specs.Public.Core.{AreCompatible, IsSoundRow, volume_holding}
+use Rattle.csi_controller.specs.Public.Exclusive.{IsRowExclusive}
 use Rattle.csi_controller.proofs.HoldingsApart.{apart, turned}
 
 -- no later one is at the same node
@@ -25,19 +25,19 @@ other_nodes node (h ∷ hs) none = by (same_text h.node node) refl (other_nodes 
     by false e f k = (e, f k)
 
 -- which volume they are of doesn't matter
-two-apart : (id : ℕ) (later earlier : NodeHolding) → same_text later.node earlier.node ≡ false → is_compatible (held_by 1 later) (held_by 1 earlier) ≡ true → AreApart (held_by id earlier) (held_by id later)
+two-apart : (id : ℕ) (later earlier : NodeHolding) → same_text later.node earlier.node ≡ false → is_compatible (volume_holding 1 later) (volume_holding 1 earlier) ≡ true → AreApart (volume_holding id earlier) (volume_holding id later)
 two-apart id later earlier differ compatible =
-    let one = apart (held_by 1 later) (held_by 1 earlier) (turned later.node earlier.node differ) compatible in
+    let one = apart (volume_holding 1 later) (volume_holding 1 earlier) (turned later.node earlier.node differ) compatible in
     record { nodes = one.nodes; first_shared = one.first_shared; second_shared = one.second_shared; one_writer = one.one_writer }
 
 -- the first holding is apart from each later one, at another node, that can be held with it
 from_first : (id : ℕ) (held : NodeHolding) (later : List NodeHolding) → AllByRecursion (λ (h : NodeHolding). same_text h.node held.node ≡ false) later
-    → AllByRecursion (λ (h : NodeHolding). is_compatible (held_by 1 h) (held_by 1 held) ≡ true) later → AllByRecursion (AreApart (held_by id held)) (map (held_by id) later)
+    → AllByRecursion (λ (h : NodeHolding). is_compatible (volume_holding 1 h) (volume_holding 1 held) ≡ true) later → AllByRecursion (AreApart (volume_holding id held)) (map (volume_holding id) later)
 from_first id held [] nodes compatible = tt
 from_first id held (h ∷ hs) nodes compatible = (two-apart id h held (nodes.0) (compatible.0), from_first id held hs (nodes.1) (compatible.1))
 
 -- of holdings at different nodes, each of which can be held with each earlier one, each two are apart
-each_two : (id : ℕ) (items : List NodeHolding) → ((node : List ℕ) → AtMostOne (λ (h : NodeHolding). same_text h.node node) items) → AreCompatible items → EachTwo AreApart (map (held_by id) items)
+each_two : (id : ℕ) (items : List NodeHolding) → ((node : List ℕ) → AtMostOne (λ (h : NodeHolding). same_text h.node node) items) → AreCompatible items → EachTwo AreApart (map (volume_holding id) items)
 each_two id [] one compatible = tt
 each_two id (held ∷ later) one compatible =
     (from_first id held later (other_nodes held.node later ((one held.node).0 ((same_text-tells held.node held.node).1 refl))) (compatible.0), each_two id later (λ node. (one node).1) (compatible.1))

@@ -10,13 +10,14 @@ use Rattle.csi_lists.proofs.Options.{none-from_is_some, some_is_not_none}
 use Rattle.csi_lists.proofs.Places.{AtMostOne-append}
 use Rattle.csi_lists.proofs.Searches.{find-missed}
 use Rattle.csi_lists.proofs.Tests.{any-find, any-find_none}
-use Rattle.csi_lists.specs.Places.{AtMostOne}
+use Rattle.csi_lists.specs.Public.Places.{AtMostOne}
 use Rattle.csi_types.proofs.Equality.{same_text-tells}
-use Rattle.csi_types.specs.Same.{same_text}
+use Rattle.csi_types.specs.Model.Same.{same_text}
 use Rattle.csi_controller.specs.declared.row.ControllerRow.{ControllerRow}
-use Rattle.csi_controller.specs.Core.{IsRising, IsSound, IsSoundRow}
-use Rattle.csi_controller.specs.Judging.{IsFirstRefused, may_follow}
-use Rattle.csi_controller.specs.SoundRow.{is_sound_row}
+use Rattle.csi_controller.specs.Public.Core.{AreRisingRows, AreSoundRows, IsSoundRow}
+use Rattle.csi_controller.specs.Public.Judging.{IsFirstRefused}
+use Rattle.csi_controller.specs.Private.Judging.{may_follow}
+use Rattle.csi_controller.specs.Private.SoundRow.{is_sound_row}
 use Rattle.csi_controller.proofs.SoundRow.{row-sound, sound-row}
 
 -- ---- ids that rise
@@ -32,7 +33,7 @@ last_id-append n [] row = refl
 last_id-append n (r ∷ rs) row = last_id-append r.id rs row
 
 -- where ids rise, the last one is at least a number that all of them are above
-le-last_id : (n : ℕ) (rows : List ControllerRow) → AllByRecursion (λ (later : ControllerRow). n < later.id) rows → IsRising rows → n ≤ last_id n rows
+le-last_id : (n : ℕ) (rows : List ControllerRow) → AllByRecursion (λ (later : ControllerRow). n < later.id) rows → AreRisingRows rows → n ≤ last_id n rows
 le-last_id n [] above rising = omega arith
 le-last_id n (row ∷ rows) above rising =
     let first : n < row.id = above.0 in
@@ -49,19 +50,19 @@ each-front P [] ys all = tt
 each-front P (x ∷ xs) ys all = (all.0, each-front P xs ys all.1)
 
 -- ids still rise with one more row, whose id is above the last
-IsRising-append : (n : ℕ) (rows : List ControllerRow) (row : ControllerRow) → IsRising rows → last_id n rows < row.id → IsRising (rows ++ row ∷ [])
+IsRising-append : (n : ℕ) (rows : List ControllerRow) (row : ControllerRow) → AreRisingRows rows → last_id n rows < row.id → AreRisingRows (rows ++ row ∷ [])
 IsRising-append n [] row rising below = (tt, tt)
 IsRising-append n (r ∷ rs) row rising below =
     let above : r.id < row.id = let last : r.id ≤ last_id r.id rs = le-last_id r.id rs rising.0 rising.1 in omega (arith, last, below) in
     (each-append_one (λ (later : ControllerRow). r.id < later.id) rs row rising.0 above, IsRising-append r.id rs row rising.1 below)
 
 -- where ids rise, those of a front of the rows rise
-IsRising-front : (rows more : List ControllerRow) → IsRising (rows ++ more) → IsRising rows
+IsRising-front : (rows more : List ControllerRow) → AreRisingRows (rows ++ more) → AreRisingRows rows
 IsRising-front [] more rising = tt
 IsRising-front (r ∷ rs) more rising = (each-front (λ (later : ControllerRow). r.id < later.id) rs more rising.0, IsRising-front rs more rising.1)
 
 -- where ids rise, the last row's is above the last one before it
-last_id-below : (n : ℕ) (rows : List ControllerRow) (row : ControllerRow) → n < row.id → IsRising (rows ++ row ∷ []) → last_id n rows < row.id
+last_id-below : (n : ℕ) (rows : List ControllerRow) (row : ControllerRow) → n < row.id → AreRisingRows (rows ++ row ∷ []) → last_id n rows < row.id
 last_id-below n [] row above rising = above
 last_id-below n (r ∷ rs) row above rising = last_id-below r.id rs row (each-last (λ (later : ControllerRow). r.id < later.id) rs row rising.0) rising.1
 
@@ -101,7 +102,7 @@ none-found p xs h = none-from_is_some (find p xs) (sym (any-find p xs) ∙ h)
 -- ---- the rules of the first rows
 
 -- a front of a record's rows is a record's
-sound-front : (n : ℕ) (rows more : List ControllerRow) → IsSound n (rows ++ more) → IsSound n rows
+sound-front : (n : ℕ) (rows more : List ControllerRow) → AreSoundRows n (rows ++ more) → AreSoundRows n rows
 sound-front n rows more sound =
     record {
       limit = let limit = sound.limit in let long : length (rows ++ more) ≡ length rows + length more = length-append rows more in omega (arith, limit, long);
@@ -111,19 +112,19 @@ sound-front n rows more sound =
     }
 
 -- the first rows of a record's are a record's
-pub sound-take : (n : ℕ) (rows : List ControllerRow) (k : ℕ) → IsSound n rows → IsSound n (take k rows)
-sound-take n rows k sound = sound-front n (take k rows) (drop k rows) (subst (IsSound n) (sym (take-append-drop k rows)) sound)
+pub sound-take : (n : ℕ) (rows : List ControllerRow) (k : ℕ) → AreSoundRows n rows → AreSoundRows n (take k rows)
+sound-take n rows k sound = sound-front n (take k rows) (drop k rows) (subst (AreSoundRows n) (sym (take-append-drop k rows)) sound)
 
 -- rows that are a record's have no first one that no record has there
-pub not-both : (n : ℕ) (rows : List ControllerRow) (place : ℕ) → IsFirstRefused (IsSound n) rows place → IsSound n rows → ⊥
+pub not-both : (n : ℕ) (rows : List ControllerRow) (place : ℕ) → IsFirstRefused (AreSoundRows n) rows place → AreSoundRows n rows → ⊥
 not-both n rows place first sound = first.refused (sound-take n rows place sound)
 
 -- where a row is the first that no record has there, none at a later place is
-not-earlier : (n : ℕ) (rows : List ControllerRow) (a b : ℕ) → IsFirstRefused (IsSound n) rows a → IsFirstRefused (IsSound n) rows b → a < b → ⊥
-not-earlier n rows a b one other less = one.refused (subst (IsSound n) (take-take a (b - 1) rows (omega arith)) (sound-take n (take (b - 1) rows) a other.before))
+not-earlier : (n : ℕ) (rows : List ControllerRow) (a b : ℕ) → IsFirstRefused (AreSoundRows n) rows a → IsFirstRefused (AreSoundRows n) rows b → a < b → ⊥
+not-earlier n rows a b one other less = one.refused (subst (AreSoundRows n) (take-take a (b - 1) rows (omega arith)) (sound-take n (take (b - 1) rows) a other.before))
 
 -- there is one such place
-pub same-place : (n : ℕ) (rows : List ControllerRow) (a b : ℕ) → IsFirstRefused (IsSound n) rows a → IsFirstRefused (IsSound n) rows b → a ≡ b
+pub same-place : (n : ℕ) (rows : List ControllerRow) (a b : ℕ) → IsFirstRefused (AreSoundRows n) rows a → IsFirstRefused (AreSoundRows n) rows b → a ≡ b
 same-place n rows a b one other = by (cases_order a b)
   where
     by : (a ≡ b) ⊎ ((a < b) ⊎ (b < a)) → a ≡ b
@@ -134,8 +135,8 @@ same-place n rows a b one other = by (cases_order a b)
 -- ---- one more row
 
 -- a record's rows, and one that may follow them under a name that none of them has, are a record's
-sound-more : (n : ℕ) (rows : List ControllerRow) (row : ControllerRow) → IsSound n rows → may_follow n (length rows) (last_id 0 rows) row ≡ true
-    → find (λ (r : ControllerRow). same_text r.name row.name) rows ≡ None → IsSound n (rows ++ row ∷ [])
+sound-more : (n : ℕ) (rows : List ControllerRow) (row : ControllerRow) → AreSoundRows n rows → may_follow n (length rows) (last_id 0 rows) row ≡ true
+    → find (λ (r : ControllerRow). same_text r.name row.name) rows ≡ None → AreSoundRows n (rows ++ row ∷ [])
 sound-more n rows row sound follows none =
     let parts = and_parts (nat_lt (length rows) 4096 && nat_lt (last_id 0 rows) row.id) (is_sound_row n row) follows in
     let places = and_parts (nat_lt (length rows) 4096) (nat_lt (last_id 0 rows) row.id) parts.0 in
@@ -150,7 +151,7 @@ sound-more n rows row sound follows none =
     }
 
 -- the last of a record's rows may follow those before it, if its id isn't 0
-follows-sound : (n : ℕ) (rows : List ControllerRow) (row : ControllerRow) → 0 < row.id → IsSound n (rows ++ row ∷ []) → may_follow n (length rows) (last_id 0 rows) row ≡ true
+follows-sound : (n : ℕ) (rows : List ControllerRow) (row : ControllerRow) → 0 < row.id → AreSoundRows n (rows ++ row ∷ []) → may_follow n (length rows) (last_id 0 rows) row ≡ true
 follows-sound n rows row from sound =
     let room : length rows < 4096 = let limit = sound.limit in let long : length (rows ++ row ∷ []) ≡ length rows + 1 = length_push rows row in omega (arith, limit, long) in
     and_from (nat_lt (length rows) 4096 && nat_lt (last_id 0 rows) row.id) (is_sound_row n row)
@@ -158,14 +159,14 @@ follows-sound n rows row from sound =
     (row-sound n row (each-last (IsSoundRow n) rows row sound.each))
 
 -- no row before the last of a record's has its name
-new-name : (n : ℕ) (rows : List ControllerRow) (row : ControllerRow) → IsSound n (rows ++ row ∷ []) → find (λ (r : ControllerRow). same_text r.name row.name) rows ≡ None
+new-name : (n : ℕ) (rows : List ControllerRow) (row : ControllerRow) → AreSoundRows n (rows ++ row ∷ []) → find (λ (r : ControllerRow). same_text r.name row.name) rows ≡ None
 new-name n rows row sound = AtMostOne-last (λ (r : ControllerRow). same_text r.name row.name) rows row (sound.names row.name) ((same_text-tells row.name row.name).1 refl)
 
 -- ---- the walk
 
 -- the rows before a place are a record's, this is their last id, and these are their names
 pub record SoFar (n : ℕ) (rows : List ControllerRow) (place last : ℕ) (has : List ℕ → Bool) : Type 0 where
-  pub sound : IsSound n (take place rows)
+  pub sound : AreSoundRows n (take place rows)
   pub is_last : last ≡ last_id 0 (take place rows)
   pub names : (name : List ℕ) → has name ≡ list_any (λ (row : ControllerRow). same_text row.name name) (take place rows)
 
@@ -199,7 +200,7 @@ goes_on n rows place last has now_has row so inside is follows absent adds =
     let more : take (place + 1) rows ≡ take place rows ++ row ∷ [] = one-more rows place row inside is in
     let none = none-found (λ (r : ControllerRow). same_text r.name row.name) (take place rows) (sym (so.names row.name) ∙ absent) in
     record {
-      sound = subst (IsSound n) (sym more) (sound-more n (take place rows) row so.sound (same-test n rows place last has row so inside ∙ follows) none);
+      sound = subst (AreSoundRows n) (sym more) (sound-more n (take place rows) row so.sound (same-test n rows place last has row so inside ∙ follows) none);
       is_last = sym (ap (last_id 0) more ∙ last_id-append 0 (take place rows) row);
       names = λ name.
           let among : List ControllerRow → Bool = list_any (λ (r : ControllerRow). same_text r.name name) in
@@ -208,31 +209,31 @@ goes_on n rows place last has now_has row so inside is follows absent adds =
     }
 
 -- where the rows before a place are a record's, and with the row there they aren't, that row is the first refused one
-refused-there : (n : ℕ) (rows : List ControllerRow) (place : ℕ) (row : ControllerRow) → IsSound n (take place rows) → place < length rows → row ≡ get_or rows place row
-    → (IsSound n (take place rows ++ row ∷ []) → ⊥) → IsFirstRefused (IsSound n) rows (place + 1)
+refused-there : (n : ℕ) (rows : List ControllerRow) (place : ℕ) (row : ControllerRow) → AreSoundRows n (take place rows) → place < length rows → row ≡ get_or rows place row
+    → (AreSoundRows n (take place rows ++ row ∷ []) → ⊥) → IsFirstRefused (AreSoundRows n) rows (place + 1)
 refused-there n rows place row sound inside is fails =
     let back : place ≡ place + 1 - 1 = omega arith in
     record {
       from = omega arith;
       to = omega arith;
-      before = subst (λ k. IsSound n (take k rows)) back sound;
-      refused = λ whole. fails (subst (IsSound n) (one-more rows place row inside is) whole);
+      before = subst (λ k. AreSoundRows n (take k rows)) back sound;
+      refused = λ whole. fails (subst (AreSoundRows n) (one-more rows place row inside is) whole);
     }
 
 -- so is a row that may not follow those before it, if its id isn't 0
 pub refused-rules : (n : ℕ) (rows : List ControllerRow) (place last : ℕ) (has : List ℕ → Bool) (row : ControllerRow) → SoFar n rows place last has → place < length rows → row ≡ get_or rows place row
-    → 0 < row.id → may_follow n place last row ≡ false → IsFirstRefused (IsSound n) rows (place + 1)
+    → 0 < row.id → may_follow n place last row ≡ false → IsFirstRefused (AreSoundRows n) rows (place + 1)
 refused-rules n rows place last has row so inside is from fails =
     refused-there n rows place row so.sound inside is
     (λ whole. false≢true (sym fails ∙ sym (same-test n rows place last has row so inside) ∙ follows-sound n (take place rows) row from whole))
 
 -- and one whose name an earlier row has
 pub refused-name : (n : ℕ) (rows : List ControllerRow) (place last : ℕ) (has : List ℕ → Bool) (row : ControllerRow) → SoFar n rows place last has → place < length rows → row ≡ get_or rows place row
-    → has row.name ≡ true → IsFirstRefused (IsSound n) rows (place + 1)
+    → has row.name ≡ true → IsFirstRefused (AreSoundRows n) rows (place + 1)
 refused-name n rows place last has row so inside is there =
     refused-there n rows place row so.sound inside is
     (λ whole. true≢false (sym there ∙ so.names row.name ∙ any-find_none (λ (r : ControllerRow). same_text r.name row.name) (take place rows) (new-name n (take place rows) row whole)))
 
 -- at the end of the rows they are all a record's
-pub ends : (n : ℕ) (rows : List ControllerRow) (place last : ℕ) (has : List ℕ → Bool) → SoFar n rows place last has → length rows ≤ place → IsSound n rows
-ends n rows place last has so end = subst (IsSound n) (take_all place rows end) so.sound
+pub ends : (n : ℕ) (rows : List ControllerRow) (place last : ℕ) (has : List ℕ → Bool) → SoFar n rows place last has → length rows ≤ place → AreSoundRows n rows
+ends n rows place last has so end = subst (AreSoundRows n) (take_all place rows end) so.sound

@@ -7,10 +7,11 @@ use Rattle.std.proofs.Math.Nat.{le-max_left, le-max_right, max-le, max_comm}
 use Rattle.std.proofs.lemmas.List.{take-append-drop, take-take}
 use Rattle.csi_lists.proofs.Each.{each-append_one, each-weaker}
 use Rattle.csi_controller.specs.declared.row.ControllerRow.{ControllerRow}
-use Rattle.csi_controller.specs.Core.{IsCurrentRow, IsCurrent}
-use Rattle.csi_controller.specs.Judging.{AreRecorded, IsFirstRefused, earlier_of, is_current_row}
-use Rattle.csi_controller.specs.Views.{AreSameRows}
-use Rattle.csi_controller.specs.WithoutSession.{latest_session, stays_in}
+use Rattle.csi_controller.specs.Public.Core.{IsCurrentRow, IsCurrent}
+use Rattle.csi_controller.specs.Public.Judging.{AreRecorded, IsFirstRefused}
+use Rattle.csi_controller.specs.Private.Judging.{earlier_of, is_current_row}
+use Rattle.csi_controller.specs.Public.Views.{AreSameRows}
+use Rattle.csi_controller.specs.Public.WithoutSession.{latest_session, stays_in}
 use Rattle.csi_controller.proofs.Copies.{sound-copies}
 use Rattle.csi_controller.proofs.FirstRefused.{each-front, each-last, one-more, sound-take}
 use Rattle.csi_controller.proofs.Sessions.{current-copies}

@@ -8,35 +8,36 @@ use Rattle.csi_lists.proofs.Each.{each-filter, each-weaker}
 use Rattle.csi_lists.proofs.Filters.{filter-no_longer, filter-of_map}
 use Rattle.csi_lists.proofs.Places.{AtMostOne-filter}
 use Rattle.csi_lists.proofs.Searches.{find-none_in_filter}
-use Rattle.csi_lists.specs.Places.{AtMostOne, FirstAt}
+use Rattle.csi_lists.specs.Public.Places.{AtMostOne, FirstAt}
 use Rattle.csi_types.specs.declared.config.NodeSlots.{NodeSlots}
-use Rattle.csi_types.specs.Config.{Config}
-use Rattle.csi_types.specs.Same.{same_text}
+use Rattle.csi_types.specs.Model.Config.{Config}
+use Rattle.csi_types.specs.Model.Same.{same_text}
 use Rattle.csi_controller.specs.declared.row.NodeHolding.{NodeHolding}
 use Rattle.csi_controller.specs.declared.row.ControllerRow.{ControllerRow}
-use Rattle.csi_controller.specs.Beginning.{live_rows}
-use Rattle.csi_controller.specs.Core.{Shows, IsSound, IsSoundRow, IsRising, IsCurrent, held_by}
-use Rattle.csi_controller.specs.Counts.{is_held, count_held, AreCounted}
-use Rattle.csi_controller.specs.Fenced.{begun}
-use Rattle.csi_controller.specs.Shown.{volume_of_row, holdings_in}
-use Rattle.csi_controller.specs.State.{Volume, ControllerState}
-use Rattle.csi_controller.specs.WithoutSession.{stays_in}
+use Rattle.csi_controller.specs.Private.Beginning.{live_rows}
+use Rattle.csi_controller.specs.Model.Core.{Shows}
+use Rattle.csi_controller.specs.Public.Core.{AreSoundRows, IsSoundRow, AreRisingRows, IsCurrent, volume_holding}
+use Rattle.csi_controller.specs.Public.Counts.{is_held, count_held, AreCounted}
+use Rattle.csi_controller.specs.Model.Fenced.{begun}
+use Rattle.csi_controller.specs.Model.Shown.{volume_of_row, holdings_in}
+use Rattle.csi_controller.specs.Model.State.{Volume, ControllerState}
+use Rattle.csi_controller.specs.Public.WithoutSession.{stays_in}
 use Rattle.csi_controller.proofs.Counts.{counted-alike}
 use Rattle.csi_controller.proofs.Sound.{rising-one}
 
 -- ---- the rules are kept
 
 -- where ids rise, those of some of the rows do
-pub IsRising-filter : (q : ControllerRow → Bool) (rows : List ControllerRow) → IsRising rows → IsRising (filter q rows)
+pub IsRising-filter : (q : ControllerRow → Bool) (rows : List ControllerRow) → AreRisingRows rows → AreRisingRows (filter q rows)
 IsRising-filter q [] rising = tt
 IsRising-filter q (r ∷ rs) rising = by (q r) (IsRising-filter q rs rising.1)
   where
-    by : (b : Bool) → IsRising (filter q rs) → IsRising (cond b (r ∷ filter q rs) (filter q rs))
+    by : (b : Bool) → AreRisingRows (filter q rs) → AreRisingRows (cond b (r ∷ filter q rs) (filter q rs))
     by true rest = (each-filter (λ (later : ControllerRow). r.id < later.id) q rs rising.0, rest)
     by false rest = rest
 
 -- some of a record's rows are a record's
-pub sound-filter : (n : ℕ) (q : ControllerRow → Bool) (rows : List ControllerRow) → IsSound n rows → IsSound n (filter q rows)
+pub sound-filter : (n : ℕ) (q : ControllerRow → Bool) (rows : List ControllerRow) → AreSoundRows n rows → AreSoundRows n (filter q rows)
 sound-filter n q rows sound =
     record {
       limit = let limit = sound.limit in let fewer : length (filter q rows) ≤ length rows = filter-no_longer q rows in omega (arith, limit, fewer);
@@ -68,7 +69,7 @@ counted-left node q (r ∷ rs) empty = by (q r) refl (counted-left node q rs emp
     by false is rest = rest ∙ sym (nowhere (empty.0 is))
 
 -- the counts stay right
-pub counted-live : (nodes : List NodeSlots) (n : ℕ) (rows : List ControllerRow) (counts : List ℕ) → IsSound n rows → AreCounted nodes rows counts → AreCounted nodes (live_rows rows) counts
+pub counted-live : (nodes : List NodeSlots) (n : ℕ) (rows : List ControllerRow) (counts : List ℕ) → AreSoundRows n rows → AreCounted nodes rows counts → AreCounted nodes (live_rows rows) counts
 counted-live nodes n rows counts sound counted =
     counted-alike nodes rows (live_rows rows) counts
     (λ node. counted-left node (λ (row : ControllerRow). row.live) rows (each-weaker (IsSoundRow n) (λ (row : ControllerRow). row.live ≡ false → row.holdings.items ≡ []) rows (λ row own. own.gone) sound.each))
@@ -86,12 +87,12 @@ held-live n (r ∷ rs) id each one = by (r.id == id) r.live refl refl (held-live
         → holdings_in (find (λ (r : ControllerRow). r.id == id) (live_rows rs)) ≡ holdings_in (find (λ (r : ControllerRow). r.id == id) rs)
         → holdings_in (find (λ (r : ControllerRow). r.id == id) (cond alive (r ∷ live_rows rs) (live_rows rs))) ≡ holdings_in (cond own (Some r) (find (λ (r : ControllerRow). r.id == id) rs))
     by true true e f rest = ap (λ (b : Bool). holdings_in (cond b (Some r) (find (λ (r : ControllerRow). r.id == id) (live_rows rs)))) e
-    by true false e f rest = rest ∙ ap holdings_in (one.0 e) ∙ sym (ap (map (held_by r.id)) (each.0.gone f))
+    by true false e f rest = rest ∙ ap holdings_in (one.0 e) ∙ sym (ap (map (volume_holding r.id)) (each.0.gone f))
     by false true e f rest = ap (λ (b : Bool). holdings_in (cond b (Some r) (find (λ (r : ControllerRow). r.id == id) (live_rows rs)))) e ∙ rest
     by false false e f rest = rest
 
 -- the rows of live volumes show the state in which a session has begun
-pub shown-live : (config : Config) (n s session : ℕ) (rows : List ControllerRow) (state : ControllerState) → IsSound n rows
+pub shown-live : (config : Config) (n s session : ℕ) (rows : List ControllerRow) (state : ControllerState) → AreSoundRows n rows
     → Shows (record { config = config; next_id = n; session = s; rows = rows }) state
     → Shows (record { config = config; next_id = n; session = session; rows = live_rows rows }) (begun session state)
 shown-live config n s session rows state sound shown =

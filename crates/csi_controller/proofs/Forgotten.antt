@@ -4,11 +4,11 @@ use Rattle.std.specs.Prelude.{Option, Some, None, find, filter, ◌==◌, ◌&&�
 use Rattle.std.proofs.lemmas.Bool.{and_parts, true≢false}
 use Rattle.csi_lists.proofs.Members.{among-find, among-kept}
 use Rattle.csi_lists.proofs.Searches.{find-and, find-and_filter, find-filter, find-none_in_filter, find-passes, find-same}
-use Rattle.csi_lists.specs.Members.{IsAmong}
-use Rattle.csi_types.specs.Same.{same_text}
-use Rattle.csi_controller.specs.State.{Volume, ControllerState, live_volume}
-use Rattle.csi_controller.specs.Fenced.{begun}
-use Rattle.csi_controller.specs.View.{live_named}
+use Rattle.csi_lists.specs.Model.Members.{IsAmong}
+use Rattle.csi_types.specs.Model.Same.{same_text}
+use Rattle.csi_controller.specs.Model.State.{Volume, ControllerState, live_volume}
+use Rattle.csi_controller.specs.Model.Fenced.{begun}
+use Rattle.csi_controller.specs.Public.View.{live_named}
 
 -- two tests in the other order
 turned : (a b : Bool) → (a && b) ≡ (b && a)

@@ -7,21 +7,21 @@ use Rattle.std.proofs.lemmas.List.{map-append}
 use Rattle.std.proofs.lemmas.List.Elements.{filter_agree}
 use Rattle.csi_lists.proofs.Counts.{count-cons, count-one, count-split}
 use Rattle.csi_lists.proofs.Filters.{filter-append_one, filter-append_passes, filter-filter, filter-of_map, filter-swap}
-use Rattle.csi_lists.specs.Places.{AtMostOne}
+use Rattle.csi_lists.specs.Public.Places.{AtMostOne}
 use Rattle.csi_types.specs.declared.holding.Holding.{Holding}
-use Rattle.csi_types.specs.Same.{same_text}
+use Rattle.csi_types.specs.Model.Same.{same_text}
 use Rattle.csi_controller.specs.declared.row.NodeHolding.{NodeHolding}
 use Rattle.csi_controller.specs.declared.row.ControllerRow.{ControllerRow}
-use Rattle.csi_controller.specs.State.{is_held_at}
-use Rattle.csi_controller.specs.Shown.{holdings_in, holdings_in_row}
-use Rattle.csi_controller.specs.Core.{IsSoundRow, held_by}
-use Rattle.csi_controller.specs.OneRow.{RowChange, RowStays, RowEnds, RowAttaches, RowDetaches, items_after}
+use Rattle.csi_controller.specs.Model.State.{is_held_at}
+use Rattle.csi_controller.specs.Model.Shown.{holdings_in, holdings_in_row}
+use Rattle.csi_controller.specs.Public.Core.{IsSoundRow, volume_holding}
+use Rattle.csi_controller.specs.Private.OneRow.{RowChange, RowStays, RowEnds, RowAttaches, RowDetaches, items_after}
 
 -- all holdings after a change of the row of this id
 abbrev pub held_after : ℕ → RowChange → List Holding → List Holding
 held_after id RowStays all = all
 held_after id RowEnds all = all
-held_after id (RowAttaches held) all = all ++ held_by id held ∷ []
+held_after id (RowAttaches held) all = all ++ volume_holding id held ∷ []
 held_after id (RowDetaches node) all = filter (λ holding. not (is_held_at id node holding)) all
 
 -- a holding is the volume's
@@ -33,19 +33,19 @@ self : (id : ℕ) → (id == id) ≡ true
 self id = eq-eqb id id refl
 
 -- the row's own list, after the change
-pub row_list-after : (id : ℕ) (change : RowChange) (items : List NodeHolding) → map (held_by id) (items_after change items) ≡ held_after id change (map (held_by id) items)
+pub row_list-after : (id : ℕ) (change : RowChange) (items : List NodeHolding) → map (volume_holding id) (items_after change items) ≡ held_after id change (map (volume_holding id) items)
 row_list-after id RowStays items = refl
 row_list-after id RowEnds items = refl
-row_list-after id (RowAttaches held) items = map-append (held_by id) items (held ∷ [])
+row_list-after id (RowAttaches held) items = map-append (volume_holding id) items (held ∷ [])
 row_list-after id (RowDetaches node) items =
-    sym (filter-of_map (λ holding. not (is_held_at id node holding)) (held_by id) items
-    ∙ ap (map (held_by id)) (filter_agree (λ held. not (is_held_at id node (held_by id held))) (λ held. not (same_text held.node node)) (λ held. ap (λ b. not (b && same_text held.node node)) (self id)) items))
+    sym (filter-of_map (λ holding. not (is_held_at id node holding)) (volume_holding id) items
+    ∙ ap (map (volume_holding id)) (filter_agree (λ held. not (is_held_at id node (volume_holding id held))) (λ held. not (same_text held.node node)) (λ held. ap (λ b. not (b && same_text held.node node)) (self id)) items))
 
 -- the volume's holdings, after the change
 pub own_list-after : (id : ℕ) (change : RowChange) (all : List Holding) → filter (λ h. h.volume == id) (held_after id change all) ≡ held_after id change (filter (λ h. h.volume == id) all)
 own_list-after id RowStays all = refl
 own_list-after id RowEnds all = refl
-own_list-after id (RowAttaches held) all = filter-append_passes (λ h. h.volume == id) all (held_by id held) (self id)
+own_list-after id (RowAttaches held) all = filter-append_passes (λ h. h.volume == id) all (volume_holding id held) (self id)
 own_list-after id (RowDetaches node) all = filter-swap (λ h. h.volume == id) (λ holding. not (is_held_at id node holding)) all
 
 -- what is equal to an id isn't equal to what differs from that id
@@ -64,7 +64,7 @@ other_id a b c e f = by (a == c) refl
 pub other_list-after : (id other : ℕ) (change : RowChange) (all : List Holding) → (id == other) ≡ false → filter (λ h. h.volume == other) (held_after id change all) ≡ filter (λ h. h.volume == other) all
 other_list-after id other RowStays all differ = refl
 other_list-after id other RowEnds all differ = refl
-other_list-after id other (RowAttaches held) all differ = filter-append_one (λ h. h.volume == other) all (held_by id held) differ
+other_list-after id other (RowAttaches held) all differ = filter-append_one (λ h. h.volume == other) all (volume_holding id held) differ
 other_list-after id other (RowDetaches node) all differ =
     filter-filter (λ h. h.volume == other) (λ holding. not (is_held_at id node holding)) all
     (λ x e. ap (λ b. not (b && same_text x.node node)) (other_id x.volume other id e differ))
@@ -93,7 +93,7 @@ count-rows n node (r ∷ rs) all sound one shown =
     let others : List Holding = filter (λ h. not (h.volume == r.id)) all in
     let own : holdings_in_row r ≡ filter (λ h. h.volume == r.id) all = ap (λ b. holdings_in (cond b (Some r) (find (λ x. x.id == r.id) rs))) (sym (self r.id)) ∙ shown r.id in
     let first : count_by (λ h. same_text h.node node) (filter (λ h. h.volume == r.id) all) ≡ cond (list_any (λ held. same_text held.node node) r.holdings.items) 1 0
-    = ap (count_by (λ h. same_text h.node node)) (sym own) ∙ count-one (held_by r.id) (λ h. same_text h.node node) (λ held. same_text held.node node) r.holdings.items (λ held. refl) ((sound.0).apart node) in
+    = ap (count_by (λ h. same_text h.node node)) (sym own) ∙ count-one (volume_holding r.id) (λ h. same_text h.node node) (λ held. same_text held.node node) r.holdings.items (λ held. refl) ((sound.0).apart node) in
     let rest = count-rows n node rs others (sound.1) (λ id. (one id).1) (λ id. by id (r.id == id) refl (shown id)) in
     let split = count-split (λ h. same_text h.node node) (λ h. h.volume == r.id) all in
     let whole = count-cons (λ (x : ControllerRow). list_any (λ held. same_text held.node node) x.holdings.items) r rs in

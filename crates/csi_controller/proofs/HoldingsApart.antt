@@ -4,9 +4,9 @@ use Rattle.std.specs.Prelude.{◌&&◌, ◌||◌, IsTrue}
 use Rattle.std.proofs.lemmas.Bool.{and_parts}
 use Rattle.csi_types.proofs.Equality.{same_text-tells}
 use Rattle.csi_types.specs.declared.holding.Holding.{Holding}
-use Rattle.csi_types.specs.Holding.{same_holding, is_compatible, is_second_writer, AreApart}
-use Rattle.csi_types.specs.Same.{same_text}
-use Rattle.csi_types.specs.Sharing.{is_single_node, is_multi_node, is_single_writer, writes}
+use Rattle.csi_types.specs.Model.Holding.{same_holding, is_compatible, is_second_writer, AreApart}
+use Rattle.csi_types.specs.Model.Same.{same_text}
+use Rattle.csi_types.specs.Model.Sharing.{is_single_node, is_multi_node, is_single_writer, writes}
 
 -- a test whose opposite holds fails
 not_zero : (b : Bool) → not b ≡ true → b ≡ false

@@ -9,15 +9,16 @@ use Rattle.csi_types.proofs.Equality.{same_text-tells}
 use Rattle.csi_types.specs.declared.call.Call.{Call}
 use Rattle.csi_types.specs.declared.call.Call.TheVariants as calls
 use Rattle.csi_types.specs.declared.status.Status.TheVariants.{Ok}
-use Rattle.csi_types.specs.Config.{Config}
+use Rattle.csi_types.specs.Model.Config.{Config}
 use Rattle.csi_fence.proofs.Views.{IsLater}
-use Rattle.csi_fence.specs.Fence.{Kept, is_spent}
-use Rattle.csi_types.specs.Key.{Key, Exists, Attached, Staged, Published}
-use Rattle.csi_types.specs.Same.{same_text}
-use Rattle.csi_controller.specs.State.{Volume, ControllerState, volume_named, volume_with_id, is_row_for, row_for}
-use Rattle.csi_controller.specs.Table.{Outcome, Change, Stays, Makes, Ends, Attaches, Detaches, changed, ended}
-use Rattle.csi_controller.specs.Fenced.{kept_in, keep}
-use Rattle.csi_controller.specs.View.{kept_in_row, key_of}
+use Rattle.csi_fence.specs.Model.Fence.{Kept, is_spent}
+use Rattle.csi_types.specs.Public.Key.{Key, Exists, Attached, Staged, Published}
+use Rattle.csi_types.specs.Model.Same.{same_text}
+use Rattle.csi_controller.specs.Model.State.{Volume, ControllerState, volume_named, is_row_for, row_for}
+use Rattle.csi_controller.specs.Public.State.{volume_with_id}
+use Rattle.csi_controller.specs.Model.Table.{Outcome, Change, Stays, Makes, Ends, Attaches, Detaches, changed, ended_volume}
+use Rattle.csi_controller.specs.Model.Fenced.{kept_in, keep}
+use Rattle.csi_controller.specs.Public.View.{kept_in_row, key_of}
 use Rattle.csi_controller.proofs.TableOutcomes.{IsOutcome, was_refused, was_found, was_made, was_ended, was_ended_before, was_attached, was_attached_before, was_detached, was_detached_before}
 use Rattle.csi_controller.proofs.OrderlyStates.{IsOrderly, LeavesNames, keep_leaves, end_leaves, same_row, with_id_by_name}
 use Rattle.csi_controller.proofs.ThingOutcomes.{at_key, by_volume}
@@ -48,7 +49,7 @@ itself_comes kept None = none_comes
 itself_comes kept (Some v) = same_comes v v refl refl refl
 
 -- a deletion leaves what a row keeps
-ended_kept : (id : ℕ) (v : Volume) → (ended id v).kept ≡ v.kept
+ended_kept : (id : ℕ) (v : Volume) → (ended_volume id v).kept ≡ v.kept
 ended_kept id v = by (v.id == id)
   where
     by : (b : Bool) → (cond b (record v { is_live = false }) v).kept ≡ v.kept
@@ -56,9 +57,9 @@ ended_kept id v = by (v.id == id)
     by false = refl
 
 -- a row comes so where a volume is deleted, its own or another
-ended_comes : (kept : Kept) (id : ℕ) (o : Option Volume) → Comes kept o (option_map (ended id) o)
+ended_comes : (kept : Kept) (id : ℕ) (o : Option Volume) → Comes kept o (option_map (ended_volume id) o)
 ended_comes kept id None = none_comes
-ended_comes kept id (Some v) = same_comes v (ended id v) ((end_leaves id).ids v) ((end_leaves id).names v) (ended_kept id v)
+ended_comes kept id (Some v) = same_comes v (ended_volume id v) ((end_leaves id).ids v) ((end_leaves id).names v) (ended_kept id v)
 
 -- so does the row that was found before, or else one that was just made
 added_comes : (kept : Kept) (n : Volume) (o : Option Volume) (b : Bool) → n.kept ≡ kept → Comes kept o (option_or o (cond b (Some n) None))
@@ -85,7 +86,7 @@ found_comes p test state kept (Makes name capacity capabilities) =
     let volume : Volume = record { id = state.next_id; name = name; capacity = capacity; capabilities = capabilities; is_live = true; kept = kept } in
     subst (Comes kept (find p state.volumes)) (sym (find-append p state.volumes volume)) (added_comes kept volume (find p state.volumes) (p volume) refl)
 found_comes p test state kept (Ends id) =
-    subst (Comes kept (find p state.volumes)) (sym (find-map p (ended id) state.volumes (test (ended id) (end_leaves id)))) (ended_comes kept id (find p state.volumes))
+    subst (Comes kept (find p state.volumes)) (sym (find-map p (ended_volume id) state.volumes (test (ended_volume id) (end_leaves id)))) (ended_comes kept id (find p state.volumes))
 found_comes p test state kept (Attaches holding) = itself_comes kept (find p state.volumes)
 found_comes p test state kept (Detaches id node) = itself_comes kept (find p state.volumes)
 

@@ -7,11 +7,11 @@ use Rattle.csi_lists.proofs.Maps.{map-none_shown}
 use Rattle.csi_lists.proofs.Options.{some_is_not_none}
 use Rattle.csi_lists.proofs.Places.{AtMostOne-append}
 use Rattle.csi_lists.proofs.Searches.{find-of_map}
-use Rattle.csi_lists.specs.Places.{AtMostOne}
+use Rattle.csi_lists.specs.Public.Places.{AtMostOne}
 use Rattle.csi_controller.specs.declared.controller.core_parts.ControllerCore.{ControllerCore}
-use Rattle.csi_controller.specs.Catalog.{rows_of}
-use Rattle.csi_controller.specs.CoreParts.{parts_of}
-use Rattle.csi_controller.specs.Making.{IsMade, new_line, made_volume}
+use Rattle.csi_controller.specs.Public.Catalog.{rows_of}
+use Rattle.csi_controller.specs.Public.CoreParts.{controller_parts_shown}
+use Rattle.csi_controller.specs.Private.Making.{IsVolumeMade, new_line, made_volume}
 use Rattle.std.specs.Prelude.{Option, Some, None, option_map, find, ◌==◌, ◌||◌, nat_le, nat_lt, codes, IsTrue}
 use Rattle.std.specs.List.{AllByRecursion}
 use Rattle.std.proofs.lemmas.Bool.Decides.{nat_tests}
@@ -25,23 +25,25 @@ use Rattle.csi_types.specs.declared.call.Call.TheVariants.{CreateVolume}
 use Rattle.csi_types.specs.declared.call.Party.TheVariants.{Controller}
 use Rattle.csi_types.specs.declared.reply.Reply.{Reply}
 use Rattle.csi_types.specs.declared.status.Status.TheVariants.{InvalidArgument, ResourceExhausted, OutOfRange}
-use Rattle.csi_types.specs.Call.{is_party_of}
-use Rattle.csi_types.specs.Capacity.{is_bad_range, is_empty_range, wanted}
-use Rattle.csi_types.specs.Config.{Config}
-use Rattle.csi_fence.specs.Fence.{Kept}
-use Rattle.csi_types.specs.Frame.{Frame}
-use Rattle.csi_types.specs.Replies.{plain_reply, ok_reply_with, reply_frame}
-use Rattle.csi_types.specs.Reply.{has_id_by_rule}
-use Rattle.csi_types.specs.Same.{same_text, has_capability}
+use Rattle.csi_types.specs.Public.Call.{is_party_of}
+use Rattle.csi_types.specs.Model.Capacity.{is_bad_range, is_empty_range, capacity_wanted}
+use Rattle.csi_types.specs.Model.Config.{Config}
+use Rattle.csi_fence.specs.Model.Fence.{Kept}
+use Rattle.csi_types.specs.Model.Frame.{Frame}
+use Rattle.csi_types.specs.Model.Replies.{plain_reply, ok_reply_with, reply_frame}
+use Rattle.csi_types.specs.Public.Reply.{has_id_by_rule}
+use Rattle.csi_types.specs.Model.Same.{same_text, has_capability}
 use Rattle.csi_controller.specs.declared.row.NodeHolding.{NodeHolding}
 use Rattle.csi_controller.specs.declared.row.ControllerRow.{ControllerRow}
-use Rattle.csi_controller.specs.State.{Volume, ControllerState, volume_named}
-use Rattle.csi_controller.specs.Table.{Outcome, Stays, Makes, create, create_named, controller_row, refused}
-use Rattle.csi_controller.specs.Fenced.{fenced_call, kept_for, carried_out, kept_in}
-use Rattle.csi_controller.specs.Shown.{volume_of_row, holdings_in}
-use Rattle.csi_controller.specs.Core.{Shows, IsSound, IsSoundRow, IsRising, AreCompatible, held_by, next_shown}
-use Rattle.csi_controller.specs.Step.{Answers}
-use Rattle.csi_controller.specs.RowTable.{argument_fault}
+use Rattle.csi_controller.specs.Model.State.{Volume, ControllerState, volume_named}
+use Rattle.csi_controller.specs.Model.Table.{Outcome, Stays, Makes, create, create_named, controller_row, refused}
+use Rattle.csi_controller.specs.Private.Fenced.{fenced_call}
+use Rattle.csi_controller.specs.Model.Fenced.{kept_for, carried_out, kept_in}
+use Rattle.csi_controller.specs.Model.Shown.{volume_of_row, holdings_in}
+use Rattle.csi_controller.specs.Model.Core.{Shows}
+use Rattle.csi_controller.specs.Public.Core.{AreSoundRows, IsSoundRow, AreRisingRows, AreCompatible, volume_holding, next_shown}
+use Rattle.csi_controller.specs.Private.Step.{IsFencedAnswer}
+use Rattle.csi_controller.specs.Private.RowTable.{argument_fault}
 use Rattle.csi_controller.proofs.RowTable.{length-view}
 use Rattle.csi_controller.proofs.ShownAfter.{nowhere-answers}
 
@@ -104,7 +106,7 @@ new-told config n s rows state name required limit wished shown none good =
 pub fault-answers : (config : Config) (n s : ℕ) (rows : List ControllerRow) (state : ControllerState) (number : Number) (name : List ℕ) (required limit : ℕ) (wished : List Capability) (frame : Frame) (reply : Reply)
     → Shows (record { config = config; next_id = n; session = s; rows = rows }) state → find (λ (r : ControllerRow). same_text r.name name) rows ≡ None → argument_fault required limit wished ≡ Some reply
     → frame ≡ reply_frame number Controller kinds.CreateVolume reply
-    → Answers (record { config = config; next_id = n; session = s; rows = rows }) frame (fenced_call config state number (CreateVolume name required limit wished) (kept_for (CreateVolume name required limit wished) state))
+    → IsFencedAnswer (record { config = config; next_id = n; session = s; rows = rows }) frame (fenced_call config state number (CreateVolume name required limit wished) (kept_for (CreateVolume name required limit wished) state))
 fault-answers config n s rows state number name required limit wished frame reply shown none fault is =
     nowhere-answers config n s rows state number (CreateVolume name required limit wished) frame reply shown none (with_fault config state name required limit wished reply fault) is
 
@@ -113,7 +115,7 @@ pub refused-answers : (config : Config) (n s : ℕ) (rows : List ControllerRow) 
     → Shows (record { config = config; next_id = n; session = s; rows = rows }) state → find (λ (r : ControllerRow). same_text r.name name) rows ≡ None → argument_fault required limit wished ≡ None
     → new_line config.greatest (length rows) (next_shown n) name required limit wished ≡ record { reply = reply; change = Stays }
     → frame ≡ reply_frame number Controller kinds.CreateVolume reply
-    → Answers (record { config = config; next_id = n; session = s; rows = rows }) frame (fenced_call config state number (CreateVolume name required limit wished) (kept_for (CreateVolume name required limit wished) state))
+    → IsFencedAnswer (record { config = config; next_id = n; session = s; rows = rows }) frame (fenced_call config state number (CreateVolume name required limit wished) (kept_for (CreateVolume name required limit wished) state))
 refused-answers config n s rows state number name required limit wished frame reply shown none good line is =
     nowhere-answers config n s rows state number (CreateVolume name required limit wished) frame reply shown none (new-told config n s rows state name required limit wished shown none good ∙ line) is
 
@@ -122,7 +124,7 @@ held-append : (rows : List ControllerRow) (row : ControllerRow) (id : ℕ) → r
 held-append [] row id empty = by (row.id == id)
   where
     by : (b : Bool) → holdings_in (cond b (Some row) None) ≡ []
-    by true = ap (map (held_by row.id)) empty
+    by true = ap (map (volume_holding row.id)) empty
     by false = refl
 held-append (r ∷ rs) row id empty = by (r.id == id) (held-append rs row id empty)
   where
@@ -132,7 +134,7 @@ held-append (r ∷ rs) row id empty = by (r.id == id) (held-append rs row id emp
     by false h = h
 
 -- ids still rise with one more row, whose id is above all others
-IsRising-append : (rows : List ControllerRow) (row : ControllerRow) → IsRising rows → AllByRecursion (λ (r : ControllerRow). r.id < row.id) rows → IsRising (rows ++ row ∷ [])
+IsRising-append : (rows : List ControllerRow) (row : ControllerRow) → AreRisingRows rows → AllByRecursion (λ (r : ControllerRow). r.id < row.id) rows → AreRisingRows (rows ++ row ∷ [])
 IsRising-append [] row rising below = (tt, tt)
 IsRising-append (r ∷ rs) row rising below =
     (each-append_one (λ (later : ControllerRow). r.id < later.id) rs row (rising.0) (below.0), IsRising-append rs row (rising.1) (below.1))
@@ -148,7 +150,7 @@ pub made-answers : (config : Config) (n s : ℕ) (rows : List ControllerRow) (st
     → new_line config.greatest (length rows) (next_shown n) name required limit wished ≡ record { reply = ok_reply_with id; change = Makes name capacity wished }
     → id ≡ n → 0 < id → n < 18446744073709551616 → frame ≡ reply_frame number Controller kinds.CreateVolume (ok_reply_with id)
     → volume_of_row row ≡ made_volume number id name capacity wished → row.holdings.items ≡ []
-    → Answers (record { config = config; next_id = (n + 1) % 18446744073709551616; session = s; rows = rows ++ row ∷ [] }) frame (fenced_call config state number (CreateVolume name required limit wished) (kept_for (CreateVolume name required limit wished) state))
+    → IsFencedAnswer (record { config = config; next_id = (n + 1) % 18446744073709551616; session = s; rows = rows ++ row ∷ [] }) frame (fenced_call config state number (CreateVolume name required limit wished) (kept_for (CreateVolume name required limit wished) state))
 made-answers config n s rows state number name required limit capacity id wished row frame shown none good line is from fits is_frame volume empty =
     let call : Call = CreateVolume name required limit wished in
     let kept : Kept = record { number = number; kind = kinds.CreateVolume; reply = ok_reply_with id } in
@@ -162,8 +164,8 @@ made-answers config n s rows state number name required limit capacity id wished
     let old : map volume_of_row rows ≡ map (kept_in call kept) state.volumes = sym (ap (map (kept_in call kept)) (sym shown.shows.volumes) ∙ others) in
     let volumes : map volume_of_row (rows ++ row ∷ []) ≡ map (kept_in call kept) (state.volumes ++ new ∷ [])
     = map-append volume_of_row rows (row ∷ []) ∙ (λ i. old i ++ last i ∷ []) ∙ sym (map-append (kept_in call kept) state.volumes (new ∷ [])) in
-    subst (λ (k : Option Kept). Answers (record { config = config; next_id = (n + 1) % 18446744073709551616; session = s; rows = rows ++ row ∷ [] }) frame (fenced_call config state number call k)) (sym found)
-    (subst (λ (o : Outcome). Answers (record { config = config; next_id = (n + 1) % 18446744073709551616; session = s; rows = rows ++ row ∷ [] }) frame (carried_out state number call o)) (sym whole)
+    subst (λ (k : Option Kept). IsFencedAnswer (record { config = config; next_id = (n + 1) % 18446744073709551616; session = s; rows = rows ++ row ∷ [] }) frame (fenced_call config state number call k)) (sym found)
+    (subst (λ (o : Outcome). IsFencedAnswer (record { config = config; next_id = (n + 1) % 18446744073709551616; session = s; rows = rows ++ row ∷ [] }) frame (carried_out state number call o)) (sym whole)
     (record {
       reply = ap Some (sym is_frame);
       shown = record {
@@ -186,27 +188,27 @@ pub record IsMadeWell (count capacity : ℕ) (wished : List Capability) : Type 0
   pub room : count < 4096
 
 -- unless the range is bad, the wanted capacity is from 1 to 2^63 - 1
-wanted-range : (required limit : ℕ) → is_bad_range required limit ≡ false → (1 ≤ wanted required limit) × (wanted required limit < 9223372036854775808)
+wanted-range : (required limit : ℕ) → is_bad_range required limit ≡ false → (1 ≤ capacity_wanted required limit) × (capacity_wanted required limit < 9223372036854775808)
 wanted-range required limit good = (grind (arith, nat_tests), grind (arith, nat_tests))
 
 -- a volume that is made has the wanted capacity, and fewer than 4,096 were there
 made-capacity : (greatest count next : ℕ) (name : List ℕ) (required limit capacity id : ℕ) (wished : List Capability)
-    → new_line greatest count next name required limit wished ≡ record { reply = ok_reply_with id; change = Makes name capacity wished } → (wanted required limit ≡ capacity) × (count < 4096)
+    → new_line greatest count next name required limit wished ≡ record { reply = ok_reply_with id; change = Makes name capacity wished } → (capacity_wanted required limit ≡ capacity) × (count < 4096)
 made-capacity greatest count next name required limit capacity id wished line =
-    by (nat_lt greatest (wanted required limit)) (nat_le 4096 count || nat_le 18446744073709551616 next) refl line
+    by (nat_lt greatest (capacity_wanted required limit)) (nat_le 4096 count || nat_le 18446744073709551616 next) refl line
   where
     stays : Stays ≡ Makes name capacity wished → ⊥
     stays h = cc
 
-    same_capacity : Makes name (wanted required limit) wished ≡ Makes name capacity wished → wanted required limit ≡ capacity
+    same_capacity : Makes name (capacity_wanted required limit) wished ≡ Makes name capacity wished → capacity_wanted required limit ≡ capacity
     same_capacity h = cc
 
     room : (full : Bool) → (nat_le 4096 count || full) ≡ false → count < 4096
     room full h = grind (arith, nat_tests)
 
     by : (above full : Bool) → (nat_le 4096 count || nat_le 18446744073709551616 next) ≡ full
-        → cond above (refused OutOfRange (codes "range")) (cond full (refused ResourceExhausted (codes "volumes")) (record { reply = ok_reply_with next; change = Makes name (wanted required limit) wished }))
-        ≡ record { reply = ok_reply_with id; change = Makes name capacity wished } → (wanted required limit ≡ capacity) × (count < 4096)
+        → cond above (refused OutOfRange (codes "range")) (cond full (refused ResourceExhausted (codes "volumes")) (record { reply = ok_reply_with next; change = Makes name (capacity_wanted required limit) wished }))
+        ≡ record { reply = ok_reply_with id; change = Makes name capacity wished } → (capacity_wanted required limit ≡ capacity) × (count < 4096)
     by true full e h = absurd (stays (ap (λ (o : Outcome). o.change) h))
     by false true e h = absurd (stays (ap (λ (o : Outcome). o.change) h))
     by false false e h = (same_capacity (ap (λ (o : Outcome). o.change) h), room (nat_le 18446744073709551616 next) e)
@@ -226,9 +228,9 @@ made-well greatest count next name required limit capacity id (capability ∷ ot
     fits false none e h = e
 
 -- and the rules are kept
-pub made-sound : (n : ℕ) (rows : List ControllerRow) (number : Number) (name : List ℕ) (capacity id : ℕ) (wished : List Capability) (row : ControllerRow) → IsSound n rows → find (λ (r : ControllerRow). same_text r.name name) rows ≡ None
+pub made-sound : (n : ℕ) (rows : List ControllerRow) (number : Number) (name : List ℕ) (capacity id : ℕ) (wished : List Capability) (row : ControllerRow) → AreSoundRows n rows → find (λ (r : ControllerRow). same_text r.name name) rows ≡ None
     → id ≡ n → 0 < id → n < 18446744073709551616 → volume_of_row row ≡ made_volume number id name capacity wished → row.holdings.items ≡ [] → IsMadeWell (length rows) capacity wished
-    → IsSound ((n + 1) % 18446744073709551616) (rows ++ row ∷ [])
+    → AreSoundRows ((n + 1) % 18446744073709551616) (rows ++ row ∷ [])
 made-sound n rows number name capacity id wished row sound none is from fits volume empty well =
     let row_capacity : row.capacity ≡ capacity = ap (λ (v : Volume). v.capacity) volume in
     let lower = well.capacity_from in let upper = well.capacity_to in let room = well.room in
@@ -266,14 +268,14 @@ ok-both (results.Ok x) P S Q f p q = f x p q
 ok-both (results.Err e) P S Q f p q = tt
 
 -- the rows with the one that was made, and the next id after it, are the new core's parts
-pub parts-made : (old new : ControllerCore) (number : Number) (id : ℕ) (name : List ℕ) (capacity : ℕ) (wished : List Capability) (made : IsMade old new number id name capacity wished)
-    → record { config = old.config; next_id = (old.next_id + 1) % 18446744073709551616; session = old.session; rows = rows_of old.catalog ++ made.row ∷ [] } ≡ parts_of new
+pub parts-made : (old new : ControllerCore) (number : Number) (id : ℕ) (name : List ℕ) (capacity : ℕ) (wished : List Capability) (made : IsVolumeMade old new number id name capacity wished)
+    → record { config = old.config; next_id = (old.next_id + 1) % 18446744073709551616; session = old.session; rows = rows_of old.catalog ++ made.row ∷ [] } ≡ controller_parts_shown new
 parts-made old new number id name capacity wished made =
     let config = sym made.config in let next = sym made.next in let rows = sym made.rows in let session = sym made.session in
     λ i. record { config = config i; next_id = next i; session = session i; rows = rows i }
 
 -- no row has the next id
-pub fresh-id : (n : ℕ) (rows : List ControllerRow) (id : ℕ) → IsSound n rows → id ≡ n → 0 < id → find (λ (r : ControllerRow). r.id == id) rows ≡ None
+pub fresh-id : (n : ℕ) (rows : List ControllerRow) (id : ℕ) → AreSoundRows n rows → id ≡ n → 0 < id → find (λ (r : ControllerRow). r.id == id) rows ≡ None
 fresh-id n rows id sound is from = by rows sound.each
   where
     one : next_shown n ≡ n

@@ -9,15 +9,17 @@ use Rattle.csi_lists.proofs.Options.{option_or-none, option_or-some, some-from_m
 use Rattle.csi_lists.proofs.Searches.{find-append, find-map, find-passes}
 use Rattle.csi_types.specs.declared.number.Number.{Number}
 use Rattle.csi_types.specs.declared.call.Call.{Call}
-use Rattle.csi_types.specs.Config.{Config}
+use Rattle.csi_types.specs.Model.Config.{Config}
 use Rattle.csi_fence.proofs.FramesKeep.{Leads, frame_leads}
-use Rattle.csi_fence.specs.Fence.{Kept}
-use Rattle.csi_types.specs.Frame.{Frame}
-use Rattle.csi_types.specs.Same.{same_text}
-use Rattle.csi_controller.specs.State.{Volume, ControllerState, empty_controller, volume_named, volume_with_id}
-use Rattle.csi_controller.specs.Table.{Outcome, Change, Stays, Makes, Ends, Attaches, Detaches, changed, ended, controller_row}
-use Rattle.csi_controller.specs.Fenced.{fenced, carried_out, kept_in, begun, controller_with, after_frames}
-use Rattle.csi_controller.specs.View.{AreNamed, live_named, HasVolume, WasMade, KeepsNames}
+use Rattle.csi_fence.specs.Model.Fence.{Kept}
+use Rattle.csi_types.specs.Model.Frame.{Frame}
+use Rattle.csi_types.specs.Model.Same.{same_text}
+use Rattle.csi_controller.specs.Model.State.{Volume, ControllerState, empty_controller, volume_named}
+use Rattle.csi_controller.specs.Public.State.{volume_with_id}
+use Rattle.csi_controller.specs.Model.Table.{Outcome, Change, Stays, Makes, Ends, Attaches, Detaches, changed, ended_volume, controller_row}
+use Rattle.csi_controller.specs.Model.Fenced.{fenced, carried_out, kept_in, begun, controller_with}
+use Rattle.csi_controller.specs.Public.Fenced.{after_frames}
+use Rattle.csi_controller.specs.Public.View.{AreNamed, live_named, HasVolume, WasMade, KeepsNames}
 use Rattle.csi_controller.proofs.Forgotten.{find-kept, found_live, live_named-begun}
 use Rattle.csi_controller.proofs.TableOutcomes.{IsOutcome, was_refused, was_found, was_made, was_ended, was_ended_before, was_attached, was_attached_before, was_detached, was_detached_before, is_outcome}
 use Rattle.csi_controller.proofs.OrderlyStates.{IsOrderly, begun_orderly, reached_orderly, named_by_id, with_id_by_name, is_named, is_with_id, LeavesNames, kept_same, keep_leaves, end_leaves}
@@ -66,10 +68,10 @@ all_mapped old state f leaves lives all id w is =
     subst (Comes old) found.2 (mapped_comes old f leaves lives found.0 (all id found.0 found.1))
 
 -- what was there is there once a volume is deleted
-ended_there : (state : ControllerState) (other id : ℕ) (w : Volume) → volume_with_id id (record state { volumes = map (ended other) state.volumes }) ≡ Some w → Comes state w
+ended_there : (state : ControllerState) (other id : ℕ) (w : Volume) → volume_with_id id (record state { volumes = map (ended_volume other) state.volumes }) ≡ Some w → Comes state w
 ended_there state other id w is =
-    let mapped = sym (find-map (λ (v : Volume). v.id == id) (ended other) state.volumes (λ v. ap (λ n. n == id) ((end_leaves other).ids v))) ∙ is in
-    let found = some-from_map (ended other) (volume_with_id id state) w mapped in
+    let mapped = sym (find-map (λ (v : Volume). v.id == id) (ended_volume other) state.volumes (λ v. ap (λ n. n == id) ((end_leaves other).ids v))) ∙ is in
+    let found = some-from_map (ended_volume other) (volume_with_id id state) w mapped in
     let was = was_there state id found.0 found.1 in
     subst (Comes state) found.2
     (inl (record {
@@ -136,7 +138,7 @@ changed_stays state kept (Makes made capacity capabilities) volume has =
       is_found = find-append (λ (v : Volume). v.id == volume.id) state.volumes _ ∙ option_or-some (volume_with_id volume.id state) _ has.there has.is_found;
       same_name = has.same_name;
     }
-changed_stays state kept (Ends other) volume has = mapped_stays state (ended other) (end_leaves other) volume has
+changed_stays state kept (Ends other) volume has = mapped_stays state (ended_volume other) (end_leaves other) volume has
 changed_stays state kept (Attaches holding) volume has = record { there = has.there; is_found = has.is_found; same_name = has.same_name }
 changed_stays state kept (Detaches other node) volume has = record { there = has.there; is_found = has.is_found; same_name = has.same_name }
 

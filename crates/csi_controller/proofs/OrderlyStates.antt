@@ -6,20 +6,22 @@ use Rattle.std.proofs.lemmas.Bool.{and_parts, eqb-true, eq-eqb, ne_eqb}
 use Rattle.csi_lists.proofs.Members.{among-either, among-find, among-kept, among-map}
 use Rattle.csi_lists.proofs.Options.{option_or-some}
 use Rattle.csi_lists.proofs.Searches.{find-append, find-append_one, find-map, find-none, find-passes}
-use Rattle.csi_lists.specs.Members.{IsAmong}
+use Rattle.csi_lists.specs.Model.Members.{IsAmong}
 use Rattle.csi_types.proofs.Equality.{same_text-tells}
 use Rattle.csi_types.specs.declared.number.Number.{Number}
 use Rattle.csi_types.specs.declared.call.Call.{Call}
 use Rattle.csi_types.specs.declared.call.Call.TheVariants as calls
-use Rattle.csi_types.specs.Config.{Config}
+use Rattle.csi_types.specs.Model.Config.{Config}
 use Rattle.csi_fence.proofs.FramesKeep.{IsKept, frames_keep}
-use Rattle.csi_fence.specs.Fence.{Kept}
-use Rattle.csi_types.specs.Frame.{Frame}
-use Rattle.csi_types.specs.Same.{same_text}
-use Rattle.csi_controller.specs.State.{Volume, ControllerState, empty_controller, volume_named, volume_with_id, live_volume, is_row_for, row_for}
-use Rattle.csi_controller.specs.Table.{Outcome, ended, changed, controller_row}
-use Rattle.csi_controller.specs.Fenced.{kept_in, carried_out, begun, controller_with, after_frames}
-use Rattle.csi_controller.specs.Laws.{keeping}
+use Rattle.csi_fence.specs.Model.Fence.{Kept}
+use Rattle.csi_types.specs.Model.Frame.{Frame}
+use Rattle.csi_types.specs.Model.Same.{same_text}
+use Rattle.csi_controller.specs.Model.State.{Volume, ControllerState, empty_controller, volume_named, live_volume, is_row_for, row_for}
+use Rattle.csi_controller.specs.Public.State.{volume_with_id}
+use Rattle.csi_controller.specs.Model.Table.{Outcome, ended_volume, changed, controller_row}
+use Rattle.csi_controller.specs.Model.Fenced.{kept_in, carried_out, begun, controller_with}
+use Rattle.csi_controller.specs.Public.Fenced.{after_frames}
+use Rattle.csi_controller.specs.Public.Laws.{keeping}
 use Rattle.csi_controller.proofs.Forgotten.{find-kept}
 use Rattle.csi_controller.proofs.TableOutcomes.{IsOutcome, was_refused, was_found, was_made, was_ended, was_ended_before, was_attached, was_attached_before, was_detached, was_detached_before, is_outcome}
 
@@ -140,7 +142,7 @@ keep_leaves call kept =
     record { ids = λ v. ap (λ (v : Volume). v.id) (kept_same call kept kept v); names = λ v. ap (λ (v : Volume). v.name) (kept_same call kept kept v) }
 
 -- a deletion leaves ids and names
-pub end_leaves : (id : ℕ) → LeavesNames (ended id)
+pub end_leaves : (id : ℕ) → LeavesNames (ended_volume id)
 end_leaves id = record { ids = λ v. same_id v (v.id == id); names = λ v. same_name v (v.id == id) }
   where
     same_id : (v : Volume) (b : Bool) → (cond b (record v { is_live = false }) v).id ≡ v.id
@@ -156,7 +158,7 @@ pub changed_orderly : (config : Config) (state : ControllerState) (call : Call) 
 changed_orderly config state call outcome kept (was_refused _ status detail not_ok) orderly = orderly
 changed_orderly config state call outcome kept (was_found name required limit first others volume range is live serving) orderly = orderly
 changed_orderly config state call outcome kept (was_made name required limit first others range unnamed) orderly = made_orderly state _ refl unnamed orderly
-changed_orderly config state call outcome kept (was_ended id volume live free) orderly = map_orderly (ended id) (end_leaves id) state orderly
+changed_orderly config state call outcome kept (was_ended id volume live free) orderly = map_orderly (ended_volume id) (end_leaves id) state orderly
 changed_orderly config state call outcome kept (was_ended_before id none) orderly = orderly
 changed_orderly config state call outcome kept (was_attached holding volume can free fits) orderly =
     λ v among. let own = orderly v among in record { by_name = own.by_name; by_id = own.by_id; given = own.given }

@@ -14,15 +14,15 @@ use Rattle.csi_types.specs.declared.call.Call.TheVariants as calls
 use Rattle.csi_types.specs.declared.status.Status.{Status}
 use Rattle.csi_types.specs.declared.status.Status.TheVariants.{Ok, InvalidArgument, NotFound, AlreadyExists, OutOfRange}
 use Rattle.csi_types.specs.declared.reply.Reply.{Reply}
-use Rattle.csi_types.specs.Capacity.{is_bad_range, is_empty_range, wanted}
-use Rattle.csi_types.specs.Config.{Config, has_node}
-use Rattle.csi_fence.specs.Fence.{Kept}
-use Rattle.csi_types.specs.Holding.{same_holding}
-use Rattle.csi_types.specs.Replies.{ok_reply, ok_reply_with}
-use Rattle.csi_types.specs.Same.{same_text, same_capability, has_capability}
-use Rattle.csi_controller.specs.State.{Volume, ControllerState, volume_named, live_volume, is_held_at, holding_at, is_row_for}
-use Rattle.csi_controller.specs.Table.{Outcome, Stays, Makes, Ends, Attaches, Detaches, refused, met, done, serves, create_named, create, delete, publish_held, publish, unpublish, controller_row, ended, changed}
-use Rattle.csi_controller.specs.Laws.{IsDone, is_of_another}
+use Rattle.csi_types.specs.Model.Capacity.{is_bad_range, is_empty_range, capacity_wanted}
+use Rattle.csi_types.specs.Model.Config.{Config, has_node}
+use Rattle.csi_fence.specs.Model.Fence.{Kept}
+use Rattle.csi_types.specs.Model.Holding.{same_holding}
+use Rattle.csi_types.specs.Model.Replies.{ok_reply, ok_reply_with}
+use Rattle.csi_types.specs.Model.Same.{same_text, same_capability, has_capability}
+use Rattle.csi_controller.specs.Model.State.{Volume, ControllerState, volume_named, live_volume, is_held_at, holding_at, is_row_for}
+use Rattle.csi_controller.specs.Model.Table.{Outcome, Stays, Makes, Ends, Attaches, Detaches, refused, met, done, serves, create_named, create, delete, publish_held, publish, unpublish, controller_row, ended_volume, changed}
+use Rattle.csi_controller.specs.Public.Laws.{IsDone, is_of_another}
 use Rattle.csi_controller.proofs.TableOutcomes.{IsOutcome, CanAttach, publish_call, was_refused, was_found, was_made, was_ended, was_ended_before, was_attached, was_attached_before, was_detached, was_detached_before, is_outcome}
 use Rattle.csi_controller.proofs.OrderlyStates.{IsOrderly, named_by_id, made_orderly, end_leaves}
 
@@ -100,11 +100,11 @@ create_ready config state name required limit first others volume bad none named
     }
 
 -- the wanted capacity isn't below the required one
-not_below : (required limit : ℕ) → nat_le required (wanted required limit) ≡ true
+not_below : (required limit : ℕ) → nat_le required (capacity_wanted required limit) ≡ true
 not_below required limit = grind (arith, nat_tests)
 
 -- nor is it above the limit, unless the range is empty
-not_above : (required limit : ℕ) → is_empty_range required limit ≡ false → ((limit == 0) || nat_le (wanted required limit) limit) ≡ true
+not_above : (required limit : ℕ) → is_empty_range required limit ≡ false → ((limit == 0) || nat_le (capacity_wanted required limit) limit) ≡ true
 not_above required limit h = grind (arith, nat_tests)
 
 -- where all of a list pass a test, all pass one that asks no more
@@ -132,22 +132,22 @@ has_own (x ∷ xs) =
 -- what is so where CreateVolume of a new name makes a volume
 create_made : (config : Config) (state : ControllerState) (name : List ℕ) (required limit : ℕ) (first : Capability) (others : List Capability)
     → is_bad_range required limit ≡ false → is_empty_range required limit ≡ false → volume_named name state ≡ None → IsOrderly state
-    → Facts config state (calls.CreateVolume name required limit (first ∷ others)) (record { reply = ok_reply_with state.next_id; change = Makes name (wanted required limit) (first ∷ others) })
+    → Facts config state (calls.CreateVolume name required limit (first ∷ others)) (record { reply = ok_reply_with state.next_id; change = Makes name (capacity_wanted required limit) (first ∷ others) })
 create_made config state name required limit first others bad none unnamed orderly =
     let self : same_text name name ≡ true = (same_text-tells name name).1 refl in
-    let volume = λ (kept : Kept). let v : Volume = record { id = state.next_id; name = name; capacity = wanted required limit; capabilities = first ∷ others; is_live = true; kept = kept } in v in
+    let volume = λ (kept : Kept). let v : Volume = record { id = state.next_id; name = name; capacity = capacity_wanted required limit; capabilities = first ∷ others; is_live = true; kept = kept } in v in
     let serving : (kept : Kept) → serves (volume kept) required limit (first ∷ others) ≡ true = λ kept.
     and_from _ _ (and_from _ _ (not_below required limit) (not_above required limit none)) (has_own (first ∷ others)) in
     record {
       stays = λ h. absurd (h refl);
-      ready = λ h kept. create_ready config (changed state kept (Makes name (wanted required limit) (first ∷ others))) name required limit first others (volume kept) bad none
+      ready = λ h kept. create_ready config (changed state kept (Makes name (capacity_wanted required limit) (first ∷ others))) name required limit first others (volume kept) bad none
           (find-append_one (λ (v : Volume). same_text v.name name) state.volumes (volume kept) self unnamed) refl (serving kept)
           (made_orderly state (volume kept) refl unnamed orderly);
       others = λ kept. record { volumes = filter-append_one (λ (v : Volume). not (same_text v.name name)) state.volumes (volume kept) (rw self refl); holdings = refl };
     }
 
 -- DeleteVolume
-ended_not_live : (id : ℕ) (volume : Volume) → ((ended id volume).id == id) && (ended id volume).is_live ≡ false
+ended_not_live : (id : ℕ) (volume : Volume) → ((ended_volume id volume).id == id) && (ended_volume id volume).is_live ≡ false
 ended_not_live id volume = by (volume.id == id) refl
   where
     by : (b : Bool) → (volume.id == id) ≡ b → ((cond b (record volume { is_live = false }) volume).id == id) && (cond b (record volume { is_live = false }) volume).is_live ≡ false
@@ -155,7 +155,7 @@ ended_not_live id volume = by (volume.id == id) refl
     by false h = rw h refl
 
 -- a deletion leaves a volume of another id as it was
-ended-other : (id : ℕ) (volume : Volume) → not (volume.id == id) ≡ true → ended id volume ≡ volume
+ended-other : (id : ℕ) (volume : Volume) → not (volume.id == id) ≡ true → ended_volume id volume ≡ volume
 ended-other id volume h = let other : (volume.id == id) ≡ false = not-true (volume.id == id) h in rw other refl
 
 -- DeleteVolume is ready where no live volume has its id
@@ -167,8 +167,8 @@ ended_facts : (config : Config) (state : ControllerState) (id : ℕ) → Facts c
 ended_facts config state id =
     record {
       stays = λ h. absurd (h refl);
-      ready = λ h kept. delete_ready config (changed state kept (Ends id)) id (find-map_none (λ (v : Volume). (v.id == id) && v.is_live) (ended id) state.volumes (ended_not_live id));
-      others = λ kept. record { volumes = filter-map (λ (v : Volume). not (v.id == id)) (ended id) state.volumes (λ v. ap (λ n. not (n == id)) ((end_leaves id).ids v)) (ended-other id); holdings = refl };
+      ready = λ h kept. delete_ready config (changed state kept (Ends id)) id (find-map_none (λ (v : Volume). (v.id == id) && v.is_live) (ended_volume id) state.volumes (ended_not_live id));
+      others = λ kept. record { volumes = filter-map (λ (v : Volume). not (v.id == id)) (ended_volume id) state.volumes (λ v. ap (λ n. not (n == id)) ((end_leaves id).ids v)) (ended-other id); holdings = refl };
     }
 
 -- ControllerPublishVolume

@@ -2,20 +2,22 @@
 use Rattle.std.proofs.Common.{◌≡◌, ℕ, List, map, refl, sym, ◌∙◌, ap}
 use Rattle.std.specs.Prelude.{Option, Some, None, option_map, find, ◌==◌}
 use Rattle.csi_lists.proofs.Searches.{find-of_map}
-use Rattle.csi_types.specs.Same.{same_text}
+use Rattle.csi_types.specs.Model.Same.{same_text}
 use Rattle.csi_controller.specs.declared.row.ControllerRow.{ControllerRow}
-use Rattle.csi_controller.specs.State.{Volume, ControllerState, volume_named}
-use Rattle.csi_controller.specs.Shown.{volume_of_row, holdings_in_row}
-use Rattle.csi_controller.specs.Core.{Parts, Shows, held_by}
-use Rattle.csi_controller.specs.Views.{shown_if_live, row_if_live, IsCopyOf, IsRowOf}
+use Rattle.csi_controller.specs.Model.State.{Volume, ControllerState, volume_named}
+use Rattle.csi_controller.specs.Model.Shown.{volume_of_row, holdings_in_row}
+use Rattle.csi_controller.specs.Model.Core.{ControllerParts, Shows}
+use Rattle.csi_controller.specs.Public.Core.{volume_holding}
+use Rattle.csi_controller.specs.Public.Views.{shown_if_live, IsCopyOf, IsRowOf}
+use Rattle.csi_controller.specs.Private.Views.{row_if_live}
 
 -- the volume of a name is that of the name's row
-named-shown : (parts : Parts) (state : ControllerState) (name : List ℕ) → Shows parts state → volume_named name state ≡ option_map volume_of_row (find (λ (r : ControllerRow). same_text r.name name) parts.rows)
+named-shown : (parts : ControllerParts) (state : ControllerState) (name : List ℕ) → Shows parts state → volume_named name state ≡ option_map volume_of_row (find (λ (r : ControllerRow). same_text r.name name) parts.rows)
 named-shown parts state name shown =
     ap (find (λ (v : Volume). same_text v.name name)) (sym shown.shows.volumes) ∙ find-of_map (λ (v : Volume). same_text v.name name) volume_of_row parts.rows
 
 -- what a name's row shows while it is live is what its volume does
-pub volume-shown : (parts : Parts) (state : ControllerState) (name : List ℕ) → Shows parts state → row_if_live (find (λ (r : ControllerRow). same_text r.name name) parts.rows) ≡ shown_if_live (volume_named name state)
+pub volume-shown : (parts : ControllerParts) (state : ControllerState) (name : List ℕ) → Shows parts state → row_if_live (find (λ (r : ControllerRow). same_text r.name name) parts.rows) ≡ shown_if_live (volume_named name state)
 volume-shown parts state name shown = sym (ap shown_if_live (named-shown parts state name shown) ∙ by (find (λ (r : ControllerRow). same_text r.name name) parts.rows))
   where
     by : (o : Option ControllerRow) → shown_if_live (option_map volume_of_row o) ≡ row_if_live o
@@ -23,7 +25,7 @@ volume-shown parts state name shown = sym (ap shown_if_live (named-shown parts s
     by (Some row) = refl
 
 -- the id of a name's row is that of its volume
-pub id-shown : (parts : Parts) (state : ControllerState) (name : List ℕ) → Shows parts state
+pub id-shown : (parts : ControllerParts) (state : ControllerState) (name : List ℕ) → Shows parts state
     → option_map (λ (r : ControllerRow). r.id) (find (λ (r : ControllerRow). same_text r.name name) parts.rows) ≡ option_map (λ (v : Volume). v.id) (volume_named name state)
 id-shown parts state name shown = sym (ap (option_map (λ (v : Volume). v.id)) (named-shown parts state name shown) ∙ by (find (λ (r : ControllerRow). same_text r.name name) parts.rows))
   where
@@ -43,10 +45,10 @@ copy-shown state id (Some r) (Some c) same is =
     }
   where
     held : holdings_in_row c ≡ holdings_in_row r
-    held = ap (λ n. map (held_by n) c.holdings.items) (ap (λ (v : Volume). v.id) same.volume) ∙ ap (map (held_by r.id)) same.items
+    held = ap (λ n. map (volume_holding n) c.holdings.items) (ap (λ (v : Volume). v.id) same.volume) ∙ ap (map (volume_holding r.id)) same.items
 
 -- a copy of the row of an id is the row of that id in the state, and there is none where no volume has the id
-pub row-shown : (parts : Parts) (state : ControllerState) (id : ℕ) (copy : Option ControllerRow) → Shows parts state → IsCopyOf (find (λ (r : ControllerRow). r.id == id) parts.rows) copy → IsRowOf state id copy
+pub row-shown : (parts : ControllerParts) (state : ControllerState) (id : ℕ) (copy : Option ControllerRow) → Shows parts state → IsCopyOf (find (λ (r : ControllerRow). r.id == id) parts.rows) copy → IsRowOf state id copy
 row-shown parts state id copy shown same =
     copy-shown state id (find (λ (r : ControllerRow). r.id == id) parts.rows) copy same
     (record {

@@ -5,20 +5,21 @@ use Rattle.std.specs.Prelude.{nat_lt, ◌==◌}
 use Rattle.std.proofs.lemmas.Bool.{eq-eqb, ltb-true, true≢false}
 use Rattle.csi_lists.proofs.Counts.{count-either}
 use Rattle.csi_lists.proofs.Members.{among-either, among-kept, among-map}
-use Rattle.csi_lists.specs.Members.{IsAmong}
+use Rattle.csi_lists.specs.Model.Members.{IsAmong}
 use Rattle.csi_types.specs.declared.number.Number.{Number}
 use Rattle.csi_types.specs.declared.call.Call.{Call}
 use Rattle.csi_types.specs.declared.call.Call.TheVariants as calls
-use Rattle.csi_types.specs.Call.{kind_of}
-use Rattle.csi_types.specs.Capacity.{wanted}
-use Rattle.csi_types.specs.Config.{Config}
-use Rattle.csi_types.specs.Frame.{Frame}
+use Rattle.csi_types.specs.Model.Call.{kind_of}
+use Rattle.csi_types.specs.Model.Capacity.{capacity_wanted}
+use Rattle.csi_types.specs.Model.Config.{Config}
+use Rattle.csi_types.specs.Model.Frame.{Frame}
 use Rattle.csi_fence.proofs.FramesKeep.{IsKept, frames_keep}
-use Rattle.csi_fence.specs.Fence.{Kept}
-use Rattle.csi_controller.specs.State.{Volume, ControllerState, empty_controller, is_row_for}
-use Rattle.csi_controller.specs.Table.{Outcome, Change, Stays, Makes, Ends, Attaches, Detaches, changed, ended, controller_row}
-use Rattle.csi_controller.specs.Fenced.{kept_in, carried_out, begun, controller_with, after_frames}
-use Rattle.csi_controller.specs.Safe.{Remembers}
+use Rattle.csi_fence.specs.Model.Fence.{Kept}
+use Rattle.csi_controller.specs.Model.State.{Volume, ControllerState, empty_controller, is_row_for}
+use Rattle.csi_controller.specs.Model.Table.{Outcome, Change, Stays, Makes, Ends, Attaches, Detaches, changed, ended_volume, controller_row}
+use Rattle.csi_controller.specs.Model.Fenced.{kept_in, carried_out, begun, controller_with}
+use Rattle.csi_controller.specs.Public.Fenced.{after_frames}
+use Rattle.csi_controller.specs.Public.Safe.{Remembers}
 use Rattle.csi_controller.proofs.TableOutcomes.{IsOutcome, was_refused, was_found, was_made, was_ended, was_ended_before, was_attached, was_attached_before, was_detached, was_detached_before, is_outcome}
 
 -- the volume is live, or its last call is of this session; and that is of no later one
@@ -43,7 +44,7 @@ changed_session state kept (Attaches holding) = refl
 changed_session state kept (Detaches id node) = refl
 
 -- the volume that DeleteVolume ends is the call's row, and the others are as they were
-ended_due : (id session : ℕ) (volume : Volume) → IsRecent session volume → IsDue (calls.DeleteVolume id) session (ended id volume)
+ended_due : (id session : ℕ) (volume : Volume) → IsRecent session volume → IsDue (calls.DeleteVolume id) session (ended_volume id volume)
 ended_due id session volume recent = by (volume.id == id) refl
   where
     by : (b : Bool) → (volume.id == id) ≡ b → IsDue (calls.DeleteVolume id) session (cond b (record volume { is_live = false }) volume)
@@ -63,10 +64,10 @@ changed_due : (config : Config) (state : ControllerState) (call : Call) (outcome
 changed_due config state call outcome kept (was_refused _ status detail not_ok) same recent v among = inl (recent v among)
 changed_due config state call outcome kept (was_found name required limit first others volume range named live serving) same recent v among = inl (recent v among)
 changed_due config state call outcome kept (was_made name required limit first others range unnamed) same recent v among =
-    let made : Volume = record { id = state.next_id; name = name; capacity = wanted required limit; capabilities = first ∷ others; is_live = true; kept = kept } in
+    let made : Volume = record { id = state.next_id; name = name; capacity = capacity_wanted required limit; capabilities = first ∷ others; is_live = true; kept = kept } in
     made_due call state made v refl same recent (among-either state.volumes made v among)
 changed_due config state call outcome kept (was_ended id volume live free) same recent v among =
-    let image = among-map (ended id) state.volumes v among in
+    let image = among-map (ended_volume id) state.volumes v among in
     subst (IsDue call state.session) (sym image.2) (ended_due id state.session image.0 (recent image.0 image.1))
 changed_due config state call outcome kept (was_ended_before id none) same recent v among = inl (recent v among)
 changed_due config state call outcome kept (was_attached holding volume can free fits) same recent v among = inl (recent v among)

@@ -8,24 +8,24 @@ use Rattle.csi_types.specs.declared.capability.Capability.{Capability}
 use Rattle.csi_types.specs.declared.call.Call.{Call}
 use Rattle.csi_types.specs.declared.call.Call.TheVariants as calls
 use Rattle.csi_types.specs.declared.config.NodeSlots.{NodeSlots}
-use Rattle.csi_types.specs.Call.{kind_of}
-use Rattle.csi_types.specs.Config.{has_node}
+use Rattle.csi_types.specs.Model.Call.{kind_of}
+use Rattle.csi_types.specs.Model.Config.{has_node}
 use Rattle.csi_types.specs.declared.call.Kind.{Kind}
 use Rattle.csi_types.specs.declared.call.Kind.TheVariants.{CreateVolume, DeleteVolume, ControllerPublishVolume, ControllerUnpublishVolume}
 use Rattle.csi_types.specs.declared.status.Status.TheVariants.{InvalidArgument, OutOfRange}
-use Rattle.csi_types.specs.Capacity.{is_bad_range, is_empty_range}
-use Rattle.csi_types.specs.Holding.{is_compatible, same_holding}
-use Rattle.csi_types.specs.Replies.{plain_reply}
-use Rattle.csi_types.specs.Reply.{has_id_by_rule}
-use Rattle.csi_types.specs.Same.{same_text, has_capability}
+use Rattle.csi_types.specs.Model.Capacity.{is_bad_range, is_empty_range}
+use Rattle.csi_types.specs.Model.Holding.{is_compatible, same_holding}
+use Rattle.csi_types.specs.Model.Replies.{plain_reply}
+use Rattle.csi_types.specs.Public.Reply.{has_id_by_rule}
+use Rattle.csi_types.specs.Model.Same.{same_text, has_capability}
 use Rattle.csi_controller.specs.declared.row.NodeHolding.{NodeHolding}
 use Rattle.csi_controller.specs.declared.row.ControllerRow.{ControllerRow}
-use Rattle.csi_controller.specs.Table.{serves}
-use Rattle.csi_controller.specs.Shown.{volume_of_row}
-use Rattle.csi_controller.specs.OneRow.{IsFit, RowChange, RowStays, RowEnds, RowAttaches, RowDetaches, RowOutcome}
-use Rattle.csi_controller.specs.RowTable.{create_line, again_line, by_fault, delete_line, delete_held, publish_line, held_line, attach_line, unpublish_line, row_line}
-use Rattle.csi_controller.specs.Core.{held_by}
-use Rattle.csi_controller.specs.Counts.{is_node_full}
+use Rattle.csi_controller.specs.Model.Table.{serves}
+use Rattle.csi_controller.specs.Model.Shown.{volume_of_row}
+use Rattle.csi_controller.specs.Private.OneRow.{IsFit, RowChange, RowStays, RowEnds, RowAttaches, RowDetaches, RowOutcome}
+use Rattle.csi_controller.specs.Private.RowTable.{create_line, again_line, by_fault, delete_line, delete_held, publish_line, held_line, attach_line, unpublish_line, row_line}
+use Rattle.csi_controller.specs.Public.Core.{volume_holding}
+use Rattle.csi_controller.specs.Private.Counts.{is_node_full}
 use Rattle.csi_controller.proofs.Counts.{IsCountChange}
 
 -- what is so of both ways of an `if`, each under its condition, is so of the `if`
@@ -104,7 +104,7 @@ unpublish-good row node =
 
 -- of the line that answers ControllerPublishVolume of a live volume that the node doesn't hold
 attach-good : (row : ControllerRow) (wanted : NodeHolding) (full : Bool) (o : Option NodeHolding) → row.live ≡ true → find (λ (other : NodeHolding). same_text other.node wanted.node) row.holdings.items ≡ None
-    → find (λ (other : NodeHolding). not (is_compatible (held_by row.id wanted) (held_by row.id other))) row.holdings.items ≡ o
+    → find (λ (other : NodeHolding). not (is_compatible (volume_holding row.id wanted) (volume_holding row.id other))) row.holdings.items ≡ o
     → has_capability row.capabilities wanted.capability ≡ true → (full ≡ false → length row.holdings.items < 64) → IsGood ControllerPublishVolume row (attach_line wanted full o)
 attach-good row wanted full (Some other) live none e listed room = refused-good ControllerPublishVolume row _ refl refl
 attach-good row wanted full None live none e listed room =
@@ -114,7 +114,7 @@ attach-good row wanted full None live none e listed room =
 held-good : (row : ControllerRow) (wanted : NodeHolding) (full : Bool) (o : Option NodeHolding) → row.live ≡ true → find (λ (other : NodeHolding). same_text other.node wanted.node) row.holdings.items ≡ o
     → has_capability row.capabilities wanted.capability ≡ true → (full ≡ false → length row.holdings.items < 64) → IsGood ControllerPublishVolume row (held_line row wanted full o)
 held-good row wanted full (Some held) live e listed room =
-    either (IsGood ControllerPublishVolume row) (same_holding (held_by row.id held) (held_by row.id wanted)) _ _ (λ _. refused-good ControllerPublishVolume row _ refl refl) (λ _. refused-good ControllerPublishVolume row _ refl refl)
+    either (IsGood ControllerPublishVolume row) (same_holding (volume_holding row.id held) (volume_holding row.id wanted)) _ _ (λ _. refused-good ControllerPublishVolume row _ refl refl) (λ _. refused-good ControllerPublishVolume row _ refl refl)
 held-good row wanted full None live e listed room = attach-good row wanted full _ live e refl listed room
 
 -- with room for a holding more

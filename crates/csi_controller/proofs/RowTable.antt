@@ -6,27 +6,28 @@ use Rattle.std.proofs.lemmas.Bool.{eqb-true}
 use Rattle.csi_lists.proofs.Places.{FirstAt-find, FirstAt-passes, find-and_first}
 use Rattle.csi_lists.proofs.Searches.{find-and_filter, find-and_none, find-of_map}
 use Rattle.csi_lists.proofs.Tests.{any-find}
-use Rattle.csi_lists.specs.Places.{AtMostOne, FirstAt}
+use Rattle.csi_lists.specs.Public.Places.{AtMostOne, FirstAt}
 use Rattle.csi_types.specs.declared.capability.Capability.{Capability}
 use Rattle.csi_types.specs.declared.call.Call.{Call}
 use Rattle.csi_types.specs.declared.call.Call.TheVariants as calls
 use Rattle.csi_types.specs.declared.config.NodeSlots.{NodeSlots}
 use Rattle.csi_types.specs.declared.holding.Holding.{Holding}
 use Rattle.csi_types.specs.declared.status.Status.TheVariants.{AlreadyExists, InvalidArgument, OutOfRange}
-use Rattle.csi_types.specs.Replies.{plain_reply}
-use Rattle.csi_types.specs.Capacity.{is_bad_range, is_empty_range}
-use Rattle.csi_types.specs.Config.{Config, has_node}
-use Rattle.csi_types.specs.Holding.{is_compatible, same_holding}
-use Rattle.csi_types.specs.Same.{same_text, has_capability}
+use Rattle.csi_types.specs.Model.Replies.{plain_reply}
+use Rattle.csi_types.specs.Model.Capacity.{is_bad_range, is_empty_range}
+use Rattle.csi_types.specs.Model.Config.{Config, has_node}
+use Rattle.csi_types.specs.Model.Holding.{is_compatible, same_holding}
+use Rattle.csi_types.specs.Model.Same.{same_text, has_capability}
 use Rattle.csi_controller.specs.declared.row.NodeHolding.{NodeHolding}
 use Rattle.csi_controller.specs.declared.row.ControllerRow.{ControllerRow}
-use Rattle.csi_controller.specs.State.{Volume, ControllerState, is_row_for, volume_named, live_volume, holdings_of, holding_at}
-use Rattle.csi_controller.specs.Table.{controller_row, create, create_named, delete, delete_live, publish, publish_held, attach, is_full, unpublish, met, serves, refused}
-use Rattle.csi_controller.specs.Shown.{RowsShow, volume_of_row, holdings_in}
-use Rattle.csi_controller.specs.Core.{IsSound, IsSoundRow, held_by}
-use Rattle.csi_controller.specs.OneRow.{outcome_of, row_done, row_refused, RowStays, RowDetaches}
-use Rattle.csi_controller.specs.RowTable.{create_line, again_line, by_fault, delete_line, publish_line, held_line, attach_line, unpublish_line, row_line}
-use Rattle.csi_controller.specs.Counts.{AreCounted, is_node_full}
+use Rattle.csi_controller.specs.Model.State.{Volume, ControllerState, is_row_for, volume_named, live_volume, holdings_of, holding_at}
+use Rattle.csi_controller.specs.Model.Table.{controller_row, create, create_named, delete, delete_live, publish, publish_held, attach, is_full, unpublish, met, serves, refused}
+use Rattle.csi_controller.specs.Model.Shown.{RowsShow, volume_of_row, holdings_in}
+use Rattle.csi_controller.specs.Public.Core.{AreSoundRows, IsSoundRow, volume_holding}
+use Rattle.csi_controller.specs.Private.OneRow.{outcome_of, row_done, row_refused, RowStays, RowDetaches}
+use Rattle.csi_controller.specs.Private.RowTable.{create_line, again_line, by_fault, delete_line, publish_line, held_line, attach_line, unpublish_line, row_line}
+use Rattle.csi_controller.specs.Public.Counts.{AreCounted}
+use Rattle.csi_controller.specs.Private.Counts.{is_node_full}
 use Rattle.csi_controller.proofs.Holdings.{count-rows}
 use Rattle.csi_controller.proofs.Counts.{full-told}
 use Rattle.csi_controller.proofs.Sound.{rising-one}
@@ -34,7 +35,7 @@ use Rattle.csi_controller.proofs.Sound.{rising-one}
 -- what the searches of the state give at a volume that has this row
 pub record SeesRow (state : ControllerState) (row : ControllerRow) : Type 0 where
   pub live : live_volume row.id state ≡ cond row.live (Some (volume_of_row row)) None
-  pub held : holdings_of row.id state ≡ map (held_by row.id) row.holdings.items
+  pub held : holdings_of row.id state ≡ map (volume_holding row.id) row.holdings.items
 
 -- rows that are seen as something else are as many
 pub length-view : {R X : Type 0} (view : R → X) (rs : List R) → length (map view rs) ≡ length rs
@@ -66,7 +67,7 @@ create-told config state name required limit (capability ∷ others) row named =
     by false false h = h
 
 -- DeleteVolume
-delete_live-told : (row : ControllerRow) (items : List NodeHolding) → row.live ≡ true → row.holdings.items ≡ items → delete_live row.id (map (held_by row.id) items) ≡ outcome_of row.id (delete_line row)
+delete_live-told : (row : ControllerRow) (items : List NodeHolding) → row.live ≡ true → row.holdings.items ≡ items → delete_live row.id (map (volume_holding row.id) items) ≡ outcome_of row.id (delete_line row)
 delete_live-told row [] e f = rw (e, f) refl
 delete_live-told row (held ∷ others) e f = rw (e, f) refl
 
@@ -81,11 +82,11 @@ delete-told state row sees =
     by false e = rw e refl
 
 -- how a volume is held at a node is told by its row
-held-told : (state : ControllerState) (row : ControllerRow) (node : List ℕ) → SeesRow state row → holding_at row.id node state ≡ option_map (held_by row.id) (find (λ (held : NodeHolding). same_text held.node node) row.holdings.items)
+held-told : (state : ControllerState) (row : ControllerRow) (node : List ℕ) → SeesRow state row → holding_at row.id node state ≡ option_map (volume_holding row.id) (find (λ (held : NodeHolding). same_text held.node node) row.holdings.items)
 held-told state row node sees =
     find-and_filter (λ (h : Holding). h.volume == row.id) (λ (h : Holding). same_text h.node node) state.holdings
     ∙ ap (find (λ (h : Holding). same_text h.node node)) sees.held
-    ∙ find-of_map (λ (h : Holding). same_text h.node node) (held_by row.id) row.holdings.items
+    ∙ find-of_map (λ (h : Holding). same_text h.node node) (volume_holding row.id) row.holdings.items
 
 -- the table answers ControllerUnpublishVolume as the volume's row does
 unpublish-told : (state : ControllerState) (row : ControllerRow) (node : List ℕ) → SeesRow state row → unpublish row.id node (holding_at row.id node state) ≡ outcome_of row.id (unpublish_line row node)
@@ -94,25 +95,25 @@ unpublish-told state row node sees =
     ∙ by (find (λ (held : NodeHolding). same_text held.node node) row.holdings.items) (list_any (λ (held : NodeHolding). same_text held.node node) row.holdings.items)
     (any-find (λ (held : NodeHolding). same_text held.node node) row.holdings.items)
   where
-    by : (o : Option NodeHolding) (b : Bool) → b ≡ is_some o → unpublish row.id node (option_map (held_by row.id) o) ≡ outcome_of row.id (cond b (row_done (RowDetaches node)) (row_done RowStays))
+    by : (o : Option NodeHolding) (b : Bool) → b ≡ is_some o → unpublish row.id node (option_map (volume_holding row.id) o) ≡ outcome_of row.id (cond b (row_done (RowDetaches node)) (row_done RowStays))
     by None b e = rw e refl
     by (Some held) b e = rw e refl
 
 -- ControllerPublishVolume
 attach-told : (config : Config) (state : ControllerState) (row : ControllerRow) (wanted : NodeHolding) (full : Bool) (o : Option NodeHolding) → is_full config state row.id wanted.node ≡ full
-    → attach config state (held_by row.id wanted) (option_map (held_by row.id) o) ≡ outcome_of row.id (attach_line wanted full o)
+    → attach config state (volume_holding row.id wanted) (option_map (volume_holding row.id) o) ≡ outcome_of row.id (attach_line wanted full o)
 attach-told config state row wanted full (Some other) e = refl
 attach-told config state row wanted true None e = rw e refl
 attach-told config state row wanted false None e = rw e refl
 
 -- by how the volume is held at the node, the table answers as the row does
 held_so-told : (config : Config) (state : ControllerState) (row : ControllerRow) (wanted : NodeHolding) (full : Bool) (o : Option NodeHolding) → SeesRow state row → is_full config state row.id wanted.node ≡ full
-    → publish_held config state (held_by row.id wanted) (option_map (held_by row.id) o) ≡ outcome_of row.id (held_line row wanted full o)
+    → publish_held config state (volume_holding row.id wanted) (option_map (volume_holding row.id) o) ≡ outcome_of row.id (held_line row wanted full o)
 held_so-told config state row wanted full None sees e =
-    ap (λ all. attach config state (held_by row.id wanted) (find (λ other. not (is_compatible (held_by row.id wanted) other)) all)) sees.held
-    ∙ ap (attach config state (held_by row.id wanted)) (find-of_map (λ other. not (is_compatible (held_by row.id wanted) other)) (held_by row.id) row.holdings.items)
+    ap (λ all. attach config state (volume_holding row.id wanted) (find (λ other. not (is_compatible (volume_holding row.id wanted) other)) all)) sees.held
+    ∙ ap (attach config state (volume_holding row.id wanted)) (find-of_map (λ other. not (is_compatible (volume_holding row.id wanted) other)) (volume_holding row.id) row.holdings.items)
     ∙ attach-told config state row wanted full _ e
-held_so-told config state row wanted full (Some held) sees e = by (same_holding (held_by row.id held) (held_by row.id wanted))
+held_so-told config state row wanted full (Some held) sees e = by (same_holding (volume_holding row.id held) (volume_holding row.id wanted))
   where
     by : (b : Bool) → cond b met (refused AlreadyExists (codes "held otherwise")) ≡ outcome_of row.id (cond b (row_done RowStays) (row_refused AlreadyExists (codes "held otherwise")))
     by true = refl
@@ -120,17 +121,17 @@ held_so-told config state row wanted full (Some held) sees e = by (same_holding 
 
 -- the table answers ControllerPublishVolume as the volume's row does, by whether the node is configured, and whether it is full
 publish-told : (config : Config) (state : ControllerState) (row : ControllerRow) (wanted : NodeHolding) (configured full : Bool) → SeesRow state row → has_node wanted.node config.nodes ≡ configured → is_full config state row.id wanted.node ≡ full
-    → publish config state (held_by row.id wanted) (live_volume row.id state) ≡ outcome_of row.id (publish_line row wanted configured full)
+    → publish config state (volume_holding row.id wanted) (live_volume row.id state) ≡ outcome_of row.id (publish_line row wanted configured full)
 publish-told config state row wanted configured full sees has e =
-    ap (publish config state (held_by row.id wanted)) sees.live ∙ by row.live configured (has_capability row.capabilities wanted.capability) refl has refl
+    ap (publish config state (volume_holding row.id wanted)) sees.live ∙ by row.live configured (has_capability row.capabilities wanted.capability) refl has refl
   where
     by : (live there able : Bool) → row.live ≡ live → has_node wanted.node config.nodes ≡ there → has_capability row.capabilities wanted.capability ≡ able
-        → publish config state (held_by row.id wanted) (cond live (Some (volume_of_row row)) None) ≡ outcome_of row.id (publish_line row wanted there full)
+        → publish config state (volume_holding row.id wanted) (cond live (Some (volume_of_row row)) None) ≡ outcome_of row.id (publish_line row wanted there full)
     by false there able a b c = rw a refl
     by true false able a b c = rw (a, b) refl
     by true true false a b c = rw (a, b, c) refl
     by true true true a b c =
-        let whole = ap (publish_held config state (held_by row.id wanted)) (held-told state row wanted.node sees)
+        let whole = ap (publish_held config state (volume_holding row.id wanted)) (held-told state row wanted.node sees)
         ∙ held_so-told config state row wanted full (find (λ (held : NodeHolding). same_text held.node wanted.node) row.holdings.items) sees e in
         rw (a, b, c) whole
 
@@ -142,7 +143,7 @@ is_full-told : (config : Config) (n : ℕ) (rows : List ControllerRow) (state : 
     || nat_le 64 (length row.holdings.items))
 is_full-told config n rows state row node sound one shows sees =
     let count = count-rows n node rows state.holdings sound one shows.holdings in
-    let some : length (holdings_of row.id state) ≡ length row.holdings.items = ap length sees.held ∙ length-view (held_by row.id) row.holdings.items in
+    let some : length (holdings_of row.id state) ≡ length row.holdings.items = ap length sees.held ∙ length-view (volume_holding row.id) row.holdings.items in
     ap (λ k. list_any (λ (entry : NodeSlots). same_text entry.id node && nat_le entry.slots k) config.nodes || nat_le 64 (length (holdings_of row.id state))) count
     ∙ ap (λ k. list_any (λ (entry : NodeSlots). same_text entry.id node && nat_le entry.slots (count_by (λ (r : ControllerRow). list_any (λ (held : NodeHolding). same_text held.node node) r.holdings.items) rows)) config.nodes || nat_le 64 k) some
 
@@ -157,14 +158,14 @@ sees-row n rows state place row shows first one =
     }
 
 -- the row that a call finds by this id
-sees-id : (n : ℕ) (rows : List ControllerRow) (state : ControllerState) (place : ℕ) (row : ControllerRow) (id : ℕ) → IsSound n rows → RowsShow n rows state → FirstAt (λ (r : ControllerRow). r.id == id) rows place row
+sees-id : (n : ℕ) (rows : List ControllerRow) (state : ControllerState) (place : ℕ) (row : ControllerRow) (id : ℕ) → AreSoundRows n rows → RowsShow n rows state → FirstAt (λ (r : ControllerRow). r.id == id) rows place row
     → (row.id ≡ id) × SeesRow state row
 sees-id n rows state place row id sound shows first =
     let same : row.id ≡ id = eqb-true row.id id (FirstAt-passes (λ (r : ControllerRow). r.id == id) rows place row first) in
     (same, sees-row n rows state place row shows (subst (λ k. FirstAt (λ (r : ControllerRow). r.id == k) rows place row) (sym same) first) (rising-one rows sound.rising row.id))
 
 -- the table's answer to a call is that of its row, by the counts of the nodes
-pub line-told : (config : Config) (n : ℕ) (rows : List ControllerRow) (state : ControllerState) (counts : List ℕ) (place : ℕ) (row : ControllerRow) (call : Call) → IsSound n rows → RowsShow n rows state
+pub line-told : (config : Config) (n : ℕ) (rows : List ControllerRow) (state : ControllerState) (counts : List ℕ) (place : ℕ) (row : ControllerRow) (call : Call) → AreSoundRows n rows → RowsShow n rows state
     → AreCounted config.nodes rows counts → FirstAt (λ (r : ControllerRow). is_row_for call (volume_of_row r)) rows place row → controller_row config state call ≡ outcome_of row.id (row_line config.nodes counts row call)
 line-told config n rows state counts place row (calls.CreateVolume name required limit capabilities) sound shows counted first =
     create-told config state name required limit capabilities row
@@ -176,7 +177,7 @@ line-told config n rows state counts place row (calls.DeleteVolume id) sound sho
 line-told config n rows state counts place row (calls.ControllerPublishVolume id node capability readonly) sound shows counted first =
     let sees = sees-id n rows state place row id sound shows first in
     let wanted : NodeHolding = record { node = node; capability = capability; readonly = readonly } in
-    subst (λ k. publish config state (held_by k wanted) (live_volume k state) ≡ outcome_of row.id (row_line config.nodes counts row (calls.ControllerPublishVolume id node capability readonly))) sees.0
+    subst (λ k. publish config state (volume_holding k wanted) (live_volume k state) ≡ outcome_of row.id (row_line config.nodes counts row (calls.ControllerPublishVolume id node capability readonly))) sees.0
     (publish-told config state row wanted (has_node node config.nodes) (is_node_full config.nodes counts node || nat_le 64 (length row.holdings.items)) sees.1 refl
     (is_full-told config n rows state row node sound.each (rising-one rows sound.rising) shows sees.1
     ∙ ap (λ b. b || nat_le 64 (length row.holdings.items)) (full-told config.nodes rows counts node counted)))

@@ -6,30 +6,32 @@ use Rattle.csi_lists.proofs.Members.{among-either, among-filter, in_filter, none
 use Rattle.csi_lists.proofs.Options.{is_some-map, option_or-is_some}
 use Rattle.csi_lists.proofs.Pairs.{two-append, two-filter}
 use Rattle.csi_lists.proofs.Searches.{find-append, find-map}
-use Rattle.csi_lists.specs.Members.{IsAmong}
+use Rattle.csi_lists.specs.Model.Members.{IsAmong}
 use Rattle.csi_types.specs.declared.capability.Capability.{Capability}
 use Rattle.csi_types.specs.declared.holding.Holding.{Holding}
 use Rattle.csi_types.specs.declared.number.Number.{Number}
 use Rattle.csi_types.specs.declared.call.Call.{Call}
-use Rattle.csi_types.specs.Capacity.{wanted}
-use Rattle.csi_types.specs.Config.{Config}
+use Rattle.csi_types.specs.Model.Capacity.{capacity_wanted}
+use Rattle.csi_types.specs.Model.Config.{Config}
 use Rattle.csi_fence.proofs.FramesKeep as each
 use Rattle.csi_fence.proofs.FramesKeep.{IsKept}
-use Rattle.csi_fence.specs.Fence.{Kept}
-use Rattle.csi_types.specs.Frame.{Frame}
-use Rattle.csi_types.specs.Holding.{is_compatible}
-use Rattle.csi_types.specs.Same.{same_text}
-use Rattle.csi_controller.specs.State.{Volume, ControllerState, empty_controller, live_volume, holdings_of, is_held_at, holding_at, is_row_for}
-use Rattle.csi_controller.specs.Table.{Outcome, Change, Stays, Makes, Ends, Attaches, Detaches, controller_row, ended, changed}
-use Rattle.csi_controller.specs.Fenced.{kept_in, keep, carried_out, begun, controller_with, after_frames}
-use Rattle.csi_controller.specs.Safe.{AreExclusive, IsExclusive}
+use Rattle.csi_fence.specs.Model.Fence.{Kept}
+use Rattle.csi_types.specs.Model.Frame.{Frame}
+use Rattle.csi_types.specs.Model.Holding.{is_compatible}
+use Rattle.csi_types.specs.Model.Same.{same_text}
+use Rattle.csi_controller.specs.Model.State.{Volume, ControllerState, empty_controller, live_volume, holdings_of, is_held_at, holding_at, is_row_for}
+use Rattle.csi_controller.specs.Model.Table.{Outcome, Change, Stays, Makes, Ends, Attaches, Detaches, controller_row, ended_volume, changed}
+use Rattle.csi_controller.specs.Model.Fenced.{kept_in, keep, carried_out, begun, controller_with}
+use Rattle.csi_controller.specs.Public.Fenced.{after_frames}
+use Rattle.csi_controller.specs.Model.Safe.{AreExclusive}
+use Rattle.csi_controller.specs.Public.Safe.{IsExclusiveState}
 use Rattle.csi_controller.proofs.Forgotten.{live_volume-begun}
 use Rattle.csi_controller.proofs.HoldingsApart.{apart}
 use Rattle.csi_controller.proofs.TableOutcomes.{IsOutcome, was_refused, was_found, was_made, was_ended, was_ended_before, was_attached, was_attached_before, was_detached, was_detached_before, is_outcome}
 
 -- a change keeps that
 abbrev Keeps : ControllerState → Change → Type 0
-Keeps state change = (kept : Kept) → IsExclusive state → IsExclusive (changed state kept change)
+Keeps state change = (kept : Kept) → IsExclusiveState state → IsExclusiveState (changed state kept change)
 
 -- it is kept where nothing changes, and where a volume is made
 stays : (state : ControllerState) → Keeps state Stays
@@ -61,7 +63,7 @@ other_number x id n other same = by (x == n) refl
         absurd (clash (sym e ∙ other))
 
 -- the deletion of a volume leaves which volumes of other ids are live
-ended_test : (id n : ℕ) (volume : Volume) → (n == id) ≡ false → (((ended id volume).id == n) && (ended id volume).is_live) ≡ ((volume.id == n) && volume.is_live)
+ended_test : (id n : ℕ) (volume : Volume) → (n == id) ≡ false → (((ended_volume id volume).id == n) && (ended_volume id volume).is_live) ≡ ((volume.id == n) && volume.is_live)
 ended_test id n volume other = by (volume.id == id) refl
   where
     by : (b : Bool) → (volume.id == id) ≡ b → (((cond b (record volume { is_live = false }) volume).id == n) && (cond b (record volume { is_live = false }) volume).is_live) ≡ ((volume.id == n) && volume.is_live)
@@ -74,8 +76,8 @@ ends_keeps state id is = λ kept safe. record {
   exclusive = safe.exclusive;
   attached_while_live = λ h among.
       let other : (h.volume == id) ≡ false = none_kept (λ (k : Holding). k.volume == id) state.holdings h is among in
-      ap is_some (find-map (λ (v : Volume). (v.id == h.volume) && v.is_live) (ended id) state.volumes (λ v. ended_test id h.volume v other))
-      ∙ is_some-map (ended id) (live_volume h.volume state) ∙ safe.attached_while_live h among;
+      ap is_some (find-map (λ (v : Volume). (v.id == h.volume) && v.is_live) (ended_volume id) state.volumes (λ v. ended_test id h.volume v other))
+      ∙ is_some-map (ended_volume id) (live_volume h.volume state) ∙ safe.attached_while_live h among;
 }
 
 -- ControllerPublishVolume
@@ -98,7 +100,7 @@ attaches_keeps state holding volume live none can kept safe = record {
   attached_while_live = λ h among. is_live h safe (among-either state.holdings holding h among);
 }
   where
-    is_live : (h : Holding) → IsExclusive state → IsAmong h state.holdings ⊎ (h ≡ holding) → IsSome (live_volume h.volume state)
+    is_live : (h : Holding) → IsExclusiveState state → IsAmong h state.holdings ⊎ (h ≡ holding) → IsSome (live_volume h.volume state)
     is_live h safe (inl there) = safe.attached_while_live h there
     is_live h safe (inr e) = subst (λ (k : Holding). IsSome (live_volume k.volume state)) (sym e) (ap is_some live)
 
@@ -113,7 +115,7 @@ detaches_keeps state id node = λ kept safe. record {
 outcome_keeps : (config : Config) (state : ControllerState) (call : Call) (outcome : Outcome) → IsOutcome config state call outcome → Keeps state outcome.change
 outcome_keeps config state call outcome (was_refused _ status detail not_ok) = stays state
 outcome_keeps config state call outcome (was_found name required limit first others volume range named live serving) = stays state
-outcome_keeps config state call outcome (was_made name required limit first others range unnamed) = makes_keeps state name (wanted required limit) (first ∷ others)
+outcome_keeps config state call outcome (was_made name required limit first others range unnamed) = makes_keeps state name (capacity_wanted required limit) (first ∷ others)
 outcome_keeps config state call outcome (was_ended id volume live free) = ends_keeps state id free
 outcome_keeps config state call outcome (was_ended_before id none) = stays state
 outcome_keeps config state call outcome (was_attached holding volume can free fits) = attaches_keeps state holding volume can.live free fits
@@ -130,7 +132,7 @@ kept_test call kept n volume = by (is_row_for call volume)
     by false = refl
 
 -- to keep a call's reply leaves it so
-keep_keeps : (call : Call) (kept : Kept) (state : ControllerState) → IsExclusive state → IsExclusive (keep call kept state)
+keep_keeps : (call : Call) (kept : Kept) (state : ControllerState) → IsExclusiveState state → IsExclusiveState (keep call kept state)
 keep_keeps call kept state safe = record {
   exclusive = safe.exclusive;
   attached_while_live = λ h among. ap is_some (find-map (λ (v : Volume). (v.id == h.volume) && v.is_live) (kept_in call kept) state.volumes (kept_test call kept h.volume))
@@ -138,19 +140,19 @@ keep_keeps call kept state safe = record {
 }
 
 -- a call that is carried out keeps it
-carried_keeps : (config : Config) (state : ControllerState) (number : Number) (call : Call) → IsExclusive state → IsExclusive (carried_out state number call (controller_row config state call)).state
+carried_keeps : (config : Config) (state : ControllerState) (number : Number) (call : Call) → IsExclusiveState state → IsExclusiveState (carried_out state number call (controller_row config state call)).state
 carried_keeps config state number call safe =
     keep_keeps call _ (changed state _ (controller_row config state call).change) (outcome_keeps config state call (controller_row config state call) (is_outcome config state call) _ safe)
 
 -- and so does a session that begins, since what is held is live
-pub begun_keeps : (session : ℕ) (state : ControllerState) → IsExclusive state → IsExclusive (begun session state)
+pub begun_keeps : (session : ℕ) (state : ControllerState) → IsExclusiveState state → IsExclusiveState (begun session state)
 begun_keeps session state safe = record {
   exclusive = safe.exclusive;
   attached_while_live = λ h among. ap is_some (live_volume-begun session state h.volume) ∙ safe.attached_while_live h among;
 }
 
 -- so each frame does, and any list of frames
-pub exclusive_kept : (config : Config) → IsKept (controller_with config) IsExclusive
+pub exclusive_kept : (config : Config) → IsKept (controller_with config) IsExclusiveState
 exclusive_kept config =
     record {
       sets_session = λ session state. refl;
@@ -159,9 +161,9 @@ exclusive_kept config =
     }
 
 -- so does any list of frames
-pub frames_keep : (config : Config) (state : ControllerState) (frames : List Frame) → IsExclusive state → IsExclusive (after_frames config state frames)
-frames_keep config state frames safe = each.frames_keep (controller_with config) IsExclusive (exclusive_kept config) state frames safe
+pub frames_keep : (config : Config) (state : ControllerState) (frames : List Frame) → IsExclusiveState state → IsExclusiveState (after_frames config state frames)
+frames_keep config state frames safe = each.frames_keep (controller_with config) IsExclusiveState (exclusive_kept config) state frames safe
 
 -- it is so of a controller that has answered nothing
-pub empty_exclusive : IsExclusive empty_controller
+pub empty_exclusive : IsExclusiveState empty_controller
 empty_exclusive = record { exclusive = tt; attached_while_live = λ h among. absurd among }

@@ -2,7 +2,7 @@
 use Rattle.std.proofs.Common.{◌≡◌, List, ℕ, Bool, true, false, refl, sym, ◌∙◌}
 use Rattle.std.proofs.lemmas.Bool.{true≢false}
 use Rattle.csi_types.proofs.Equality.{same_text-tells}
-use Rattle.csi_types.specs.Same.{same_text}
+use Rattle.csi_types.specs.Model.Same.{same_text}
 
 -- a test of texts, turned
 pub text-turned : (a b : List ℕ) → same_text a b ≡ same_text b a

@@ -7,26 +7,29 @@ use Rattle.csi_types.proofs.Order.{before-from, before-parts}
 use Rattle.csi_types.specs.declared.number.Number.{Number}
 use Rattle.csi_types.specs.declared.call.Call.{Call}
 use Rattle.csi_types.specs.declared.call.Kind.{Kind}
-use Rattle.csi_types.specs.Call.{kind_of}
-use Rattle.csi_types.specs.Config.{Config}
+use Rattle.csi_types.specs.Model.Call.{kind_of}
+use Rattle.csi_types.specs.Model.Config.{Config}
 use Rattle.csi_types.specs.declared.status.Status.TheVariants.{Ok}
-use Rattle.csi_types.specs.Frame.{Frame}
-use Rattle.csi_types.specs.Number.{is_before}
-use Rattle.csi_types.specs.Replies.{stale_reply}
+use Rattle.csi_types.specs.Model.Frame.{Frame}
+use Rattle.csi_types.specs.Model.Number.{is_before}
+use Rattle.csi_types.specs.Model.Replies.{stale_reply}
 use Rattle.csi_fence.specs.declared.fence.Verdict.{Verdict}
 use Rattle.csi_fence.specs.declared.fence.Verdict.TheVariants.{Stale, Repeated, Fresh}
-use Rattle.csi_fence.specs.Delivery.{last_of}
-use Rattle.csi_fence.specs.Fence.{IsFresh, verdict_of, verdict_of_spent}
-use Rattle.csi_fence.specs.Fenced.{Fenced, answered_only}
+use Rattle.csi_fence.specs.Public.Delivery.{last_of}
+use Rattle.csi_fence.specs.Public.Fence.{IsFresh}
+use Rattle.csi_fence.specs.Model.Fence.{verdict_of, verdict_of_spent}
+use Rattle.csi_fence.specs.Model.Fenced.{Fenced, answered_only}
 use Rattle.csi_controller.specs.declared.row.ControllerRow.{ControllerRow}
-use Rattle.csi_controller.specs.AtRow.{RowGives, row_after}
-use Rattle.csi_controller.specs.Core.{IsAnsweredOk, IsCurrentRow, IsCurrent}
-use Rattle.csi_controller.specs.Fenced.{controller_with, begun, in_session, fenced_call, kept_for, answered_in}
-use Rattle.csi_controller.specs.OneRow.{RowOutcome}
-use Rattle.csi_controller.specs.Shown.{volume_of_row}
-use Rattle.csi_controller.specs.State.{Volume, ControllerState}
-use Rattle.csi_controller.specs.Table.{controller_row}
-use Rattle.csi_controller.specs.Views.{AreSameRows}
+use Rattle.csi_controller.specs.Private.AtRow.{RowGives, row_after}
+use Rattle.csi_controller.specs.Public.Core.{IsAnsweredOk, IsCurrentRow, IsCurrent}
+use Rattle.csi_controller.specs.Model.Fenced.{controller_with, begun, kept_for}
+use Rattle.csi_controller.specs.Public.Fenced.{in_session}
+use Rattle.csi_controller.specs.Private.Fenced.{fenced_call, answered_in}
+use Rattle.csi_controller.specs.Private.OneRow.{RowOutcome}
+use Rattle.csi_controller.specs.Model.Shown.{volume_of_row}
+use Rattle.csi_controller.specs.Model.State.{Volume, ControllerState}
+use Rattle.csi_controller.specs.Model.Table.{controller_row}
+use Rattle.csi_controller.specs.Public.Views.{AreSameRows}
 
 -- ---- a call, by its session
 

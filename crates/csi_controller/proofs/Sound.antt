@@ -9,27 +9,27 @@ use Rattle.csi_lists.proofs.Each.{each-append_one, each-at, each-filter, each-se
 use Rattle.csi_lists.proofs.Filters.{filter-no_longer}
 use Rattle.csi_lists.proofs.Places.{AtMostOne-append, AtMostOne-filter, AtMostOne-set}
 use Rattle.csi_lists.proofs.Searches.{find_none-all}
-use Rattle.csi_lists.specs.Places.{AtMostOne, IsAt}
+use Rattle.csi_lists.specs.Public.Places.{AtMostOne, IsAt}
 use Rattle.csi_types.specs.declared.number.Number.{Number}
 use Rattle.csi_types.specs.declared.call.Kind.{Kind}
 use Rattle.csi_types.specs.declared.call.Party.TheVariants.{Controller}
 use Rattle.csi_fence.specs.declared.fence.Verdict.{Verdict}
 use Rattle.csi_fence.specs.declared.fence.Verdict.TheVariants.{Stale, Repeated, Fresh}
 use Rattle.csi_types.specs.declared.capability.Capability.{Capability}
-use Rattle.csi_types.specs.Call.{is_party_of}
-use Rattle.csi_types.specs.Frame.{Frame}
-use Rattle.csi_types.specs.Holding.{is_compatible, is_second_writer}
-use Rattle.csi_types.specs.Sharing.{is_multi_node}
-use Rattle.csi_types.specs.Reply.{has_id_by_rule}
-use Rattle.csi_types.specs.Same.{same_text, same_capability, same_flag, has_capability}
+use Rattle.csi_types.specs.Public.Call.{is_party_of}
+use Rattle.csi_types.specs.Model.Frame.{Frame}
+use Rattle.csi_types.specs.Model.Holding.{is_compatible, is_second_writer}
+use Rattle.csi_types.specs.Model.Sharing.{is_multi_node}
+use Rattle.csi_types.specs.Public.Reply.{has_id_by_rule}
+use Rattle.csi_types.specs.Model.Same.{same_text, same_capability, same_flag, has_capability}
 use Rattle.csi_types.proofs.Equality.{same_text-tells}
 use Rattle.csi_controller.specs.declared.row.NodeHolding.{NodeHolding}
 use Rattle.csi_controller.specs.declared.row.ControllerRow.{ControllerRow}
-use Rattle.csi_controller.specs.State.{Volume}
-use Rattle.csi_controller.specs.Shown.{volume_of_row}
-use Rattle.csi_controller.specs.Core.{IsRising, AreCompatible, IsSoundRow, IsSound, held_by, next_shown}
-use Rattle.csi_controller.specs.OneRow.{IsFit, RowChange, RowStays, RowEnds, RowAttaches, RowDetaches, RowOutcome, live_after, items_after}
-use Rattle.csi_controller.specs.AtRow.{RowGives, row_after}
+use Rattle.csi_controller.specs.Model.State.{Volume}
+use Rattle.csi_controller.specs.Model.Shown.{volume_of_row}
+use Rattle.csi_controller.specs.Public.Core.{AreRisingRows, AreCompatible, IsSoundRow, AreSoundRows, volume_holding, next_shown}
+use Rattle.csi_controller.specs.Private.OneRow.{IsFit, RowChange, RowStays, RowEnds, RowAttaches, RowDetaches, RowOutcome, live_after, items_after}
+use Rattle.csi_controller.specs.Private.AtRow.{RowGives, row_after}
 
 -- a test that fails doesn't hold
 false_is_true : false ≡ true → ⊥
@@ -45,20 +45,20 @@ AreCompatible-filter q (held ∷ later) all = by (q held) (AreCompatible-filter 
     by false k = k
 
 -- and with one more at the end, which can be held with each
-AreCompatible-append : (items : List NodeHolding) (wanted : NodeHolding) → AreCompatible items → AllByRecursion (λ (held : NodeHolding). is_compatible (held_by 1 wanted) (held_by 1 held) ≡ true) items → AreCompatible (items ++ wanted ∷ [])
+AreCompatible-append : (items : List NodeHolding) (wanted : NodeHolding) → AreCompatible items → AllByRecursion (λ (held : NodeHolding). is_compatible (volume_holding 1 wanted) (volume_holding 1 held) ≡ true) items → AreCompatible (items ++ wanted ∷ [])
 AreCompatible-append [] wanted all each = (tt, tt)
 AreCompatible-append (held ∷ later) wanted all each =
-    (each-append_one (λ (other : NodeHolding). is_compatible (held_by 1 other) (held_by 1 held) ≡ true) later wanted (all.0) (each.0), AreCompatible-append later wanted (all.1) (each.1))
+    (each-append_one (λ (other : NodeHolding). is_compatible (volume_holding 1 other) (volume_holding 1 held) ≡ true) later wanted (all.0) (each.0), AreCompatible-append later wanted (all.1) (each.1))
 
 -- an id is equal to itself
 self : (id : ℕ) → (id == id) ≡ true
 self id = eq-eqb id id refl
 
 -- the volume makes no difference where it is the same
-compatible-any : (a b : ℕ) (x y : NodeHolding) → is_compatible (held_by a x) (held_by a y) ≡ is_compatible (held_by b x) (held_by b y)
+compatible-any : (a b : ℕ) (x y : NodeHolding) → is_compatible (volume_holding a x) (volume_holding a y) ≡ is_compatible (volume_holding b x) (volume_holding b y)
 compatible-any a b x y =
     ap (λ (t : Bool). cond (same_text x.node y.node) (t && same_text x.node y.node && same_capability x.capability y.capability && same_flag x.readonly y.readonly)
-    (is_multi_node x.capability.mode && is_multi_node y.capability.mode && not (is_second_writer (held_by a x) (held_by a y)))) (self a ∙ sym (self b))
+    (is_multi_node x.capability.mode && is_multi_node y.capability.mode && not (is_second_writer (volume_holding a x) (volume_holding a y)))) (self a ∙ sym (self b))
 
 -- the holding's capability is among these
 abbrev IsListed : List Capability → NodeHolding → Type 0
@@ -121,7 +121,7 @@ sound-after n row new frame number kind outcome sound party reply change is fit 
             (λ node. AtMostOne-append (λ (other : NodeHolding). same_text other.node node) row.holdings.items held (sound.apart node)
             (λ e. subst (λ k. find (λ (other : NodeHolding). same_text other.node k) row.holdings.items ≡ None) ((same_text-tells held.node node).0 e) (fit.1)))
             (AreCompatible-append row.holdings.items held sound.compatible
-            (each-weaker _ _ row.holdings.items (λ other e. compatible-any 1 row.id held other ∙ e) (find_none-all (λ other. is_compatible (held_by row.id held) (held_by row.id other)) row.holdings.items (fit.2))))
+            (each-weaker _ _ row.holdings.items (λ other e. compatible-any 1 row.id held other ∙ e) (find_none-all (λ other. is_compatible (volume_holding row.id held) (volume_holding row.id other)) row.holdings.items (fit.2))))
             (λ e. absurd (false_is_true (sym e ∙ live ∙ fit.0)))
             c cs (each-append_one (IsListed row.capabilities) row.holdings.items held sound.listed (fit.3)) (one_more row.holdings.items held (fit.4))
         last (RowDetaches node) fit live items c cs id p r =
@@ -143,7 +143,7 @@ above-none (other ∷ rest) id all = by (other.id == id) refl (above-none rest i
     by false f k = k
 
 -- where ids rise, at most one row has an id
-pub rising-one : (rows : List ControllerRow) → IsRising rows → (id : ℕ) → AtMostOne (λ (row : ControllerRow). row.id == id) rows
+pub rising-one : (rows : List ControllerRow) → AreRisingRows rows → (id : ℕ) → AtMostOne (λ (row : ControllerRow). row.id == id) rows
 rising-one [] rising id = tt
 rising-one (row ∷ rows) rising id =
     (λ e. subst (λ k. find (λ (r : ControllerRow). r.id == k) rows ≡ None) (eqb-true row.id id e) (above-none rows row.id (rising.0)), rising-one rows (rising.1) id)
@@ -155,7 +155,7 @@ above-set rows place row new id at same all =
     each-set (λ (later : ControllerRow). id < later.id) rows place new all (subst (λ k. id < k) (sym same) (each-at (λ (later : ControllerRow). id < later.id) rows place row all at))
 
 -- where ids rise, they do with another row of the same id in a row's place
-IsRising-set : (rows : List ControllerRow) (place : ℕ) (row new : ControllerRow) → IsAt rows place row → new.id ≡ row.id → IsRising rows → IsRising (set rows place new)
+IsRising-set : (rows : List ControllerRow) (place : ℕ) (row new : ControllerRow) → IsAt rows place row → new.id ≡ row.id → AreRisingRows rows → AreRisingRows (set rows place new)
 IsRising-set [] place row new at same rising = tt
 IsRising-set (r ∷ rs) zero row new at same rising =
     (subst (λ k. AllByRecursion (λ (later : ControllerRow). k < later.id) rs) (ap (λ (x : ControllerRow). x.id) at ∙ sym same) (rising.0), rising.1)
@@ -163,7 +163,7 @@ IsRising-set (r ∷ rs) (suc place) row new at same rising =
     (above-set rs place row new r.id at same (rising.0), IsRising-set rs place row new at same (rising.1))
 
 -- the rules of all rows, where one row is another
-pub sound-set : (n : ℕ) (rows : List ControllerRow) (place : ℕ) (row new : ControllerRow) → IsSound n rows → IsAt rows place row → new.id ≡ row.id → new.name ≡ row.name → IsSoundRow n new → IsSound n (set rows place new)
+pub sound-set : (n : ℕ) (rows : List ControllerRow) (place : ℕ) (row new : ControllerRow) → AreSoundRows n rows → IsAt rows place row → new.id ≡ row.id → new.name ≡ row.name → IsSoundRow n new → AreSoundRows n (set rows place new)
 sound-set n rows place row new sound at id name own =
     record {
       limit = let limit = sound.limit in let same : length (set rows place new) ≡ length rows = length-set rows place new in omega (arith, limit, same);

@@ -6,18 +6,18 @@ use Rattle.std.proofs.lemmas.Bool.{and_from, and_parts, eq-eqb, eqb-false, eqb-t
 use Rattle.csi_lists.proofs.Each.{each-weaker}
 use Rattle.csi_lists.proofs.Members.{all_of, each_of}
 use Rattle.csi_lists.proofs.Tests.{all-then, then-all}
-use Rattle.csi_lists.specs.Places.{AtMostOne}
+use Rattle.csi_lists.specs.Public.Places.{AtMostOne}
 use Rattle.csi_types.proofs.Equality.{same_text-tells}
 use Rattle.csi_types.specs.declared.call.Party.TheVariants.{Controller}
 use Rattle.csi_types.specs.declared.capability.Capability.{Capability}
-use Rattle.csi_types.specs.Call.{is_party_of}
-use Rattle.csi_types.specs.Holding.{is_compatible}
-use Rattle.csi_types.specs.Reply.{has_id_by_rule}
-use Rattle.csi_types.specs.Same.{same_text, has_capability}
+use Rattle.csi_types.specs.Public.Call.{is_party_of}
+use Rattle.csi_types.specs.Model.Holding.{is_compatible}
+use Rattle.csi_types.specs.Public.Reply.{has_id_by_rule}
+use Rattle.csi_types.specs.Model.Same.{same_text, has_capability}
 use Rattle.csi_controller.specs.declared.row.NodeHolding.{NodeHolding}
 use Rattle.csi_controller.specs.declared.row.ControllerRow.{ControllerRow}
-use Rattle.csi_controller.specs.Core.{AreCompatible, IsSoundRow, held_by, next_shown}
-use Rattle.csi_controller.specs.SoundRow.{has_fit_numbers, has_own_reply, are_beside, are_fit, has_fit_holdings, is_sound_row}
+use Rattle.csi_controller.specs.Public.Core.{AreCompatible, IsSoundRow, volume_holding, next_shown}
+use Rattle.csi_controller.specs.Private.SoundRow.{has_fit_numbers, has_own_reply, are_beside, are_fit, has_fit_holdings, is_sound_row}
 use Rattle.csi_controller.proofs.Exclusive.{other_nodes}
 
 -- ---- a test of each
@@ -56,7 +56,7 @@ none-at_node : (held : NodeHolding) (later : List NodeHolding) (node : List ℕ)
 none-at_node held [] node e h = refl
 none-at_node held (other ∷ rest) node e h =
     let parts = and_parts (are_beside held other) (list_all (are_beside held) rest) h in
-    let own = and_parts (not (same_text other.node held.node)) (is_compatible (held_by 1 other) (held_by 1 held)) parts.0 in
+    let own = and_parts (not (same_text other.node held.node)) (is_compatible (volume_holding 1 other) (volume_holding 1 held)) parts.0 in
     let differ : same_text other.node node ≡ false = subst (λ k. same_text other.node k ≡ false) ((same_text-tells held.node node).0 e) (not-true (same_text other.node held.node) own.0) in
     rw differ (none-at_node held rest node e parts.1)
 
@@ -72,18 +72,18 @@ compatible-from : (items : List NodeHolding) → are_all_beside items ≡ true �
 compatible-from [] h = tt
 compatible-from (held ∷ later) h =
     let parts = and_parts (list_all (are_beside held) later) (are_all_beside later) h in (
-      each-weaker (λ (other : NodeHolding). are_beside held other ≡ true) (λ (other : NodeHolding). is_compatible (held_by 1 other) (held_by 1 held) ≡ true) later
-          (λ other e. (and_parts (not (same_text other.node held.node)) (is_compatible (held_by 1 other) (held_by 1 held)) e).1) (each-from_test (are_beside held) later parts.0),
+      each-weaker (λ (other : NodeHolding). are_beside held other ≡ true) (λ (other : NodeHolding). is_compatible (volume_holding 1 other) (volume_holding 1 held) ≡ true) later
+          (λ other e. (and_parts (not (same_text other.node held.node)) (is_compatible (volume_holding 1 other) (volume_holding 1 held)) e).1) (each-from_test (are_beside held) later parts.0),
       compatible-from later parts.1,
     )
 
 -- a holding is beside each that is at another node and can be held with it
 beside-each : (held : NodeHolding) (later : List NodeHolding) → AllByRecursion (λ (h : NodeHolding). same_text h.node held.node ≡ false) later
-    → AllByRecursion (λ (h : NodeHolding). is_compatible (held_by 1 h) (held_by 1 held) ≡ true) later → list_all (are_beside held) later ≡ true
+    → AllByRecursion (λ (h : NodeHolding). is_compatible (volume_holding 1 h) (volume_holding 1 held) ≡ true) later → list_all (are_beside held) later ≡ true
 beside-each held [] nodes compatible = refl
 beside-each held (h ∷ hs) nodes compatible =
     and_from (are_beside held h) (list_all (are_beside held) hs)
-    (and_from (not (same_text h.node held.node)) (is_compatible (held_by 1 h) (held_by 1 held)) (not_from_false (same_text h.node held.node) nodes.0) compatible.0)
+    (and_from (not (same_text h.node held.node)) (is_compatible (volume_holding 1 h) (volume_holding 1 held)) (not_from_false (same_text h.node held.node) nodes.0) compatible.0)
     (beside-each held hs nodes.1 compatible.1)
 
 -- holdings at different nodes, each of which can be held with each earlier one, are beside one another

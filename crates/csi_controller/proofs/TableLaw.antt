@@ -15,23 +15,25 @@ use Rattle.csi_types.specs.declared.call.Party.TheVariants.{Controller}
 use Rattle.csi_fence.specs.declared.fence.Verdict.TheVariants.{Fresh}
 use Rattle.csi_types.specs.declared.status.Status.TheVariants.{InvalidArgument, OutOfRange, ResourceExhausted}
 use Rattle.csi_types.specs.declared.reply.Reply.{Reply}
-use Rattle.csi_types.specs.Call.{kind_of}
-use Rattle.csi_types.specs.Capacity.{is_bad_range, is_empty_range, wanted}
-use Rattle.csi_types.specs.Config.{Config}
+use Rattle.csi_types.specs.Model.Call.{kind_of}
+use Rattle.csi_types.specs.Model.Capacity.{is_bad_range, is_empty_range, capacity_wanted}
+use Rattle.csi_types.specs.Model.Config.{Config}
 use Rattle.csi_fence.proofs.FramesKeep.{own_session, session_keeps}
 use Rattle.csi_fence.proofs.LetThrough.{fresh-after, is_carried_out, stays-in_session}
 use Rattle.csi_fence.proofs.Spent.{not_over-own}
-use Rattle.csi_fence.specs.Delivery.{last_of}
-use Rattle.csi_fence.specs.Fence.{Kept, verdict_of}
-use Rattle.csi_fence.specs.Fenced.{Fenced}
-use Rattle.csi_fence.specs.Lawful.{IsLawful, IsIdempotent}
-use Rattle.csi_types.specs.Number.{IsBefore}
-use Rattle.csi_types.specs.Replies.{ok_reply_with, call_frame, reply_frame}
-use Rattle.csi_types.specs.Same.{same_text, has_capability}
-use Rattle.csi_controller.specs.State.{Volume, ControllerState, volume_named, live_volume, is_row_for, row_for}
-use Rattle.csi_controller.specs.Table.{Outcome, Change, Stays, Makes, refused, create_named, delete, publish, controller_row, changed}
-use Rattle.csi_controller.specs.Fenced.{fenced, kept_for, kept_in, keep, carried_out, controller_with, in_session}
-use Rattle.csi_controller.specs.Laws.{IsLetThrough, IsSameApart, IsDone, IsMadeAs, LeavesOthers, state_after, keeping, plugin_with}
+use Rattle.csi_fence.specs.Public.Delivery.{last_of}
+use Rattle.csi_fence.specs.Model.Fence.{Kept, verdict_of}
+use Rattle.csi_fence.specs.Model.Fenced.{Fenced}
+use Rattle.csi_fence.specs.Public.Lawful.{IsLawful, IsIdempotent}
+use Rattle.csi_types.specs.Model.Number.{IsBefore}
+use Rattle.csi_types.specs.Model.Replies.{ok_reply_with, call_frame, reply_frame}
+use Rattle.csi_types.specs.Model.Same.{same_text, has_capability}
+use Rattle.csi_controller.specs.Model.State.{Volume, ControllerState, volume_named, live_volume, is_row_for, row_for}
+use Rattle.csi_controller.specs.Model.Table.{Outcome, Change, Stays, Makes, refused, create_named, delete, publish, controller_row, changed}
+use Rattle.csi_controller.specs.Model.Fenced.{fenced, kept_for, kept_in, keep, carried_out, controller_with}
+use Rattle.csi_controller.specs.Public.Fenced.{in_session}
+use Rattle.csi_controller.specs.Public.Laws.{IsLetThrough, IsSameApart, IsDone, IsMadeAs, LeavesOthers, keeping, plugin_with}
+use Rattle.csi_controller.specs.Private.Laws.{state_after}
 use Rattle.csi_controller.proofs.OrderlyStates.{IsOrderly, orderly_kept, kept_same, kept_in-row}
 use Rattle.csi_controller.proofs.OutcomeFacts.{IsReady, row_facts}
 use Rattle.csi_controller.proofs.RememberedStates.{changed_session}
@@ -57,9 +59,9 @@ create_named-keep : (config : Config) (call : Call) (kept : Kept) (state : Contr
 create_named-keep config call kept state name required limit capabilities (Some v) =
     ap (λ (w : Volume). create_named config state name required limit capabilities (Some w)) (kept_same call kept kept v)
 create_named-keep config call kept state name required limit capabilities None =
-    ap (λ (n : ℕ). cond (nat_lt config.greatest (wanted required limit)) (refused OutOfRange (codes "range"))
+    ap (λ (n : ℕ). cond (nat_lt config.greatest (capacity_wanted required limit)) (refused OutOfRange (codes "range"))
     (cond (nat_le 4096 n || nat_le (2 ^ 64) state.next_id) (refused ResourceExhausted (codes "volumes"))
-    (record { reply = ok_reply_with state.next_id; change = Makes name (wanted required limit) capabilities })))
+    (record { reply = ok_reply_with state.next_id; change = Makes name (capacity_wanted required limit) capabilities })))
     (length-map (kept_in call kept) state.volumes)
 
 -- DeleteVolume is answered the same, whatever is kept

@@ -9,13 +9,13 @@ use Rattle.csi_types.specs.declared.call.Call.{Call}
 use Rattle.csi_types.specs.declared.call.Call.TheVariants as calls
 use Rattle.csi_types.specs.declared.status.Status.{Status}
 use Rattle.csi_types.specs.declared.status.Status.TheVariants.{Ok, InvalidArgument, NotFound, AlreadyExists, ResourceExhausted, FailedPrecondition, OutOfRange, Unimplemented}
-use Rattle.csi_types.specs.Capacity.{is_bad_range, is_empty_range, wanted}
-use Rattle.csi_types.specs.Config.{Config, has_node}
-use Rattle.csi_types.specs.Holding.{same_holding, is_compatible}
-use Rattle.csi_types.specs.Replies.{ok_reply_with}
-use Rattle.csi_types.specs.Same.{has_capability}
-use Rattle.csi_controller.specs.State.{Volume, ControllerState, volume_named, live_volume, holdings_of, holding_at}
-use Rattle.csi_controller.specs.Table.{Outcome, Stays, Makes, Ends, Attaches, Detaches, refused, met, done, serves, create_named, create, delete_live, delete, is_full, attach, publish_held, publish, unpublish, controller_row}
+use Rattle.csi_types.specs.Model.Capacity.{is_bad_range, is_empty_range, capacity_wanted}
+use Rattle.csi_types.specs.Model.Config.{Config, has_node}
+use Rattle.csi_types.specs.Model.Holding.{same_holding, is_compatible}
+use Rattle.csi_types.specs.Model.Replies.{ok_reply_with}
+use Rattle.csi_types.specs.Model.Same.{has_capability}
+use Rattle.csi_controller.specs.Model.State.{Volume, ControllerState, volume_named, live_volume, holdings_of, holding_at}
+use Rattle.csi_controller.specs.Model.Table.{Outcome, Stays, Makes, Ends, Attaches, Detaches, refused, met, done, serves, create_named, create, delete_live, delete, is_full, attach, publish_held, publish, unpublish, controller_row}
 
 -- a range that can be met
 pub record IsRange (required limit : ℕ) : Type 0 where
@@ -40,7 +40,7 @@ pub data IsOutcome (config : Config) (state : ControllerState) : Call → Outcom
       → IsOutcome config state (calls.CreateVolume name required limit (first ∷ others)) (record { reply = ok_reply_with volume.id; change = Stays })
   was_made : (name : List ℕ) (required limit : ℕ) (first : Capability) (others : List Capability)
       → IsRange required limit → volume_named name state ≡ None
-      → IsOutcome config state (calls.CreateVolume name required limit (first ∷ others)) (record { reply = ok_reply_with state.next_id; change = Makes name (wanted required limit) (first ∷ others) })
+      → IsOutcome config state (calls.CreateVolume name required limit (first ∷ others)) (record { reply = ok_reply_with state.next_id; change = Makes name (capacity_wanted required limit) (first ∷ others) })
   was_ended : (id : ℕ) (volume : Volume) → live_volume id state ≡ Some volume → holdings_of id state ≡ [] → IsOutcome config state (calls.DeleteVolume id) (done (Ends id))
   was_ended_before : (id : ℕ) → live_volume id state ≡ None → IsOutcome config state (calls.DeleteVolume id) met
   was_attached : (holding : Holding) (volume : Volume) → CanAttach config state holding volume → holding_at holding.volume holding.node state ≡ None
@@ -89,7 +89,7 @@ create_named_outcomes : (config : Config) (state : ControllerState) (name : List
     → IsOutcome config state (calls.CreateVolume name required limit (first ∷ others)) (create_named config state name required limit (first ∷ others) o)
 create_named_outcomes config state name required limit first others None range is =
     let call = calls.CreateVolume name required limit (first ∷ others) in
-    by_if config state call (nat_lt config.greatest (wanted required limit)) (refused OutOfRange (codes "range")) _ (λ _. was_refused call OutOfRange (codes "range") out_of_range)
+    by_if config state call (nat_lt config.greatest (capacity_wanted required limit)) (refused OutOfRange (codes "range")) _ (λ _. was_refused call OutOfRange (codes "range") out_of_range)
     (λ _. by_if config state call (nat_le 4096 (length state.volumes) || nat_le (2 ^ 64) state.next_id) (refused ResourceExhausted (codes "volumes")) _
     (λ _. was_refused call ResourceExhausted (codes "volumes") exhausted)
     (λ _. was_made name required limit first others range is))

@@ -6,7 +6,7 @@ use Rattle.std.proofs.lemmas.Option.{none-some, same_Some}
 use Rattle.csi_lists.proofs.Members.{among-map, none_passes}
 use Rattle.csi_lists.proofs.Options.{option_map-map}
 use Rattle.csi_lists.proofs.Searches.{find-and, find-append_one, find-append_other, find-filter, find-filter_not, find-map_among, find-none, find-passes}
-use Rattle.csi_lists.specs.Members.{IsAmong}
+use Rattle.csi_lists.specs.Model.Members.{IsAmong}
 use Rattle.csi_types.proofs.Equality.{same_text-tells}
 use Rattle.csi_types.specs.declared.capability.Capability.{Capability}
 use Rattle.csi_types.specs.declared.holding.Holding.{Holding}
@@ -14,15 +14,16 @@ use Rattle.csi_types.specs.declared.call.Call.{Call}
 use Rattle.csi_types.specs.declared.call.Call.TheVariants as calls
 use Rattle.csi_types.specs.declared.status.Status.TheVariants.{Ok}
 use Rattle.csi_types.specs.declared.reply.Reply.{Reply}
-use Rattle.csi_types.specs.Capacity.{wanted}
-use Rattle.csi_types.specs.Config.{Config}
-use Rattle.csi_fence.specs.Fence.{Kept}
-use Rattle.csi_types.specs.Key.{Key, Exists, Attached, Staged, Published, Form, HasId, AttachedAs, same_key, asked}
-use Rattle.csi_types.specs.Replies.{ok_reply, ok_reply_with}
-use Rattle.csi_types.specs.Same.{same_text}
-use Rattle.csi_controller.specs.State.{Volume, ControllerState, volume_named, volume_with_id, live_volume, is_held_at, holding_at}
-use Rattle.csi_controller.specs.Table.{Outcome, Makes, Ends, Attaches, Detaches, changed, ended}
-use Rattle.csi_controller.specs.View.{live_named, held_in, key_of}
+use Rattle.csi_types.specs.Model.Capacity.{capacity_wanted}
+use Rattle.csi_types.specs.Model.Config.{Config}
+use Rattle.csi_fence.specs.Model.Fence.{Kept}
+use Rattle.csi_types.specs.Public.Key.{Key, Exists, Attached, Staged, Published, Form, HasId, AttachedAs, same_key, asked}
+use Rattle.csi_types.specs.Model.Replies.{ok_reply, ok_reply_with}
+use Rattle.csi_types.specs.Model.Same.{same_text}
+use Rattle.csi_controller.specs.Model.State.{Volume, ControllerState, volume_named, live_volume, is_held_at, holding_at}
+use Rattle.csi_controller.specs.Public.State.{volume_with_id}
+use Rattle.csi_controller.specs.Model.Table.{Outcome, Makes, Ends, Attaches, Detaches, changed, ended_volume}
+use Rattle.csi_controller.specs.Public.View.{live_named, held_in, key_of}
 use Rattle.csi_controller.proofs.SameText.{text-turned}
 use Rattle.csi_controller.proofs.TableOutcomes.{IsOutcome, publish_call, was_refused, was_found, was_made, was_ended, was_ended_before, was_attached, was_attached_before, was_detached, was_detached_before}
 use Rattle.csi_controller.proofs.OrderlyStates.{IsOrderly, is_named, is_with_id, with_id_by_name, end_leaves}
@@ -73,18 +74,18 @@ made_things config state name required limit capabilities capacity kept unnamed 
     others volume (Published id node target) h = refl
 
 -- DeleteVolume
-ended_own : (id : ℕ) (volume : Volume) → (volume.id == id) ≡ true → (ended id volume).is_live ≡ false
+ended_own : (id : ℕ) (volume : Volume) → (volume.id == id) ≡ true → (ended_volume id volume).is_live ≡ false
 ended_own id volume h = rw h refl
 
 -- a deletion leaves a volume of another id as it was
-ended_other : (id : ℕ) (volume : Volume) → (volume.id == id) ≡ false → ended id volume ≡ volume
+ended_other : (id : ℕ) (volume : Volume) → (volume.id == id) ≡ false → ended_volume id volume ≡ volume
 ended_other id volume h = rw h refl
 
 -- what is so of a volume that is ended, of one that isn't
-by_id : (P : Volume → Type 0) (id : ℕ) (volume : Volume) → ((volume.id == id) ≡ true → P (ended id volume)) → ((volume.id == id) ≡ false → P volume) → P (ended id volume)
+by_id : (P : Volume → Type 0) (id : ℕ) (volume : Volume) → ((volume.id == id) ≡ true → P (ended_volume id volume)) → ((volume.id == id) ≡ false → P volume) → P (ended_volume id volume)
 by_id P id volume f g = by (volume.id == id) refl
   where
-    by : (b : Bool) → (volume.id == id) ≡ b → P (ended id volume)
+    by : (b : Bool) → (volume.id == id) ≡ b → P (ended_volume id volume)
     by true h = f h
     by false h = subst P (sym (ended_other id volume h)) (g h)
 
@@ -105,10 +106,10 @@ ended_things : (state : ControllerState) (id : ℕ) (volume : Volume) (kept : Ke
     → Does (Exists volume.name) (calls.DeleteVolume id) ok_reply state (changed state kept (Ends id))
 ended_things state id volume kept orderly is = record { done = λ h. ap (option_map (λ (v : Volume). HasId v.id)) gone; refused = λ h. absurd (h refl); others = others }
   where
-    own : (v : Volume) → IsAmong v state.volumes → (same_text (ended id v).name volume.name && (ended id v).is_live) ≡ false
+    own : (v : Volume) → IsAmong v state.volumes → (same_text (ended_volume id v).name volume.name && (ended_volume id v).is_live) ≡ false
     own v among =
         by_id (λ (w : Volume). (same_text w.name volume.name && w.is_live) ≡ false) id v
-        (λ same. second_fails (same_text (ended id v).name volume.name) (ended id v).is_live (λ h. ended_own id v same))
+        (λ same. second_fails (same_text (ended_volume id v).name volume.name) (ended_volume id v).is_live (λ h. ended_own id v same))
         (λ differs. and_left (same_text v.name volume.name) v.is_live (other_name v among differs (same_text v.name volume.name) refl))
       where
         other_name : (v : Volume) → IsAmong v state.volumes → (v.id == id) ≡ false → (b : Bool) → same_text v.name volume.name ≡ b → b ≡ false
@@ -117,22 +118,22 @@ ended_things state id volume kept orderly is = record { done = λ h. ap (option_
             absurd (true≢false (sym (has_own_id state id volume is) ∙ ap (λ (u : Volume). u.id == id) (sym (same_named state id volume v orderly is among h)) ∙ differs))
 
     gone : live_named volume.name (changed state kept (Ends id)) ≡ None
-    gone = find-none (λ (v : Volume). same_text v.name volume.name && v.is_live) (map (ended id) state.volumes)
-        (λ w among. let image = among-map (ended id) state.volumes w among in subst (λ (u : Volume). (same_text u.name volume.name && u.is_live) ≡ false) (sym image.2) (own image.0 image.1))
+    gone = find-none (λ (v : Volume). same_text v.name volume.name && v.is_live) (map (ended_volume id) state.volumes)
+        (λ w among. let image = among-map (ended_volume id) state.volumes w among in subst (λ (u : Volume). (same_text u.name volume.name && u.is_live) ≡ false) (sym image.2) (own image.0 image.1))
 
     unmoved : (name : List ℕ) → same_text name volume.name ≡ false → (v : Volume) → IsAmong v state.volumes
-        → (same_text (ended id v).name name && (ended id v).is_live) ≡ (same_text v.name name && v.is_live)
+        → (same_text (ended_volume id v).name name && (ended_volume id v).is_live) ≡ (same_text v.name name && v.is_live)
     unmoved name differs v among =
         by_id (λ (w : Volume). (same_text w.name name && w.is_live) ≡ (same_text v.name name && v.is_live)) id v
         (λ same.
         let e : same_text v.name name ≡ false = ap (λ (u : Volume). same_text u.name name) (same_volume state id volume v orderly is among same) ∙ text-turned volume.name name ∙ differs in
-        and_left (same_text (ended id v).name name) (ended id v).is_live (ap (λ n. same_text n name) ((end_leaves id).names v) ∙ e) ∙ sym (and_left (same_text v.name name) v.is_live e))
+        and_left (same_text (ended_volume id v).name name) (ended_volume id v).is_live (ap (λ n. same_text n name) ((end_leaves id).names v) ∙ e) ∙ sym (and_left (same_text v.name name) v.is_live e))
         (λ differ. refl)
 
     others : (other : Key) → same_key other (Exists volume.name) ≡ false → held_in (changed state kept (Ends id)) other ≡ held_in state other
     others (Exists name) h =
-        ap (option_map (λ (v : Volume). HasId v.id)) (find-map_among (λ (v : Volume). same_text v.name name && v.is_live) (ended id) state.volumes (unmoved name h))
-        ∙ option_map-map (λ (v : Volume). HasId v.id) (ended id) (live_named name state) (λ v. ap HasId ((end_leaves id).ids v))
+        ap (option_map (λ (v : Volume). HasId v.id)) (find-map_among (λ (v : Volume). same_text v.name name && v.is_live) (ended_volume id) state.volumes (unmoved name h))
+        ∙ option_map-map (λ (v : Volume). HasId v.id) (ended_volume id) (live_named name state) (λ v. ap HasId ((end_leaves id).ids v))
     others (Attached other node) h = refl
     others (Staged other node) h = refl
     others (Published other node target) h = refl
@@ -234,7 +235,7 @@ does config state key call outcome kept orderly is (was_found name required limi
     at_key (λ k. Does k call outcome.reply state state) (Exists name) key is
     (same_things (Exists name) call outcome.reply state (λ h. ap (option_map (λ (v : Volume). HasId v.id)) (live_with_name state name volume named live)))
 does config state key call outcome kept orderly is (was_made name required limit first others range unnamed) =
-    at_key (λ k. Does k call outcome.reply state (changed state kept outcome.change)) (Exists name) key is (made_things config state name required limit (first ∷ others) (wanted required limit) kept unnamed)
+    at_key (λ k. Does k call outcome.reply state (changed state kept outcome.change)) (Exists name) key is (made_things config state name required limit (first ∷ others) (capacity_wanted required limit) kept unnamed)
 does config state key call outcome kept orderly is (was_ended id volume live free) =
     by_volume (λ k. Does k call outcome.reply state (changed state kept outcome.change)) (λ (v : Volume). Exists v.name) (volume_with_id id state) key is (λ v own. ended_things state id v kept orderly own)
 does config state key call outcome kept orderly is (was_ended_before id none) =

@@ -1,13 +1,13 @@
 //! A controller's rows by id and by name. No look-up walks them.
 ghost use Rattle.std.specs.Prelude.{◌≡◌, ◌==◌, ◌++◌, ◌∷◌, [], List, None, Some, length, map, filter, find, position, option_map, OnOk, OnErr, IfOk, IfSome, ◌<◌};
-ghost use Rattle.std.specs.Option.{option_copied};
 ghost use Rattle.std.specs.String.{string_bytes};
 ghost use Rattle.indexmap.specs.IndexMap.{index_map_len, values};
-ghost use Rattle.csi_types.specs.Same.{same_text};
-ghost use Rattle.csi_controller.specs.Catalog.{rows_of, by_id, is_kept, IsIndexed, HasRoom, AreSameEntries};
-ghost use Rattle.csi_controller.specs.Core.{IsSound, IsSameRow, IsRising};
-ghost use Rattle.csi_controller.specs.WithoutSession.{stays_in};
-ghost use Rattle.csi_controller.specs.Views.{AreSameRows};
+ghost use Rattle.csi_types.specs.Model.Same.{same_text};
+ghost use Rattle.csi_controller.specs.Public.Catalog.{rows_of, by_id, IsIndexed};
+ghost use Rattle.csi_controller.specs.Private.Catalog.{is_kept, HasRoomForRow, AreSameEntries};
+ghost use Rattle.csi_controller.specs.Public.Core.{AreSoundRows, IsSameRow, AreRisingRows};
+ghost use Rattle.csi_controller.specs.Public.WithoutSession.{stays_in};
+ghost use Rattle.csi_controller.specs.Public.Views.{AreSameRows};
 
 use crate::row::ControllerRow;
 use csi_fence::CoreFault;
@@ -63,7 +63,7 @@ impl Catalog {
         next_id: u64,
         rows: Vec<ControllerRow>,
     ) -> Result<Catalog, CoreFault>
-        requires { IsSound next_id rows.items }
+        requires { AreSoundRows next_id rows.items }
         ensures rows { IfOk result (λ catalog. rows_of catalog ≡ rows.items) }
         ensures indexed { IfOk result IsIndexed }
     {
@@ -133,21 +133,10 @@ impl Catalog {
         }
     }
 
-    /// The row of this id.
-    pub fn with_id(&self, id: VolumeId) -> Option<&ControllerRow>
-        requires { IsIndexed self.now }
-        ensures { option_copied result ≡ find (λ row. row.id == id) (rows_of self.now) }
-    {
-        match self.place_of_id(id) {
-            Some(place) => Some(&self.rows[place]),
-            None => None,
-        }
-    }
-
     /// Makes room for one more row, and gives the text of its name. The rows stay as they were.
     pub fn make_room(&mut self, alloc: Global, name: &Name) -> Result<String, CoreFault>
         ensures text { IfOk result (λ text. string_bytes text ≡ name.now) }
-        ensures room { OnOk result (HasRoom self.new) }
+        ensures room { OnOk result (HasRoomForRow self.new) }
         ensures same { AreSameEntries self.old self.new }
     {
         let text = String::from_str(alloc, name.as_str())?;
@@ -159,7 +148,7 @@ impl Catalog {
     /// Puts a row into the room that was made, the last one, under the text of its name. It takes no memory.
     pub fn put(&mut self, text: String, row: ControllerRow)
         requires indexed { IsIndexed self.old }
-        requires room { HasRoom self.old }
+        requires room { HasRoomForRow self.old }
         requires text { string_bytes text ≡ row.name }
         requires new_id { find (λ other. other.id == row.id) (rows_of self.old) ≡ None }
         requires new_name { find (λ other. same_text other.name row.name) (rows_of self.old) ≡ None }
@@ -196,10 +185,10 @@ impl Catalog {
     /// order, and the room that there was stays. It takes no memory.
     pub fn forget(&mut self, session: u64)
         requires indexed { IsIndexed self.old }
-        requires rising { IsRising (rows_of self.old) }
+        requires rising { AreRisingRows (rows_of self.old) }
         ensures rows { rows_of self.new ≡ filter (stays_in session) (rows_of self.old) }
         ensures indexed { IsIndexed self.new }
-        ensures room { HasRoom self.old → HasRoom self.new }
+        ensures room { HasRoomForRow self.old → HasRoomForRow self.new }
     {
         let rows = &self.rows;
         self.ids.retain(|_text, id| is_id_kept(rows, *id, session));
@@ -211,7 +200,8 @@ impl Catalog {
         requires indexed { IsIndexed self.old }
         requires new_id { (copy : ControllerRow) → IsSameRow row.now copy → find (λ other. other.id == copy.id) (rows_of self.old) ≡ None }
         requires new_name { (copy : ControllerRow) → IsSameRow row.now copy → find (λ other. same_text other.name copy.name) (rows_of self.old) ≡ None }
-        ensures added { (rows : List ControllerRow) → AreSameRows rows (rows_of self.old) → OnOk result (AreSameRows (rows ++ row.now ∷ []) (rows_of self.new)) }
+        ensures added { (rows : List ControllerRow) → AreSameRows rows (rows_of self.old) →
+            OnOk result (AreSameRows (rows ++ row.now ∷ []) (rows_of self.new)) }
         ensures indexed { IsIndexed self.new }
     {
         let copy = row.clone()?;
@@ -220,7 +210,7 @@ impl Catalog {
 
     /// The same rows again.
     pub fn copied(&self, alloc: Global, next_id: u64) -> Result<Catalog, CoreFault>
-        requires { IsSound next_id (rows_of self.now) }
+        requires { AreSoundRows next_id (rows_of self.now) }
         ensures rows { IfOk result (λ copy. AreSameRows (rows_of self.now) (rows_of copy)) }
         ensures indexed { IfOk result IsIndexed }
     {

@@ -1,12 +1,13 @@
 //! The controller plugin.
-ghost use Rattle.std.specs.Prelude.{◌≡◌, ◌%◌, ◌^◌, Some, None, [], Ok, IfOk, IfSome, OnOk, OnErr, IsOk, IsTrue, not, option_map, find, ◌==◌};
+ghost use Rattle.std.specs.Prelude.{◌≡◌, ◌%◌, ◌^◌, Some, None, [], Ok, IfOk, IfSome, OnOk, OnErr, IsOk, IsTrue, not, option_map, find, slice_get, ◌==◌};
 ghost use Rattle.std.specs.Option.{option_copied};
 ghost use Rattle.csi_types.specs.declared.call.Call.{Call as OneCall};
 ghost use Rattle.csi_types.specs.declared.call.Party.{Party as OneParty};
-ghost use Rattle.csi_types.specs.Call.{kind_of, is_party_of};
-ghost use Rattle.csi_types.specs.Frame.{IsAllowed};
-ghost use Rattle.csi_types.specs.Lent.{lent_call, HasFitTexts};
-ghost use Rattle.csi_types.specs.Replies.{call_frame};
+ghost use Rattle.csi_types.specs.Model.Call.{kind_of};
+ghost use Rattle.csi_types.specs.Public.Call.{is_party_of};
+ghost use Rattle.csi_types.specs.Public.Frame.{IsAllowed};
+ghost use Rattle.csi_types.specs.Public.Lent.{lent_call, HasFitTexts};
+ghost use Rattle.csi_types.specs.Model.Replies.{call_frame};
 
 mod at_row;
 mod attached;
@@ -47,25 +48,26 @@ pub struct Controller {
 }
 
 impl Model for Controller {
-    ghost use Rattle.csi_controller.specs.Core.{Parts};
-    ghost use Rattle.csi_controller.specs.CoreParts.{parts_of, IsSoundCore};
+    ghost use Rattle.csi_controller.specs.Model.Core.{ControllerParts};
+    ghost use Rattle.csi_controller.specs.Public.CoreParts.{controller_parts_shown, IsSoundCore};
 
-    ghost Value = { Parts };
+    ghost Value = { ControllerParts };
 
-    ghost view = { λ controller. parts_of controller.core };
+    ghost view = { λ controller. controller_parts_shown controller.core };
 
     ghost invariant = { λ controller. IsSoundCore controller.core };
 }
 
 impl Controller {
-    ghost use Rattle.csi_controller.specs.RowsLaw.{Changes};
-    ghost use Rattle.csi_controller.specs.State.{ControllerState, empty_controller, volume_named};
-    ghost use Rattle.csi_controller.specs.Fenced.{fenced, kept_for};
-    ghost use Rattle.csi_controller.specs.Repeats.{IsPlainRepeat};
-    ghost use Rattle.csi_controller.specs.Step.{answer_frame};
-    ghost use Rattle.csi_lists.specs.Members.{EachTwo};
-    ghost use Rattle.csi_controller.specs.Views.{shown_if_live, attached, IsHeldBefore, HasHoldingsOf, IsCopyOf, IsRowOf};
-    ghost use Rattle.csi_controller.specs.Core.{Shows, IsSound, IsCurrent, IsAnsweredOk, IsUndoing};
+    ghost use Rattle.csi_controller.specs.Public.RowsLaw.{ChangesAt};
+    ghost use Rattle.csi_controller.specs.Model.State.{ControllerState, empty_controller, volume_named};
+    ghost use Rattle.csi_controller.specs.Model.Fenced.{fenced, kept_for};
+    ghost use Rattle.csi_controller.specs.Public.Repeats.{IsPlainRepeat};
+    ghost use Rattle.csi_controller.specs.Public.Step.{answer_frame};
+    ghost use Rattle.csi_lists.specs.Model.Members.{EachTwo};
+    ghost use Rattle.csi_controller.specs.Public.Views.{shown_if_live, attached_holdings, IsHeldBefore, HasHoldingsOf, IsCopyOf, IsRowOf};
+    ghost use Rattle.csi_controller.specs.Model.Core.{Shows};
+    ghost use Rattle.csi_controller.specs.Public.Core.{AreSoundRows, IsCurrent, IsAnsweredOk, IsUndoing};
 
     /// A controller that made no volume. It takes no memory.
     pub fn new(alloc: Global, config: Config) -> Controller
@@ -111,7 +113,7 @@ impl Controller {
     }
 
     /// Answers a call as `step` answers a frame of it, by the kind and the reply that the frame of the answer has (those that were
-    /// kept, where the call comes again), and says which volume's row it changed or made. Another plugin's call, and a call with a text outside its limits, which no frame has, get no
+    /// kept, where the call comes again), and says where the row is that it changed or made. Another plugin's call, and a call with a text outside its limits, which no frame has, get no
     /// answer, change nothing and take no memory. Beyond that it takes memory where `step` does. A refusal for want of memory leaves
     /// the controller as it was.
     #[inline(always)]
@@ -121,12 +123,14 @@ impl Controller {
         call: &CallRef<'_>,
     ) -> Result<Option<Answer>, CoreFault>
         // what a frame of the call gets, for any plugin that it is for
-        ensures reply { (state : ControllerState) (party : OneParty) → Shows self.old state → IsAllowed party (Body.Call (lent_call call.now)) → HasFitTexts (lent_call call.now)
+        ensures reply { (state : ControllerState) (party : OneParty) → Shows self.old state → IsAllowed party (Body.Call (lent_call call.now)) →
+            HasFitTexts (lent_call call.now)
             → IfOk result (λ answer. option_map (answer_frame number) answer ≡ (fenced self.old.config state (call_frame number party (lent_call call.now))).reply) }
-        ensures state { (state : ControllerState) (party : OneParty) → Shows self.old state → IsAllowed party (Body.Call (lent_call call.now)) → HasFitTexts (lent_call call.now)
+        ensures state { (state : ControllerState) (party : OneParty) → Shows self.old state → IsAllowed party (Body.Call (lent_call call.now)) →
+            HasFitTexts (lent_call call.now)
             → OnOk result (Shows self.new (fenced self.old.config state (call_frame number party (lent_call call.now))).state) }
         // which row was changed or made, and what stays as it was
-        ensures changes { IfOk result (λ answer. IfSome answer (λ own. Changes own.row number self.old self.new)) }
+        ensures changes { IfOk result (λ answer. IfSome answer (λ own. ChangesAt own.row number self.old self.new)) }
         ensures current { IsCurrent self.new.session self.new.rows }
         ensures unanswered { result ≡ Ok None → self.new ≡ self.old }
         ensures allowed { IfOk result (λ answer. IfSome answer (λ own. IsAllowed Party.Controller (Body.Reply own.kind own.reply))) }
@@ -136,8 +140,10 @@ impl Controller {
         ensures unfit { (HasFitTexts (lent_call call.now) → ⊥) → (result ≡ Ok None) × (self.new ≡ self.old) }
         // what takes no memory succeeds
         ensures others { IsTrue (not (is_party_of (kind_of (lent_call call.now)) Party.Controller)) → result ≡ Ok None }
-        ensures undone { (state : ControllerState) → Shows self.old state → IsUndoing (lent_call call.now) → IsAnsweredOk self.old.config state number (lent_call call.now) → IsOk result }
-        ensures repeated { (state : ControllerState) → Shows self.old state → IsPlainRepeat state.session (kept_for (lent_call call.now) state) number → IsOk result }
+        ensures undone { (state : ControllerState) → Shows self.old state → IsUndoing (lent_call call.now) →
+            IsAnsweredOk self.old.config state number (lent_call call.now) → IsOk result }
+        ensures repeated { (state : ControllerState) → Shows self.old state →
+            IsPlainRepeat state.session (kept_for (lent_call call.now) state) number → IsOk result }
     {
         self.assert_current();
         if !call.is_within_limits() {
@@ -222,16 +228,16 @@ impl Controller {
         self.core.row(id)
     }
 
-    /// The row of the volume of this id, deleted or not, unless it is forgotten, as the controller has it. It takes no memory.
-    pub fn row_with_id(&self, id: VolumeId) -> Option<&ControllerRow>
-        ensures { option_copied result ≡ find (λ row. row.id == id) self.now.rows }
+    /// The row at this place, by rising id, as the controller has it. It takes no memory, and is no search.
+    pub fn row_at(&self, place: usize) -> Option<&ControllerRow>
+        ensures { option_copied result ≡ slice_get self.now.rows place }
     {
-        self.core.catalog.with_id(id)
+        self.core.catalog.rows().get(place)
     }
 
     /// Where each volume is held, by rising id, and for each volume in the order of its row.
     pub fn attachments(&self) -> Result<Vec<Holding>, CoreFault>
-        ensures order { IfOk result (λ all. all.items ≡ attached self.now.rows) }
+        ensures order { IfOk result (λ all. all.items ≡ attached_holdings self.now.rows) }
         ensures rising { IfOk result (λ all. EachTwo IsHeldBefore all.items) }
         ensures state { (state : ControllerState) → Shows self.now state → IfOk result (λ all. HasHoldingsOf state all.items) }
     {
@@ -240,7 +246,7 @@ impl Controller {
 
     // Nothing that runs: the rules of the rows hold.
     pub(crate) fn assert_sound(&self)
-        ensures { IsSound self.now.next_id self.now.rows }
+        ensures { AreSoundRows self.now.next_id self.now.rows }
     {
         let _core = &self.core;
     }

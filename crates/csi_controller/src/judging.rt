@@ -3,9 +3,10 @@ ghost use Rattle.std.specs.Prelude.{◌≡◌, ◌||◌, ℕ, List, not, IfOk, O
 ghost use Rattle.std.specs.BTreeSet.{contains_by};
 ghost use Rattle.std.specs.Cmp.Lexicographic.{slice_cmp};
 ghost use Rattle.std.specs.Ordering.{nat_cmp};
-ghost use Rattle.csi_types.specs.Same.{same_text};
-ghost use Rattle.csi_controller.specs.Core.{IsSound, IsCurrent};
-ghost use Rattle.csi_controller.specs.Judging.{AreRecorded, IsFirstRefused, earlier_of, may_follow as is_fit_after};
+ghost use Rattle.csi_types.specs.Model.Same.{same_text};
+ghost use Rattle.csi_controller.specs.Public.Core.{AreSoundRows, IsCurrent};
+ghost use Rattle.csi_controller.specs.Public.Judging.{AreRecorded, IsFirstRefused};
+ghost use Rattle.csi_controller.specs.Private.Judging.{earlier_of, may_follow as is_fit_after};
 
 use crate::catalog::stays;
 use crate::row::ControllerRow;
@@ -43,7 +44,7 @@ pub(crate) fn first_refused(
     next_id: u64,
     rows: &[ControllerRow],
 ) -> Result<Option<u64>, NoMemory>
-    ensures { IfOk result (λ found. MatchOption found (IsSound next_id rows.now) (IsFirstRefused (IsSound next_id) rows.now)) }
+    ensures { IfOk result (λ found. MatchOption found (AreSoundRows next_id rows.now) (IsFirstRefused (AreSoundRows next_id) rows.now)) }
 {
     let mut names = BTreeSet::new(alloc);
     let mut last = 0;

@@ -1,11 +1,12 @@
 //! The laws of the controller.
 ghost use Rattle.std.specs.List.{AllByRecursion};
-ghost use Rattle.csi_controller.specs.Core.{Shows, IsSound, IsCurrent};
-ghost use Rattle.csi_controller.specs.Exclusive.{IsRowExclusive};
-ghost use Rattle.csi_controller.specs.Laws.{ControllerTableLaw};
-ghost use Rattle.csi_controller.specs.Safe.{ControllerSafetyLaw, ControllerSessionsLaw};
-ghost use Rattle.csi_controller.specs.State.{ControllerState};
-ghost use Rattle.csi_controller.specs.View.{ControllerDeliveryLaw, ControllerNamesLaw};
+ghost use Rattle.csi_controller.specs.Model.Core.{Shows};
+ghost use Rattle.csi_controller.specs.Public.Core.{AreSoundRows, IsCurrent};
+ghost use Rattle.csi_controller.specs.Public.Exclusive.{IsRowExclusive};
+ghost use Rattle.csi_controller.specs.Public.Laws.{ControllerTableLaw};
+ghost use Rattle.csi_controller.specs.Public.Safe.{ControllerSafetyLaw, ControllerSessionsLaw};
+ghost use Rattle.csi_controller.specs.Model.State.{ControllerState};
+ghost use Rattle.csi_controller.specs.Public.View.{ControllerDeliveryLaw, ControllerNamesLaw};
 
 use crate::controller::Controller;
 
@@ -70,7 +71,7 @@ pub fn showing_law(controller: &Controller)
 
 /// A law, and nothing that runs: the rows of every controller keep the rules of a record. This profile's own.
 pub fn sound_law(controller: &Controller)
-    ensures { IsSound controller.now.next_id controller.now.rows }
+    ensures { AreSoundRows controller.now.next_id controller.now.rows }
 {
     controller.assert_sound();
 }

@@ -1,6 +1,6 @@
 //! A controller's record.
 ghost use Rattle.std.specs.Prelude.{◌≡◌, List, filter, IfOk, IfErr, OnOk};
-ghost use Rattle.csi_controller.specs.WithoutSession.{latest_session as latest};
+ghost use Rattle.csi_controller.specs.Public.WithoutSession.{latest_session as latest};
 
 use crate::catalog::Catalog;
 use crate::judging::{first_refused, first_unfit};
@@ -32,28 +32,28 @@ fn latest_session(rows: &[ControllerRow]) -> u64
 }
 
 impl Model for ControllerRecord {
-    ghost use Rattle.csi_controller.specs.Core.{IsSound, IsCurrent};
-    ghost use Rattle.csi_controller.specs.Catalog.{rows_of, IsIndexed};
-    ghost use Rattle.csi_controller.specs.Views.{RecordParts};
+    ghost use Rattle.csi_controller.specs.Public.Core.{AreSoundRows, IsCurrent};
+    ghost use Rattle.csi_controller.specs.Public.Catalog.{rows_of, IsIndexed};
+    ghost use Rattle.csi_controller.specs.Public.Views.{RecordParts};
 
     ghost Value = { RecordParts };
 
     ghost view = { λ record_. record { next_id = record_.next_id; session = record_.session; rows = rows_of record_.catalog } };
 
-    ghost invariant = { λ record_. IsSound record_.next_id (rows_of record_.catalog) × IsCurrent record_.session (rows_of record_.catalog) × IsIndexed record_.catalog };
+    ghost invariant = { λ record_. AreSoundRows record_.next_id (rows_of record_.catalog) × IsCurrent record_.session (rows_of record_.catalog) × IsIndexed record_.catalog };
 }
 
 impl ControllerRecord {
-    ghost use Rattle.csi_controller.specs.Catalog.{rows_of, IsIndexed};
-    ghost use Rattle.csi_controller.specs.Core.{IsSound, IsCurrent};
+    ghost use Rattle.csi_controller.specs.Public.Catalog.{rows_of, IsIndexed};
+    ghost use Rattle.csi_controller.specs.Public.Core.{AreSoundRows, IsCurrent};
     ghost use Rattle.csi_controller.specs.declared.row.ControllerRow.{ControllerRow as OneRow};
-    ghost use Rattle.csi_controller.specs.Judging.{AreRecorded, IsRecordRefusal};
-    ghost use Rattle.csi_controller.specs.WithoutSession.{stays_in, without_session as kept_without};
-    ghost use Rattle.csi_controller.specs.Views.{AreSameRows};
+    ghost use Rattle.csi_controller.specs.Public.Judging.{AreRecorded, IsRecordRefusal};
+    ghost use Rattle.csi_controller.specs.Public.WithoutSession.{stays_in, without_session as kept_without};
+    ghost use Rattle.csi_controller.specs.Public.Views.{AreSameRows};
 
     // The record of this catalog.
     pub(crate) fn new(next_id: u64, session: u64, catalog: Catalog) -> ControllerRecord
-        requires sound { IsSound next_id (rows_of catalog) }
+        requires sound { AreSoundRows next_id (rows_of catalog) }
         requires current { IsCurrent session (rows_of catalog) }
         requires indexed { IsIndexed catalog }
         ensures { result ≡ record { next_id = next_id; session = session; rows = rows_of catalog } }
@@ -79,11 +79,12 @@ impl ControllerRecord {
         session: u64,
     ) -> Result<ControllerRecord, RecordFault>
         ensures value { IfOk result (λ made. made ≡ record { next_id = next_id; session = session; rows = rows.items }) }
-        ensures sound { OnOk result (IsSound next_id rows.items) }
+        ensures sound { OnOk result (AreSoundRows next_id rows.items) }
         ensures current { OnOk result (IsCurrent session rows.items) }
         ensures refused { IfErr result (IsRecordRefusal (AreRecorded next_id session) rows.items) }
         ensures accepted { AreRecorded next_id session rows.items → IfErr result (λ fault. fault ≡ RecordFault.NoMemory) }
-        ensures copies { (kept : List OneRow) → AreRecorded next_id session kept → AreSameRows kept rows.items → IfErr result (λ fault. fault ≡ RecordFault.NoMemory) }
+        ensures copies { (kept : List OneRow) → AreRecorded next_id session kept → AreSameRows kept rows.items →
+            IfErr result (λ fault. fault ≡ RecordFault.NoMemory) }
     {
         match first_unfit(alloc, next_id, session, rows.as_slice()) {
             Ok(None) => match Catalog::of_rows(alloc, next_id, rows) {
@@ -108,11 +109,11 @@ impl ControllerRecord {
         rows: Vec<ControllerRow>,
     ) -> Result<ControllerRecord, RecordFault>
         ensures value { IfOk result (λ made. made ≡ kept_without next_id rows.items) }
-        ensures sound { OnOk result (IsSound next_id rows.items) }
+        ensures sound { OnOk result (AreSoundRows next_id rows.items) }
         ensures current { IfOk result (λ made. IsCurrent made.session made.rows) }
-        ensures refused { IfErr result (IsRecordRefusal (IsSound next_id) rows.items) }
-        ensures accepted { IsSound next_id rows.items → IfErr result (λ fault. fault ≡ RecordFault.NoMemory) }
-        ensures copies { (kept : List OneRow) → IsSound next_id kept → AreSameRows kept rows.items → IfErr result (λ fault. fault ≡ RecordFault.NoMemory) }
+        ensures refused { IfErr result (IsRecordRefusal (AreSoundRows next_id) rows.items) }
+        ensures accepted { AreSoundRows next_id rows.items → IfErr result (λ fault. fault ≡ RecordFault.NoMemory) }
+        ensures copies { (kept : List OneRow) → AreSoundRows next_id kept → AreSameRows kept rows.items → IfErr result (λ fault. fault ≡ RecordFault.NoMemory) }
     {
         match first_refused(alloc, next_id, rows.as_slice()) {
             Ok(None) => {
@@ -129,7 +130,7 @@ impl ControllerRecord {
 
     // The record of what stays of this catalog in a session that none of its rows is after.
     fn of_session(next_id: u64, session: u64, mut catalog: Catalog) -> ControllerRecord
-        requires sound { IsSound next_id (rows_of catalog) }
+        requires sound { AreSoundRows next_id (rows_of catalog) }
         requires latest { session ≡ latest (rows_of catalog) }
         requires indexed { IsIndexed catalog }
         ensures { result ≡ record { next_id = next_id; session = session; rows = filter (stays_in session) (rows_of catalog) } }
@@ -155,7 +156,7 @@ impl ControllerRecord {
     /// The rows by rising id.
     pub fn rows(&self) -> &[ControllerRow]
         ensures value { result.now ≡ self.now.rows }
-        ensures sound { IsSound self.now.next_id self.now.rows }
+        ensures sound { AreSoundRows self.now.next_id self.now.rows }
         ensures current { IsCurrent self.now.session self.now.rows }
     {
         self.catalog.rows()
@@ -164,7 +165,7 @@ impl ControllerRecord {
     // The rows by id and by name.
     pub(crate) fn into_catalog(self) -> Catalog
         ensures value { rows_of result ≡ self.rows }
-        ensures sound { IsSound self.next_id self.rows }
+        ensures sound { AreSoundRows self.next_id self.rows }
         ensures indexed { IsIndexed result }
     {
         let ControllerRecord {

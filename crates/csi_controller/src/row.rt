@@ -1,6 +1,6 @@
 //! A controller's rows, as its record has them.
 ghost use Rattle.std.specs.Prelude.{◌≡◌, IfOk};
-ghost use Rattle.csi_controller.specs.Core.{IsSameRow};
+ghost use Rattle.csi_controller.specs.Public.Core.{IsSameRow};
 
 use csi_types::{Capability, CapabilityList, Kind, Name, NodeId, Number, Reply, VolumeId};
 use std::alloc::AllocError;
@@ -46,7 +46,7 @@ impl Clone for NodeHolding {
 }
 
 // The same capabilities again.
-pub(crate) fn copied_capabilities(list: &CapabilityList) -> Result<CapabilityList, AllocError>
+fn copied_capabilities(list: &CapabilityList) -> Result<CapabilityList, AllocError>
     ensures { IfOk result (λ copy. copy ≡ list.now) }
 {
     list.clone()

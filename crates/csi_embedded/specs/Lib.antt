@@ -1,5 +1,2 @@
-pub mod Endings
-pub mod Plugins
-pub mod Calls
-pub mod Making
-pub mod Holding
+pub mod Public
+pub mod Private

@@ -1,7 +1,7 @@
 //! Bytes that are handed to C.
 ghost use Rattle.std.specs.Prelude.{◌≡◌, ◌<◌, Err, length, take, OnOk, OnErr};
-ghost use Rattle.csi_stores.specs.Part.{change_of};
-ghost use Rattle.csi_embedded.specs.Calls.{TellsChange};
+ghost use Rattle.csi_stores.specs.Public.Part.{part_change};
+ghost use Rattle.csi_embedded.specs.Public.Calls.{TellsChange};
 
 use crate::ending::Ending;
 use csi_service::Part;
@@ -25,7 +25,7 @@ pub(crate) fn copy(bytes: &[u8], room: &mut [u8], written: &mut usize) -> Result
 
 /// Copies a part: its key, and its value, if it has one; without one it is taken out.
 pub(crate) fn copy_part(part: &Part, key: &mut u64, value: &mut [u8], written: &mut usize) -> Ending
-    ensures { TellsChange (change_of part.now) key.new (length value.old) written.new (take written.new value.new) result }
+    ensures { TellsChange (part_change part.now) key.new (length value.old) written.new (take written.new value.new) result }
 {
     *key = part.key;
     match &part.value {

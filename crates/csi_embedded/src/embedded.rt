@@ -25,13 +25,14 @@ pub struct Embedded {
 
 impl Embedded {
     ghost use Rattle.std.specs.Prelude.{◌≡◌, ◌≤◌, [], None, map, length, IfOk, IfErr, OnOk, OnErr};
-    ghost use Rattle.csi_stores.specs.Part.{change_of};
-    ghost use Rattle.csi_embedded.specs.Calls.{changes_in, front, told, Answered, IsNoFrame, Remains};
+    ghost use Rattle.csi_stores.specs.Public.Part.{part_change};
+    ghost use Rattle.csi_embedded.specs.Private.Calls.{changes_in};
+    ghost use Rattle.csi_embedded.specs.Public.Calls.{frame_front, told_changes, AnswersFrame, IsNoFrame, Remains};
 
     /// A plugin that answered nothing yet, of which the store has to be given these parts. It takes no memory.
     pub fn new(alloc: Global, plugin: Plugin, changed: Vec<Part>) -> Embedded
         ensures plugin { result.plugin ≡ plugin }
-        ensures told { told result ≡ map change_of changed.items }
+        ensures told { told_changes result ≡ map part_change changed.items }
     {
         Embedded {
             alloc,
@@ -45,9 +46,9 @@ impl Embedded {
     /// Answers the frame that these bytes begin with, says how many of them it took, and leaves the bytes of its reply in `reply`, none
     /// where it has no reply. Any other ending leaves the plugin as it was, and what the store has to be given.
     pub fn answer(&mut self, bytes: &[u8]) -> Result<usize, Ending>
-        ensures answered { IfOk result (λ used. Answered self.old bytes.now used self.new self.new.reply.items) }
+        ensures answered { IfOk result (λ used. AnswersFrame self.old bytes.now used self.new self.new.reply.items) }
         ensures few { OnOk result (length self.new.reply.items ≤ 544) }
-        ensures why { IfErr result (IsNoFrame (front bytes.now)) }
+        ensures why { IfErr result (IsNoFrame (frame_front bytes.now)) }
         ensures remains { OnErr result (Remains self.old self.new) }
     {
         let bytes = front(bytes);
@@ -68,8 +69,8 @@ impl Embedded {
     /// What the store has to be given before the reply is sent: the parts to be put in and taken out, in this order. A refusal leaves
     /// everything as it was.
     pub fn tell(&mut self) -> Result<(), NoMemory>
-        ensures told { OnOk result (map change_of (changes_in self.new.changed) ≡ told self.old) }
-        ensures same { told self.new ≡ told self.old }
+        ensures told { OnOk result (map part_change (changes_in self.new.changed) ≡ told_changes self.old) }
+        ensures same { told_changes self.new ≡ told_changes self.old }
         ensures plugin { self.new.plugin ≡ self.old.plugin }
     {
         if self.changed.is_none() {

@@ -1,6 +1,6 @@
 //! How a call ends.
 ghost use Rattle.std.specs.Prelude.{◌≡◌};
-ghost use Rattle.csi_embedded.specs.Endings.{ending_number};
+ghost use Rattle.csi_embedded.specs.Public.Endings.{ending_number};
 
 use csi_types::NoMemory;
 

@@ -1,8 +1,9 @@
 //! What a C program calls, as `include/tufayon.h` declares it. No call leaves anything half done: where it isn't done the handle's plugin, and what
 //! the store has to be given, are as they were.
 ghost use Rattle.std.specs.Prelude.{◌≡◌, ◌≢◌, ◌≤◌, None, Some, length, take};
-ghost use Rattle.csi_embedded.specs.Calls.{Answered, HasAnswered, HasFailed, HasRecord, HasRemained, HasTold, IsUnanswered, Remains, TellsAt, TellsRecord};
-ghost use Rattle.csi_embedded.specs.Making.{Gives, Makes, IsNewController, IsNewNode, IsReadController, IsReadNode, IsDone, IsNoConfig, IsNoId, IsNoReadController, IsNoReadNode};
+ghost use Rattle.csi_embedded.specs.Public.Calls.{AnswersFrame, HandleAnswers, HasFailed, AnswersRecord, HasRemained, HasTold, IsUnanswered, Remains, TellsAt, TellsRecord};
+ghost use Rattle.csi_embedded.specs.Private.Making.{GivesHandle};
+ghost use Rattle.csi_embedded.specs.Public.Making.{Makes, IsNewController, IsNewNode, IsReadController, IsReadNode, EndsDone, IsNoConfig, IsNoId, IsNoReadController, IsNoReadNode};
 
 use crate::copying::{copy, copy_part};
 use crate::embedded::Embedded;
@@ -17,7 +18,7 @@ const REPLY_ROOM: usize = 544;
 // Puts a plugin that was made into a handle that has none, and gives the number of the call's ending.
 fn put(alloc: Global, plugin: &mut Handle, made: Result<(Embedded, Ending), Ending>) -> u32
     requires { plugin.old.held.embedded ≡ None }
-    ensures { Gives made plugin.new.held.embedded result }
+    ensures { GivesHandle made plugin.new.held.embedded result }
 {
     match made {
         Ok((embedded, ending)) => match Box::new(alloc, embedded) {
@@ -35,7 +36,8 @@ fn put(alloc: Global, plugin: &mut Handle, made: Result<(Embedded, Ending), Endi
 /// controller's record.
 #[unsafe(no_mangle)]
 pub extern "C" fn tufayon_controller_new(alloc: Global, config: &[u8], plugin: &mut Handle) -> u32
-    ensures { Makes (λ made ending. IsNewController config.now made × IsDone ending) (IsNoConfig config.now) plugin.old.held.embedded plugin.new.held.embedded result }
+    ensures { Makes (λ made ending. IsNewController config.now made
+        × EndsDone ending) (IsNoConfig config.now) plugin.old.held.embedded plugin.new.held.embedded result }
 {
     if plugin.is_full() {
         return Ending::Full.number();
@@ -46,7 +48,7 @@ pub extern "C" fn tufayon_controller_new(alloc: Global, config: &[u8], plugin: &
 /// A new node of this id. The handle has to be empty. What the store has to be given then is the node's record.
 #[unsafe(no_mangle)]
 pub extern "C" fn tufayon_node_new(alloc: Global, id: &[u8], plugin: &mut Handle) -> u32
-    ensures { Makes (λ made ending. IsNewNode id.now made × IsDone ending) (IsNoId id.now) plugin.old.held.embedded plugin.new.held.embedded result }
+    ensures { Makes (λ made ending. IsNewNode id.now made × EndsDone ending) (IsNoId id.now) plugin.old.held.embedded plugin.new.held.embedded result }
 {
     if plugin.is_full() {
         return Ending::Full.number();
@@ -95,7 +97,7 @@ fn answer(
     reply: &mut [u8],
     written: &mut usize,
 ) -> Ending
-    ensures done { result ≡ Ending.Done → Answered embedded.old frame.now used.new embedded.new (take written.new reply.new) }
+    ensures done { result ≡ Ending.Done → AnswersFrame embedded.old frame.now used.new embedded.new (take written.new reply.new) }
     ensures room { result ≡ Ending.Done → written.new ≤ length reply.new }
     ensures why { result ≢ Ending.Done → IsUnanswered (Some embedded.old) frame.now (length reply.old) result }
     ensures remains { result ≢ Ending.Done → Remains embedded.old embedded.new }
@@ -126,7 +128,7 @@ pub extern "C" fn tufayon_answer(
     reply: &mut [u8],
     written: &mut usize,
 ) -> u32
-    ensures done { result ≡ 0 → HasAnswered plugin.old.held.embedded frame.now used.new plugin.new.held.embedded (take written.new reply.new) }
+    ensures done { result ≡ 0 → HandleAnswers plugin.old.held.embedded frame.now used.new plugin.new.held.embedded (take written.new reply.new) }
     ensures room { result ≡ 0 → written.new ≤ length reply.new }
     ensures refused { result ≢ 0 → HasFailed plugin.old.held.embedded frame.now (length reply.old) plugin.new.held.embedded result }
 {
@@ -206,7 +208,7 @@ pub extern "C" fn tufayon_record(
     bytes: &mut [u8],
     written: &mut usize,
 ) -> u32
-    ensures record { HasRecord plugin.old.held.embedded (length bytes.old) written.new (take written.new bytes.new) result }
+    ensures record { AnswersRecord plugin.old.held.embedded (length bytes.old) written.new (take written.new bytes.new) result }
     ensures same { plugin.new.held.embedded ≡ plugin.old.held.embedded }
 {
     match plugin.take(alloc) {

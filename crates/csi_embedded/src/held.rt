@@ -1,6 +1,6 @@
 //! A pointer as C holds it, to a plugin or to nothing.
 ghost use Rattle.std.specs.Prelude.{◌≡◌, Option, Some, None};
-ghost use Rattle.csi_embedded.specs.Holding.{held_owns, held_coded};
+ghost use Rattle.csi_embedded.specs.Private.Holding.{held_owns, held_coded};
 ghost use Rattle.csi_embedded.specs.contracts.embedded.Embedded.{the_row};
 
 use crate::embedded::Embedded;

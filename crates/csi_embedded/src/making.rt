@@ -1,8 +1,9 @@
 //! Plugins that are made: new ones, and those of a record.
 ghost use Rattle.std.specs.Prelude.{◌≡◌, ◌∷◌, [], Ok, map, IfOk, IfErr};
-ghost use Rattle.csi_json.specs.Configs.{text_config};
-ghost use Rattle.csi_stores.specs.Part.{change_of, put_all};
-ghost use Rattle.csi_embedded.specs.Making.{IsNewController, IsNewNode, IsReadController, IsReadNode, IsDone, IsNoConfig, IsNoId, IsNoReadController, IsNoReadNode, IsEndingOf, Renews};
+ghost use Rattle.csi_json.specs.Public.Configs.{text_config};
+ghost use Rattle.csi_stores.specs.Public.Part.{part_change, put_all};
+ghost use Rattle.csi_embedded.specs.Public.Making.{IsNewController, IsNewNode, IsReadController, IsReadNode, EndsDone, IsNoConfig, IsNoId, IsNoReadController, IsNoReadNode, Renews};
+ghost use Rattle.csi_embedded.specs.Private.Making.{IsEndingOf};
 
 use crate::embedded::Embedded;
 use crate::ending::Ending;
@@ -50,7 +51,7 @@ fn id_of(alloc: Global, bytes: &[u8]) -> Result<NodeId, Ending>
 
 // The head of a record, to be put in.
 fn head_part(alloc: Global, value: Vec<u8>) -> Result<Vec<Part>, NoMemory>
-    ensures { IfOk result (λ parts. map change_of parts.items ≡ put_all (record { key = 0; value = value.items } ∷ [])) }
+    ensures { IfOk result (λ parts. map part_change parts.items ≡ put_all (record { key = 0; value = value.items } ∷ [])) }
 {
     let mut parts = Vec::new(alloc);
     parts.push(Part {
@@ -66,7 +67,7 @@ fn renewal<T: Record>(
     kept: &T,
     version: RecordVersion,
 ) -> Result<(Vec<Part>, Ending), NoMemory>
-    ensures { IfOk result (λ given. Renews version (T.parts_of kept.now) (map change_of given.0.items) given.1) }
+    ensures { IfOk result (λ given. Renews version (T.parts_of kept.now) (map part_change given.0.items) given.1) }
 {
     if is_present(version) {
         Ok((Vec::new(alloc), Ending::Done))
@@ -87,7 +88,7 @@ fn ending_of(stop: RecordStop) -> Ending
 
 /// The controller under the configuration that these bytes say, which has no volume. The store has to be given its record.
 pub(crate) fn new_controller(alloc: Global, config: &[u8]) -> Result<(Embedded, Ending), Ending>
-    ensures made { IfOk result (λ made. IsNewController config.now made.0 × IsDone made.1) }
+    ensures made { IfOk result (λ made. IsNewController config.now made.0 × EndsDone made.1) }
     ensures refused { IfErr result (IsNoConfig config.now) }
 {
     let config = config_of(alloc, config)?;
@@ -101,7 +102,7 @@ pub(crate) fn new_controller(alloc: Global, config: &[u8]) -> Result<(Embedded, 
 
 /// The node of this id, which has no volume. The store has to be given its record.
 pub(crate) fn new_node(alloc: Global, id: &[u8]) -> Result<(Embedded, Ending), Ending>
-    ensures made { IfOk result (λ made. IsNewNode id.now made.0 × IsDone made.1) }
+    ensures made { IfOk result (λ made. IsNewNode id.now made.0 × EndsDone made.1) }
     ensures refused { IfErr result (IsNoId id.now) }
 {
     let id = id_of(alloc, id)?;

@@ -1,10 +1,10 @@
 //! The plugin of a handle: a controller or a node.
 ghost use Rattle.std.specs.Prelude.{◌≡◌, ◌≤◌, ◌+◌, map, length, IfOk, OnOk, OnErr};
-ghost use Rattle.csi_frames.specs.Lent.{lent};
-ghost use Rattle.csi_stores.specs.Part.{change_of};
-ghost use Rattle.csi_stores.specs.Content.{all_changed};
-ghost use Rattle.csi_service.specs.Appending.{AppendsReply};
-ghost use Rattle.csi_embedded.specs.Plugins.{plugin_parts, plugin_changes, Answers, IsAsItWas, IsRecordOf};
+ghost use Rattle.csi_frames.specs.Public.Lent.{lent_frame};
+ghost use Rattle.csi_stores.specs.Public.Part.{part_change};
+ghost use Rattle.csi_stores.specs.Public.Content.{all_changed};
+ghost use Rattle.csi_service.specs.Public.Answering.{AppendsReply};
+ghost use Rattle.csi_embedded.specs.Public.Plugins.{plugin_parts, plugin_changes, PluginAnswers, IsAsItWas, IsPluginRecord};
 
 use csi_frames::FrameRef;
 use csi_service::{ControllerService, Core, NodeService, Part, write_record};
@@ -22,7 +22,7 @@ impl Plugin {
     /// Answers a frame that is lent, and appends the bytes of its reply, if it has one: whether it has. A refusal leaves the plugin as it
     /// was.
     pub fn answer_into(&mut self, frame: &FrameRef<'_>, out: &mut Vec<u8>) -> Result<bool, NoMemory>
-        ensures answered { IfOk result (AppendsReply Answers self.old (lent frame.now) self.new out.old.items out.new.items) }
+        ensures answered { IfOk result (AppendsReply PluginAnswers self.old (lent_frame frame.now) self.new out.old.items out.new.items) }
         ensures few { OnOk result (length out.new.items ≤ length out.old.items + 544) }
         ensures parts { OnOk result (plugin_parts self.new ≡ all_changed (plugin_changes self.new) (plugin_parts self.old)) }
         ensures err { OnErr result (IsAsItWas self.old self.new) }
@@ -35,7 +35,7 @@ impl Plugin {
 
     /// What the last frame that was answered changed: the parts to be put in or taken out.
     pub fn changed(&self) -> Result<Vec<Part>, NoMemory>
-        ensures { IfOk result (λ parts. map change_of parts.items ≡ plugin_changes self.now) }
+        ensures { IfOk result (λ parts. map part_change parts.items ≡ plugin_changes self.now) }
     {
         match self {
             Plugin::Controller(service) => service.parts(),
@@ -45,7 +45,7 @@ impl Plugin {
 
     /// The bytes of its whole record.
     pub fn record(&self, alloc: Global) -> Result<Vec<u8>, NoMemory>
-        ensures { IfOk result (λ bytes. IsRecordOf self.now bytes.items) }
+        ensures { IfOk result (λ bytes. IsPluginRecord self.now bytes.items) }
     {
         match self {
             Plugin::Controller(service) => {

@@ -1,8 +1,8 @@
 //! The frame that bytes begin with, answered as it is lent.
 ghost use Rattle.std.specs.Prelude.{◌≡◌, ◌≤◌, ◌+◌, [], None, length, IfOk, OnOk, OnErr};
-ghost use Rattle.csi_stores.specs.Content.{all_changed};
-ghost use Rattle.csi_embedded.specs.Calls.{AnswersNext};
-ghost use Rattle.csi_embedded.specs.Plugins.{plugin_parts, plugin_changes, IsAsItWas};
+ghost use Rattle.csi_stores.specs.Public.Content.{all_changed};
+ghost use Rattle.csi_embedded.specs.Private.Calls.{AnswersFirst};
+ghost use Rattle.csi_embedded.specs.Public.Plugins.{plugin_parts, plugin_changes, IsAsItWas};
 
 use crate::ending::Ending;
 use crate::plugin::Plugin;
@@ -42,7 +42,7 @@ pub(crate) fn answer_next(
     reply: &mut Vec<u8>,
 ) -> Result<(), Ending>
     requires { splitter.old.fault ≡ None }
-    ensures answered { AnswersNext plugin.old splitter.old.kept plugin.new splitter.new.kept reply.old.items reply.new.items result }
+    ensures answered { AnswersFirst plugin.old splitter.old.kept plugin.new splitter.new.kept reply.old.items reply.new.items result }
     ensures few { OnOk result (length reply.new.items ≤ length reply.old.items + 544) }
     ensures clear { OnOk result (splitter.new.fault ≡ None) }
     ensures parts { OnOk result (plugin_parts plugin.new ≡ all_changed (plugin_changes plugin.new) (plugin_parts plugin.old)) }

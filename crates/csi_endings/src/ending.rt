@@ -1,6 +1,6 @@
 //! How a run of the program ends.
 ghost use Rattle.std.specs.Prelude.{◌≡◌};
-ghost use Rattle.csi_endings.specs.Ending.{exit_status, ending_unless_memory};
+ghost use Rattle.csi_endings.specs.Public.Ending.{exit_status, ending_unless_memory};
 
 use csi_frames::FaultKind;
 use csi_json::ScheduleFault;
@@ -102,7 +102,7 @@ impl From<NoMemory> for Ending {
 impl From<Ending> for ExitCode {
     ghost use Rattle.std.specs.Prelude.{◌≡◌};
     ghost use Rattle.std.specs.Process.{exit_status as process_status};
-    ghost use Rattle.csi_endings.specs.Ending.{exit_status};
+    ghost use Rattle.csi_endings.specs.Public.Ending.{exit_status};
 
     ghost from_gives = { λ ending code. process_status code ≡ exit_status ending };
 

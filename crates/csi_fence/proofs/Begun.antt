@@ -5,23 +5,23 @@ use Rattle.std.proofs.lemmas.Bool.{or_cases, or_left, or_right, or_from, false�
 use Rattle.csi_types.specs.declared.number.Number.{Number}
 use Rattle.csi_types.specs.declared.call.Call.{Call}
 use Rattle.csi_types.specs.declared.call.Party.{Party}
-use Rattle.csi_types.specs.Frame.{Frame}
-use Rattle.csi_types.specs.Key.{Key, Form}
-use Rattle.csi_fence.specs.Delivery.{View, view_by, Delivery, kept_of, last_of, Acts, Misses, Becomes, IsDelivered}
-use Rattle.csi_fence.specs.Fence.{Kept, is_spent, is_over, begins}
-use Rattle.csi_fence.specs.Fenced.{Machine, in_session}
+use Rattle.csi_types.specs.Model.Frame.{Frame}
+use Rattle.csi_types.specs.Public.Key.{Key, Form}
+use Rattle.csi_fence.specs.Public.Delivery.{PluginView, view_by, Delivery, kept_of, last_of, Acts, Misses, CallBecomes, IsDelivered}
+use Rattle.csi_fence.specs.Model.Fence.{Kept, is_spent, is_over, begins}
+use Rattle.csi_fence.specs.Model.Fenced.{Machine, in_session}
 use Rattle.csi_fence.proofs.Spent.{spent-session, fresh_in-later, over-from, over-later, not_over-own}
 
 -- the session of this number began: things are as they were, what was spent stays so, the number isn't spent, and what is kept was
 -- kept before, or nothing is kept any more
-pub record HasBegun (number : Number) (old new : View) : Type 0 where
+pub record HasBegun (number : Number) (old new : PluginView) : Type 0 where
   pub held : (key : Key) → new.held key ≡ old.held key
   pub stays_spent : (key : Key) (earlier : Number) → IsTrue (old.is_spent key earlier) → IsTrue (new.is_spent key earlier)
   pub fresh : (key : Key) → new.is_spent key number ≡ false
   pub keeps : (key : Key) → (new.kept key ≡ old.kept key) ⊎ (new.kept key ≡ None)
 
 -- a call that acts once its session has begun acts
-pub acts-begun : (key : Key) (delivery : Delivery) (old begun new : View) → HasBegun delivery.number old begun → Acts key delivery begun new → Acts key delivery old new
+pub acts-begun : (key : Key) (delivery : Delivery) (old begun new : PluginView) → HasBegun delivery.number old begun → Acts key delivery begun new → Acts key delivery old new
 acts-begun key delivery old begun new has acts =
     record {
       of_its_kind = acts.of_its_kind;
@@ -48,7 +48,7 @@ acts-begun key delivery old begun new has acts =
     by other (inr none) (inr f) = inr f
 
 -- one that misses then misses
-pub misses-begun : (delivery : Delivery) (old begun new : View) → HasBegun delivery.number old begun → Misses delivery begun new → Misses delivery old new
+pub misses-begun : (delivery : Delivery) (old begun new : PluginView) → HasBegun delivery.number old begun → Misses delivery begun new → Misses delivery old new
 misses-begun delivery old begun new has misses =
     record {
       of_its_kind = misses.of_its_kind;
@@ -66,13 +66,13 @@ misses-begun delivery old begun new has misses =
     by key (inr none) (inr f) = inr f
 
 -- and none rests, since its number isn't spent
-pub becomes-begun : (o : Option Key) (delivery : Delivery) (old begun new : View) → HasBegun delivery.number old begun → Becomes o delivery begun new → Becomes o delivery old new
+pub becomes-begun : (o : Option Key) (delivery : Delivery) (old begun new : PluginView) → HasBegun delivery.number old begun → CallBecomes o delivery begun new → CallBecomes o delivery old new
 becomes-begun None delivery old begun new has misses = misses-begun delivery old begun new has misses
 becomes-begun (Some key) delivery old begun new has (inl acts) = inl (acts-begun key delivery old begun new has acts)
 becomes-begun (Some key) delivery old begun new has (inr rests) = absurd (true≢false (sym rests.was_spent ∙ has.fresh key))
 
 -- a call that is delivered once its session has begun is delivered
-pub delivered-begun : (party : Party) (number : Number) (call : Call) (o : Option Key) (old begun new : View) (answer : Option Frame) → HasBegun number old begun
+pub delivered-begun : (party : Party) (number : Number) (call : Call) (o : Option Key) (old begun new : PluginView) (answer : Option Frame) → HasBegun number old begun
     → IsDelivered party number call o begun new answer → IsDelivered party number call o old new answer
 delivered-begun party number call o old begun new answer has delivered =
     record {
@@ -83,7 +83,7 @@ delivered-begun party number call o old begun new answer has delivered =
     }
 
 -- a call that is delivered in the state in which it is judged is delivered
-pub delivered-in_session : {State : Type 0} (machine : Machine State) (view : State → View) (state : State) (party : Party) (number : Number) (call : Call) (o : Option Key) (new : View) (answer : Option Frame)
+pub delivered-in_session : {State : Type 0} (machine : Machine State) (view : State → PluginView) (state : State) (party : Party) (number : Number) (call : Call) (o : Option Key) (new : PluginView) (answer : Option Frame)
     → (begins (machine.session state) number ≡ true → HasBegun number (view state) (view (machine.begun number.session state)))
     → IsDelivered party number call o (view (in_session machine number state)) new answer → IsDelivered party number call o (view state) new answer
 delivered-in_session {State = State} machine view state party number call o new answer has = by (begins (machine.session state) number) refl

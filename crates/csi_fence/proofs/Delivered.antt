@@ -5,12 +5,12 @@ use Rattle.std.proofs.lemmas.Bool.{false≢true}
 use Rattle.csi_types.specs.declared.number.Number.{Number}
 use Rattle.csi_types.specs.declared.call.Call.{Call}
 use Rattle.csi_types.specs.declared.status.Status.TheVariants.{Ok}
-use Rattle.csi_types.specs.Call.{kind_of}
-use Rattle.csi_types.specs.Key.{Key, Form}
-use Rattle.csi_types.specs.Replies.{stale_reply}
-use Rattle.csi_fence.specs.Delivery.{View, view_by, Delivery, kept_of, last_of, Becomes, IsDelivered}
-use Rattle.csi_fence.specs.Fence.{Kept, is_spent, is_over, begins}
-use Rattle.csi_fence.specs.Fenced.{Fenced, Machine, in_session, answered_only, answered_in}
+use Rattle.csi_types.specs.Model.Call.{kind_of}
+use Rattle.csi_types.specs.Public.Key.{Key, Form}
+use Rattle.csi_types.specs.Model.Replies.{stale_reply}
+use Rattle.csi_fence.specs.Public.Delivery.{PluginView, view_by, Delivery, kept_of, last_of, CallBecomes, IsDelivered}
+use Rattle.csi_fence.specs.Model.Fence.{Kept, is_spent, is_over, begins}
+use Rattle.csi_fence.specs.Model.Fenced.{Fenced, Machine, in_session, answered_only, answered_in}
 use Rattle.csi_fence.proofs.Judged.{Judgement, was_over, was_fresh, was_repeated, was_stale, was_judged}
 use Rattle.csi_fence.proofs.Views.{aborted, spent-rests, over-becomes}
 use Rattle.csi_fence.proofs.Begun.{HasBegun, delivered-in_session}
@@ -26,13 +26,13 @@ renumbered kept number same = let back = sym same in λ i. record { number = bac
 
 -- a call whose number is spent, and that changes nothing, rests
 pub spent-becomes : (session : ℕ) (held : Key → Option Form) (kept : Key → Option Kept) (o : Option Key) (own : Option Kept) (delivery : Delivery) → IsKeptFor o kept own
-    → is_spent (last_of own) delivery.number ≡ true → (delivery.reply.status ≡ Ok → own ≡ Some (kept_of delivery)) → Becomes o delivery (view_by session held kept) (view_by session held kept)
+    → is_spent (last_of own) delivery.number ≡ true → (delivery.reply.status ≡ Ok → own ≡ Some (kept_of delivery)) → CallBecomes o delivery (view_by session held kept) (view_by session held kept)
 spent-becomes session held kept None own delivery is spent was_kept = absurd (false≢true (sym (ap (λ (k : Option Kept). is_spent (last_of k) delivery.number) is) ∙ spent))
 spent-becomes session held kept (Some key) own delivery is spent was_kept =
     inr (spent-rests session held kept key delivery (ap (λ (k : Option Kept). is_spent (last_of k) delivery.number) is ∙ spent) (λ ok. is ∙ was_kept ok))
 
 -- the state by its things
-abbrev pub view_in : {State : Type 0} → Machine State → (State → Key → Option Form) → (State → Key → Option Kept) → State → View
+abbrev pub view_in : {State : Type 0} → Machine State → (State → Key → Option Form) → (State → Key → Option Kept) → State → PluginView
 view_in machine held kept state = view_by (machine.session state) (held state) (kept state)
 
 module _ {State : Type 0} (machine : Machine State) (held : State → Key → Option Form) (kept : State → Key → Option Kept) (state : State) (number : Number) (call : Call) (o : Option Key) where

@@ -6,11 +6,12 @@ use Rattle.csi_types.specs.declared.call.Call.{Call}
 use Rattle.csi_types.specs.declared.call.Party.{Party}
 use Rattle.csi_types.specs.declared.frame.Body.{Body}
 use Rattle.csi_types.specs.declared.frame.Body.TheVariants as bodies
-use Rattle.csi_types.specs.Frame.{Frame}
-use Rattle.csi_types.specs.Same.{same_party}
-use Rattle.csi_fence.specs.Delivery.{last_of}
-use Rattle.csi_fence.specs.Fence.{is_spent, is_over, begins}
-use Rattle.csi_fence.specs.Fenced.{Fenced, Machine, in_session, answered_in, unanswered, fenced_parts, fenced, after_frames}
+use Rattle.csi_types.specs.Model.Frame.{Frame}
+use Rattle.csi_types.specs.Model.Same.{same_party}
+use Rattle.csi_fence.specs.Public.Delivery.{last_of}
+use Rattle.csi_fence.specs.Model.Fence.{is_spent, is_over, begins}
+use Rattle.csi_fence.specs.Model.Fenced.{Fenced, Machine, in_session, answered_in, unanswered, fenced_parts, fenced}
+use Rattle.csi_fence.specs.Public.Fenced.{after_frames}
 use Rattle.csi_fence.proofs.Judged.{Judgement, was_over, was_fresh, was_repeated, was_stale, was_judged}
 use Rattle.csi_fence.proofs.Spent.{same_session}
 

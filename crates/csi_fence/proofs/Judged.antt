@@ -4,13 +4,13 @@ use Rattle.std.specs.Prelude.{Option, Some, None}
 use Rattle.csi_types.proofs.Equality.{same_number-tells, same_party-tells}
 use Rattle.csi_types.specs.declared.number.Number.{Number}
 use Rattle.csi_types.specs.declared.call.Call.{Call}
-use Rattle.csi_types.specs.Call.{kind_of}
-use Rattle.csi_types.specs.Replies.{stale_reply, call_frame}
-use Rattle.csi_types.specs.Same.{same_number, same_party}
+use Rattle.csi_types.specs.Model.Call.{kind_of}
+use Rattle.csi_types.specs.Model.Replies.{stale_reply, call_frame}
+use Rattle.csi_types.specs.Model.Same.{same_number, same_party}
 use Rattle.csi_fence.specs.declared.fence.Verdict.TheVariants.{Stale, Repeated, Fresh}
-use Rattle.csi_fence.specs.Delivery.{last_of}
-use Rattle.csi_fence.specs.Fence.{Kept, is_spent, is_over}
-use Rattle.csi_fence.specs.Fenced.{Fenced, Machine, in_session, answered_only, judged, fenced_call, answered_in, fenced}
+use Rattle.csi_fence.specs.Public.Delivery.{last_of}
+use Rattle.csi_fence.specs.Model.Fence.{Kept, is_spent, is_over}
+use Rattle.csi_fence.specs.Model.Fenced.{Fenced, Machine, in_session, answered_only, judged, fenced_call, answered_in, fenced}
 
 -- a call that is over is stale. Any other is judged in its session: where its number isn't spent, it is carried out; where it is
 -- the last one, it gets the kept reply; else it is stale

@@ -5,14 +5,15 @@ use Rattle.std.proofs.lemmas.Bool.Decides.{nat_tests}
 use Rattle.csi_types.proofs.Equality.{same_party-tells}
 use Rattle.csi_types.specs.declared.number.Number.{Number}
 use Rattle.csi_types.specs.declared.call.Call.{Call}
-use Rattle.csi_types.specs.Call.{kind_of}
-use Rattle.csi_types.specs.Number.{IsBefore}
-use Rattle.csi_types.specs.Replies.{stale_reply, call_frame}
-use Rattle.csi_types.specs.Same.{same_party}
-use Rattle.csi_fence.specs.Delivery.{last_of}
-use Rattle.csi_fence.specs.Fence.{Kept, is_over, begins, IsFresh}
-use Rattle.csi_fence.specs.Fenced.{Machine, in_session, answered_only, answered_in, fenced_call, fenced}
-use Rattle.csi_fence.specs.Lawful.{IsLetThrough}
+use Rattle.csi_types.specs.Model.Call.{kind_of}
+use Rattle.csi_types.specs.Model.Number.{IsBefore}
+use Rattle.csi_types.specs.Model.Replies.{stale_reply, call_frame}
+use Rattle.csi_types.specs.Model.Same.{same_party}
+use Rattle.csi_fence.specs.Public.Delivery.{last_of}
+use Rattle.csi_fence.specs.Model.Fence.{Kept, is_over, begins}
+use Rattle.csi_fence.specs.Public.Fence.{IsFresh}
+use Rattle.csi_fence.specs.Model.Fenced.{Machine, in_session, answered_only, answered_in, fenced_call, fenced}
+use Rattle.csi_fence.specs.Public.Lawful.{IsLetThrough}
 use Rattle.csi_fence.proofs.Spent.{not_over-own}
 
 -- a call of this session doesn't begin it

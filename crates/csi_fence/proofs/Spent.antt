@@ -5,8 +5,9 @@ use Rattle.std.proofs.lemmas.Bool.{false≢true, true≢false, not-true, not-fal
 use Rattle.std.proofs.lemmas.Bool.Decides.{nat_tests}
 use Rattle.csi_types.proofs.Order.{before-trans, before-parts, before-from}
 use Rattle.csi_types.specs.declared.number.Number.{Number}
-use Rattle.csi_types.specs.Number.{is_before, IsBefore}
-use Rattle.csi_fence.specs.Fence.{IsSpent, is_spent, is_over}
+use Rattle.csi_types.specs.Model.Number.{is_before, IsBefore}
+use Rattle.csi_fence.specs.Private.Fence.{IsSpent}
+use Rattle.csi_fence.specs.Model.Fence.{is_spent, is_over}
 
 -- a number before another passes the test for it
 is_before-then : (a b : Number) → IsBefore a b → is_before a b ≡ true

@@ -5,16 +5,16 @@ use Rattle.std.proofs.lemmas.Bool.{or_cases, or_left, or_right, or_from}
 use Rattle.csi_types.specs.declared.number.Number.{Number}
 use Rattle.csi_types.specs.declared.call.Call.{Call}
 use Rattle.csi_types.specs.declared.status.Status.TheVariants.{Ok, Aborted}
-use Rattle.csi_types.specs.Call.{kind_of}
-use Rattle.csi_types.specs.Key.{Key, Form, same_key, asked}
-use Rattle.csi_types.specs.Replies.{stale_reply}
-use Rattle.csi_types.specs.Reply.{has_id_by_rule}
-use Rattle.csi_fence.specs.Delivery.{View, view_by, Delivery, kept_of, last_of, Acts, Rests, Becomes, IsSameView, IsClosed, IsEmpty}
-use Rattle.csi_fence.specs.Fence.{Kept, is_spent, is_over}
+use Rattle.csi_types.specs.Model.Call.{kind_of}
+use Rattle.csi_types.specs.Public.Key.{Key, Form, same_key, asked}
+use Rattle.csi_types.specs.Model.Replies.{stale_reply}
+use Rattle.csi_types.specs.Public.Reply.{has_id_by_rule}
+use Rattle.csi_fence.specs.Public.Delivery.{PluginView, view_by, Delivery, kept_of, last_of, Acts, Rests, CallBecomes, IsSameView, IsClosed, IsEmpty}
+use Rattle.csi_fence.specs.Model.Fence.{Kept, is_spent, is_over}
 use Rattle.csi_fence.proofs.Spent.{spent-earlier, own_spent, spent_still, none_over, over-earlier}
 
 -- a view is the same as itself
-pub same_view : (view : View) → IsSameView view view
+pub same_view : (view : PluginView) → IsSameView view view
 same_view view = record { held = λ key. refl; is_spent = λ key number. refl; kept = λ key. refl }
 
 -- what came before a number that is over or spent is so too
@@ -102,7 +102,7 @@ stale_delivery number call = record { number = number; call = call; kind = kind_
 
 -- it rests, or misses where the plugin has no volume of it
 pub over-becomes : (session : ℕ) (held : Key → Option Form) (kept : Key → Option Kept) (o : Option Key) (number : Number) (call : Call) → is_over session number ≡ true
-    → Becomes o (stale_delivery number call) (view_by session held kept) (view_by session held kept)
+    → CallBecomes o (stale_delivery number call) (view_by session held kept) (view_by session held kept)
 over-becomes session held kept None number call over =
     record {
       of_its_kind = refl;

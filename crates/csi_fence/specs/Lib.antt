@@ -1,5 +1,3 @@
-pub mod Fence
-pub mod Fenced
-pub mod Delivery
-pub mod Lawful
-pub mod Worked
+pub mod Model
+pub mod Public
+pub mod Private

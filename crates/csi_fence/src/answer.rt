@@ -1,5 +1,5 @@
 //! What a plugin answers to a call.
-use csi_types::{Kind, Reply, VolumeId};
+use csi_types::{Kind, Reply};
 
 /// What a plugin answered to a call, and what that changed of its rows (this profile's own).
 #[derive(Debug, PartialEq, Eq, Drop)]
@@ -8,7 +8,7 @@ pub struct Answer {
     pub kind: Kind,
     /// The plugin's reply.
     pub reply: Reply,
-    /// The volume whose row the call changed or made. Where it is `None` each row says what it said. Rows that were forgotten,
-    /// where the call began a session, are none of these.
-    pub row: Option<VolumeId>,
+    /// Where the row is that the call changed or made: its place among the plugin's rows, until the next call. Where it is `None`
+    /// each row says what it said. Rows that were forgotten, where the call began a session, are none of these.
+    pub row: Option<usize>,
 }

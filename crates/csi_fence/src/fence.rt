@@ -1,6 +1,7 @@
 //! The fence in front of the plugins' tables.
 ghost use Rattle.std.specs.Prelude.{◌≡◌};
-ghost use Rattle.csi_fence.specs.Fence.{verdict_of, SpentIsClosed};
+ghost use Rattle.csi_fence.specs.Model.Fence.{verdict_of};
+ghost use Rattle.csi_fence.specs.Private.Fence.{SpentIsClosed};
 
 use csi_types::Number;
 

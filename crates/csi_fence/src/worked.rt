@@ -1,5 +1,5 @@
 //! Worked examples of the fence. Each function proves a statement, and does nothing.
-ghost use Rattle.csi_fence.specs.Worked.{VerdictRows, SessionRows};
+ghost use Rattle.csi_fence.specs.Private.Worked.{VerdictRows, SessionRows};
 
 fn verdicts()
     ensures { VerdictRows }

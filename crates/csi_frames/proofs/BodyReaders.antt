@@ -9,25 +9,27 @@ use Rattle.csi_types.specs.declared.call.Party.{Party}
 use Rattle.csi_types.specs.declared.call.Party.TheVariants.{Controller, Node}
 use Rattle.csi_types.specs.declared.frame.Body.{Body}
 use Rattle.csi_types.specs.declared.frame.Body.TheVariants as bodies
-use Rattle.csi_types.specs.Call.{kind_of, is_node_kind, is_party_of}
-use Rattle.csi_types.specs.Reply.{has_id_by_rule}
-use Rattle.csi_types.specs.Text.{IsText}
-use Rattle.csi_types.specs.Frame.{Frame, IsAllowed}
-use Rattle.csi_types.specs.Limits.{IsNumber, IsParty, IsBody, IsFrame}
+use Rattle.csi_types.specs.Model.Call.{kind_of}
+use Rattle.csi_types.specs.Public.Call.{is_node_kind, is_party_of}
+use Rattle.csi_types.specs.Public.Reply.{has_id_by_rule}
+use Rattle.csi_types.specs.Public.Text.{IsText}
+use Rattle.csi_types.specs.Model.Frame.{Frame}
+use Rattle.csi_types.specs.Public.Frame.{IsAllowed}
+use Rattle.csi_types.specs.Public.Limits.{IsNumber, IsParty, IsBody, IsFrame}
 use Rattle.csi_frames.specs.declared.body_kind.BodyKind.{BodyKind}
 use Rattle.csi_frames.specs.declared.body_kind.BodyKind.TheVariants as body_kinds
 use Rattle.csi_frames.specs.declared.fault.FaultKind.TheVariants.{BadVersion, BadKind, BadParty}
 use Rattle.csi_frames.specs.declared.version.Version.{Version}
 use Rattle.csi_frames.specs.declared.version.Version.TheVariants.{One, Two}
-use Rattle.csi_frames.specs.Version.{version_number}
-use Rattle.csi_frames.specs.Codes.{is_version, version_of, kind_in, is_body_kind, body_kind_of}
-use Rattle.csi_frames.specs.Spelling as spelling
-use Rattle.csi_frames.specs.Grammar.{Grammar, End, Byte, Word, Text, any, is_party_number, party_number, fields_grammar, party_grammar, numbered_grammar, kind_grammar, body_grammar}
-use Rattle.csi_frames.specs.Reading.{version_at, kind_at, number_at, party_at, fields_at, frame_at}
+use Rattle.csi_frames.specs.Public.Version.{version_number}
+use Rattle.csi_frames.specs.Public.Codes.{is_version, version_of, kind_in, is_body_kind, body_kind_of}
+use Rattle.csi_frames.specs.Public.Spelling as spelling
+use Rattle.csi_frames.specs.Public.Grammar.{Grammar, End, Byte, Word, Text, any, is_party_number, party_number, fields_grammar, party_grammar, numbered_grammar, kind_grammar, body_grammar}
+use Rattle.csi_frames.specs.Public.Reading.{version_at, kind_at, number_at, party_at, fields_at, frame_at}
 use Rattle.csi_frames.proofs.Readers.{Agrees, Then, then, Given, gives, in_words, Either, either}
 use Rattle.csi_frames.proofs.FieldReaders.{IsByte, byte_agrees}
 use Rattle.csi_frames.proofs.Says.{Spelled, After, Made, after, makes, Always, code_agrees}
-use Rattle.csi_types.specs.Same.{kind_number}
+use Rattle.csi_types.specs.Model.Same.{kind_number}
 use Rattle.csi_frames.proofs.Codes.{version_code, HasKind, body_kind_number, body_kind_code}
 use Rattle.csi_frames.proofs.CapabilityReaders.{any_word_agrees, any_text_agrees}
 use Rattle.csi_frames.proofs.CallReaders.{SaysCall, IsCallOf, call_agrees, join2}

@@ -4,7 +4,7 @@ use Rattle.std.specs.Int.{w64, w32, from_be_bytes}
 use Rattle.std.proofs.lemmas.Bool.{cases_lt}
 use Rattle.std.proofs.lemmas.List.{drop_at, take-append-drop, length-take, get_or-drop, get_or-take, get_or_past}
 use Rattle.std.proofs.lemmas.Nat.{be_bytes_4, be_bytes_8}
-use Rattle.csi_frames.specs.Bytes.{AreBytes}
+use Rattle.csi_frames.specs.Public.Bytes.{AreBytes}
 use Rattle.byteorder.specs.Endian.{big_bytes, big_number}
 use Rattle.byteorder.specs.Numbers.{big_number-reads_back, big_from-lt, big_from-append}
 

@@ -8,16 +8,16 @@ use Rattle.csi_types.specs.declared.call.Kind.{Kind}
 use Rattle.csi_types.specs.declared.call.Kind.TheVariants as kinds
 use Rattle.csi_types.specs.declared.call.Call.{Call}
 use Rattle.csi_types.specs.declared.call.Call.TheVariants as calls
-use Rattle.csi_types.specs.Text.{IsText, IsName}
-use Rattle.csi_types.specs.VolumeId.{IsVolumeId}
-use Rattle.csi_types.specs.Call.{kind_of}
-use Rattle.csi_types.specs.Limits.{IsWord, IsCall}
+use Rattle.csi_types.specs.Public.Text.{IsText, IsName}
+use Rattle.csi_types.specs.Public.VolumeId.{IsVolumeId}
+use Rattle.csi_types.specs.Model.Call.{kind_of}
+use Rattle.csi_types.specs.Public.Limits.{IsWord, IsCall}
 use Rattle.csi_frames.specs.declared.fault.FaultKind.TheVariants.{BadCount}
-use Rattle.csi_frames.specs.Spelling as spelling
+use Rattle.csi_frames.specs.Public.Spelling as spelling
 use Rattle.csi_frames.specs.declared.version.Version.{Version}
-use Rattle.csi_frames.specs.Version.{least_count, owes_new_mode}
-use Rattle.csi_frames.specs.Grammar.{End, Byte, Word, Text, any, is_count, capability_grammar, capabilities_grammar, flag_grammar, call_grammar}
-use Rattle.csi_frames.specs.Reading.{create_at, id_alone_at, id_and_text_at, stage_at, publish_at, call_at}
+use Rattle.csi_frames.specs.Public.Version.{least_count, owes_new_mode}
+use Rattle.csi_frames.specs.Public.Grammar.{End, Byte, Word, Text, any, is_count, capability_grammar, capabilities_grammar, flag_grammar, call_grammar}
+use Rattle.csi_frames.specs.Public.Reading.{create_at, id_alone_at, id_and_text_at, stage_at, publish_at, call_at}
 use Rattle.csi_frames.proofs.Readers.{Agrees, Then, then, in_words}
 use Rattle.csi_frames.proofs.FieldReaders.{IsByte, byte_agrees}
 use Rattle.csi_frames.proofs.Says.{After, Made, after, makes, Always}

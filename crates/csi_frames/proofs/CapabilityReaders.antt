@@ -8,16 +8,16 @@ use Rattle.csi_types.specs.declared.mode.Mode.{Mode}
 use Rattle.csi_types.specs.declared.capability.Access.{Access}
 use Rattle.csi_types.specs.declared.capability.Access.TheVariants.{Block, Mount}
 use Rattle.csi_types.specs.declared.capability.Capability.{Capability}
-use Rattle.csi_types.specs.Mode.{mode_number}
-use Rattle.csi_types.specs.Text.{IsText}
-use Rattle.csi_types.specs.VolumeId.{IsVolumeId}
-use Rattle.csi_types.specs.Limits.{IsWord, IsAccess, IsCapability}
+use Rattle.csi_types.specs.Model.Mode.{mode_number}
+use Rattle.csi_types.specs.Public.Text.{IsText}
+use Rattle.csi_types.specs.Public.VolumeId.{IsVolumeId}
+use Rattle.csi_types.specs.Public.Limits.{IsWord, IsAccess, IsCapability}
 use Rattle.csi_frames.specs.declared.fault.FaultKind.TheVariants.{BadMode, BadAccess, BadFlag}
-use Rattle.csi_frames.specs.Codes.{is_mode, mode_of}
-use Rattle.csi_frames.specs.Version.{is_new_mode}
-use Rattle.csi_frames.specs.Spelling as spelling
-use Rattle.csi_frames.specs.Grammar.{Grammar, End, Byte, Word, Text, any, at_most, mode_grammar, capability_grammar, capabilities_grammar}
-use Rattle.csi_frames.specs.Reading.{word_at, text_at, id_at, flag_at, access_at, mode_at, owed_capability_at, capability_at, capabilities_at}
+use Rattle.csi_frames.specs.Public.Codes.{is_mode, mode_of}
+use Rattle.csi_frames.specs.Public.Version.{is_new_mode}
+use Rattle.csi_frames.specs.Public.Spelling as spelling
+use Rattle.csi_frames.specs.Public.Grammar.{Grammar, End, Byte, Word, Text, any, at_most, mode_grammar, capability_grammar, capabilities_grammar}
+use Rattle.csi_frames.specs.Public.Reading.{word_at, text_at, id_at, flag_at, access_at, mode_at, owed_capability_at, capability_at, capabilities_at}
 use Rattle.csi_frames.proofs.Readers.{Agrees, Then, then, Given, gives, in_words, Either, either}
 use Rattle.csi_frames.proofs.FieldReaders.{IsByte, byte_agrees, word_agrees, text_agrees}
 use Rattle.csi_frames.proofs.Says.{Spelled, After, Made, after, makes, Always, code_agrees}

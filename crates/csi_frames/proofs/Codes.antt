@@ -8,17 +8,18 @@ use Rattle.csi_types.specs.declared.status.Status.{Status}
 use Rattle.csi_types.specs.declared.status.Status.TheVariants as statuses
 use Rattle.csi_types.specs.declared.call.Kind.{Kind}
 use Rattle.csi_types.specs.declared.call.Kind.TheVariants as kinds
-use Rattle.csi_types.specs.Mode.{mode_number, mode_from_number}
-use Rattle.csi_types.specs.Status.{status_code}
+use Rattle.csi_types.specs.Model.Mode.{mode_number}
+use Rattle.csi_types.specs.Public.Mode.{mode_from_number}
+use Rattle.csi_types.specs.Public.Status.{status_code}
 use Rattle.csi_frames.specs.declared.body_kind.BodyKind.{BodyKind}
 use Rattle.csi_frames.specs.declared.body_kind.BodyKind.TheVariants.{Call, Reply}
 use Rattle.csi_frames.specs.declared.version.Version.{Version}
 use Rattle.csi_frames.specs.declared.version.Version.TheVariants.{One, Two}
-use Rattle.csi_frames.specs.Codes.{is_version, version_of, is_mode, mode_of, is_status, status_of, is_body_kind, body_kind_of}
-use Rattle.csi_frames.specs.Kinds.{kind_from_number, body_kind_from_number}
-use Rattle.csi_frames.specs.Version.{version_number, has_mode, takes_mode, has_kind, only}
-use Rattle.csi_frames.specs.Grammar.{at_most}
-use Rattle.csi_types.specs.Same.{kind_number}
+use Rattle.csi_frames.specs.Public.Codes.{is_version, version_of, is_mode, mode_of, is_status, status_of, is_body_kind, body_kind_of}
+use Rattle.csi_frames.specs.Public.Kinds.{kind_from_number, body_kind_from_number}
+use Rattle.csi_frames.specs.Public.Version.{version_number, has_mode, takes_mode, has_kind, only}
+use Rattle.csi_frames.specs.Public.Grammar.{at_most}
+use Rattle.csi_types.specs.Model.Same.{kind_number}
 use Rattle.csi_frames.proofs.Says.{IsCode, Always}
 
 -- ---- what passes a test
@@ -83,7 +84,7 @@ mode-back (suc (suc (suc (suc (suc (suc (suc zero))))))) e = refl
 mode-back (suc (suc (suc (suc (suc (suc (suc (suc n)))))))) e = absurd cc
 
 -- a mode is found at its number
-mode-found : (mode : Mode) → mode_from_number (mode_number mode) ≡ Some mode
+pub mode-found : (mode : Mode) → mode_from_number (mode_number mode) ≡ Some mode
 mode-found SingleNodeWriter = refl
 mode-found SingleNodeReaderOnly = refl
 mode-found MultiNodeReaderOnly = refl

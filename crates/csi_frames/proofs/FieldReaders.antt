@@ -5,14 +5,14 @@ use Rattle.std.proofs.lemmas.Bool.{ltb-false, le-ltb, leb-true, le-leb}
 use Rattle.std.proofs.lemmas.List.{append-nil, length-append, length-take, take_at, drop_at, take-append-drop}
 use Rattle.std.proofs.lemmas.Str.{IsUtf8-from_is_utf8, is_utf8-from_IsUtf8}
 use Rattle.byteorder.specs.Endian.{big_bytes, big_number}
-use Rattle.csi_types.specs.Text.{IsText}
-use Rattle.csi_types.specs.Limits.{IsWord}
+use Rattle.csi_types.specs.Public.Text.{IsText}
+use Rattle.csi_types.specs.Public.Limits.{IsWord}
 use Rattle.csi_frames.specs.declared.fault.FaultKind.{FaultKind}
 use Rattle.csi_frames.specs.declared.fault.FaultKind.TheVariants.{LengthDiffers, BadId, BadText}
 use Rattle.csi_frames.specs.declared.fields.Stop.{Stop}
-use Rattle.csi_frames.specs.Grammar.{Grammar, Byte, Word, Text, Leads, nothing, byte, word, text}
-use Rattle.csi_frames.specs.Reading.{stopped, byte_at, word_at, text_at}
-use Rattle.csi_frames.specs.Bytes.{AreBytes}
+use Rattle.csi_frames.specs.Public.Grammar.{Grammar, Byte, Word, Text, Leads, nothing, byte, word, text}
+use Rattle.csi_frames.specs.Public.Reading.{stopped_at_field, byte_at, word_at, text_at}
+use Rattle.csi_frames.specs.Public.Bytes.{AreBytes}
 use Rattle.csi_frames.proofs.Bytes.{AreBytes-take, word-back, word-again, word-fits, word-front}
 use Rattle.csi_frames.proofs.Readers.{Took, Refuses, Agrees, done, ok_is, refuses_here}
 
@@ -24,7 +24,7 @@ pub record IsByte (allowed : ℕ → Bool) (n : ℕ) (bytes : List ℕ) : Type 0
   pub one : bytes ≡ n ∷ []
 
 -- a byte that is read is an allowed one, and leads to what follows it; by whether it is allowed
-byte-takes : (allowed : ℕ → Bool) (fault : FaultKind) (next : ℕ → Grammar) (b : ℕ) (bytes : List ℕ) (t : Bool) (x : ℕ × List ℕ) → allowed b ≡ t → cond t (done b bytes) (stopped fault (b ∷ bytes)) ≡ Ok x
+byte-takes : (allowed : ℕ → Bool) (fault : FaultKind) (next : ℕ → Grammar) (b : ℕ) (bytes : List ℕ) (t : Bool) (x : ℕ × List ℕ) → allowed b ≡ t → cond t (done b bytes) (stopped_at_field fault (b ∷ bytes)) ≡ Ok x
     → Took (IsByte allowed) (Byte allowed fault next) next (b ∷ bytes) x
 byte-takes allowed fault next b bytes true x is_so e =
     subst (λ (y : ℕ × List ℕ). Took (IsByte allowed) (Byte allowed fault next) next (b ∷ bytes) y) (ok_is b bytes x e)
@@ -32,7 +32,7 @@ byte-takes allowed fault next b bytes true x is_so e =
 byte-takes allowed fault next b bytes false x is_so e = absurd cc
 
 -- where the reader stops at a byte, the grammar refuses it; by whether it is allowed
-byte-stops : (allowed : ℕ → Bool) (fault : FaultKind) (next : ℕ → Grammar) (b : ℕ) (bytes : List ℕ) (t : Bool) (stop : Stop) → allowed b ≡ t → cond t (done b bytes) (stopped fault (b ∷ bytes)) ≡ Err stop
+byte-stops : (allowed : ℕ → Bool) (fault : FaultKind) (next : ℕ → Grammar) (b : ℕ) (bytes : List ℕ) (t : Bool) (stop : Stop) → allowed b ≡ t → cond t (done b bytes) (stopped_at_field fault (b ∷ bytes)) ≡ Err stop
     → Refuses (Byte allowed fault next) (b ∷ bytes) stop
 byte-stops allowed fault next b bytes true stop is_so e = absurd cc
 byte-stops allowed fault next b bytes false stop is_so e = refuses_here {A = ℕ × List ℕ} (Byte allowed fault next) (b ∷ bytes) fault stop (rw is_so refl) e
@@ -72,7 +72,7 @@ pub record IsWordOf (allowed : ℕ → Bool) (n : ℕ) (bytes : List ℕ) : Type
 
 -- a number that is read is an allowed one, spelled by these eight bytes; by how many bytes there are and whether it is allowed
 word-takes : (allowed : ℕ → Bool) (next : ℕ → Grammar) (bytes : List ℕ) (short t : Bool) (x : ℕ × List ℕ) → AreBytes bytes → ltb (length bytes) 8 ≡ short → allowed (big_number 8 bytes) ≡ t
-    → cond short (stopped LengthDiffers bytes) (cond t (done (big_number 8 bytes) (drop 8 bytes)) (stopped BadId bytes)) ≡ Ok x → Took (IsWordOf allowed) (Word allowed next) next bytes x
+    → cond short (stopped_at_field LengthDiffers bytes) (cond t (done (big_number 8 bytes) (drop 8 bytes)) (stopped_at_field BadId bytes)) ≡ Ok x → Took (IsWordOf allowed) (Word allowed next) next bytes x
 word-takes allowed next bytes true t x fits is_short is_so e = absurd cc
 word-takes allowed next bytes false false x fits is_short is_so e = absurd cc
 word-takes allowed next bytes false true x fits is_short is_so e =
@@ -92,7 +92,7 @@ word-takes allowed next bytes false true x fits is_short is_so e =
 
 -- where the reader of a number stops, the grammar refuses; by how many bytes there are and whether the number is allowed
 word-stops : (allowed : ℕ → Bool) (next : ℕ → Grammar) (bytes : List ℕ) (short t : Bool) (stop : Stop) → ltb (length bytes) 8 ≡ short → allowed (big_number 8 bytes) ≡ t
-    → cond short (stopped LengthDiffers bytes) (cond t (done (big_number 8 bytes) (drop 8 bytes)) (stopped BadId bytes)) ≡ Err stop → Refuses (Word allowed next) bytes stop
+    → cond short (stopped_at_field LengthDiffers bytes) (cond t (done (big_number 8 bytes) (drop 8 bytes)) (stopped_at_field BadId bytes)) ≡ Err stop → Refuses (Word allowed next) bytes stop
 word-stops allowed next bytes true t stop is_short is_so e = refuses_here {A = ℕ × List ℕ} (Word allowed next) bytes LengthDiffers stop (rw is_short refl) e
 word-stops allowed next bytes false true stop is_short is_so e = absurd cc
 word-stops allowed next bytes false false stop is_short is_so e = refuses_here {A = ℕ × List ℕ} (Word allowed next) bytes BadId stop (rw (is_short, is_so) refl) e
@@ -143,7 +143,7 @@ not_true false e = absurd cc
 -- a text that is read is within its limits and has its length before it; by the three tests of the reader
 text-takes : (least most : ℕ) (next : List ℕ → Grammar) (n : ℕ) (bytes : List ℕ) (out short utf8 : Bool) (x : List ℕ × List ℕ)
     → not (leb least n && leb n most) ≡ out → ltb (length bytes) n ≡ short → is_utf8 (take n bytes) ≡ utf8
-    → cond out (stopped BadText (n ∷ bytes)) (cond short (stopped LengthDiffers (n ∷ bytes)) (cond utf8 (done (take n bytes) (drop n bytes)) (stopped BadText (n ∷ bytes)))) ≡ Ok x
+    → cond out (stopped_at_field BadText (n ∷ bytes)) (cond short (stopped_at_field LengthDiffers (n ∷ bytes)) (cond utf8 (done (take n bytes) (drop n bytes)) (stopped_at_field BadText (n ∷ bytes)))) ≡ Ok x
     → Took (IsTextOf least most) (Text least most next) next (n ∷ bytes) x
 text-takes least most next n bytes true short utf8 x is_out is_short is_utf e = absurd cc
 text-takes least most next n bytes false true utf8 x is_out is_short is_utf e = absurd cc
@@ -169,7 +169,7 @@ text-takes least most next n bytes false false true x is_out is_short is_utf e =
 -- where the reader of a text stops, the grammar refuses; by the three tests of the reader
 text-stops : (least most : ℕ) (next : List ℕ → Grammar) (n : ℕ) (bytes : List ℕ) (out short utf8 : Bool) (stop : Stop)
     → not (leb least n && leb n most) ≡ out → ltb (length bytes) n ≡ short → is_utf8 (take n bytes) ≡ utf8
-    → cond out (stopped BadText (n ∷ bytes)) (cond short (stopped LengthDiffers (n ∷ bytes)) (cond utf8 (done (take n bytes) (drop n bytes)) (stopped BadText (n ∷ bytes)))) ≡ Err stop
+    → cond out (stopped_at_field BadText (n ∷ bytes)) (cond short (stopped_at_field LengthDiffers (n ∷ bytes)) (cond utf8 (done (take n bytes) (drop n bytes)) (stopped_at_field BadText (n ∷ bytes)))) ≡ Err stop
     → Refuses (Text least most next) (n ∷ bytes) stop
 text-stops least most next n bytes true short utf8 stop is_out is_short is_utf e = refuses_here {A = List ℕ × List ℕ} (Text least most next) (n ∷ bytes) BadText stop (rw is_out refl) e
 text-stops least most next n bytes false true utf8 stop is_out is_short is_utf e = refuses_here {A = List ℕ × List ℕ} (Text least most next) (n ∷ bytes) LengthDiffers stop (rw (is_out, is_short) refl) e

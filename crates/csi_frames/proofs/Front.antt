@@ -4,17 +4,17 @@ use Rattle.std.proofs.Common.{◌≡◌, ℕ, ◌+◌, ◌-◌, ◌≤◌, Bool,
 use Rattle.std.proofs.lemmas.Bool.{ltb-true, ltb-false, lt-ltb, le-ltb}
 use Rattle.std.proofs.lemmas.List.{length-append, length-take, length-drop, take_at, drop_at, take-append-drop}
 use Rattle.byteorder.specs.Endian.{big_bytes, big_number}
-use Rattle.csi_types.specs.Frame.{Frame}
-use Rattle.csi_types.specs.Limits.{IsFrame}
+use Rattle.csi_types.specs.Model.Frame.{Frame}
+use Rattle.csi_types.specs.Public.Limits.{IsFrame}
 use Rattle.csi_frames.specs.declared.fault.FaultKind.{FaultKind}
 use Rattle.csi_frames.specs.declared.fault.FaultKind.TheVariants.{Short, TooLong}
 use Rattle.csi_frames.specs.declared.fault.FrameFault.{FrameFault}
 use Rattle.csi_frames.specs.declared.fields.Stop.{Stop}
-use Rattle.csi_frames.specs.Spelling.{frame_body, spelling, BeginsWith}
-use Rattle.csi_frames.specs.Grammar.{body_grammar}
-use Rattle.csi_frames.specs.Fault.{IsStuck, IsFaulty, length_of, no_length, too_long, short, in_body}
-use Rattle.csi_frames.specs.Reading.{frame_at, all_of, fault, placed, first_frame}
-use Rattle.csi_frames.specs.Bytes.{AreBytes}
+use Rattle.csi_frames.specs.Public.Spelling.{frame_body, spelling, BeginsWith}
+use Rattle.csi_frames.specs.Public.Grammar.{body_grammar}
+use Rattle.csi_frames.specs.Public.Fault.{IsStuck, IsFaulty, length_of, no_length, too_long, short, in_body}
+use Rattle.csi_frames.specs.Public.Reading.{frame_at, whole_frame, fault, placed_frame, first_frame}
+use Rattle.csi_frames.specs.Public.Bytes.{AreBytes}
 use Rattle.csi_frames.proofs.Bytes.{AreBytes-take, AreBytes-drop, four-back, four-again, four-front}
 use Rattle.csi_frames.proofs.Judge.{judge-IsStuck}
 use Rattle.csi_frames.proofs.Lengths.{length-frame_body}
@@ -41,7 +41,7 @@ AreBytes-body_in : (bytes : List ℕ) → AreBytes bytes → AreBytes (body_in b
 AreBytes-body_in bytes fits = AreBytes-take (length_of bytes) (drop 4 bytes) (AreBytes-drop 4 bytes fits)
 
 -- where the length and the body are there, the first frame is the body as it is read, or its fault
-first_frame-body : (bytes : List ℕ) → HasBody bytes → first_frame bytes ≡ placed (4 + length_of bytes) (all_of (frame_at (body_in bytes)))
+first_frame-body : (bytes : List ℕ) → HasBody bytes → first_frame bytes ≡ placed_frame (4 + length_of bytes) (whole_frame (frame_at (body_in bytes)))
 unfolding first_frame
 first_frame-body bytes h =
     let a : ltb (length bytes) 4 ≡ false = le-ltb _ _ h.has_length in
@@ -57,7 +57,7 @@ front-is bytes fits h =
     take-add 4 (length_of bytes) bytes ∙ ap (λ (t : List ℕ). t ++ body_in bytes) (spelled ∙ ap (big_bytes 4) (sym (length-body_in bytes h)))
 
 -- bytes whose body is read as a frame, with nothing left, begin with that frame
-begins : (bytes : List ℕ) (frame : Frame) → AreBytes bytes → HasBody bytes → all_of (frame_at (body_in bytes)) ≡ Ok frame → BeginsWith bytes frame (4 + length_of bytes)
+begins : (bytes : List ℕ) (frame : Frame) → AreBytes bytes → HasBody bytes → whole_frame (frame_at (body_in bytes)) ≡ Ok frame → BeginsWith bytes frame (4 + length_of bytes)
 unfolding spelling
 begins bytes frame fits h e =
     let whole = all_of-ok (body_in bytes) frame (AreBytes-body_in bytes fits) e in
@@ -67,7 +67,7 @@ begins bytes frame fits h e =
     }
 
 -- bytes whose body isn't read as a frame have the fault at which reading stopped, at its place in them
-faulty : (bytes : List ℕ) (stop : Stop) → AreBytes bytes → HasBody bytes → all_of (frame_at (body_in bytes)) ≡ Err stop → IsFaulty bytes stop.kind (4 + length_of bytes - stop.left)
+faulty : (bytes : List ℕ) (stop : Stop) → AreBytes bytes → HasBody bytes → whole_frame (frame_at (body_in bytes)) ≡ Err stop → IsFaulty bytes stop.kind (4 + length_of bytes - stop.left)
 faulty bytes stop fits h e =
     let s = all_of-err (body_in bytes) stop (AreBytes-body_in bytes fits) e in
     let place : 4 + (length (body_in bytes) - stop.left) ≡ 4 + length_of bytes - stop.left = omega (arith, s.within, length-body_in bytes h) in
@@ -81,18 +81,18 @@ Answers bytes (Ok read) = BeginsWith bytes read.0 read.1
 Answers bytes (Err f) = IsFaulty bytes f.kind f.place
 
 -- what is answered of bytes that have a body is so of them
-answers-body : (bytes : List ℕ) → AreBytes bytes → HasBody bytes → (r : Result Frame Stop) → all_of (frame_at (body_in bytes)) ≡ r → Answers bytes (placed (4 + length_of bytes) r)
+answers-body : (bytes : List ℕ) → AreBytes bytes → HasBody bytes → (r : Result Frame Stop) → whole_frame (frame_at (body_in bytes)) ≡ r → Answers bytes (placed_frame (4 + length_of bytes) r)
 answers-body bytes fits h (Ok frame) e = begins bytes frame fits h e
 answers-body bytes fits h (Err stop) e = faulty bytes stop fits h e
 
 -- what is answered is so, whichever of the three tests of the length holds
 answers-tests : (bytes : List ℕ) (a b c : Bool) → AreBytes bytes → ltb (length bytes) 4 ≡ a → ltb 1280 (length_of bytes) ≡ b → ltb (length bytes) (4 + length_of bytes) ≡ c
-    → Answers bytes (cond a (fault Short (length bytes)) (cond b (fault TooLong 0) (cond c (fault Short (length bytes)) (placed (4 + length_of bytes) (all_of (frame_at (body_in bytes)))))))
+    → Answers bytes (cond a (fault Short (length bytes)) (cond b (fault TooLong 0) (cond c (fault Short (length bytes)) (placed_frame (4 + length_of bytes) (whole_frame (frame_at (body_in bytes)))))))
 answers-tests bytes true b c fits is_a is_b is_c = no_length (ltb-true _ _ is_a)
 answers-tests bytes false true c fits is_a is_b is_c = too_long (ltb-false _ _ is_a) (ltb-true _ _ is_b)
 answers-tests bytes false false true fits is_a is_b is_c = short (ltb-false _ _ is_a) (ltb-false _ _ is_b) (ltb-true _ _ is_c)
 answers-tests bytes false false false fits is_a is_b is_c =
-    answers-body bytes fits (record { has_length = ltb-false _ _ is_a; few = ltb-false _ _ is_b; whole = ltb-false _ _ is_c }) (all_of (frame_at (body_in bytes))) refl
+    answers-body bytes fits (record { has_length = ltb-false _ _ is_a; few = ltb-false _ _ is_b; whole = ltb-false _ _ is_c }) (whole_frame (frame_at (body_in bytes))) refl
 
 -- what reading the first frame answers is so of the bytes
 pub first_frame-answers : (bytes : List ℕ) → AreBytes bytes → Answers bytes (first_frame bytes)
@@ -106,7 +106,7 @@ faulty-body : (bytes : List ℕ) (kind : FaultKind) (place : ℕ) → AreBytes b
 faulty-body bytes kind place fits h s =
     let within : place ≤ length (body_in bytes) = (judge-IsStuck body_grammar (body_in bytes) kind place s).1 in
     let there : 4 + length_of bytes - (length (body_in bytes) - place) ≡ 4 + place = omega (arith, length-body_in bytes h) in
-    first_frame-body bytes h ∙ ap (placed (4 + length_of bytes)) (all_of-stuck (body_in bytes) kind place (AreBytes-body_in bytes fits) s) ∙ ap (λ (p : ℕ). fault kind p) there
+    first_frame-body bytes h ∙ ap (placed_frame (4 + length_of bytes)) (all_of-stuck (body_in bytes) kind place (AreBytes-body_in bytes fits) s) ∙ ap (λ (p : ℕ). fault kind p) there
 
 -- a fault that bytes have is the one that reading them answers
 pub first_frame-faulty : (bytes : List ℕ) (kind : FaultKind) (place : ℕ) → AreBytes bytes → IsFaulty bytes kind place → first_frame bytes ≡ fault kind place
@@ -157,8 +157,8 @@ first_frame-spelled frame rest fits =
     let bytes : List ℕ = big_bytes 4 (length (frame_body frame)) ++ (frame_body frame ++ rest) in
     let b = begins_so (frame_body frame) rest (omega (arith, length-frame_body frame fits)) in
     first_frame-body bytes b.has
-    ∙ ap (λ (t : List ℕ). placed (4 + length_of bytes) (all_of (frame_at t))) b.body_is
-    ∙ ap (placed (4 + length_of bytes)) (all_of-spelled frame fits)
+    ∙ ap (λ (t : List ℕ). placed_frame (4 + length_of bytes) (whole_frame (frame_at t))) b.body_is
+    ∙ ap (placed_frame (4 + length_of bytes)) (all_of-spelled frame fits)
     ∙ ap (λ (k : ℕ). Ok (frame, 4 + k)) b.length_is
 
 -- a frame with which bytes begin is the one that reading them answers, with its count

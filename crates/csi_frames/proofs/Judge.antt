@@ -8,9 +8,9 @@ use Rattle.byteorder.specs.Endian.{big_number}
 use Rattle.csi_frames.specs.declared.fault.FaultKind.{FaultKind}
 use Rattle.csi_frames.specs.declared.fault.FaultKind.TheVariants.{LengthDiffers, BadId, BadText}
 use Rattle.csi_frames.specs.declared.fields.Stop.{Stop}
-use Rattle.csi_frames.specs.Grammar.{Grammar, End, Byte, Word, Text, Leads, nothing, byte, word, text, refusal}
-use Rattle.csi_frames.specs.Fault.{IsStuck}
-use Rattle.csi_frames.specs.Reading.{stopped, byte_at, word_at, text_at}
+use Rattle.csi_frames.specs.Public.Grammar.{Grammar, End, Byte, Word, Text, Leads, nothing, byte, word, text, refusal}
+use Rattle.csi_frames.specs.Public.Fault.{IsStuck}
+use Rattle.csi_frames.specs.Public.Reading.{stopped_at_field, byte_at, word_at, text_at}
 use Rattle.csi_frames.proofs.Bytes.{word-eight}
 use Rattle.csi_frames.proofs.FieldReaders.{byte_agrees, text_agrees}
 use Rattle.csi_frames.proofs.Readers.{done}
@@ -23,7 +23,7 @@ judged (Err stop) next = Err stop
 -- how the bytes fare, all of them
 pub judge : Grammar → List ℕ → Result (Unit {0}) Stop
 judge End [] = Ok tt
-judge End (b ∷ bytes) = stopped LengthDiffers (b ∷ bytes)
+judge End (b ∷ bytes) = stopped_at_field LengthDiffers (b ∷ bytes)
 judge (Byte allowed fault next) bytes = judged (byte_at allowed fault bytes) (λ b rest. judge (next b) rest)
 judge (Word allowed next) bytes = judged (word_at allowed bytes) (λ n rest. judge (next n) rest)
 judge (Text least most next) bytes = judged (text_at least most bytes) (λ t rest. judge (next t) rest)
@@ -57,32 +57,32 @@ judge-Leads g front h bytes (text least most next value more _ low high utf8 res
 -- ---- what a grammar refuses is judged so
 
 -- stopping with either of two equal kinds is the same
-kind_is : {A : Type 0} (kind fault : FaultKind) (bytes : List ℕ) → Some fault ≡ Some kind → stopped {A = A} fault bytes ≡ stopped kind bytes
-kind_is kind fault bytes e = let same : fault ≡ kind = cc in ap (λ (k : FaultKind). stopped k bytes) same
+kind_is : {A : Type 0} (kind fault : FaultKind) (bytes : List ℕ) → Some fault ≡ Some kind → stopped_at_field {A = A} fault bytes ≡ stopped_at_field kind bytes
+kind_is kind fault bytes e = let same : fault ≡ kind = cc in ap (λ (k : FaultKind). stopped_at_field k bytes) same
 
 -- a byte that is refused with this fault is judged so; then the same of a word, and of a text
 refused-byte : (allowed : ℕ → Bool) (fault : FaultKind) (next : ℕ → Grammar) (b : ℕ) (bytes : List ℕ) (kind : FaultKind) (t : Bool) → allowed b ≡ t → cond t None (Some fault) ≡ Some kind
-    → cond t (done b bytes) (stopped fault (b ∷ bytes)) ≡ stopped kind (b ∷ bytes)
+    → cond t (done b bytes) (stopped_at_field fault (b ∷ bytes)) ≡ stopped_at_field kind (b ∷ bytes)
 refused-byte allowed fault next b bytes kind true is_so e = absurd cc
 refused-byte allowed fault next b bytes kind false is_so e = kind_is kind fault (b ∷ bytes) e
 
 -- a number that is refused with this fault is judged so
 refused-word : (n : ℕ) (rest bytes : List ℕ) (kind : FaultKind) (short t : Bool) → cond short (Some LengthDiffers) (cond t None (Some BadId)) ≡ Some kind
-    → cond short (stopped LengthDiffers bytes) (cond t (done n rest) (stopped BadId bytes)) ≡ stopped kind bytes
+    → cond short (stopped_at_field LengthDiffers bytes) (cond t (done n rest) (stopped_at_field BadId bytes)) ≡ stopped_at_field kind bytes
 refused-word n rest bytes kind true t e = kind_is kind LengthDiffers bytes e
 refused-word n rest bytes kind false true e = absurd cc
 refused-word n rest bytes kind false false e = kind_is kind BadId bytes e
 
 -- a text that is refused with this fault is judged so
 refused-text : (value rest bytes : List ℕ) (kind : FaultKind) (out short utf8 : Bool) → cond out (Some BadText) (cond short (Some LengthDiffers) (cond utf8 None (Some BadText))) ≡ Some kind
-    → cond out (stopped BadText bytes) (cond short (stopped LengthDiffers bytes) (cond utf8 (done value rest) (stopped BadText bytes))) ≡ stopped kind bytes
+    → cond out (stopped_at_field BadText bytes) (cond short (stopped_at_field LengthDiffers bytes) (cond utf8 (done value rest) (stopped_at_field BadText bytes))) ≡ stopped_at_field kind bytes
 refused-text value rest bytes kind true short utf8 e = kind_is kind BadText bytes e
 refused-text value rest bytes kind false true utf8 e = kind_is kind LengthDiffers bytes e
 refused-text value rest bytes kind false false true e = absurd cc
 refused-text value rest bytes kind false false false e = kind_is kind BadText bytes e
 
 -- what the grammar refuses at the front of bytes is judged to stop there, with the same kind of fault
-pub judge-refusal : (g : Grammar) (bytes : List ℕ) (kind : FaultKind) → refusal g bytes ≡ Some kind → judge g bytes ≡ stopped kind bytes
+pub judge-refusal : (g : Grammar) (bytes : List ℕ) (kind : FaultKind) → refusal g bytes ≡ Some kind → judge g bytes ≡ stopped_at_field kind bytes
 unfolding judge byte_at word_at text_at
 judge-refusal End [] kind e = absurd cc
 judge-refusal End (b ∷ bytes) kind e = kind_is kind LengthDiffers (b ∷ bytes) e

@@ -13,11 +13,13 @@ use Rattle.csi_types.specs.declared.call.Call.TheVariants as calls
 use Rattle.csi_types.specs.declared.reply.Reply.{Reply}
 use Rattle.csi_types.specs.declared.frame.Body.{Body}
 use Rattle.csi_types.specs.declared.frame.Body.TheVariants as bodies
-use Rattle.csi_types.specs.Mode.{mode_number}
-use Rattle.csi_types.specs.Call.{kind_of, is_party_of}
-use Rattle.csi_types.specs.Frame.{Frame, IsAllowed}
-use Rattle.csi_types.specs.Limits.{IsAccess, IsCapability, IsParty, IsCall, IsReply, IsBody, IsFrame}
-use Rattle.csi_frames.specs.Spelling as spelling
+use Rattle.csi_types.specs.Model.Mode.{mode_number}
+use Rattle.csi_types.specs.Model.Call.{kind_of}
+use Rattle.csi_types.specs.Public.Call.{is_party_of}
+use Rattle.csi_types.specs.Model.Frame.{Frame}
+use Rattle.csi_types.specs.Public.Frame.{IsAllowed}
+use Rattle.csi_types.specs.Public.Limits.{IsAccess, IsCapability, IsParty, IsCall, IsReply, IsBody, IsFrame}
+use Rattle.csi_frames.specs.Public.Spelling as spelling
 
 -- this and the next ones: how many bytes each part of a body has at most
 length-access : (a : Access) → IsAccess a → length (spelling.access a) ≤ 130

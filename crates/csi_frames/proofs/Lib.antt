@@ -11,7 +11,8 @@ pub mod ReplyReaders
 pub mod Versions
 pub mod BodyReaders
 pub mod Judge
-pub mod KnownReaders
+pub mod SpelledLists
+pub mod FitTexts
 pub mod Lengths
 pub mod Whole
 pub mod Front
@@ -20,4 +21,3 @@ pub mod Written
 pub mod NeverShort
 pub mod Splitting
 pub mod Streams
-mod NoCreate

@@ -1,12 +1,13 @@
 -- Reading capabilities one after another, as a loop does.
-use Rattle.std.proofs.Common.{◌≡◌, ℕ, suc, ◌-◌, ◌≤◌, ◌<◌, Bool, true, false, not, ◌&&◌, List, [], ◌∷◌, ◌++◌, Result, Ok, Err, is_ok, refl, sym, ap, subst, ◌∙◌, append_assoc, arith}
+use Rattle.std.proofs.Common.{◌≡◌, ℕ, suc, ◌-◌, ◌≤◌, ◌<◌, Bool, not, ◌&&◌, List, [], ◌∷◌, ◌++◌, Result, Ok, Err, refl, sym, ap, subst, ◌∙◌, append_assoc, arith}
 use Rattle.std.specs.Prelude.{◌==◌}
 use Rattle.std.proofs.lemmas.List.{append-nil}
 use Rattle.csi_types.specs.declared.capability.Capability.{Capability}
 use Rattle.csi_frames.specs.declared.fields.Stop.{Stop}
 use Rattle.csi_frames.specs.declared.version.Version.{Version}
-use Rattle.csi_frames.specs.Version.{is_new_mode}
-use Rattle.csi_frames.specs.Reading.{go_on, give, owed_capability_at, capabilities_at}
+use Rattle.csi_frames.specs.Public.Version.{is_new_mode}
+use Rattle.csi_frames.specs.Public.Reading.{go_on}
+use Rattle.csi_frames.specs.Public.Reading.{give, owed_capability_at, capabilities_at}
 
 -- what was read before, and what is still read
 abbrev pub with_front : List Capability → Result (List Capability × List ℕ) Stop → Result (List Capability × List ℕ) Stop
@@ -45,22 +46,3 @@ unfolding capabilities_at
 is_done version owed front left bytes total le so_far =
     let k : left ≡ 0 = omega (arith, le) in
     sym (subst (λ (n : ℕ). with_front front (capabilities_at version owed n bytes) ≡ total) k so_far) ∙ ap (λ (cs : List Capability). Ok (cs, bytes)) (append-nil front)
-
--- ---- a list that was read is read again
-
--- what never stops is read
-is_read : (read : Result (Capability × List ℕ) Stop) → ((stop : Stop) → read ≡ Err stop → ⊥) → is_ok read ≡ true
-is_read (Ok x) never = refl
-is_read (Err stop) never = absurd (never stop refl)
-
--- where the whole was read, reading doesn't stop at any of its capabilities
-never_ends : (version : Version) (stop : Stop) (front : List Capability) (left : ℕ) (bytes : List ℕ) (total : Result (List Capability × List ℕ) Stop) → 0 < left → owed_capability_at version false bytes ≡ Err stop
-    → with_front front (capabilities_at version false left bytes) ≡ total → is_ok total ≡ true → ⊥
-never_ends version stop front left bytes total lt h so_far read =
-    let none : is_ok total ≡ is_ok {T = List Capability × List ℕ} {E = Stop} (Err stop) = ap is_ok (ends version false false stop front left bytes total lt refl h so_far) in
-    cc
-
--- where the whole was read, its next capability is read
-pub next_ok : (version : Version) (front : List Capability) (left : ℕ) (bytes : List ℕ) (total : Result (List Capability × List ℕ) Stop) → 0 < left
-    → with_front front (capabilities_at version false left bytes) ≡ total → is_ok total ≡ true → is_ok (owed_capability_at version false bytes) ≡ true
-next_ok version front left bytes total lt so_far read = is_read (owed_capability_at version false bytes) (λ stop h. never_ends version stop front left bytes total lt h so_far read)

@@ -10,10 +10,10 @@ use Rattle.csi_frames.specs.declared.body_kind.BodyKind.TheVariants.{Call, Reply
 use Rattle.csi_frames.specs.declared.fault.FaultKind.{FaultKind}
 use Rattle.csi_frames.specs.declared.fault.FaultKind.TheVariants.{Short, BadText, BadId, LengthDiffers, NoMemory}
 use Rattle.csi_frames.specs.declared.version.Version.{Version}
-use Rattle.csi_frames.specs.Codes.{version_of, mode_of, body_kind_of}
-use Rattle.csi_frames.specs.Version.{is_new_mode, owes_new_mode}
-use Rattle.csi_frames.specs.Grammar.{Grammar, End, Byte, Word, Text, Leads, nothing, byte, word, text, refusal, mode_grammar, capability_grammar, capabilities_grammar, flag_grammar, call_grammar, reply_grammar, fields_grammar, party_grammar, body_grammar}
-use Rattle.csi_frames.specs.Fault.{IsStuck, IsFaulty, no_length, too_long, short, in_body}
+use Rattle.csi_frames.specs.Public.Codes.{version_of, mode_of, body_kind_of}
+use Rattle.csi_frames.specs.Public.Version.{is_new_mode, owes_new_mode}
+use Rattle.csi_frames.specs.Public.Grammar.{Grammar, End, Byte, Word, Text, Leads, nothing, byte, word, text, refusal, mode_grammar, capability_grammar, capabilities_grammar, flag_grammar, call_grammar, reply_grammar, fields_grammar, party_grammar, body_grammar}
+use Rattle.csi_frames.specs.Public.Fault.{IsStuck, IsFaulty, no_length, too_long, short, in_body}
 
 -- no byte of the grammar has Short for its fault
 abbrev NeverShort : Grammar → Type 0

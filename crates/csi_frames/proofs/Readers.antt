@@ -5,9 +5,10 @@ use Rattle.std.specs.Prelude.{MatchBool}
 use Rattle.byteorder.specs.Endian.{big_number}
 use Rattle.csi_frames.specs.declared.fault.FaultKind.{FaultKind}
 use Rattle.csi_frames.specs.declared.fields.Stop.{Stop}
-use Rattle.csi_frames.specs.Grammar.{Grammar, Word, Text, Leads, nothing, byte, word, text, refusal}
-use Rattle.csi_frames.specs.Reading.{Reader, go_on, ◌>>=◌, give, stopped}
-use Rattle.csi_frames.specs.Bytes.{AreBytes}
+use Rattle.csi_frames.specs.Public.Grammar.{Grammar, Word, Text, Leads, nothing, byte, word, text, refusal}
+use Rattle.csi_frames.specs.Public.Reading.{Reader, give, stopped_at_field}
+use Rattle.csi_frames.specs.Public.Reading.{go_on, ◌>>=◌}
+use Rattle.csi_frames.specs.Public.Bytes.{AreBytes}
 use Rattle.csi_frames.proofs.Bytes.{AreBytes-back}
 
 -- ---- leading through a grammar goes on
@@ -124,11 +125,11 @@ pub ok_is : {A : Type 0} (x : A) (bytes : List ℕ) (y : A × List ℕ) → done
 ok_is x bytes y e = cc
 
 -- of two stops that are the same, the kind and what is left are the same
-pub err_is : {A : Type 0} (kind : FaultKind) (bytes : List ℕ) (stop : Stop) → stopped {A = A} kind bytes ≡ Err stop → (record { kind = kind; left = length bytes }) ≡ stop
+pub err_is : {A : Type 0} (kind : FaultKind) (bytes : List ℕ) (stop : Stop) → stopped_at_field {A = A} kind bytes ≡ Err stop → (record { kind = kind; left = length bytes }) ≡ stop
 err_is kind bytes stop e = cc
 
 -- a field that isn't there, or isn't allowed
-pub refuses_here : {A : Type 0} (g : Grammar) (bytes : List ℕ) (kind : FaultKind) (stop : Stop) → refusal g bytes ≡ Some kind → stopped {A = A} kind bytes ≡ Err stop → Refuses g bytes stop
+pub refuses_here : {A : Type 0} (g : Grammar) (bytes : List ℕ) (kind : FaultKind) (stop : Stop) → refusal g bytes ≡ Some kind → stopped_at_field {A = A} kind bytes ≡ Err stop → Refuses g bytes stop
 refuses_here {A} g bytes kind stop refused e =
     let same = err_is {A = A} kind bytes stop e in
     record {

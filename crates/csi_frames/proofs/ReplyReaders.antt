@@ -7,16 +7,17 @@ use Rattle.std.proofs.lemmas.List.{append-nil}
 use Rattle.csi_types.specs.declared.status.Status.{Status}
 use Rattle.csi_types.specs.declared.call.Kind.{Kind}
 use Rattle.csi_types.specs.declared.reply.Reply.{Reply}
-use Rattle.csi_types.specs.Status.{status_code}
-use Rattle.csi_types.specs.Text.{IsText}
-use Rattle.csi_types.specs.VolumeId.{IsVolumeId}
-use Rattle.csi_types.specs.Reply.{is_create, is_ok_status, has_id_by_rule}
-use Rattle.csi_types.specs.Limits.{IsReply}
+use Rattle.csi_types.specs.Public.Status.{status_code}
+use Rattle.csi_types.specs.Public.Text.{IsText}
+use Rattle.csi_types.specs.Public.VolumeId.{IsVolumeId}
+use Rattle.csi_types.specs.Public.Reply.{is_create, has_id_by_rule}
+use Rattle.csi_types.specs.Model.Reply.{is_ok_status}
+use Rattle.csi_types.specs.Public.Limits.{IsReply}
 use Rattle.csi_frames.specs.declared.fault.FaultKind.TheVariants.{BadStatus}
-use Rattle.csi_frames.specs.Codes.{is_status, status_of}
-use Rattle.csi_frames.specs.Spelling as spelling
-use Rattle.csi_frames.specs.Grammar.{Grammar, End, Byte, Word, Text, is_reply_id, reply_grammar}
-use Rattle.csi_frames.specs.Reading.{status_at, reply_id_of, reply_id_at, reply_at}
+use Rattle.csi_frames.specs.Public.Codes.{is_status, status_of}
+use Rattle.csi_frames.specs.Public.Spelling as spelling
+use Rattle.csi_frames.specs.Public.Grammar.{Grammar, End, Byte, Word, Text, is_reply_id, reply_grammar}
+use Rattle.csi_frames.specs.Public.Reading.{status_at, reply_id_of, reply_id_at, reply_at}
 use Rattle.csi_frames.proofs.Readers.{Agrees, Then, then, Given, gives, in_words}
 use Rattle.csi_frames.proofs.FieldReaders.{IsWordOf, word_agrees}
 use Rattle.csi_frames.proofs.Says.{Spelled, After, Made, after, makes, Always, code_agrees}

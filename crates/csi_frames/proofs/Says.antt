@@ -2,8 +2,9 @@
 use Rattle.std.proofs.Common.{◌≡◌, ℕ, Bool, true, List, [], ◌∷◌, ◌++◌, refl, sym, ap, subst, ◌∙◌}
 use Rattle.std.proofs.lemmas.List.{append-nil}
 use Rattle.csi_frames.specs.declared.fault.FaultKind.{FaultKind}
-use Rattle.csi_frames.specs.Grammar.{Grammar, Byte}
-use Rattle.csi_frames.specs.Reading.{Reader, ◌>>=◌, give, byte_at}
+use Rattle.csi_frames.specs.Public.Grammar.{Grammar, Byte}
+use Rattle.csi_frames.specs.Public.Reading.{Reader, give, byte_at}
+use Rattle.csi_frames.specs.Public.Reading.{◌>>=◌}
 use Rattle.csi_frames.proofs.Readers.{Agrees, then, gives, in_words}
 use Rattle.csi_frames.proofs.FieldReaders.{byte_agrees}
 

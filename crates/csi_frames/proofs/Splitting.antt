@@ -1,17 +1,18 @@
 -- What a splitter finds at the front of the bytes that it keeps.
 use Rattle.std.proofs.Common.{◌≡◌, ◌≢◌, ℕ, ◌+◌, ◌-◌, ◌^◌, ◌≤◌, min, Bool, true, false, cond, List, length, take, drop, take_all, Option, Some, None, Result, Ok, Err, refl, sym, ap, subst, ◌∙◌, arith}
 use Rattle.std.proofs.lemmas.List.{length-take, length-drop, drop-drop}
-use Rattle.csi_types.specs.Frame.{Frame}
-use Rattle.csi_types.specs.Limits.{IsFrame}
+use Rattle.csi_types.specs.Model.Frame.{Frame}
+use Rattle.csi_types.specs.Public.Limits.{IsFrame}
 use Rattle.csi_frames.specs.declared.fault.FaultKind.{FaultKind}
 use Rattle.csi_frames.specs.declared.fault.FaultKind.TheVariants.{Short}
 use Rattle.csi_frames.specs.declared.fault.FrameFault.{FrameFault}
-use Rattle.csi_frames.specs.Bytes.{AreBytes}
-use Rattle.csi_frames.specs.Spelling.{spelling, BeginsWith}
-use Rattle.csi_frames.specs.Fault.{IsFaulty}
-use Rattle.csi_frames.specs.Reading.{first_frame}
-use Rattle.csi_frames.specs.Splitting.{Splitting, IsFound, IsNext, after_next}
-use Rattle.csi_frames.specs.Progress.{is_short, shown}
+use Rattle.csi_frames.specs.Public.Bytes.{AreBytes}
+use Rattle.csi_frames.specs.Public.Spelling.{spelling, BeginsWith}
+use Rattle.csi_frames.specs.Public.Fault.{IsFaulty}
+use Rattle.csi_frames.specs.Public.Reading.{first_frame}
+use Rattle.csi_frames.specs.Public.Splitting.{Splitting, IsFound, IsNextFrame, after_next}
+use Rattle.csi_frames.specs.Private.Progress.{is_short}
+use Rattle.csi_frames.specs.Public.Progress.{progress_shown}
 use Rattle.csi_frames.proofs.Bytes.{AreBytes-drop, AreBytes-take}
 use Rattle.csi_frames.proofs.Front.{first_frame-begins, first_frame-faulty}
 use Rattle.csi_frames.proofs.Verdicts.{reads_frame, reads_fault}
@@ -72,17 +73,17 @@ IsFound-fault kept fault fits e t =
 -- ---- before a fault and after it
 
 -- where no fault was answered before, the answer is what is found of the kept bytes
-pub IsNext-found : (before : Option FrameFault) (kept : List ℕ) (answer : Result (Option Frame) FrameFault) → before ≡ None → IsFound kept answer → IsNext before kept answer
+pub IsNext-found : (before : Option FrameFault) (kept : List ℕ) (answer : Result (Option Frame) FrameFault) → before ≡ None → IsFound kept answer → IsNextFrame before kept answer
 IsNext-found None kept answer e found = found
 IsNext-found (Some fault) kept answer e found = absurd cc
 
 -- once a fault was answered, it is the answer
-pub IsNext-fault : (before : Option FrameFault) (kept : List ℕ) (fault : FrameFault) → before ≡ Some fault → IsNext before kept (Err fault)
+pub IsNext-fault : (before : Option FrameFault) (kept : List ℕ) (fault : FrameFault) → before ≡ Some fault → IsNextFrame before kept (Err fault)
 IsNext-fault None kept fault e = absurd cc
 IsNext-fault (Some first) kept fault e = ap Err (let same : fault ≡ first = cc in same)
 
 -- a splitter has one answer to the next call
-pub IsNext-only : (before : Option FrameFault) (kept : List ℕ) (answer other : Result (Option Frame) FrameFault) → AreBytes kept → IsNext before kept answer → IsNext before kept other → answer ≡ other
+pub IsNext-only : (before : Option FrameFault) (kept : List ℕ) (answer other : Result (Option Frame) FrameFault) → AreBytes kept → IsNextFrame before kept answer → IsNextFrame before kept other → answer ≡ other
 IsNext-only None kept answer other fits one two = read-is kept answer fits one ∙ sym (read-is kept other fits two)
 IsNext-only (Some fault) kept answer other fits one two = one ∙ sym two
 
@@ -106,7 +107,7 @@ behind-fault start buffer fault fits e t = IsFound-fault (drop start buffer) fau
 
 -- a frame that is read is taken off the front
 pub shown-frame : (start size taken sum : ℕ) (fault : Option FrameFault) (buffer : List ℕ) (frame : Frame) → size ≡ length (spelling frame) → sum ≡ min (taken + size) (2 ^ 64 - 1)
-    → shown (record { start = start + size; taken = sum; fault = fault }) buffer ≡ after_next (shown (record { start = start; taken = taken; fault = fault }) buffer) (Ok (Some frame))
+    → progress_shown (record { start = start + size; taken = sum; fault = fault }) buffer ≡ after_next (progress_shown (record { start = start; taken = taken; fault = fault }) buffer) (Ok (Some frame))
 shown-frame start size taken sum fault buffer frame same capped =
     let made : List ℕ → ℕ → Splitting = λ kept t. record { kept = kept; taken = t; fault = fault } in
     ap (made (drop (start + size) buffer)) capped

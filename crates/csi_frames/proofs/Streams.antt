@@ -4,18 +4,18 @@ use Rattle.std.specs.List.{flat_map, AllByRecursion}
 use Rattle.std.proofs.lemmas.List.{append-nil, append_cancel_left, take-append-drop, take_at, take-append-le, drop-append-le, length-drop}
 use Rattle.std.proofs.lemmas.List.Concat.{flat_map-append}
 use Rattle.byteorder.specs.Numbers.{big_from-append}
-use Rattle.csi_types.specs.Frame.{Frame}
-use Rattle.csi_types.specs.Limits.{IsFrame}
+use Rattle.csi_types.specs.Model.Frame.{Frame}
+use Rattle.csi_types.specs.Public.Limits.{IsFrame}
 use Rattle.csi_frames.specs.declared.fault.FaultKind.{FaultKind}
 use Rattle.csi_frames.specs.declared.fault.FaultKind.TheVariants.{Short}
 use Rattle.csi_frames.specs.declared.fault.FrameFault.{FrameFault}
-use Rattle.csi_frames.specs.Bytes.{AreBytes}
-use Rattle.csi_frames.specs.Spelling.{spelling, BeginsWith}
-use Rattle.csi_frames.specs.Grammar.{body_grammar}
-use Rattle.csi_frames.specs.Fault.{IsStuck, IsFaulty, length_of, no_length, too_long, short, in_body}
-use Rattle.csi_frames.specs.Stream.{FramesOf}
-use Rattle.csi_frames.specs.Splitting.{Splitting, kept_after, after_next, IsNext}
-use Rattle.csi_frames.specs.Cutting.{IsLeft, frame_in, Splits, begins, feeds, asks, HasNoFrame}
+use Rattle.csi_frames.specs.Public.Bytes.{AreBytes}
+use Rattle.csi_frames.specs.Public.Spelling.{spelling, BeginsWith}
+use Rattle.csi_frames.specs.Public.Grammar.{body_grammar}
+use Rattle.csi_frames.specs.Public.Fault.{IsStuck, IsFaulty, length_of, no_length, too_long, short, in_body}
+use Rattle.csi_frames.specs.Public.Stream.{FramesOf}
+use Rattle.csi_frames.specs.Public.Splitting.{Splitting, kept_after, after_next, IsNextFrame}
+use Rattle.csi_frames.specs.Public.Cutting.{IsRestLeft, frame_in_answer, Splits, begins, feeds, asks, HasNoFrame}
 use Rattle.csi_frames.proofs.Bytes.{AreBytes-back}
 use Rattle.csi_frames.proofs.Front.{first_frame-begins, first_frame-faulty}
 use Rattle.csi_frames.proofs.Verdicts.{same_frame, no_both}
@@ -149,8 +149,8 @@ abbrev StandsSo : List ℕ → List Frame → Splitting → Type 0
 StandsSo stream given s = Stands stream given s.fault s.kept
 
 -- whatever the splitter answers to the next call, it still stands in its stream as it shows
-stands-next : (stream : List ℕ) (given : List Frame) (kept : List ℕ) (taken : ℕ) (fault : Option FrameFault) (answer : Result (Option Frame) FrameFault) → Stands stream given fault kept → IsNext fault kept answer
-    → StandsSo stream (given ++ frame_in answer) (after_next (record { kept = kept; taken = taken; fault = fault }) answer)
+stands-next : (stream : List ℕ) (given : List Frame) (kept : List ℕ) (taken : ℕ) (fault : Option FrameFault) (answer : Result (Option Frame) FrameFault) → Stands stream given fault kept → IsNextFrame fault kept answer
+    → StandsSo stream (given ++ frame_in_answer answer) (after_next (record { kept = kept; taken = taken; fault = fault }) answer)
 stands-next stream given kept taken None (Ok (Some frame)) s found = stands-frame stream given kept frame s found
 stands-next stream given kept taken None (Ok None) s found = stands-none stream given None kept s
 stands-next stream given kept taken None (Err f) s found =
@@ -169,7 +169,7 @@ stands stream given s (asks _ before t answer run found) = stands-next stream be
 -- ---- nothing more is given
 
 -- where a splitter would give no frame, none begins what is kept and what was dropped behind it
-no_more : (fault : Option FrameFault) (kept dropped : List ℕ) → AreBytes (kept ++ dropped) → IsDropped fault kept dropped → ((frame : Frame) → IsNext fault kept (Ok (Some frame)) → ⊥) → NoFrame (kept ++ dropped)
+no_more : (fault : Option FrameFault) (kept dropped : List ℕ) → AreBytes (kept ++ dropped) → IsDropped fault kept dropped → ((frame : Frame) → IsNextFrame fault kept (Ok (Some frame)) → ⊥) → NoFrame (kept ++ dropped)
 no_more None kept dropped fits nothing none frame n b =
     let here : BeginsWith kept frame n = subst (λ (bytes : List ℕ). BeginsWith bytes frame n) (ap (λ (bytes : List ℕ). kept ++ bytes) nothing ∙ append-nil kept) b in
     none frame (subst (BeginsWith kept frame) (size_is kept frame n here) here)
@@ -177,12 +177,12 @@ no_more (Some f) kept dropped fits faulty none frame n b =
     no_both frame n f.kind f.place (sym (first_frame-begins (kept ++ dropped) frame n b) ∙ first_frame-faulty (kept ++ dropped) f.kind f.place fits (faulty-more kept dropped f.kind f.place faulty.0 faulty.1))
 
 -- what is left of the stream, as the splitter shows it
-left-is : (fault : Option FrameFault) (kept dropped rest : List ℕ) → IsDropped fault kept dropped → kept ++ dropped ≡ rest → IsLeft fault kept rest
+left-is : (fault : Option FrameFault) (kept dropped rest : List ℕ) → IsDropped fault kept dropped → kept ++ dropped ≡ rest → IsRestLeft fault kept rest
 left-is None kept dropped rest nothing is = sym (append-nil kept) ∙ ap (λ (bytes : List ℕ). kept ++ bytes) (sym nothing) ∙ is
 left-is (Some f) kept dropped rest faulty is = subst (λ (bytes : List ℕ). IsFaulty bytes f.kind f.place) is (faulty-more kept dropped f.kind f.place faulty.0 faulty.1)
 
 -- what a splitter gave until it gives no more are the frames of the stream, and the rest of the stream is left
-pub given_are : (stream rest : List ℕ) (given frames : List Frame) (s : Splitting) → AreBytes stream → Splits stream given s → HasNoFrame s → FramesOf stream frames rest → (given ≡ frames) × IsLeft s.fault s.kept rest
+pub given_are : (stream rest : List ℕ) (given frames : List Frame) (s : Splitting) → AreBytes stream → Splits stream given s → HasNoFrame s → FramesOf stream frames rest → (given ≡ frames) × IsRestLeft s.fault s.kept rest
 given_are stream rest given frames s fits run none of =
     let at = stands stream given s run in
     let behind : AreBytes (s.kept ++ at.dropped) = AreBytes-back (flat_map spelling given) (s.kept ++ at.dropped) (subst AreBytes at.whole fits) in

@@ -1,13 +1,13 @@
 -- What a decoder answers, from what the reader found.
 use Rattle.std.proofs.Common.{◌≡◌, ℕ, List, Result, Ok, Err, ◌⊎◌, inl, inr, refl, sym, ap, subst, ◌∙◌}
-use Rattle.csi_types.specs.Frame.{Frame}
+use Rattle.csi_types.specs.Model.Frame.{Frame}
 use Rattle.csi_frames.specs.declared.fault.FaultKind.{FaultKind}
 use Rattle.csi_frames.specs.declared.fault.FrameFault.{FrameFault}
-use Rattle.csi_frames.specs.Bytes.{AreBytes}
-use Rattle.csi_frames.specs.Decoding.{HasOneFrame, HasOneFault}
-use Rattle.csi_frames.specs.Fault.{IsFaulty}
-use Rattle.csi_frames.specs.Reading.{fault, first_frame}
-use Rattle.csi_frames.specs.Spelling.{BeginsWith}
+use Rattle.csi_frames.specs.Public.Bytes.{AreBytes}
+use Rattle.csi_frames.specs.Public.Decoding.{HasOneFrame, HasOneFault}
+use Rattle.csi_frames.specs.Public.Fault.{IsFaulty}
+use Rattle.csi_frames.specs.Public.Reading.{fault, first_frame}
+use Rattle.csi_frames.specs.Public.Spelling.{BeginsWith}
 use Rattle.csi_frames.proofs.Front.{Answers, first_frame-answers, first_frame-faulty, first_frame-begins}
 
 -- the answer to bytes that begin with this frame, of so many bytes

@@ -8,11 +8,11 @@ use Rattle.csi_types.specs.declared.call.Kind.{Kind}
 use Rattle.csi_types.specs.declared.call.Kind.TheVariants as kinds
 use Rattle.csi_types.specs.declared.call.Call.{Call}
 use Rattle.csi_types.specs.declared.call.Call.TheVariants as calls
-use Rattle.csi_types.specs.Call.{kind_of}
+use Rattle.csi_types.specs.Model.Call.{kind_of}
 use Rattle.csi_frames.specs.declared.body_kind.BodyKind.TheVariants as body_kinds
 use Rattle.csi_frames.specs.declared.version.Version.TheVariants.{One, Two}
-use Rattle.csi_frames.specs.Spelling.{call_capabilities, has_new_mode}
-use Rattle.csi_frames.specs.Version.{has_mode, is_new_mode, least_count, owes_new_mode, version_with}
+use Rattle.csi_frames.specs.Public.Spelling.{call_capabilities, has_new_mode}
+use Rattle.csi_frames.specs.Public.Version.{has_mode, is_new_mode, least_count, owes_new_mode, version_with}
 use Rattle.csi_frames.proofs.Codes.{HasMode, TakesMode, HasKind}
 use Rattle.csi_frames.proofs.CapabilityReaders.{AreInModes}
 use Rattle.csi_frames.proofs.CallReaders.{IsCallOf}

@@ -3,10 +3,11 @@ use Rattle.std.proofs.Common.{◌≡◌, ℕ, ◌+◌, List, ◌++◌, length, a
 use Rattle.std.specs.Global.{Vec}
 use Rattle.std.proofs.lemmas.List.{length-append}
 use Rattle.byteorder.specs.Endian.{big_bytes}
-use Rattle.csi_types.specs.Frame.{Frame}
+use Rattle.csi_types.specs.Model.Frame.{Frame}
 use Rattle.csi_frames.specs.declared.version.Version.{Version}
-use Rattle.csi_frames.specs.Appends.{Appends}
-use Rattle.csi_frames.specs.Spelling.{party, body_fields, body_kind, body_version, head, frame_body, spelling}
+use Rattle.csi_frames.specs.Private.Appends.{Appends}
+use Rattle.csi_frames.specs.Public.Spelling.{party, body_fields, body_kind, body_version, frame_body, spelling}
+use Rattle.csi_frames.specs.Private.Spelling.{head}
 
 -- one list of bytes was appended, and then another: both were appended, one after the other
 pub Appends-then : (a b c : Vec ℕ) (x y : List ℕ) → Appends a b x → Appends b c y → Appends a c (x ++ y)

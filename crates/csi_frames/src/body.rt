@@ -1,20 +1,20 @@
 //! A whole body, and the frame at the front of bytes.
 ghost use Rattle.std.specs.Prelude.{◌≡◌, ◌≤◌, IfErr, length};
-ghost use Rattle.csi_frames.specs.Borrowed.{owned, owned_party, owned_body, owned_fields};
-ghost use Rattle.csi_frames.specs.Gives.{Gives, Answers};
-ghost use Rattle.csi_frames.specs.Reading.{party_at, number_at, version_at, kind_at, fields_at, frame_at, all_of, first_frame};
+ghost use Rattle.csi_frames.specs.Public.Borrowed.{lent_borrowed_frame, lent_party, lent_body};
+ghost use Rattle.csi_frames.specs.Public.Gives.{Gives};
+ghost use Rattle.csi_frames.specs.Private.Gives.{GivesWhole};
+ghost use Rattle.csi_frames.specs.Public.Reading.{party_at, number_at, version_at, kind_at, fields_at, frame_at, whole_frame, first_frame};
 
 use crate::body_kind::BodyKind;
-use crate::borrowed::{BodyRef, BorrowedFrame, FieldsRef, PartyRef};
+use crate::borrowed::{BodyRef, BorrowedFrame, PartyRef};
 use crate::calls::{call_at, reply_at};
 use crate::fault::{FaultKind, FrameFault};
 use crate::fields::{Fields, Stop};
-use crate::known::known_call;
 use crate::version::Version;
 use byteorder::{BigEndian, ByteOrder};
 use csi_types::{NodeId, Number};
 
-#[tactic(auto, unfolding(crate::specs::Reading::byte_at, crate::specs::Reading::version_at))]
+#[tactic(auto, unfolding(crate::specs::Public::Reading::byte_at, crate::specs::Public::Reading::version_at))]
 fn version_at(fields: &mut Fields<'_>) -> Result<Version, Stop>
     ensures { Gives (λ version. version) result fields.new (version_at fields.old.bytes.now) }
 {
@@ -23,7 +23,7 @@ fn version_at(fields: &mut Fields<'_>) -> Result<Version, Stop>
     Version::from_number(byte).ok_or(bad)
 }
 
-#[tactic(auto, unfolding(crate::specs::Reading::byte_at, crate::specs::Reading::kind_at))]
+#[tactic(auto, unfolding(crate::specs::Public::Reading::byte_at, crate::specs::Public::Reading::kind_at))]
 fn kind_at(fields: &mut Fields<'_>, version: Version) -> Result<BodyKind, Stop>
     ensures { Gives (λ kind. kind) result fields.new (kind_at version fields.old.bytes.now) }
 {
@@ -33,7 +33,7 @@ fn kind_at(fields: &mut Fields<'_>, version: Version) -> Result<BodyKind, Stop>
 }
 
 /// The number of a call. It takes no memory.
-#[tactic(auto, unfolding(crate::specs::Reading::number_at))]
+#[tactic(auto, unfolding(crate::specs::Public::Reading::number_at))]
 pub fn number_at(fields: &mut Fields<'_>) -> Result<Number, Stop>
     ensures { Gives (λ number. number) result fields.new (number_at fields.old.bytes.now) }
 {
@@ -44,9 +44,9 @@ pub fn number_at(fields: &mut Fields<'_>) -> Result<Number, Stop>
 
 // The party: 0 for the controller's kinds, and 1 and the node's id for a node's.
 #[inline(always)]
-#[tactic(auto, unfolding(crate::specs::Reading::byte_at, crate::specs::Reading::party_at))]
+#[tactic(auto, unfolding(crate::specs::Public::Reading::byte_at, crate::specs::Public::Reading::party_at))]
 fn party_at<'a>(fields: &mut Fields<'a>, kind: BodyKind) -> Result<PartyRef<'a>, Stop>
-    ensures { Gives owned_party result fields.new (party_at kind fields.old.bytes.now) }
+    ensures { Gives lent_party result fields.new (party_at kind fields.old.bytes.now) }
 {
     let bad = fields.stop(FaultKind::BadParty);
     let byte = fields.any_byte()?;
@@ -60,42 +60,34 @@ fn party_at<'a>(fields: &mut Fields<'a>, kind: BodyKind) -> Result<PartyRef<'a>,
     Ok(PartyRef::Node(id))
 }
 
-// The fields, kept as the bytes that they are read from. What is read is inlined, so that where it is dropped none is made.
+// The fields of a body of this kind.
 #[inline(always)]
-#[tactic(auto, unfolding(crate::specs::Reading::fields_at))]
-fn kept_fields_at<'a>(
+#[tactic(auto, unfolding(crate::specs::Public::Reading::fields_at))]
+fn fields_at<'a>(
     fields: &mut Fields<'a>,
     version: Version,
     kind: BodyKind,
-) -> Result<FieldsRef<'a>, Stop>
-    ensures { Gives owned_fields result fields.new (fields_at version kind fields.old.bytes.now) }
+) -> Result<BodyRef<'a>, Stop>
+    ensures { Gives lent_body result fields.new (fields_at version kind fields.old.bytes.now) }
 {
-    let bytes = fields.bytes;
     match kind {
         BodyKind::Call(of) => match call_at(fields, version, of) {
-            Ok(_) => Ok(FieldsRef {
-                version,
-                kind,
-                bytes,
-            }),
+            Ok(call) => Ok(BodyRef::Call(call)),
             Err(stop) => Err(stop),
         },
         BodyKind::Reply(of) => match reply_at(fields, of) {
-            Ok(_) => Ok(FieldsRef {
-                version,
-                kind,
-                bytes,
-            }),
+            Ok(reply) => Ok(BodyRef::Reply(of, reply)),
             Err(stop) => Err(stop),
         },
     }
 }
 
-// The same in the first version, of which nearly all frames are: a function of its own, in which no test of the version is left.
-fn first_fields_at<'a>(fields: &mut Fields<'a>, kind: BodyKind) -> Result<FieldsRef<'a>, Stop>
-    ensures { Gives owned_fields result fields.new (fields_at Version.One kind fields.old.bytes.now) }
+// The same in the first version, of which nearly all frames are: apart, so that no test of the version is left in it.
+#[inline(always)]
+fn first_fields_at<'a>(fields: &mut Fields<'a>, kind: BodyKind) -> Result<BodyRef<'a>, Stop>
+    ensures { Gives lent_body result fields.new (fields_at Version.One kind fields.old.bytes.now) }
 {
-    kept_fields_at(fields, Version::One, kind)
+    fields_at(fields, Version::One, kind)
 }
 
 // The same in either version.
@@ -104,51 +96,36 @@ fn fields_of_version<'a>(
     fields: &mut Fields<'a>,
     version: Version,
     kind: BodyKind,
-) -> Result<FieldsRef<'a>, Stop>
-    ensures { Gives owned_fields result fields.new (fields_at version kind fields.old.bytes.now) }
+) -> Result<BodyRef<'a>, Stop>
+    ensures { Gives lent_body result fields.new (fields_at version kind fields.old.bytes.now) }
 {
     match version {
         Version::One => first_fields_at(fields, kind),
-        Version::Two => kept_fields_at(fields, Version::Two, kind),
-    }
-}
-
-/// The body that has these fields. They were read before, so that reading them again stops nowhere.
-#[inline(always)]
-pub(crate) fn body_of(from: FieldsRef<'_>) -> BodyRef<'_>
-    ensures { owned_body result ≡ owned_fields from.entry }
-{
-    let mut fields = Fields { bytes: from.bytes };
-    match from.kind {
-        BodyKind::Call(kind) => BodyRef::Call(known_call(&mut fields, from.version, kind)),
-        BodyKind::Reply(kind) => match reply_at(&mut fields, kind) {
-            Ok(reply) => BodyRef::Reply(kind, reply),
-            Err(_) => unreachable!(),
-        },
+        Version::Two => fields_at(fields, Version::Two, kind),
     }
 }
 
 #[inline(always)]
-#[tactic(auto, unfolding(crate::specs::Reading::frame_at))]
+#[tactic(auto, unfolding(crate::specs::Public::Reading::frame_at))]
 fn frame_at<'a>(fields: &mut Fields<'a>) -> Result<BorrowedFrame<'a>, Stop>
-    ensures { Gives owned result fields.new (frame_at fields.old.bytes.now) }
+    ensures { Gives lent_borrowed_frame result fields.new (frame_at fields.old.bytes.now) }
 {
     let version = version_at(fields)?;
     let kind = kind_at(fields, version)?;
     let number = number_at(fields)?;
     let party = party_at(fields, kind)?;
-    let fields = fields_of_version(fields, version, kind)?;
+    let body = fields_of_version(fields, version, kind)?;
     Ok(BorrowedFrame {
         number,
         party,
-        fields,
+        body,
     })
 }
 
 /// The frame whose body these bytes are, all of them.
 #[inline(always)]
 fn whole_body(bytes: &[u8]) -> Result<BorrowedFrame<'_>, Stop>
-    ensures read { Answers owned result (all_of (frame_at bytes.now)) }
+    ensures read { GivesWhole lent_borrowed_frame result (whole_frame (frame_at bytes.now)) }
     ensures within { IfErr result (λ stop. stop.left ≤ length bytes.now) }
 {
     let mut fields = Fields { bytes };
@@ -164,9 +141,9 @@ const MAX_BODY: usize = 1280;
 
 /// The frame at the front of the bytes and how many bytes it takes, or the first fault. It takes no memory.
 #[inline(always)]
-#[tactic(auto, unfolding(crate::specs::Reading::first_frame))]
+#[tactic(auto, unfolding(crate::specs::Public::Reading::first_frame))]
 pub(crate) fn first_frame(bytes: &[u8]) -> Result<(BorrowedFrame<'_>, usize), FrameFault>
-    ensures { Answers (λ x. (owned x.0, x.1)) result (first_frame bytes.now) }
+    ensures { GivesWhole (λ x. (lent_borrowed_frame x.0, x.1)) result (first_frame bytes.now) }
 {
     let short = FrameFault {
         kind: FaultKind::Short,

@@ -1,9 +1,9 @@
 //! The kind byte of a body.
 ghost use Rattle.std.specs.Prelude.{◌≡◌, ◌+◌};
-ghost use Rattle.csi_frames.specs.Codes.{is_create_call, kind_in};
-ghost use Rattle.csi_frames.specs.Kinds.{body_kind_from_number, kind_from_number, reply_kind_from};
-ghost use Rattle.csi_frames.specs.Grammar.{party_number};
-ghost use Rattle.csi_types.specs.Same.{kind_number};
+ghost use Rattle.csi_frames.specs.Public.Codes.{kind_in};
+ghost use Rattle.csi_frames.specs.Public.Kinds.{body_kind_from_number, kind_from_number, reply_kind_from};
+ghost use Rattle.csi_frames.specs.Public.Grammar.{party_number};
+ghost use Rattle.csi_types.specs.Model.Same.{kind_number};
 
 use csi_types::Kind;
 
@@ -46,16 +46,6 @@ impl BodyKind {
                 Some(kind) => Some(BodyKind::Reply(kind)),
                 None => None,
             }
-        }
-    }
-
-    /// Whether it is a call to CreateVolume.
-    pub fn is_create(self) -> bool
-        ensures { result ≡ is_create_call self }
-    {
-        match self {
-            BodyKind::Call(kind) => kind == Kind::CreateVolume,
-            BodyKind::Reply(_) => false,
         }
     }
 

@@ -1,21 +1,24 @@
 //! Capabilities, calls and replies, read from the bytes of a body.
-ghost use Rattle.std.specs.Prelude.{◌≡◌, ◌==◌, ◌&&◌, not};
-ghost use Rattle.csi_types.specs.Lent.{lent_access, lent_capability};
-ghost use Rattle.csi_frames.specs.Borrowed.{owned_capabilities, owned_call, owned_reply};
-ghost use Rattle.csi_frames.specs.Gives.{Gives};
-ghost use Rattle.csi_frames.specs.Version.{is_new_mode, owes_new_mode};
-ghost use Rattle.csi_frames.specs.Reading.{access_at, mode_at, owed_capability_at, capability_at, capabilities_at, create_at, call_at, status_at, reply_id_of, reply_id_at, reply_at};
+ghost use Rattle.std.specs.Prelude.{◌≡◌, ◌≤◌, ◌==◌, ◌&&◌, ℕ, Bool, List, Ok, not};
+ghost use Rattle.csi_types.specs.declared.capability.Capability.{Capability as OneCapability};
+ghost use Rattle.csi_types.specs.Public.Lent.{lent_access, lent_capability, lent_call};
+ghost use Rattle.csi_types.specs.Public.Listed.{listed};
+ghost use Rattle.csi_frames.specs.Public.Borrowed.{lent_reply};
+ghost use Rattle.csi_frames.specs.Public.Gives.{Gives};
+ghost use Rattle.csi_frames.specs.Public.Version.{is_new_mode, owes_new_mode};
+ghost use Rattle.csi_frames.specs.Public.Reading.{id_at, access_at, mode_at, owed_capability_at, capability_at, capabilities_at, create_at, call_at, status_at, reply_id_of, reply_id_at, reply_at};
 
-use crate::borrowed::{BorrowedCall, CapabilitiesRef, ReplyRef};
+use crate::borrowed::ReplyRef;
 use crate::fault::FaultKind;
 use crate::fields::{Fields, Stop};
 use crate::version::{Version, is_new_mode};
 use csi_types::{
-    AccessRef, CapabilityRef, Detail, FsType, Kind, Mode, Name, NodeId, Status, Target,
+    AccessRef, CallRef, CapabilitiesRef, CapabilityRef, Detail, FsType, Kind, Mode, Name, NodeId,
+    SpelledCapabilities, Status, Target, VolumeIdRef,
 };
 
 #[inline(always)]
-#[tactic(auto, unfolding(crate::specs::Reading::access_at))]
+#[tactic(auto, unfolding(crate::specs::Public::Reading::access_at))]
 fn access_at<'a>(fields: &mut Fields<'a>) -> Result<AccessRef<'a>, Stop>
     ensures { Gives lent_access result fields.new (access_at fields.old.bytes.now) }
 {
@@ -28,7 +31,7 @@ fn access_at<'a>(fields: &mut Fields<'a>) -> Result<AccessRef<'a>, Stop>
 }
 
 #[inline(always)]
-#[tactic(auto, unfolding(crate::specs::Reading::byte_at, crate::specs::Reading::mode_at))]
+#[tactic(auto, unfolding(crate::specs::Public::Reading::byte_at, crate::specs::Public::Reading::mode_at))]
 fn mode_at(fields: &mut Fields<'_>, version: Version, owed: bool) -> Result<Mode, Stop>
     ensures { Gives (λ mode. mode) result fields.new (mode_at version owed fields.old.bytes.now) }
 {
@@ -39,7 +42,7 @@ fn mode_at(fields: &mut Fields<'_>, version: Version, owed: bool) -> Result<Mode
 
 // A capability in a mode that the version has, and in a new one where it is owed.
 #[inline(always)]
-#[tactic(auto, unfolding(crate::specs::Reading::owed_capability_at))]
+#[tactic(auto, unfolding(crate::specs::Public::Reading::owed_capability_at))]
 fn owed_capability_at<'a>(
     fields: &mut Fields<'a>,
     version: Version,
@@ -54,7 +57,7 @@ fn owed_capability_at<'a>(
 
 /// A capability, in a mode that the version has. It takes no memory.
 #[inline(always)]
-#[tactic(auto, unfolding(crate::specs::Reading::capability_at))]
+#[tactic(auto, unfolding(crate::specs::Public::Reading::capability_at))]
 pub fn capability_at<'a>(
     fields: &mut Fields<'a>,
     version: Version,
@@ -78,13 +81,35 @@ fn is_still_owed(owed: bool, mode: Mode) -> bool
     owed && !is_new_mode(mode)
 }
 
+// The id of a volume.
+#[inline(always)]
+fn id_at(fields: &mut Fields<'_>) -> Result<VolumeIdRef, Stop>
+    ensures { Gives (λ id. id.number) result fields.new (id_at fields.old.bytes.now) }
+{
+    let number = fields.id()?;
+    Ok(VolumeIdRef { number })
+}
+
+// The capabilities of these bytes, which were judged.
+#[inline(always)]
+fn judged(bytes: &[u8], count: u8) -> SpelledCapabilities<'_>
+    requires few { count ≤ 8 }
+    requires read { (version : Version) × (owed : Bool) × (list : List OneCapability) × (rest : List ℕ)
+        × (capabilities_at version owed count bytes.now ≡ Ok (list, rest)) }
+    ensures { (version : Version) (owed : Bool) (list : List OneCapability) (rest : List ℕ) →
+        capabilities_at version owed count bytes.now ≡ Ok (list, rest) → listed result ≡ list }
+{
+    SpelledCapabilities { bytes, count }
+}
+
 // As many capabilities as `count` says. Where the version owes a new mode, the last one is in such a mode if no earlier one is.
 fn capabilities_at<'a>(
     fields: &mut Fields<'a>,
     version: Version,
     count: u8,
-) -> Result<CapabilitiesRef<'a>, Stop>
-    ensures { Gives owned_capabilities result fields.new (capabilities_at version (owes_new_mode version) count fields.old.bytes.now) }
+) -> Result<SpelledCapabilities<'a>, Stop>
+    requires { count ≤ 8 }
+    ensures { Gives listed result fields.new (capabilities_at version (owes_new_mode version) count fields.old.bytes.now) }
 {
     let bytes = fields.bytes;
     let mut owed = version.owes_new_mode();
@@ -95,24 +120,20 @@ fn capabilities_at<'a>(
         let one = owed_capability_at(fields, version, here)?;
         owed = is_still_owed(owed, one.mode);
     }
-    Ok(CapabilitiesRef {
-        version,
-        bytes,
-        count,
-    })
+    Ok(judged(bytes, count))
 }
 
 #[inline(always)]
-#[tactic(auto, unfolding(crate::specs::Reading::create_at))]
-fn create_at<'a>(fields: &mut Fields<'a>, version: Version) -> Result<BorrowedCall<'a>, Stop>
-    ensures { Gives owned_call result fields.new (create_at version fields.old.bytes.now) }
+#[tactic(auto, unfolding(crate::specs::Public::Reading::create_at))]
+fn create_at<'a>(fields: &mut Fields<'a>, version: Version) -> Result<CallRef<'a>, Stop>
+    ensures { Gives lent_call result fields.new (create_at version fields.old.bytes.now) }
 {
     let name = fields.text(1, Name::MAX_LEN)?;
     let required = fields.word()?;
     let limit = fields.word()?;
     let count = fields.count(version.least_count(), 8)?;
-    let capabilities = capabilities_at(fields, version, count)?;
-    Ok(BorrowedCall::CreateVolume {
+    let capabilities = CapabilitiesRef::Spelled(capabilities_at(fields, version, count)?);
+    Ok(CallRef::CreateVolume {
         name,
         required,
         limit,
@@ -121,18 +142,15 @@ fn create_at<'a>(fields: &mut Fields<'a>, version: Version) -> Result<BorrowedCa
 }
 
 #[inline(always)]
-#[tactic(auto, unfolding(crate::specs::Reading::call_at, crate::specs::Reading::publish_at))]
-fn controller_publish_at<'a>(
-    fields: &mut Fields<'a>,
-    version: Version,
-) -> Result<BorrowedCall<'a>, Stop>
-    ensures { Gives owned_call result fields.new (call_at version Kind.ControllerPublishVolume fields.old.bytes.now) }
+#[tactic(auto, unfolding(crate::specs::Public::Reading::call_at, crate::specs::Public::Reading::publish_at))]
+fn controller_publish_at<'a>(fields: &mut Fields<'a>, version: Version) -> Result<CallRef<'a>, Stop>
+    ensures { Gives lent_call result fields.new (call_at version Kind.ControllerPublishVolume fields.old.bytes.now) }
 {
-    let id = fields.id()?;
+    let id = id_at(fields)?;
     let node = fields.text(1, NodeId::MAX_LEN)?;
     let capability = owed_capability_at(fields, version, version.owes_new_mode())?;
     let readonly = fields.flag()?;
-    Ok(BorrowedCall::ControllerPublishVolume {
+    Ok(CallRef::ControllerPublishVolume {
         id,
         node,
         capability,
@@ -141,15 +159,15 @@ fn controller_publish_at<'a>(
 }
 
 #[inline(always)]
-#[tactic(auto, unfolding(crate::specs::Reading::call_at, crate::specs::Reading::publish_at))]
-fn node_publish_at<'a>(fields: &mut Fields<'a>, version: Version) -> Result<BorrowedCall<'a>, Stop>
-    ensures { Gives owned_call result fields.new (call_at version Kind.NodePublishVolume fields.old.bytes.now) }
+#[tactic(auto, unfolding(crate::specs::Public::Reading::call_at, crate::specs::Public::Reading::publish_at))]
+fn node_publish_at<'a>(fields: &mut Fields<'a>, version: Version) -> Result<CallRef<'a>, Stop>
+    ensures { Gives lent_call result fields.new (call_at version Kind.NodePublishVolume fields.old.bytes.now) }
 {
-    let id = fields.id()?;
+    let id = id_at(fields)?;
     let target = fields.text(1, Target::MAX_LEN)?;
     let capability = owed_capability_at(fields, version, version.owes_new_mode())?;
     let readonly = fields.flag()?;
-    Ok(BorrowedCall::NodePublishVolume {
+    Ok(CallRef::NodePublishVolume {
         id,
         target,
         capability,
@@ -157,48 +175,47 @@ fn node_publish_at<'a>(fields: &mut Fields<'a>, version: Version) -> Result<Borr
     })
 }
 
-// It is inlined, so that where the call is dropped none is made.
 #[inline(always)]
-#[tactic(auto, unfolding(crate::specs::Reading::call_at, crate::specs::Reading::id_alone_at, crate::specs::Reading::id_and_text_at, crate::specs::Reading::stage_at))]
+#[tactic(auto, unfolding(crate::specs::Public::Reading::call_at, crate::specs::Public::Reading::id_alone_at, crate::specs::Public::Reading::id_and_text_at, crate::specs::Public::Reading::stage_at))]
 pub(crate) fn call_at<'a>(
     fields: &mut Fields<'a>,
     version: Version,
     kind: Kind,
-) -> Result<BorrowedCall<'a>, Stop>
-    ensures { Gives owned_call result fields.new (call_at version kind fields.old.bytes.now) }
+) -> Result<CallRef<'a>, Stop>
+    ensures { Gives lent_call result fields.new (call_at version kind fields.old.bytes.now) }
 {
     match kind {
         Kind::CreateVolume => create_at(fields, version),
         Kind::DeleteVolume => {
-            let id = fields.id()?;
-            Ok(BorrowedCall::DeleteVolume { id })
+            let id = id_at(fields)?;
+            Ok(CallRef::DeleteVolume { id })
         }
         Kind::ControllerPublishVolume => controller_publish_at(fields, version),
         Kind::ControllerUnpublishVolume => {
-            let id = fields.id()?;
+            let id = id_at(fields)?;
             let node = fields.text(1, NodeId::MAX_LEN)?;
-            Ok(BorrowedCall::ControllerUnpublishVolume { id, node })
+            Ok(CallRef::ControllerUnpublishVolume { id, node })
         }
         Kind::NodeStageVolume => {
-            let id = fields.id()?;
+            let id = id_at(fields)?;
             let capability = owed_capability_at(fields, version, version.owes_new_mode())?;
-            Ok(BorrowedCall::NodeStageVolume { id, capability })
+            Ok(CallRef::NodeStageVolume { id, capability })
         }
         Kind::NodeUnstageVolume => {
-            let id = fields.id()?;
-            Ok(BorrowedCall::NodeUnstageVolume { id })
+            let id = id_at(fields)?;
+            Ok(CallRef::NodeUnstageVolume { id })
         }
         Kind::NodePublishVolume => node_publish_at(fields, version),
         Kind::NodeUnpublishVolume => {
-            let id = fields.id()?;
+            let id = id_at(fields)?;
             let target = fields.text(1, Target::MAX_LEN)?;
-            Ok(BorrowedCall::NodeUnpublishVolume { id, target })
+            Ok(CallRef::NodeUnpublishVolume { id, target })
         }
     }
 }
 
 /// A status. It takes no memory.
-#[tactic(auto, unfolding(crate::specs::Reading::byte_at, crate::specs::Reading::status_at))]
+#[tactic(auto, unfolding(crate::specs::Public::Reading::byte_at, crate::specs::Public::Reading::status_at))]
 pub fn status_at(fields: &mut Fields<'_>) -> Result<Status, Stop>
     ensures { Gives (λ status. status) result fields.new (status_at fields.old.bytes.now) }
 {
@@ -208,7 +225,7 @@ pub fn status_at(fields: &mut Fields<'_>) -> Result<Status, Stop>
 }
 
 // The id of a reply: 0, for none, but in an `Ok` to CreateVolume, where it isn't 0.
-#[tactic(auto, unfolding(crate::specs::Reading::word_at, crate::specs::Reading::reply_id_at))]
+#[tactic(auto, unfolding(crate::specs::Public::Reading::word_at, crate::specs::Public::Reading::reply_id_at))]
 fn reply_id_at(fields: &mut Fields<'_>, kind: Kind, status: Status) -> Result<u64, Stop>
     ensures { Gives reply_id_of result fields.new (reply_id_at kind status fields.old.bytes.now) }
 {
@@ -221,9 +238,9 @@ fn reply_id_at(fields: &mut Fields<'_>, kind: Kind, status: Status) -> Result<u6
     Ok(number)
 }
 
-#[tactic(auto, unfolding(crate::specs::Reading::reply_at))]
+#[tactic(auto, unfolding(crate::specs::Public::Reading::reply_at))]
 pub(crate) fn reply_at<'a>(fields: &mut Fields<'a>, kind: Kind) -> Result<ReplyRef<'a>, Stop>
-    ensures { Gives owned_reply result fields.new (reply_at kind fields.old.bytes.now) }
+    ensures { Gives lent_reply result fields.new (reply_at kind fields.old.bytes.now) }
 {
     let status = status_at(fields)?;
     let id = reply_id_at(fields, kind, status)?;

@@ -1,12 +1,12 @@
 //! Frames read from bytes.
 ghost use Rattle.std.specs.Prelude.{◌≡◌, ℕ, ◌⊎◌, List, IfOk, IfErr, IsOk, IsErrOf, Err};
-ghost use Rattle.csi_types.specs.Frame.{Frame as Parts};
+ghost use Rattle.csi_types.specs.Model.Frame.{Frame as Parts};
 ghost use Rattle.csi_frames.specs.declared.fault.FaultKind.{FaultKind as Kind};
-ghost use Rattle.csi_frames.specs.Bytes.{AreBytes};
-ghost use Rattle.csi_frames.specs.Decoding.{no_memory, GivesUnlessMemory, BeginsWithFrame, HasOneFrame, HasOneFault};
-ghost use Rattle.csi_frames.specs.Fault.{IsFaulty};
-ghost use Rattle.csi_frames.specs.Spelling.{BeginsWith};
-ghost use Rattle.csi_frames.specs.Texts.{IsTextless};
+ghost use Rattle.csi_frames.specs.Public.Bytes.{AreBytes};
+ghost use Rattle.csi_frames.specs.Public.Decoding.{no_memory, GivesUnlessMemory, BeginsWithFrame, HasOneFrame, HasOneFault};
+ghost use Rattle.csi_frames.specs.Public.Fault.{IsFaulty};
+ghost use Rattle.csi_frames.specs.Public.Spelling.{BeginsWith};
+ghost use Rattle.csi_frames.specs.Public.Texts.{IsTextless};
 
 use crate::body::first_frame;
 use crate::fault::{FaultKind, FrameFault};

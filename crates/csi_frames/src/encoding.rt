@@ -2,12 +2,13 @@
 ghost use Rattle.std.specs.Prelude.{◌≡◌, ◌≤◌, ◌<◌, ◌+◌, ◌++◌, ◌^◌, [], ◌∷◌, length, OnOk, OnErr, IsOk, vec_len, vec_capacity};
 ghost use Rattle.std.specs.List.{flat_map, AllByRecursion};
 ghost use Rattle.byteorder.specs.Endian.{big_bytes};
-ghost use Rattle.csi_types.specs.VolumeId.{IsVolumeId};
-ghost use Rattle.csi_types.specs.Limits.{IsNumber, IsAccess, IsCapability, IsCapabilityList, IsParty, IsCall, IsReply, IsWord};
-ghost use Rattle.csi_types.specs.Replies.{call_frame, reply_frame};
-ghost use Rattle.csi_types.specs.Status.{status_code};
-ghost use Rattle.csi_frames.specs.Appends.{Appends, HasRoom};
-ghost use Rattle.csi_frames.specs.Spelling.{word, text, flag, access, capability, party, reply_id, call_fields, call_capabilities, reply_fields, body_kind, has_new_mode, head, spelling, Spells};
+ghost use Rattle.csi_types.specs.Public.VolumeId.{IsVolumeId};
+ghost use Rattle.csi_types.specs.Public.Limits.{IsNumber, IsAccess, IsCapability, IsCapabilityList, IsParty, IsCall, IsReply, IsWord};
+ghost use Rattle.csi_types.specs.Model.Replies.{call_frame, reply_frame};
+ghost use Rattle.csi_types.specs.Public.Status.{status_code};
+ghost use Rattle.csi_frames.specs.Private.Appends.{Appends, HasRoom};
+ghost use Rattle.csi_frames.specs.Public.Spelling.{word, text, flag, access, capability, party, reply_id, call_fields, call_capabilities, reply_fields, body_kind, has_new_mode, spelling, Spells};
+ghost use Rattle.csi_frames.specs.Private.Spelling.{head};
 
 use crate::body_kind::{kind_number, reply_kind_number};
 use crate::version::{Version, is_new_mode};

@@ -1,6 +1,6 @@
 //! Why bytes are no frame.
 ghost use Rattle.std.specs.Prelude.{◌≡◌};
-ghost use Rattle.csi_frames.specs.FaultKind.{fault_number};
+ghost use Rattle.csi_frames.specs.Public.FaultKind.{frame_fault_number};
 
 use thiserror::Error;
 
@@ -19,7 +19,7 @@ pub enum FaultKind {
     BadParty = 5,
     #[error("a text is outside its limits or isn't UTF-8")]
     BadText = 6,
-    #[error("the access mode isn't known")]
+    #[error("the access mode isn't one of the version, or version 2 needs a newer one")]
     BadMode = 7,
     #[error("the access type isn't known")]
     BadAccess = 8,
@@ -29,7 +29,7 @@ pub enum FaultKind {
     BadStatus = 10,
     #[error("the id is 0 in a call, or breaks the rule for replies")]
     BadId = 11,
-    #[error("there are more than 8 capabilities")]
+    #[error("there are more than 8 capabilities, or none in version 2")]
     BadCount = 12,
     #[error("the fields don't end where the length says")]
     LengthDiffers = 13,
@@ -40,7 +40,7 @@ pub enum FaultKind {
 impl FaultKind {
     /// The number that programs print.
     pub fn number(self) -> u8
-        ensures { result ≡ fault_number self }
+        ensures { result ≡ frame_fault_number self }
     {
         self as u8
     }

@@ -1,5 +1,5 @@
 //! The bytes of a body, or of a part of a record, from which its fields are read one after another.
-ghost use Rattle.std.specs.Prelude.{◌≡◌, ◌≤◌, ◌∷◌, true, false, MatchOption, Ok, is_ok, length};
+ghost use Rattle.std.specs.Prelude.{◌≡◌, ◌≤◌, ◌<◌, true, false, IfOk, MatchOption, length};
 ghost use Rattle.std.specs.Str.{is_utf8};
 
 use crate::fault::FaultKind;
@@ -21,9 +21,9 @@ pub struct Fields<'a> {
 }
 
 impl<'a> Fields<'a> {
-    ghost use Rattle.csi_frames.specs.Gives.{Gives};
-    ghost use Rattle.csi_frames.specs.Grammar.{any, at_most, from_to};
-    ghost use Rattle.csi_frames.specs.Reading.{byte_at, word_at, text_at, id_at, flag_at};
+    ghost use Rattle.csi_frames.specs.Public.Gives.{Gives};
+    ghost use Rattle.csi_frames.specs.Public.Grammar.{any, at_most, from_to};
+    ghost use Rattle.csi_frames.specs.Public.Reading.{byte_at, word_at, text_at, id_at, flag_at};
 
     /// The fault of the field that begins here.
     pub fn stop(&self, kind: FaultKind) -> Stop
@@ -36,7 +36,7 @@ impl<'a> Fields<'a> {
     }
 
     /// A byte, whatever it is.
-    #[tactic(auto, unfolding(crate::specs::Reading::byte_at))]
+    #[tactic(auto, unfolding(crate::specs::Public::Reading::byte_at))]
     pub fn any_byte(&mut self) -> Result<u8, Stop>
         ensures { Gives (λ n. n) result self.new (byte_at any FaultKind.LengthDiffers self.old.bytes.now) }
     {
@@ -48,9 +48,10 @@ impl<'a> Fields<'a> {
     }
 
     /// A byte of `least` to `most`.
-    #[tactic(auto, unfolding(crate::specs::Reading::byte_at))]
+    #[tactic(auto, unfolding(crate::specs::Public::Reading::byte_at))]
     pub fn count(&mut self, least: u8, most: u8) -> Result<u8, Stop>
-        ensures { Gives (λ n. n) result self.new (byte_at (from_to least most) FaultKind.BadCount self.old.bytes.now) }
+        ensures read { Gives (λ n. n) result self.new (byte_at (from_to least most) FaultKind.BadCount self.old.bytes.now) }
+        ensures few { IfOk result (λ n. n ≤ most) }
     {
         let [byte, rest @ ..] = self.bytes else {
             return Err(self.stop(FaultKind::LengthDiffers));
@@ -63,7 +64,7 @@ impl<'a> Fields<'a> {
     }
 
     /// A byte of at most `most`.
-    #[tactic(auto, unfolding(crate::specs::Reading::byte_at))]
+    #[tactic(auto, unfolding(crate::specs::Public::Reading::byte_at))]
     pub fn byte(&mut self, most: u8, fault: FaultKind) -> Result<u8, Stop>
         ensures { Gives (λ n. n) result self.new (byte_at (at_most most) fault self.old.bytes.now) }
     {
@@ -78,7 +79,7 @@ impl<'a> Fields<'a> {
     }
 
     /// Any number of 64 bits.
-    #[tactic(auto, unfolding(crate::specs::Reading::word_at))]
+    #[tactic(auto, unfolding(crate::specs::Public::Reading::word_at))]
     pub fn word(&mut self) -> Result<u64, Stop>
         ensures { Gives (λ n. n) result self.new (word_at any self.old.bytes.now) }
     {
@@ -91,9 +92,10 @@ impl<'a> Fields<'a> {
     }
 
     /// An id, which isn't 0.
-    #[tactic(auto, unfolding(crate::specs::Reading::word_at, crate::specs::Reading::id_at))]
+    #[tactic(auto, unfolding(crate::specs::Public::Reading::word_at, crate::specs::Public::Reading::id_at))]
     pub fn id(&mut self) -> Result<u64, Stop>
-        ensures { Gives (λ n. n) result self.new (id_at self.old.bytes.now) }
+        ensures read { Gives (λ n. n) result self.new (id_at self.old.bytes.now) }
+        ensures from_one { IfOk result (λ n. 0 < n) }
     {
         let bad = self.stop(FaultKind::BadId);
         let number = self.word()?;
@@ -104,7 +106,7 @@ impl<'a> Fields<'a> {
     }
 
     /// A flag: 0, or 1 for true.
-    #[tactic(auto, unfolding(crate::specs::Reading::flag_at))]
+    #[tactic(auto, unfolding(crate::specs::Public::Reading::flag_at))]
     pub fn flag(&mut self) -> Result<bool, Stop>
         ensures { Gives (λ b. b) result self.new (flag_at self.old.bytes.now) }
     {
@@ -113,7 +115,7 @@ impl<'a> Fields<'a> {
     }
 
     /// A text of `least` to `most` bytes.
-    #[tactic(auto, unfolding(crate::specs::Reading::text_at))]
+    #[tactic(auto, unfolding(crate::specs::Public::Reading::text_at))]
     pub fn text(&mut self, least: usize, most: usize) -> Result<&'a str, Stop>
         ensures { Gives (λ text. text.now) result self.new (text_at least most self.old.bytes.now) }
     {
@@ -135,54 +137,6 @@ impl<'a> Fields<'a> {
             }
             None => Err(self.stop(FaultKind::BadText)),
         }
-    }
-
-    /// A byte that was read before, so that reading it again stops nowhere. It isn't judged again.
-    #[inline(always)]
-    pub(crate) fn known_byte(&mut self) -> u8
-        requires { 1 ≤ length self.old.bytes.now }
-        ensures { self.old.bytes.now ≡ result ∷ self.new.bytes.now }
-    {
-        let [byte, rest @ ..] = self.bytes else {
-            unreachable!();
-        };
-        self.bytes = rest;
-        *byte
-    }
-
-    /// Any number of 64 bits that was read before, so that reading it again stops nowhere.
-    #[inline(always)]
-    pub(crate) fn known_word(&mut self) -> u64
-        requires { is_ok (word_at any self.old.bytes.now) ≡ true }
-        ensures { word_at any self.old.bytes.now ≡ Ok (result, self.new.bytes.now) }
-    {
-        let (front, rest) = self.bytes.split_at(8);
-        self.bytes = rest;
-        BigEndian::read_u64(front)
-    }
-
-    /// An id that was read before. It isn't judged again.
-    #[inline(always)]
-    pub(crate) fn known_id(&mut self) -> u64
-        requires { is_ok (id_at self.old.bytes.now) ≡ true }
-        ensures { id_at self.old.bytes.now ≡ Ok (result, self.new.bytes.now) }
-    {
-        self.known_word()
-    }
-
-    /// A text of `least` to `most` bytes that was read before, so that reading it again stops nowhere. It isn't judged again.
-    #[inline(always)]
-    pub(crate) fn known_text(&mut self, least: usize, most: usize) -> &'a str
-        requires { is_ok (text_at least most self.old.bytes.now) ≡ true }
-        ensures { text_at least most self.old.bytes.now ≡ Ok (result.now, self.new.bytes.now) }
-    {
-        let [count, rest @ ..] = self.bytes else {
-            unreachable!();
-        };
-        let (text, rest) = rest.split_at(*count as usize);
-        self.bytes = rest;
-        // It was UTF-8 when it was read before.
-        unsafe { str::from_utf8_unchecked(text) }
     }
 }
 

@@ -1,14 +1,13 @@
 //! A frame that is lent.
 ghost use Rattle.std.specs.Prelude.{◌≡◌, Ok, length};
-ghost use Rattle.csi_frames.specs.Borrowed.{owned};
-ghost use Rattle.csi_frames.specs.Bytes.{AreBytes};
-ghost use Rattle.csi_frames.specs.Reading.{first_frame};
-ghost use Rattle.csi_frames.specs.Spelling.{spelling};
+ghost use Rattle.csi_frames.specs.Public.Borrowed.{lent_borrowed_frame};
+ghost use Rattle.csi_frames.specs.Public.Bytes.{AreBytes};
+ghost use Rattle.csi_frames.specs.Public.Reading.{first_frame};
+ghost use Rattle.csi_frames.specs.Public.Spelling.{spelling};
 
-use crate::body::body_of;
 use crate::borrowed::{BodyRef, BorrowedFrame, PartyRef};
-use crate::{lending, owned};
-use csi_types::{CallRef, CapabilityList, Frame, NoMemory, Number, Party};
+use crate::owned;
+use csi_types::{CallRef, Frame, NoMemory, Number, Party};
 use std::alloc::Global;
 
 /// A frame whose texts are slices of the bytes that it was read from. A contract sees the frame that it stands for, by its
@@ -17,24 +16,25 @@ use std::alloc::Global;
 pub struct FrameRef<'a> {
     frame: BorrowedFrame<'a>,
     // What it stands for is what its spelling is read as.
-    ghost spelled: { AreBytes (spelling (owned frame)) },
-    ghost read: { first_frame (spelling (owned frame)) ≡ Ok (owned frame, length (spelling (owned frame))) },
+    ghost spelled: { AreBytes (spelling (lent_borrowed_frame frame)) },
+    ghost read: { first_frame (spelling (lent_borrowed_frame frame)) ≡ Ok (lent_borrowed_frame frame, length (spelling (lent_borrowed_frame frame))) },
 }
 
 impl<'a> FrameRef<'a> {
     ghost use Rattle.std.specs.Prelude.{◌≡◌, ◌↔◌, IfOk, IsOk, IsTrue, IfSome, option_map};
-    ghost use Rattle.csi_types.specs.Lent.{lent_call, HasFitTexts};
-    ghost use Rattle.csi_types.specs.Limits.{IsFrame};
-    ghost use Rattle.csi_frames.specs.Borrowed.{owned};
-    ghost use Rattle.csi_frames.specs.Bytes.{AreBytes};
-    ghost use Rattle.csi_frames.specs.Lent.{lent, call_of, capabilities_of, with_capabilities, IsNoCreate};
-    ghost use Rattle.csi_frames.specs.Spelling.{spelling};
-    ghost use Rattle.csi_frames.specs.Texts.{IsTextless};
+    ghost use Rattle.csi_types.specs.Public.Lent.{lent_call, HasFitTexts};
+    ghost use Rattle.csi_types.specs.Public.Limits.{IsFrame};
+    ghost use Rattle.csi_frames.specs.Public.Borrowed.{lent_borrowed_frame};
+    ghost use Rattle.csi_frames.specs.Public.Bytes.{AreBytes};
+    ghost use Rattle.csi_frames.specs.Public.Lent.{lent_frame, call_of};
+    ghost use Rattle.csi_frames.specs.Public.Spelling.{spelling};
+    ghost use Rattle.csi_frames.specs.Public.Texts.{IsTextless};
 
+    #[inline(always)]
     pub(crate) fn new(frame: BorrowedFrame<'a>) -> FrameRef<'a>
-        requires fits { IsFrame (owned frame) }
-        requires spelled { AreBytes (spelling (owned frame)) }
-        ensures { lent result ≡ owned frame.entry }
+        requires fits { IsFrame (lent_borrowed_frame frame) }
+        requires spelled { AreBytes (spelling (lent_borrowed_frame frame)) }
+        ensures { lent_frame result ≡ lent_borrowed_frame frame.entry }
     {
         FrameRef { frame }
     }
@@ -42,9 +42,9 @@ impl<'a> FrameRef<'a> {
     /// The frame with texts of its own. It is refused only where a copy of one of its texts, or of its capabilities, was: a
     /// frame whose texts are all empty or absent takes no memory.
     pub fn to_frame(&self, alloc: Global) -> Result<Frame, NoMemory>
-        ensures value { IfOk result (λ frame. frame ≡ lent self.now) }
-        ensures limits { IsFrame (lent self.now) }
-        ensures textless { IsTextless (lent self.now) → IsOk result }
+        ensures value { IfOk result (λ frame. frame ≡ lent_frame self.now) }
+        ensures limits { IsFrame (lent_frame self.now) }
+        ensures textless { IsTextless (lent_frame self.now) → IsOk result }
     {
         owned::frame(alloc, &self.frame)
     }
@@ -52,7 +52,7 @@ impl<'a> FrameRef<'a> {
     /// The number of the call. It takes no memory.
     #[inline]
     pub fn number(&self) -> Number
-        ensures { result ≡ (lent self.now).number }
+        ensures { result ≡ (lent_frame self.now).number }
     {
         self.frame.number
     }
@@ -60,7 +60,7 @@ impl<'a> FrameRef<'a> {
     /// Whether a call is for this plugin, or a reply from it. It takes no memory.
     #[inline]
     pub fn is_for(&self, party: &Party) -> bool
-        ensures { IsTrue result ↔ ((lent self.now).party ≡ party.now) }
+        ensures { IsTrue result ↔ ((lent_frame self.now).party ≡ party.now) }
     {
         match self.frame.party {
             PartyRef::Controller => matches!(party, Party::Controller),
@@ -71,32 +71,16 @@ impl<'a> FrameRef<'a> {
         }
     }
 
-    /// The capabilities of a CreateVolume, with texts of their own. Of any other call, and of a reply, they are none, which takes
-    /// no memory.
-    #[inline]
-    pub fn capabilities(&self, alloc: Global) -> Result<CapabilityList, NoMemory>
-        ensures value { IfOk result (λ list. list ≡ capabilities_of (lent self.now)) }
-        ensures others { IsNoCreate (lent self.now).body → IsOk result }
-    {
-        if !self.frame.fields.kind.is_create() {
-            return Ok(CapabilityList::try_new(Vec::new(alloc)).unwrap());
-        }
-        let body = body_of(self.frame.fields);
-        owned::capabilities_in(alloc, &body)
-    }
-
-    /// The call, with texts that lie in the bytes that the frame was read from and are within their limits; a CreateVolume has the
-    /// capabilities that are given, and is the frame's own with those of `capabilities`. `None` for a reply. It takes no memory.
+    /// The call, whose texts lie in the bytes that the frame was read from and are within their limits. `None` for a reply. It
+    /// takes no memory.
     #[inline(always)]
-    pub fn call<'b>(&'b self, capabilities: &'b CapabilityList) -> Option<CallRef<'b>>
-        ensures given { option_map lent_call result ≡ option_map (with_capabilities capabilities.now) (call_of (lent self.now)) }
-        ensures value { capabilities.now ≡ capabilities_of (lent self.now) → option_map lent_call result ≡ call_of (lent self.now) }
-        ensures others { IsNoCreate (lent self.now).body → option_map lent_call result ≡ call_of (lent self.now) }
-        ensures texts { IfSome result (λ call. HasFitTexts (lent_call call)) }
-        ensures limits { IsFrame (lent self.now) }
+    pub fn call(&self) -> Option<&CallRef<'a>>
+        ensures value { option_map (λ call. lent_call call.now) result ≡ call_of (lent_frame self.now) }
+        ensures texts { IfSome result (λ call. HasFitTexts (lent_call call.now)) }
+        ensures limits { IsFrame (lent_frame self.now) }
     {
-        match body_of(self.frame.fields) {
-            BodyRef::Call(call) => Some(lending::call(call, capabilities)),
+        match &self.frame.body {
+            BodyRef::Call(call) => Some(call),
             BodyRef::Reply(..) => None,
         }
     }

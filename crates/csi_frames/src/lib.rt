@@ -11,8 +11,6 @@ mod encoding;
 mod fault;
 mod fields;
 mod frame_ref;
-mod known;
-mod lending;
 mod owned;
 mod progress;
 mod splitter;

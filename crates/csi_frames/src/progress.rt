@@ -1,9 +1,9 @@
 //! How far a splitter has come in its buffer.
 ghost use Rattle.std.specs.Prelude.{◌≡◌, ◌≤◌, ◌+◌, ℕ, Option, Result, length, drop, IfOk, IfNone};
-ghost use Rattle.csi_types.specs.Frame.{Frame as Parts};
+ghost use Rattle.csi_types.specs.Model.Frame.{Frame as Parts};
 ghost use Rattle.csi_frames.specs.declared.fault.FrameFault.{FrameFault as Fault};
-ghost use Rattle.csi_frames.specs.Progress.{is_short};
-ghost use Rattle.csi_frames.specs.Splitting.{IsNext, after_next};
+ghost use Rattle.csi_frames.specs.Private.Progress.{is_short};
+ghost use Rattle.csi_frames.specs.Public.Splitting.{IsNextFrame, after_next};
 
 use crate::body::first_frame;
 use crate::fault::{FaultKind, FrameFault};
@@ -29,17 +29,19 @@ fn is_short(kind: FaultKind) -> bool
 }
 
 impl Progress {
-    ghost use Rattle.csi_frames.specs.Lent.{lent_in};
-    ghost use Rattle.csi_frames.specs.Progress.{shown};
+    ghost use Rattle.csi_frames.specs.Public.Lent.{lent_answer};
+    ghost use Rattle.csi_frames.specs.Public.Progress.{progress_shown};
 
+    // It is inlined, as all is that hands on a frame, so that the frame is made once, where it is given.
     /// The next frame of the buffer; none where the bytes that are kept wait for more; or a fault. It takes no memory.
+    #[inline(always)]
     pub fn next<'a>(&mut self, buffer: &'a [u8]) -> Result<Option<FrameRef<'a>>, FrameFault>
         requires { self.old.start ≤ length buffer.now }
         ensures start { self.new.start ≤ length buffer.now }
         ensures step { self.new.start ≤ self.old.start + 1284 }
-        ensures after { shown self.new buffer.now ≡ after_next (shown self.old buffer.now) (lent_in result) }
-        ensures next { IsNext self.old.fault (drop self.old.start buffer.now) (lent_in result) }
-        ensures only { (other : Result (Option Parts) Fault) → IsNext self.old.fault (drop self.old.start buffer.now) other → lent_in result ≡ other }
+        ensures after { progress_shown self.new buffer.now ≡ after_next (progress_shown self.old buffer.now) (lent_answer result) }
+        ensures next { IsNextFrame self.old.fault (drop self.old.start buffer.now) (lent_answer result) }
+        ensures only { (other : Result (Option Parts) Fault) → IsNextFrame self.old.fault (drop self.old.start buffer.now) other → lent_answer result ≡ other }
         ensures few { IfOk result (λ next. IfNone next (length (drop self.old.start buffer.now) ≤ 1283)) }
     {
         if let Some(fault) = self.fault {

@@ -2,10 +2,10 @@
 ghost use Rattle.std.specs.Prelude.{◌≡◌, ◌≤◌, ◌*◌, Option, Result, length, IfOk, IfNone, OnOk, OnErr, IsOk, IsSome, vec_len};
 ghost use Rattle.std.specs.Borrow.{sem};
 ghost use Rattle.std.specs.Io.BufRead.{Rests};
-ghost use Rattle.csi_types.specs.Frame.{Frame as Parts};
+ghost use Rattle.csi_types.specs.Model.Frame.{Frame as Parts};
 ghost use Rattle.csi_frames.specs.declared.fault.FrameFault.{FrameFault as Fault};
-ghost use Rattle.csi_frames.specs.Progress.{shown};
-ghost use Rattle.csi_frames.specs.Splitting.{new_splitting, after_feed, after_next, end_of, most_held, IsNext};
+ghost use Rattle.csi_frames.specs.Public.Progress.{progress_shown};
+ghost use Rattle.csi_frames.specs.Public.Splitting.{new_splitting, after_feed, after_next, end_of, most_held, IsNextFrame};
 
 use crate::fault::{FaultKind, FrameFault};
 use crate::frame_ref::FrameRef;
@@ -25,12 +25,12 @@ pub struct Splitter {
 
 impl Model for Splitter {
     ghost use Rattle.std.specs.Prelude.{vec_len};
-    ghost use Rattle.csi_frames.specs.Splitting.{Splitting, IsHeldInFew};
-    ghost use Rattle.csi_frames.specs.Progress.{shown};
+    ghost use Rattle.csi_frames.specs.Public.Splitting.{Splitting, IsHeldInFew};
+    ghost use Rattle.csi_frames.specs.Public.Progress.{progress_shown};
 
     ghost Value = { Splitting };
 
-    ghost view = { λ splitter. shown splitter.progress splitter.buffer.items };
+    ghost view = { λ splitter. progress_shown splitter.progress splitter.buffer.items };
 
     ghost invariant = { λ splitter. IsHeldInFew splitter.progress.start (vec_len splitter.buffer) };
 }
@@ -39,7 +39,7 @@ impl Model for Splitter {
 // than frames took.
 fn compact(buffer: &mut Vec<u8>, progress: &mut Progress)
     requires { progress.old.start ≤ vec_len buffer.old }
-    ensures same { shown progress.new buffer.new.items ≡ shown progress.old buffer.old.items }
+    ensures same { progress_shown progress.new buffer.new.items ≡ progress_shown progress.old buffer.old.items }
     ensures few { 2 * progress.new.start ≤ vec_len buffer.new }
 {
     let start = progress.start;
@@ -53,7 +53,7 @@ fn compact(buffer: &mut Vec<u8>, progress: &mut Progress)
 
 impl Splitter {
     ghost use Rattle.csi_frames.specs.contracts.splitter.Splitter.{the_row};
-    ghost use Rattle.csi_frames.specs.Lent.{lent_in};
+    ghost use Rattle.csi_frames.specs.Public.Lent.{lent_answer};
 
     /// Nothing was fed yet. It takes no memory.
     pub fn new(alloc: Global) -> Splitter
@@ -87,10 +87,11 @@ impl Splitter {
     /// and its body take, of which only a length above 1280 is judged before they are whole, and then at most 1,283 are
     /// kept; or their first fault, never `Short`, with its place counted from the first of them, and that fault
     /// from then on. It takes no memory.
+    #[inline(always)]
     pub fn next(&mut self) -> Result<Option<FrameRef<'_>>, FrameFault>
-        ensures* rests { sem 𝓛 (Rests the_row self.entry (λ new. new ≡ after_next self.old (lent_in result))) }
-        ensures next { IsNext self.old.fault self.old.kept (lent_in result) }
-        ensures only { (other : Result (Option Parts) Fault) → IsNext self.old.fault self.old.kept other → lent_in result ≡ other }
+        ensures* rests { sem 𝓛 (Rests the_row self.entry (λ new. new ≡ after_next self.old (lent_answer result))) }
+        ensures next { IsNextFrame self.old.fault self.old.kept (lent_answer result) }
+        ensures only { (other : Result (Option Parts) Fault) → IsNextFrame self.old.fault self.old.kept other → lent_answer result ≡ other }
         ensures few { IfOk result (λ next. IfNone next (length self.old.kept ≤ 1283)) }
     {
         compact(&mut self.buffer, &mut self.progress);

@@ -1,6 +1,6 @@
 //! Versions of frames. What a version has is told here and nowhere else.
 ghost use Rattle.std.specs.Prelude.{◌≡◌, false};
-ghost use Rattle.csi_frames.specs.Version.{version_number, version_from_number, has_mode, is_new_mode, has_kind, least_count, owes_new_mode, version_with, mode_in, kind_in_version};
+ghost use Rattle.csi_frames.specs.Public.Version.{version_number, version_from_number, has_mode, is_new_mode, has_kind, least_count, owes_new_mode, version_with, mode_in, kind_in_version};
 
 use crate::body_kind::BodyKind;
 use csi_types::{Kind, Mode};

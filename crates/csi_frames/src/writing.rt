@@ -1,12 +1,12 @@
 //! Fields written as bytes: texts, numbers, flags, ids, capabilities and replies. Frames and records are written by these alone.
 ghost use Rattle.std.specs.Prelude.{◌≡◌, ◌≤◌, ◌+◌, ◌++◌, [], ◌∷◌, length, OnOk, OnErr, IsOk, vec_len, vec_capacity};
 ghost use Rattle.std.specs.List.{flat_map, AllByRecursion};
-ghost use Rattle.csi_types.specs.VolumeId.{IsVolumeId};
-ghost use Rattle.csi_types.specs.Limits.{IsAccess, IsCapability, IsReply};
-ghost use Rattle.csi_types.specs.Text.{IsName, IsNodeId, IsTarget};
-ghost use Rattle.csi_types.specs.Status.{status_code};
-ghost use Rattle.csi_frames.specs.Appends.{Appends, HasRoom};
-ghost use Rattle.csi_frames.specs.Spelling.{word, text, flag, access, capability, reply_id, reply_fields};
+ghost use Rattle.csi_types.specs.Public.VolumeId.{IsVolumeId};
+ghost use Rattle.csi_types.specs.Public.Limits.{IsAccess, IsCapability, IsReply};
+ghost use Rattle.csi_types.specs.Public.Text.{IsName, IsNodeId, IsTarget};
+ghost use Rattle.csi_types.specs.Public.Status.{status_code};
+ghost use Rattle.csi_frames.specs.Private.Appends.{Appends, HasRoom};
+ghost use Rattle.csi_frames.specs.Public.Spelling.{word, text, flag, access, capability, reply_id, reply_fields};
 
 use byteorder::{BigEndian, ByteOrder};
 use csi_types::{Access, Capability, Name, NoMemory, NodeId, Reply, Target, VolumeId};

@@ -1,14 +1,14 @@
 -- What the parts of a value of JSON stand for.
 use Rattle.std.proofs.Common.{◌≡◌, ℕ, zero, suc, ◌<◌, List, [], ◌∷◌, length, map, String, Global, string_bytes, refl, ap, arith}
 use Rattle.std.specs.Prelude.{Some, None, slice_get}
-use Rattle.csi_types.specs.Mode.{mode_from_number}
+use Rattle.csi_types.specs.Public.Mode.{mode_from_number}
 use Rattle.serde_json.specs.Data.{Data, null, boolean, number, string, array, object}
 use Rattle.serde_json.specs.Events.{members_len}
 use Rattle.serde_json.specs.Find.{as_object}
 use Rattle.serde_json.specs.View.{view, items_view, members_view}
 use Rattle.serde_json.specs.declared.value.Value.{Value}
 use Rattle.serde_json.proofs.Views.{members_len-members_view, Entry}
-use Rattle.csi_json.specs.Json.{items_in, only_member}
+use Rattle.csi_json.specs.Public.Json.{items_in, only_member}
 
 -- the items of an array, as they are seen, are each of them as it is seen
 pub items_in_view : (vs : List Value) → items_in (items_view vs) ≡ map view vs

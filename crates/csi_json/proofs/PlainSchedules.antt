@@ -12,14 +12,14 @@ use Rattle.json.specs.declared.value.Value.TheVariants.{Number, Array, Object}
 use Rattle.json.proofs.Trees.{view-Array, view-Object}
 use Rattle.serde_json.specs.Data.{Data, Items, no_items, item, number, array, unsigned}
 use Rattle.serde_json.specs.Read.{number_of as number_in, of_json, of_items, of_members, read}
-use Rattle.csi_types.specs.Config.{Config}
+use Rattle.csi_types.specs.Model.Config.{Config}
 use Rattle.csi_types.specs.declared.event.Event.{Event}
 use Rattle.csi_types.specs.declared.event.Event.TheVariants.{Deliver}
-use Rattle.csi_json.specs.Json.{number_of, sized_object, list_of, items_in, read_all}
-use Rattle.csi_json.specs.Configs.{config_of}
-use Rattle.csi_json.specs.Events.{event_of, event_at, deliver_of}
-use Rattle.csi_json.specs.Plain.{event_in, config_in}
-use Rattle.csi_json.specs.Schedule.{Schedule, parts_of, events_of, schedule_read, text_schedule}
+use Rattle.csi_json.specs.Public.Json.{number_of, sized_object, list_of, items_in, read_all}
+use Rattle.csi_json.specs.Public.Configs.{config_of}
+use Rattle.csi_json.specs.Public.Events.{event_of, event_at, deliver_of}
+use Rattle.csi_json.specs.Private.Plain.{event_in, config_of_value}
+use Rattle.csi_json.specs.Public.Schedule.{Schedule, config_and_events, events_of, schedule_read, text_schedule}
 
 -- a member of an object: its name and its value
 abbrev pub Member : Type 0
@@ -93,13 +93,13 @@ all_events (x ∷ xs) (e ∷ es) place h =
 schedule_of_two : (c : json.Json) (js : json.Items) (d : Data) (ds : Items) (config : Config) (es : List Event) → of_json c ≡ Some d → config_of d ≡ Some config → of_items js ≡ Some ds
     → read_all event_of 1 (items_in ds) ≡ Ok es → length (items_in ds) ≤ 100000
     → schedule_read (of_json (json.object (json.member (codes "config") c (json.member (codes "events") (json.array js) json.no_members)))) ≡ Ok (record { config = config; events = es })
-unfolding parts_of sized_object list_of events_of
+unfolding config_and_events sized_object list_of events_of
 schedule_of_two c js d ds config es one made list read few = rw (one, list) (rw (made) (rw (le-ltb _ _ few) (rw read refl)))
 
 -- an object with a configuration and then events
 pub both : (value : Value Global) (members : Vec Member Global) (items : Vec (Value Global) Global) (m n o p : Member) (config : Config) (es : List Event)
     → value ≡ Object members → length members.items ≡ 2 → m ≡ get_or members.items 0 m → n ≡ get_or members.items 1 n → o ≡ get_or members.items 1 o → p ≡ get_or members.items 0 p
-    → bytes_eq m.0.now (codes "config") ≡ true → bytes_eq n.0.now (codes "events") ≡ true → o.1 ≡ Array items → length items.items ≤ 100000 → config_in p.1 ≡ Some config
+    → bytes_eq m.0.now (codes "config") ≡ true → bytes_eq n.0.now (codes "events") ≡ true → o.1 ≡ Array items → length items.items ≤ 100000 → config_of_value p.1 ≡ Some config
     → map event_in items.items ≡ map Some es → schedule_read (of_json (value_view value)) ≡ Ok (record { config = config; events = es })
 both value members items m n o p config es is two m_is n_is o_is p_is config_key events_key inner few made events =
     let parts = only members.items two m_is n_is o_is p_is in

@@ -14,12 +14,12 @@ use Rattle.serde_json.specs.Data.{string, unsigned}
 use Rattle.serde_json.specs.Read.{of_json, number_of as number_in}
 use Rattle.csi_types.specs.declared.capability.Access.TheVariants.{Block}
 use Rattle.csi_types.specs.declared.mode.Mode.{Mode}
-use Rattle.csi_types.specs.Mode.{mode_from_number}
+use Rattle.csi_types.specs.Public.Mode.{mode_from_number}
 use Rattle.csi_types.specs.declared.text.TextFault.{TextFault}
 use Rattle.csi_types.specs.declared.text.TextFault.TheVariants.{Empty, TooLong}
-use Rattle.csi_json.specs.Json.{text_of, number_of, sized_object}
-use Rattle.csi_json.specs.Capabilities.{capability_of, access_of, block_of, mode_of}
-use Rattle.csi_json.specs.Plain.{seen_as}
+use Rattle.csi_json.specs.Public.Json.{text_of, number_of, sized_object}
+use Rattle.csi_json.specs.Public.Capabilities.{capability_of, access_of, block_of, mode_of}
+use Rattle.csi_json.specs.Private.Plain.{seen_as}
 use Rattle.csi_json.proofs.PlainSchedules.{Member, seen_number}
 use Rattle.csi_json.proofs.UsualCommands.{two_of}
 

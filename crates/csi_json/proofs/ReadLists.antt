@@ -7,7 +7,8 @@ use Rattle.serde_json.specs.View.{view}
 use Rattle.serde_json.specs.declared.value.Value.{Value}
 use Rattle.csi_json.specs.declared.values.Flaw.{Flaw}
 use Rattle.csi_json.specs.declared.values.Flaw.TheVariants.{Bad, NoMemory}
-use Rattle.csi_json.specs.Json.{read_all, read_first, unless_bad, Reads, WantsOnly, HasItems}
+use Rattle.csi_json.specs.Public.Json.{read_all, read_first, unless_bad}
+use Rattle.csi_json.specs.Private.Json.{Reads, WantsOnly, HasItems}
 
 -- one more item is read behind an item, where it is read behind those after it
 more_after : {A : Type 0} (r : Option A) (a b : Result (List A) ℕ) (place : ℕ) (old : List A) (x : A) → ((ys : List A) → a ≡ Ok ys → b ≡ Ok (ys ++ x ∷ []))

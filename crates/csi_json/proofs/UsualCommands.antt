@@ -14,10 +14,10 @@ use Rattle.csi_types.specs.declared.capability.Capability.{Capability}
 use Rattle.csi_types.specs.declared.event.Event.{Event}
 use Rattle.csi_types.specs.declared.event.Event.TheVariants.{Use, Stop}
 use Rattle.csi_json.specs.declared.values.Flaw.{Flaw}
-use Rattle.csi_json.specs.Json.{name_of, node_id_of, target_of, sized_object}
-use Rattle.csi_json.specs.Capabilities.{capability_of}
-use Rattle.csi_json.specs.Events.{use_of, stop_of, event_of, event_at}
-use Rattle.csi_json.specs.Plain.{event_in, seen_as}
+use Rattle.csi_json.specs.Public.Json.{name_of, node_id_of, target_of, sized_object}
+use Rattle.csi_json.specs.Public.Capabilities.{capability_of}
+use Rattle.csi_json.specs.Public.Events.{use_of, stop_of, event_of, event_at}
+use Rattle.csi_json.specs.Private.Plain.{event_in, seen_as}
 use Rattle.csi_json.proofs.PlainSchedules.{Member, inside}
 
 -- what follows of an answer, follows of it where it is `Ok`

@@ -1,7 +1,2 @@
-pub mod Json
-pub mod Capabilities
-pub mod Configs
-pub mod Faults
-pub mod Events
-pub mod Schedule
-pub mod Plain
+pub mod Public
+pub mod Private

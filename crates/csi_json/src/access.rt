@@ -2,8 +2,8 @@
 ghost use Rattle.std.specs.Prelude.{◌≡◌, option_and_then, codes};
 ghost use Rattle.serde_json.specs.Find.{get};
 ghost use Rattle.serde_json.specs.View.{view};
-ghost use Rattle.csi_json.specs.Json.{Reads};
-ghost use Rattle.csi_json.specs.Capabilities.{mode_of, block_of, mount_of, access_of, capability_of, capabilities_of};
+ghost use Rattle.csi_json.specs.Private.Json.{Reads};
+ghost use Rattle.csi_json.specs.Public.Capabilities.{mode_of, block_of, mount_of, access_of, capability_of, capabilities_of};
 
 use crate::lists::read_capabilities;
 use crate::texts::fs_type;
@@ -13,7 +13,7 @@ use serde_json::Value;
 use std::alloc::Global;
 
 // The access mode of an object, by its number.
-#[tactic(auto, using(crate::proofs::Items::no_mode), unfolding(crate::specs::Capabilities::mode_of))]
+#[tactic(auto, using(crate::proofs::Items::no_mode), unfolding(crate::specs::Public::Capabilities::mode_of))]
 fn mode(object: &Value) -> Result<Mode, Flaw>
     ensures { Reads (λ mode. mode) result (option_and_then mode_of (get (codes "mode") (view object.now))) }
 {
@@ -24,7 +24,7 @@ fn mode(object: &Value) -> Result<Mode, Flaw>
     Mode::from_number(number as u8).ok_or(Flaw::Bad)
 }
 
-#[tactic(auto, unfolding(crate::specs::Capabilities::block_of))]
+#[tactic(auto, unfolding(crate::specs::Public::Capabilities::block_of))]
 fn block(value: &Value) -> Result<Access, Flaw>
     ensures { Reads (λ access. access) result (block_of (view value.now)) }
 {
@@ -32,7 +32,7 @@ fn block(value: &Value) -> Result<Access, Flaw>
     Ok(Access::Block)
 }
 
-#[tactic(auto, unfolding(crate::specs::Capabilities::mount_of))]
+#[tactic(auto, unfolding(crate::specs::Public::Capabilities::mount_of))]
 fn mount(alloc: Global, value: &Value) -> Result<Access, Flaw>
     ensures { Reads (λ access. access) result (mount_of (view value.now)) }
 {
@@ -41,7 +41,7 @@ fn mount(alloc: Global, value: &Value) -> Result<Access, Flaw>
     Ok(Access::Mount(fs_type))
 }
 
-#[tactic(auto, unfolding(crate::specs::Capabilities::access_of))]
+#[tactic(auto, unfolding(crate::specs::Public::Capabilities::access_of))]
 fn access(alloc: Global, value: &Value) -> Result<Access, Flaw>
     ensures { Reads (λ access. access) result (access_of (view value.now)) }
 {
@@ -53,7 +53,7 @@ fn access(alloc: Global, value: &Value) -> Result<Access, Flaw>
 }
 
 /// A capability.
-#[tactic(auto, unfolding(crate::specs::Capabilities::capability_of))]
+#[tactic(auto, unfolding(crate::specs::Public::Capabilities::capability_of))]
 pub fn capability(alloc: Global, value: &Value) -> Result<Capability, Flaw>
     ensures { Reads (λ capability. capability) result (capability_of (view value.now)) }
 {
@@ -63,7 +63,7 @@ pub fn capability(alloc: Global, value: &Value) -> Result<Capability, Flaw>
 }
 
 /// At most eight capabilities, at a key of an object.
-#[tactic(auto, unfolding(crate::specs::Capabilities::capabilities_of, crate::specs::Json::all_of))]
+#[tactic(auto, unfolding(crate::specs::Public::Capabilities::capabilities_of, crate::specs::Public::Json::all_of))]
 pub fn capabilities_at(alloc: Global, object: &Value, key: &str) -> Result<CapabilityList, Flaw>
     ensures { Reads (λ list. list) result (option_and_then capabilities_of (get key.now (view object.now))) }
 {

@@ -1,9 +1,11 @@
 //! A configuration, in JSON.
 ghost use Rattle.std.specs.Prelude.{◌≡◌, IfOk, IfErr};
 ghost use Rattle.serde_json.specs.View.{view};
-ghost use Rattle.csi_json.specs.Json.{Reads, WantsOnly, HasItems, list_of, all_of};
-ghost use Rattle.csi_json.specs.Configs.{node_of, nodes_in, config_of, config_in, text_config};
-ghost use Rattle.csi_json.specs.Faults.{IsFaultOf};
+ghost use Rattle.csi_json.specs.Private.Json.{Reads, WantsOnly, HasItems};
+ghost use Rattle.csi_json.specs.Public.Json.{list_of, all_of};
+ghost use Rattle.csi_json.specs.Public.Configs.{node_of, config_of, config_or_fault, text_config};
+ghost use Rattle.csi_json.specs.Private.Configs.{nodes_in};
+ghost use Rattle.csi_json.specs.Public.Faults.{IsScheduleFault};
 
 use crate::fault::ScheduleFault;
 use crate::lists::read_nodes;
@@ -14,7 +16,7 @@ use serde_json::Value;
 use std::alloc::Global;
 
 /// A node, and how many volumes it takes at once.
-#[tactic(auto, unfolding(crate::specs::Configs::node_of))]
+#[tactic(auto, unfolding(crate::specs::Public::Configs::node_of))]
 pub fn node(alloc: Global, value: &Value) -> Result<NodeSlots, Flaw>
     ensures { Reads (λ node. node) result (node_of (view value.now)) }
 {
@@ -24,7 +26,7 @@ pub fn node(alloc: Global, value: &Value) -> Result<NodeSlots, Flaw>
     Ok(NodeSlots { id, slots })
 }
 
-#[tactic(auto, unfolding(crate::specs::Json::all_of))]
+#[tactic(auto, unfolding(crate::specs::Public::Json::all_of))]
 fn nodes(alloc: Global, value: &Value) -> Result<Vec<NodeSlots>, Flaw>
     ensures read { Reads (λ nodes. nodes.items) result (all_of node_of (view value.now)) }
     ensures memory { WantsOnly result (HasItems (list_of (view value.now))) }
@@ -34,7 +36,7 @@ fn nodes(alloc: Global, value: &Value) -> Result<Vec<NodeSlots>, Flaw>
 }
 
 /// A configuration that has no fault. `NoMemory` only where it has nodes, and a greatest capacity before them that is a number.
-#[tactic(auto, unfolding(crate::specs::Configs::config_of, crate::specs::Configs::nodes_in))]
+#[tactic(auto, unfolding(crate::specs::Public::Configs::config_of, crate::specs::Private::Configs::nodes_in))]
 pub fn config(alloc: Global, value: &Value) -> Result<Config, Flaw>
     ensures read { Reads (λ config. config) result (config_of (view value.now)) }
     ensures memory { WantsOnly result (HasItems (nodes_in (view value.now))) }
@@ -50,8 +52,8 @@ pub fn config(alloc: Global, value: &Value) -> Result<Config, Flaw>
 
 // The configuration that a value is.
 fn config_alone(alloc: Global, value: &Value) -> Result<Config, ScheduleFault>
-    ensures read { IfOk result (λ config. config_in (config_of (view value.now)) ≡ Ok config) }
-    ensures fault { IfErr result (IsFaultOf (config_in (config_of (view value.now)))) }
+    ensures read { IfOk result (λ config. config_or_fault (config_of (view value.now)) ≡ Ok config) }
+    ensures fault { IfErr result (IsScheduleFault (config_or_fault (config_of (view value.now)))) }
 {
     Ok(config(alloc, value)?)
 }
@@ -60,7 +62,7 @@ fn config_alone(alloc: Global, value: &Value) -> Result<Config, ScheduleFault>
 /// and `BadSchedule` at 0 where it isn't as the format says. `NoMemory` can come at any step.
 pub fn read_config(alloc: Global, text: &str) -> Result<Config, ScheduleFault>
     ensures read { IfOk result (λ config. text_config text.now ≡ Ok config) }
-    ensures fault { IfErr result (IsFaultOf (text_config text.now)) }
+    ensures fault { IfErr result (IsScheduleFault (text_config text.now)) }
 {
     match Value::from_str(alloc, text) {
         Ok(value) => config_alone(alloc, &value),

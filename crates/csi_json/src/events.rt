@@ -1,8 +1,8 @@
 //! Events, in JSON.
 ghost use Rattle.std.specs.Prelude.{◌≡◌};
 ghost use Rattle.serde_json.specs.View.{view};
-ghost use Rattle.csi_json.specs.Json.{Reads};
-ghost use Rattle.csi_json.specs.Events.{create_of, use_of, stop_of, delete_of, timeout_of, deliver_of, restart_of, restart_node_of, event_at as at_key, event_of};
+ghost use Rattle.csi_json.specs.Private.Json.{Reads};
+ghost use Rattle.csi_json.specs.Public.Events.{create_of, use_of, stop_of, delete_of, timeout_of, deliver_of, restart_of, restart_node_of, event_at as at_key, event_of};
 
 use crate::access::{capabilities_at, capability};
 use crate::texts::{name, name_at, node_id, node_id_at, target_at};
@@ -11,7 +11,7 @@ use csi_types::Event;
 use serde_json::Value;
 use std::alloc::Global;
 
-#[tactic(auto, unfolding(crate::specs::Events::create_of))]
+#[tactic(auto, unfolding(crate::specs::Public::Events::create_of))]
 fn create_event(alloc: Global, value: &Value) -> Result<Event, Flaw>
     ensures { Reads (λ event. event) result (create_of (view value.now)) }
 {
@@ -28,7 +28,7 @@ fn create_event(alloc: Global, value: &Value) -> Result<Event, Flaw>
     })
 }
 
-#[tactic(auto, unfolding(crate::specs::Events::use_of))]
+#[tactic(auto, unfolding(crate::specs::Public::Events::use_of))]
 fn use_event(alloc: Global, value: &Value) -> Result<Event, Flaw>
     ensures { Reads (λ event. event) result (use_of (view value.now)) }
 {
@@ -47,7 +47,7 @@ fn use_event(alloc: Global, value: &Value) -> Result<Event, Flaw>
     })
 }
 
-#[tactic(auto, unfolding(crate::specs::Events::stop_of))]
+#[tactic(auto, unfolding(crate::specs::Public::Events::stop_of))]
 fn stop_event(alloc: Global, value: &Value) -> Result<Event, Flaw>
     ensures { Reads (λ event. event) result (stop_of (view value.now)) }
 {
@@ -58,7 +58,7 @@ fn stop_event(alloc: Global, value: &Value) -> Result<Event, Flaw>
     Ok(Event::Stop { name, node, target })
 }
 
-#[tactic(auto, unfolding(crate::specs::Events::delete_of))]
+#[tactic(auto, unfolding(crate::specs::Public::Events::delete_of))]
 fn delete_event(alloc: Global, value: &Value) -> Result<Event, Flaw>
     ensures { Reads (λ event. event) result (delete_of (view value.now)) }
 {
@@ -66,7 +66,7 @@ fn delete_event(alloc: Global, value: &Value) -> Result<Event, Flaw>
     Ok(Event::Delete(name))
 }
 
-#[tactic(auto, unfolding(crate::specs::Events::timeout_of))]
+#[tactic(auto, unfolding(crate::specs::Public::Events::timeout_of))]
 fn timeout_event(alloc: Global, value: &Value) -> Result<Event, Flaw>
     ensures { Reads (λ event. event) result (timeout_of (view value.now)) }
 {
@@ -74,7 +74,7 @@ fn timeout_event(alloc: Global, value: &Value) -> Result<Event, Flaw>
     Ok(Event::Timeout(name))
 }
 
-#[tactic(auto, unfolding(crate::specs::Events::deliver_of))]
+#[tactic(auto, unfolding(crate::specs::Public::Events::deliver_of))]
 fn deliver_event(value: &Value) -> Result<Event, Flaw>
     ensures { Reads (λ event. event) result (deliver_of (view value.now)) }
 {
@@ -82,7 +82,7 @@ fn deliver_event(value: &Value) -> Result<Event, Flaw>
     Ok(Event::Deliver(number))
 }
 
-#[tactic(auto, unfolding(crate::specs::Events::restart_of))]
+#[tactic(auto, unfolding(crate::specs::Public::Events::restart_of))]
 fn restart_event(value: &Value) -> Result<Event, Flaw>
     ensures { Reads (λ event. event) result (restart_of (view value.now)) }
 {
@@ -93,7 +93,7 @@ fn restart_event(value: &Value) -> Result<Event, Flaw>
     }
 }
 
-#[tactic(auto, unfolding(crate::specs::Events::restart_node_of))]
+#[tactic(auto, unfolding(crate::specs::Public::Events::restart_node_of))]
 fn restart_node_event(alloc: Global, value: &Value) -> Result<Event, Flaw>
     ensures { Reads (λ event. event) result (restart_node_of (view value.now)) }
 {
@@ -102,7 +102,7 @@ fn restart_node_event(alloc: Global, value: &Value) -> Result<Event, Flaw>
 }
 
 // The event at this key of an object.
-#[tactic(auto, unfolding(crate::specs::Events::event_at))]
+#[tactic(auto, unfolding(crate::specs::Public::Events::event_at))]
 fn event_at(alloc: Global, key: &str, value: &Value) -> Result<Event, Flaw>
     ensures { Reads (λ event. event) result (at_key key.now (view value.now)) }
 {
@@ -120,7 +120,7 @@ fn event_at(alloc: Global, key: &str, value: &Value) -> Result<Event, Flaw>
 }
 
 /// An event.
-#[tactic(auto, unfolding(crate::specs::Events::event_of))]
+#[tactic(auto, unfolding(crate::specs::Public::Events::event_of))]
 pub fn event(alloc: Global, value: &Value) -> Result<Event, Flaw>
     ensures { Reads (λ event. event) result (event_of (view value.now)) }
 {

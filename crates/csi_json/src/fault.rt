@@ -1,6 +1,6 @@
 //! Why a text was not read.
 ghost use Rattle.std.specs.Prelude.{◌≡◌};
-ghost use Rattle.csi_json.specs.Faults.{fault_number, fault_place};
+ghost use Rattle.csi_json.specs.Public.Faults.{schedule_fault_number, fault_place};
 
 use crate::values::Flaw;
 use thiserror::Error;
@@ -25,7 +25,7 @@ pub enum ScheduleFault {
 impl ScheduleFault {
     /// The fault's number in the format.
     pub fn number(self) -> u8
-        ensures { result ≡ fault_number self }
+        ensures { result ≡ schedule_fault_number self }
     {
         match self {
             ScheduleFault::NotJson => 1,
@@ -48,7 +48,7 @@ impl ScheduleFault {
 
 impl From<Flaw> for ScheduleFault {
     ghost use Rattle.std.specs.Prelude.{◌≡◌};
-    ghost use Rattle.csi_json.specs.Faults.{fault_of};
+    ghost use Rattle.csi_json.specs.Public.Faults.{fault_of};
 
     ghost from_gives = { λ flaw fault. fault ≡ fault_of flaw };
 

@@ -1,12 +1,13 @@
 //! Lists in JSON, read item by item.
 ghost use Rattle.std.specs.Prelude.{◌≡◌, ◌∷◌, [], ◌++◌, option_map, map, IfOk, IfErr};
 ghost use Rattle.serde_json.specs.View.{view};
-ghost use Rattle.csi_json.specs.Json.{Reads, WantsOnly, HasItems, read_all, unless_bad};
-ghost use Rattle.csi_json.specs.Capabilities.{capability_of};
-ghost use Rattle.csi_json.specs.Configs.{node_of};
-ghost use Rattle.csi_json.specs.Events.{event_of};
-ghost use Rattle.csi_json.specs.Faults.{event_fault, IsFaultOf};
-ghost use Rattle.csi_json.specs.Schedule.{events_or_fault};
+ghost use Rattle.csi_json.specs.Private.Json.{Reads, WantsOnly, HasItems};
+ghost use Rattle.csi_json.specs.Public.Json.{read_all, unless_bad};
+ghost use Rattle.csi_json.specs.Public.Capabilities.{capability_of};
+ghost use Rattle.csi_json.specs.Public.Configs.{node_of};
+ghost use Rattle.csi_json.specs.Public.Events.{event_of};
+ghost use Rattle.csi_json.specs.Public.Faults.{event_fault, IsScheduleFault};
+ghost use Rattle.csi_json.specs.Public.Schedule.{events_or_fault};
 
 use crate::access::capability;
 use crate::configs::node;
@@ -80,7 +81,7 @@ fn fault_at(flaw: Flaw, place: u64) -> ScheduleFault
 /// The events that the items are read as, or the place of the first that is read as none, counted from 1.
 pub fn read_events(alloc: Global, items: &[Value]) -> Result<Vec<Event>, ScheduleFault>
     ensures read { IfOk result (λ list. events_or_fault (read_all event_of 1 (map view items.now)) ≡ Ok list.items) }
-    ensures fault { IfErr result (IsFaultOf (events_or_fault (read_all event_of 1 (map view items.now)))) }
+    ensures fault { IfErr result (IsScheduleFault (events_or_fault (read_all event_of 1 (map view items.now)))) }
 {
     let mut list = Vec::new(alloc);
     for (index, item) in items.iter().enumerate() {

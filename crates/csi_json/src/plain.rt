@@ -3,8 +3,8 @@
 ghost use Rattle.std.specs.Prelude.{◌≡◌, Some, Ok, IfOk, IfSome, map};
 ghost use Rattle.json.specs.Value.{value_view};
 ghost use Rattle.serde_json.specs.Read.{of_json};
-ghost use Rattle.csi_json.specs.Plain.{event_in, config_in};
-ghost use Rattle.csi_json.specs.Schedule.{schedule_read, text_schedule};
+ghost use Rattle.csi_json.specs.Private.Plain.{event_in, config_of_value};
+ghost use Rattle.csi_json.specs.Public.Schedule.{schedule_read, text_schedule};
 ghost use Rattle.csi_types.specs.declared.event.Event.TheVariants as events;
 
 use crate::borrowed::{owned, plain_number};
@@ -62,7 +62,7 @@ fn read_events(alloc: Global, items: &[Value<'_>]) -> Result<Vec<Event>, Flaw>
 }
 
 fn read_config(alloc: Global, value: &Value<'_>) -> Result<Config, Flaw>
-    ensures { IfOk result (λ config. config_in value.now ≡ Some config) }
+    ensures { IfOk result (λ config. config_of_value value.now ≡ Some config) }
 {
     let value = owned(alloc, value)?;
     config(alloc, &value)

@@ -1,8 +1,8 @@
 //! A schedule: a configuration, and what happens. It is read from JSON. This profile's own.
 ghost use Rattle.std.specs.Prelude.{◌≡◌, IfOk, IfErr, map};
 ghost use Rattle.serde_json.specs.View.{view};
-ghost use Rattle.csi_json.specs.Faults.{IsFaultOf};
-ghost use Rattle.csi_json.specs.Schedule.{events_of, schedule_of, text_schedule};
+ghost use Rattle.csi_json.specs.Public.Faults.{IsScheduleFault};
+ghost use Rattle.csi_json.specs.Public.Schedule.{events_of, schedule_of, text_schedule};
 
 use crate::configs::config;
 use crate::fault::ScheduleFault;
@@ -17,10 +17,10 @@ use std::alloc::Global;
 pub const MAX_EVENTS: usize = 100_000;
 
 // The events of a list, of which there may not be too many.
-#[tactic(auto, unfolding(crate::specs::Schedule::events_of))]
+#[tactic(auto, unfolding(crate::specs::Public::Schedule::events_of))]
 fn all_events(alloc: Global, items: &[Value]) -> Result<Vec<Event>, ScheduleFault>
     ensures read { IfOk result (λ events. events_of (map view items.now) ≡ Ok events.items) }
-    ensures fault { IfErr result (IsFaultOf (events_of (map view items.now))) }
+    ensures fault { IfErr result (IsScheduleFault (events_of (map view items.now))) }
 {
     if items.len() > MAX_EVENTS {
         return Err(ScheduleFault::TooMany);
@@ -29,10 +29,10 @@ fn all_events(alloc: Global, items: &[Value]) -> Result<Vec<Event>, ScheduleFaul
 }
 
 // The schedule that a value is.
-#[tactic(auto, unfolding(crate::specs::Schedule::parts_of))]
+#[tactic(auto, unfolding(crate::specs::Public::Schedule::config_and_events))]
 fn schedule(alloc: Global, value: &Value) -> Result<(Config, Vec<Event>), ScheduleFault>
     ensures read { IfOk result (λ made. schedule_of (view value.now) ≡ Ok (record { config = made.0; events = made.1.items })) }
-    ensures fault { IfErr result (IsFaultOf (schedule_of (view value.now))) }
+    ensures fault { IfErr result (IsScheduleFault (schedule_of (view value.now))) }
 {
     let object = sized_object(value, 2)?;
     let config = config(alloc, member(object, "config")?)?;
@@ -44,7 +44,7 @@ fn schedule(alloc: Global, value: &Value) -> Result<(Config, Vec<Event>), Schedu
 // The schedule that a text says, whatever its form.
 fn judged(alloc: Global, text: &str) -> Result<(Config, Vec<Event>), ScheduleFault>
     ensures read { IfOk result (λ made. text_schedule text.now ≡ Ok (record { config = made.0; events = made.1.items })) }
-    ensures fault { IfErr result (IsFaultOf (text_schedule text.now)) }
+    ensures fault { IfErr result (IsScheduleFault (text_schedule text.now)) }
 {
     match Value::from_str(alloc, text) {
         Ok(value) => schedule(alloc, &value),
@@ -58,7 +58,7 @@ fn judged(alloc: Global, text: &str) -> Result<(Config, Vec<Event>), ScheduleFau
 /// `BadSchedule` at the first event that isn't as the format says. `NoMemory` can come at any step.
 pub fn read_schedule(alloc: Global, text: &str) -> Result<(Config, Vec<Event>), ScheduleFault>
     ensures read { IfOk result (λ made. text_schedule text.now ≡ Ok (record { config = made.0; events = made.1.items })) }
-    ensures fault { IfErr result (IsFaultOf (text_schedule text.now)) }
+    ensures fault { IfErr result (IsScheduleFault (text_schedule text.now)) }
 {
     match read_plain(alloc, text) {
         Ok(schedule) => Ok(schedule),

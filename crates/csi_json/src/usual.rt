@@ -1,10 +1,10 @@
 //! Commands of the usual form, which are read without a value for each: objects that have the keys of their kind, each once and in
 //! order. A command of another form is left to the reader that judges it.
 ghost use Rattle.std.specs.Prelude.{◌≡◌, Some, IfOk, IfSome};
-ghost use Rattle.csi_json.specs.Json.{name_of, node_id_of, target_of};
-ghost use Rattle.csi_json.specs.Capabilities.{capability_of};
-ghost use Rattle.csi_json.specs.Events.{use_of, stop_of};
-ghost use Rattle.csi_json.specs.Plain.{event_in, seen_as};
+ghost use Rattle.csi_json.specs.Public.Json.{name_of, node_id_of, target_of};
+ghost use Rattle.csi_json.specs.Public.Capabilities.{capability_of};
+ghost use Rattle.csi_json.specs.Public.Events.{use_of, stop_of};
+ghost use Rattle.csi_json.specs.Private.Plain.{event_in, seen_as};
 
 use crate::access::capability;
 use crate::borrowed::{owned, plain_number};

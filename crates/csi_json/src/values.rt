@@ -2,7 +2,8 @@
 ghost use Rattle.std.specs.Prelude.{◌≡◌, option_and_then, option_map, map};
 ghost use Rattle.serde_json.specs.Find.{get, as_str, as_bool};
 ghost use Rattle.serde_json.specs.View.{view};
-ghost use Rattle.csi_json.specs.Json.{Reads, WantsOnly, number_of, list_of, only_member as sole, sized_object as object_of};
+ghost use Rattle.csi_json.specs.Private.Json.{Reads, WantsOnly};
+ghost use Rattle.csi_json.specs.Public.Json.{number_of, list_of, only_member as sole, sized_object as object_of};
 
 use serde_json::Value;
 use std::alloc::{AllocError, AllocFailed};
@@ -47,7 +48,7 @@ pub fn member<'a>(object: &'a Value, key: &str) -> Result<&'a Value, Flaw>
 }
 
 /// A whole number of 64 bits.
-#[tactic(auto, unfolding(crate::specs::Json::number_of))]
+#[tactic(auto, unfolding(crate::specs::Public::Json::number_of))]
 pub fn number(value: &Value) -> Result<u64, Flaw>
     ensures read { Reads (λ number. number) result (number_of (view value.now)) }
     ensures memory { WantsOnly result ⊥ }
@@ -80,7 +81,7 @@ pub fn flag_at(object: &Value, key: &str) -> Result<bool, Flaw>
 }
 
 /// The items of an array.
-#[tactic(auto, using(crate::proofs::Items::items_in_view), unfolding(crate::specs::Json::list_of))]
+#[tactic(auto, using(crate::proofs::Items::items_in_view), unfolding(crate::specs::Public::Json::list_of))]
 pub fn list(value: &Value) -> Result<&[Value], Flaw>
     ensures read { Reads (λ items. map view items.now) result (list_of (view value.now)) }
     ensures memory { WantsOnly result ⊥ }
@@ -92,7 +93,7 @@ pub fn list(value: &Value) -> Result<&[Value], Flaw>
 }
 
 /// The value itself, where it is an object with this many members.
-#[tactic(auto, using(crate::proofs::Items::members_in_view), unfolding(crate::specs::Json::sized_object))]
+#[tactic(auto, using(crate::proofs::Items::members_in_view), unfolding(crate::specs::Public::Json::sized_object))]
 pub fn sized_object(value: &Value, size: usize) -> Result<&Value, Flaw>
     ensures read { Reads (λ object. view object.now) result (object_of size (view value.now)) }
     ensures memory { WantsOnly result ⊥ }

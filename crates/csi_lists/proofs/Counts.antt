@@ -4,8 +4,8 @@ use Rattle.std.specs.Prelude.{None, find, filter, count_by, nat_lt, ◌||◌}
 use Rattle.std.specs.List.{list_any}
 use Rattle.std.proofs.lemmas.Bool.{false≢true}
 use Rattle.std.proofs.lemmas.List.Sums.{length-filter, sum_by-cons}
-use Rattle.csi_lists.specs.Members.{IsAmong}
-use Rattle.csi_lists.specs.Places.{AtMostOne}
+use Rattle.csi_lists.specs.Model.Members.{IsAmong}
+use Rattle.csi_lists.specs.Public.Places.{AtMostOne}
 use Rattle.csi_lists.proofs.Members.{among-kept, has-some, in_filter, some-has}
 use Rattle.csi_lists.proofs.Searches.{find-missed}
 use Rattle.csi_lists.proofs.Tests.{alike, any-then, then-any}

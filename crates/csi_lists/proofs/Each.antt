@@ -1,7 +1,7 @@
 -- What holds of each element of a list, by recursion on the list. (The kit's own `All` says it by places.)
 use Rattle.std.proofs.Common.{ℕ, zero, suc, ◌<◌, List, [], ◌∷◌, ◌++◌, Bool, true, false, cond, length, get_or, map, set, filter, subst, arith}
 use Rattle.std.specs.List.{AllByRecursion}
-use Rattle.csi_lists.specs.Places.{IsAt}
+use Rattle.csi_lists.specs.Public.Places.{IsAt}
 
 -- what holds of each element holds of the one at a place
 pub each-at : {X : Type 0} (P : X → Type 0) (xs : List X) (i : ℕ) (x : X) → AllByRecursion P xs → IsAt xs i x → P x

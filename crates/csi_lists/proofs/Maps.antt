@@ -1,7 +1,7 @@
 -- Lists of which each element is changed.
 use Rattle.std.proofs.Common.{◌≡◌, List, [], ◌∷◌, map, Bool, false, cond, refl, ap, inl, inr}
 use Rattle.std.specs.Prelude.{None, find}
-use Rattle.csi_lists.specs.Members.{IsAmong}
+use Rattle.csi_lists.specs.Model.Members.{IsAmong}
 use Rattle.csi_lists.proofs.Searches.{find-missed}
 
 -- one change after another is a third

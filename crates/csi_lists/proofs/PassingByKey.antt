@@ -3,8 +3,8 @@ use Rattle.std.proofs.Common.{◌≡◌, ◌<◌, ◌+◌, ℕ, List, [], ◌∷
 use Rattle.std.specs.Prelude.{Option, Some, None, option_map, option_to_list, find, filter, count_by, ◌==◌}
 use Rattle.std.proofs.lemmas.Bool.{eq-eqb, eqb-true, ne_eqb, true≢false}
 use Rattle.std.proofs.lemmas.List.Sums.{length-filter}
-use Rattle.csi_lists.specs.Members.{EachTwo, IsAmong}
-use Rattle.csi_lists.specs.Places.{AtMostOne}
+use Rattle.csi_lists.specs.Model.Members.{EachTwo, IsAmong}
+use Rattle.csi_lists.specs.Public.Places.{AtMostOne}
 use Rattle.csi_lists.proofs.Counts.{count-cons, count-split}
 use Rattle.csi_lists.proofs.Filters.{filter-filter, filter-none, filter-swap}
 use Rattle.csi_lists.proofs.Members.{among-empty, among-find, each_of, in_filter}

@@ -6,7 +6,7 @@ use Rattle.std.proofs.lemmas.Bool.Decides.{nat_tests}
 use Rattle.std.proofs.lemmas.List.{length-map, map-set, get_or-map}
 use Rattle.std.proofs.lemmas.List.Edits.{map_over_more}
 use Rattle.std.proofs.lemmas.List.Quantifiers.{position-Some}
-use Rattle.csi_lists.specs.Places.{AtMostOne, IsAt, FirstAt}
+use Rattle.csi_lists.specs.Public.Places.{AtMostOne, IsAt, FirstAt}
 use Rattle.csi_lists.proofs.Options.{some_is_not_none}
 use Rattle.csi_lists.proofs.Searches.{find-append_other, find-missed, find-none_in_filter, find-and_none}
 use Rattle.csi_lists.proofs.Maps.{map-none_shown}

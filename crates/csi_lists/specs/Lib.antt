@@ -1,2 +1,2 @@
-pub mod Members
-pub mod Places
+pub mod Model
+pub mod Public

@@ -10,23 +10,27 @@ use Rattle.csi_types.specs.declared.reply.Reply.{Reply}
 use Rattle.csi_types.specs.declared.status.Status.TheVariants.{ResourceExhausted}
 use Rattle.csi_fence.specs.declared.fence.Verdict.{Verdict}
 use Rattle.csi_fence.specs.declared.fence.Verdict.TheVariants.{Stale, Repeated, Fresh}
-use Rattle.csi_types.specs.Call.{kind_of}
-use Rattle.csi_fence.specs.Fence.{Kept, verdict_of, is_over, begins}
+use Rattle.csi_types.specs.Model.Call.{kind_of}
+use Rattle.csi_fence.specs.Model.Fence.{Kept, verdict_of, is_over, begins}
 use Rattle.csi_fence.specs.declared.answer.Answer.{Answer}
-use Rattle.csi_fence.specs.Fenced.{Fenced, answered_only, judged}
-use Rattle.csi_types.specs.Frame.{Frame}
-use Rattle.csi_types.specs.Replies.{reply_frame, plain_reply, stale_reply}
+use Rattle.csi_fence.specs.Model.Fenced.{Fenced, answered_only, judged}
+use Rattle.csi_types.specs.Model.Frame.{Frame}
+use Rattle.csi_types.specs.Model.Replies.{reply_frame, plain_reply, stale_reply}
 use Rattle.csi_lists.proofs.Searches.{find-passes}
-use Rattle.csi_node.specs.State.{NodeState, StagedVolume, empty_node, volume_of}
-use Rattle.csi_node.specs.Table.{Outcome, lifecycle_row, node_row, has_no_room, changed}
-use Rattle.csi_node.specs.Fenced.{answer_frame, keep, carried_out, kept_for, begun, node_at, fenced_call, answered_in}
-use Rattle.csi_node.specs.OneRow.{RowShown, alone, table_answer, IsAfter, RowAnswers}
+use Rattle.csi_node.specs.Model.State.{NodeState, StagedVolume, empty_node, volume_of}
+use Rattle.csi_node.specs.Model.Table.{Outcome, lifecycle_row, node_row, has_no_room, changed}
+use Rattle.csi_node.specs.Public.Fenced.{answer_frame}
+use Rattle.csi_node.specs.Model.Fenced.{keep, carried_out, kept_for, begun, node_at}
+use Rattle.csi_node.specs.Private.Fenced.{fenced_call, answered_in}
+use Rattle.csi_node.specs.Model.OneRow.{NodeRowShown}
+use Rattle.csi_node.specs.Public.OneRow.{state_shown}
+use Rattle.csi_node.specs.Private.OneRow.{table_answer, IsRowAfter, RowAnswers}
 use Rattle.csi_node.proofs.LastCalls.{keep-session, changed-session}
 use Rattle.csi_node.proofs.StateChanges.{lifecycle-part}
 use Rattle.csi_node.proofs.ShownAfter.{ShowsAll, RowsAfter, grown, answered_of, row_of, alone_in, part_of, kept-shown_by, room-by, shows_then, state_then}
 
 -- the rows are those after a frame that was answered so
-pub record GivesAll (rows : List RowShown) (frame : Frame) (fenced : Fenced NodeState) : Type 0 where
+pub record GivesAll (rows : List NodeRowShown) (frame : Frame) (fenced : Fenced NodeState) : Type 0 where
   pub reply : fenced.reply ≡ Some frame
   pub shows : ShowsAll rows fenced.state
 
@@ -48,17 +52,17 @@ full_then : (node : List ℕ) (state : NodeState) (number : Number) (call : Call
     → carried_out node state number call (node_row state call) ≡ answered_only (node_at node) state number (kind_of call) (plain_reply ResourceExhausted (codes "rows"))
 full_then node state number call full = simp full
 
-module _ (node : List ℕ) (id : ℕ) (number : Number) (call : Call) (old new : List RowShown) (state : NodeState) (v : volume_of call ≡ Some id) (all : ShowsAll old state) where
+module _ (node : List ℕ) (id : ℕ) (number : Number) (call : Call) (old new : List NodeRowShown) (state : NodeState) (v : volume_of call ≡ Some id) (all : ShowsAll old state) where
   -- an answer as a frame that is given
   abbrev framed : Answer → Option Frame
   framed answer = Some (answer_frame node number answer)
 
   -- a call that is carried out, for a row that was there or is new
-  gives-done : (before after : RowShown) (answer : Answer) → has_no_room state call ≡ false → RowsAfter id old new after → before.id ≡ id → alone before ≡ alone_in (row_of id old)
-      → answer ≡ table_answer before call → IsAfter number call before after
+  gives-done : (place : ℕ) (before after : NodeRowShown) (answer : Answer) → has_no_room state call ≡ false → RowsAfter id old new after → before.id ≡ id → state_shown before ≡ alone_in (row_of id old)
+      → answer ≡ table_answer place before call → IsRowAfter number call before after
       → GivesAll new (answer_frame node number answer) (carried_out node state number call (node_row state call))
-  gives-done before after answer room rows own is_before is_answer is_after =
-      let same_reply : (lifecycle_row (alone before) call).reply ≡ (lifecycle_row state call).reply =
+  gives-done place before after answer room rows own is_before is_answer is_after =
+      let same_reply : (lifecycle_row (state_shown before) call).reply ≡ (lifecycle_row state call).reply =
       ap (λ (s : NodeState). (lifecycle_row s call).reply) is_before
       ∙ ap (λ (o : Outcome). o.reply) (lifecycle-part id (alone_in (row_of id old)) state call v (part_of id old state all)) in
       let kept : Kept = record { number = number; kind = kind_of call; reply = (lifecycle_row state call).reply } in
@@ -69,14 +73,14 @@ module _ (node : List ℕ) (id : ℕ) (number : Number) (call : Call) (old new :
       })
 
   -- a call of a volume that has no row, where there is room: it is answered as by a row of which the state has nothing
-  pub gives-anew : (before after : RowShown) (answer : Answer) → row_of id old ≡ None → length old < 4096 → RowsAfter id old new after → before.id ≡ id → alone before ≡ empty_node
-      → answer ≡ table_answer before call → IsAfter number call before after
+  pub gives-anew : (place : ℕ) (before after : NodeRowShown) (answer : Answer) → row_of id old ≡ None → length old < 4096 → RowsAfter id old new after → before.id ≡ id → state_shown before ≡ empty_node
+      → answer ≡ table_answer place before call → IsRowAfter number call before after
       → GivesAll new (answer_frame node number answer) (fenced_call node state number call (kept_for call state))
-  gives-anew before after answer none few rows own nothing is_answer is_after =
+  gives-anew place before after answer none few rows own nothing is_answer is_after =
       let room : has_no_room state call ≡ false = room-by id call old state None v all none ∙ grind (arith, nat_tests) in
       let kept : kept_for call state ≡ None = kept-shown_by id call old state None v all none in
       subst (λ (o : Option Kept). GivesAll new (answer_frame node number answer) (fenced_call node state number call o)) (sym kept)
-      (gives-done before after answer room rows own (nothing ∙ ap alone_in (sym none)) is_answer is_after)
+      (gives-done place before after answer room rows own (nothing ∙ ap alone_in (sym none)) is_answer is_after)
 
   -- and where there is none
   pub gives-full : (answer : Answer) → row_of id old ≡ None → 4096 ≤ length old → answer ≡ record { kind = kind_of call; reply = plain_reply ResourceExhausted (codes "rows"); row = None }
@@ -88,12 +92,12 @@ module _ (node : List ℕ) (id : ℕ) (number : Number) (call : Call) (old new :
       (subst (GivesAll old (answer_frame node number answer)) (sym (full_then node state number call full)) (record { reply = ap framed (sym is_answer); shows = all }))
 
   -- rows that are as they were
-  unchanged : (before after : RowShown) → row_of id old ≡ Some before → RowsAfter id old new after → after ≡ before → ShowsAll new state
+  unchanged : (before after : NodeRowShown) → row_of id old ≡ Some before → RowsAfter id old new after → after ≡ before → ShowsAll new state
   unchanged before after found rows same = record {
-    count = rows.count ∙ ap (λ (o : Option RowShown). grown o (length old)) found ∙ all.count;
-    kept = λ k. ap (λ (o : Option RowShown). option_to_list (option_map answered_of o)) (as_was k (k == id) refl) ∙ all.kept k;
-    staged = λ k. ap (λ (o : Option RowShown). map (λ (s : StagedVolume). s.capability) (alone_in o).staged) (as_was k (k == id) refl) ∙ all.staged k;
-    published = λ k. ap (λ (o : Option RowShown). (alone_in o).published) (as_was k (k == id) refl) ∙ all.published k;
+    count = rows.count ∙ ap (λ (o : Option NodeRowShown). grown o (length old)) found ∙ all.count;
+    kept = λ k. ap (λ (o : Option NodeRowShown). option_to_list (option_map answered_of o)) (as_was k (k == id) refl) ∙ all.kept k;
+    staged = λ k. ap (λ (o : Option NodeRowShown). map (λ (s : StagedVolume). s.capability) (alone_in o).staged) (as_was k (k == id) refl) ∙ all.staged k;
+    published = λ k. ap (λ (o : Option NodeRowShown). (alone_in o).published) (as_was k (k == id) refl) ∙ all.published k;
   }
     where
       as_was : (k : ℕ) (b : Bool) → (k == id) ≡ b → row_of k new ≡ row_of k old
@@ -101,10 +105,10 @@ module _ (node : List ℕ) (id : ℕ) (number : Number) (call : Call) (old new :
       as_was k false e = rows.others k e
 
   -- a call of a volume that has a row
-  pub gives-again : (before after : RowShown) (answer : Answer) → row_of id old ≡ Some before → RowsAfter id old new after
-      → RowAnswers number call before after answer (verdict_of (Some before.kept.number) number)
+  pub gives-again : (place : ℕ) (before after : NodeRowShown) (answer : Answer) → row_of id old ≡ Some before → RowsAfter id old new after
+      → RowAnswers place number call before after answer (verdict_of (Some before.kept.number) number)
       → GivesAll new (answer_frame node number answer) (fenced_call node state number call (kept_for call state))
-  gives-again before after answer found rows answers =
+  gives-again place before after answer found rows answers =
       let kept : kept_for call state ≡ Some before.kept = kept-shown_by id call old state (Some before) v all found in
       subst (λ (o : Option Kept). GivesAll new (answer_frame node number answer) (fenced_call node state number call o)) (sym kept)
       (by (verdict_of (Some before.kept.number) number) answers)
@@ -113,12 +117,12 @@ module _ (node : List ℕ) (id : ℕ) (number : Number) (call : Call) (old new :
       room = room-by id call old state (Some before) v all found
 
       own : before.id ≡ id
-      own = eqb-true before.id id (find-passes (λ (row : RowShown). row.id == id) old before found)
+      own = eqb-true before.id id (find-passes (λ (row : NodeRowShown). row.id == id) old before found)
 
-      by : (verdict : Verdict) → RowAnswers number call before after answer verdict → GivesAll new (answer_frame node number answer) (judged (node_at node) state number call before.kept verdict)
+      by : (verdict : Verdict) → RowAnswers place number call before after answer verdict → GivesAll new (answer_frame node number answer) (judged (node_at node) state number call before.kept verdict)
       by Stale h = record { reply = ap framed (sym h.0); shows = unchanged before after found rows h.1 }
       by Repeated h = record { reply = ap framed (sym h.0); shows = unchanged before after found rows h.1 }
-      by Fresh h = gives-done before after answer room rows own (ap alone_in (sym found)) h.0 h.1
+      by Fresh h = gives-done place before after answer room rows own (ap alone_in (sym found)) h.0 h.1
 
 -- ---- sessions
 

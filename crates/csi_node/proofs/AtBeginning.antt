@@ -1,6 +1,7 @@
 -- A call that begins a session, at its volume's row or without one: what the rows answer and which are forgotten, and the rules afterwards.
-use Rattle.std.proofs.Common.{◌≡◌, ℕ, suc, ◌<◌, ◌≤◌, List, [], ◌∷◌, length, set, Bool, true, false, cond, ◌&&◌, refl, sym, ◌∙◌, ap, subst, arith, inl, inr, Some, None}
+use Rattle.std.proofs.Common.{◌≡◌, ℕ, suc, ◌<◌, ◌≤◌, List, [], ◌∷◌, length, set, Bool, true, false, cond, ◌&&◌, refl, sym, ◌∙◌, ap, subst, arith, inl, inr, Some, None, Result, IfOk, IfErr, slice_get}
 use Rattle.std.specs.Prelude.{All, Option, codes, filter, is_some, nat_le, ◌==◌}
+use Rattle.std.specs.Result.{result_ok}
 use Rattle.std.specs.List.{insert, list_all}
 use Rattle.std.proofs.lemmas.Bool.{false≢true}
 use Rattle.std.proofs.lemmas.Bool.Decides.{nat_tests}
@@ -10,24 +11,30 @@ use Rattle.csi_types.specs.declared.call.Call.{Call}
 use Rattle.csi_types.specs.declared.capability.Capability.{Capability}
 use Rattle.csi_types.specs.declared.number.Number.{Number}
 use Rattle.csi_types.specs.declared.status.Status.TheVariants.{ResourceExhausted}
-use Rattle.csi_types.specs.Call.{kind_of}
-use Rattle.csi_types.specs.Replies.{plain_reply}
+use Rattle.csi_types.specs.Model.Call.{kind_of}
+use Rattle.csi_types.specs.Model.Replies.{plain_reply}
 use Rattle.csi_fence.specs.declared.answer.Answer.{Answer}
 use Rattle.csi_fence.specs.declared.fence.Verdict.TheVariants.{Fresh}
-use Rattle.csi_fence.specs.Fence.{Kept, verdict_of, verdict_of_spent}
+use Rattle.csi_fence.specs.Model.Fence.{Kept, verdict_of, verdict_of_spent}
 use Rattle.csi_fence.proofs.Spent.{fresh_in-later}
-use Rattle.csi_lists.specs.Members.{IsAmong}
+use Rattle.csi_lists.specs.Model.Members.{IsAmong}
 use Rattle.csi_lists.proofs.Filters.{filter-no_longer, filter-of_map}
 use Rattle.csi_lists.proofs.Members.{among-find, one-of_all}
 use Rattle.csi_lists.proofs.PassingByKey.{passing}
 use Rattle.csi_node.specs.declared.row.NodeRow.{NodeRow}
-use Rattle.csi_node.specs.Changes.{Changes, put_row}
-use Rattle.csi_node.specs.Fenced.{answer_frame, answered_in, begun, fenced_call, kept_for}
-use Rattle.csi_node.specs.OneRow.{RowShown, shown, row_anew, table_answer, IsSoundRow, IsAfter, RowAnswers}
-use Rattle.csi_node.specs.Record.{parts, parts_of, IsAt, IsCurrent, IsCurrentRow, IsGapFor, IsSound, Shows}
-use Rattle.csi_node.specs.State.{NodeState, volume_of}
-use Rattle.csi_node.specs.Step.{Answers, Gives, IsEarlierRow}
-use Rattle.csi_node.specs.WithoutSession.{stays_in}
+use Rattle.csi_node.specs.Public.Changes.{ChangesAt, put_row}
+use Rattle.csi_node.specs.Public.Fenced.{answer_frame}
+use Rattle.csi_node.specs.Private.Fenced.{answered_in, fenced_call}
+use Rattle.csi_node.specs.Model.Fenced.{begun, kept_for}
+use Rattle.csi_node.specs.Model.OneRow.{NodeRowShown, node_row_shown}
+use Rattle.csi_node.specs.Private.OneRow.{row_anew, table_answer, IsRowAfter, RowAnswers}
+use Rattle.csi_node.specs.Public.OneRow.{IsSoundRow}
+use Rattle.csi_node.specs.Model.Record.{parts, Shows}
+use Rattle.csi_node.specs.Private.Record.{node_record_parts, IsRowAt, IsGapFor}
+use Rattle.csi_node.specs.Public.Record.{IsCurrent, IsCurrentRow, AreSoundRows}
+use Rattle.csi_node.specs.Model.State.{NodeState, volume_of}
+use Rattle.csi_node.specs.Private.Step.{AnswersCall, IsFencedAnswer, IsEarlierRow}
+use Rattle.csi_node.specs.Public.WithoutSession.{stays_in}
 use Rattle.csi_node.proofs.ShownAfter.{RowsAfter, ShowsAll, row_of, all-from_shows, shows-from_all}
 use Rattle.csi_node.proofs.AnsweredRows.{GivesAll, answered-begun, fenced-session, gives-again, gives-anew, gives-full}
 use Rattle.csi_node.proofs.ChangedRows.{after-begun, staying-begun, put-changes, same-changes}
@@ -35,12 +42,12 @@ use Rattle.csi_node.proofs.Forgotten.{is_staged, is_kept, alone-unstaged, forget
 use Rattle.csi_node.proofs.PutRows.{after-put, put-all, rules-put}
 use Rattle.csi_node.proofs.Readers.{rows_rise}
 use Rattle.csi_node.proofs.RecordRules.{absent-gap}
-use Rattle.csi_node.proofs.AtRow.{There, set-put, insert-put, own-current}
+use Rattle.csi_node.proofs.AtRow.{There, found-place, set-put, insert-put, own-current}
 
 -- ---- how many rows stay
 
 -- where one doesn't pass, fewer pass
-filter-fewer : (p : RowShown → Bool) (rows : List RowShown) (row : RowShown) → IsAmong row rows → p row ≡ false → length (filter p rows) < length rows
+filter-fewer : (p : NodeRowShown → Bool) (rows : List NodeRowShown) (row : NodeRowShown) → IsAmong row rows → p row ≡ false → length (filter p rows) < length rows
 filter-fewer p [] row among h = absurd among
 filter-fewer p (first ∷ rows) row among h = by (λ there. filter-fewer p rows row there h) (p first) refl among
   where
@@ -73,7 +80,7 @@ is_full_of rows = nat_le 4096 (length rows) && list_all (λ (row : NodeRow). is_
 
 -- those that are staged, as they are shown
 staged-shown : (rows : List NodeRow) → length (filter is_staged (parts rows)) ≡ length (filter (λ (row : NodeRow). is_some row.staged) rows)
-staged-shown rows = ap length (filter-of_map is_staged shown rows) ∙ length-map (filter (λ (row : NodeRow). is_some row.staged) rows) shown
+staged-shown rows = ap length (filter-of_map is_staged node_row_shown rows) ∙ length-map (filter (λ (row : NodeRow). is_some row.staged) rows) node_row_shown
 
 -- where there is room, fewer than 4,096 stay
 room-staged : (rows : List NodeRow) → is_full_of rows ≡ false → length rows ≤ 4096 → length (filter is_staged (parts rows)) < 4096
@@ -92,9 +99,9 @@ room-staged rows free limit = by (nat_le 4096 (length rows)) refl (list_all (λ 
     by true many true each = absurd (false≢true (sym free ∙ (λ i. many i && each i)))
 
 -- and so they do where a row isn't staged
-room-unstaged : (rows : List NodeRow) (id place : ℕ) (row : NodeRow) → IsSound (parts rows) → There rows id place row → row.staged ≡ None → length (filter is_staged (parts rows)) < 4096
+room-unstaged : (rows : List NodeRow) (id place : ℕ) (row : NodeRow) → AreSoundRows (parts rows) → There rows id place row → row.staged ≡ None → length (filter is_staged (parts rows)) < 4096
 room-unstaged rows id place row rules is none =
-    let fewer = filter-fewer is_staged (parts rows) (shown row) (among-find (λ (r : RowShown). r.id == id) (parts rows) (shown row) is.found) (ap is_some none) in
+    let fewer = filter-fewer is_staged (parts rows) (node_row_shown row) (among-find (λ (r : NodeRowShown). r.id == id) (parts rows) (node_row_shown row) is.found) (ap is_some none) in
     let limit = rules.limit in
     omega (arith, fewer, limit)
 
@@ -105,7 +112,7 @@ full-staged rows full = by (nat_le 4096 (length rows)) refl (list_all (λ (row :
     by : (b : Bool) → nat_le 4096 (length rows) ≡ b → (c : Bool) → list_all (λ (row : NodeRow). is_some row.staged) rows ≡ c → (4096 ≤ length rows) × (filter is_staged (parts rows) ≡ parts rows)
     by true many true each = (
       grind (arith, nat_tests),
-      filter-of_map is_staged shown rows ∙ ap parts (all-where (λ (row : NodeRow). is_some row.staged) rows each),
+      filter-of_map is_staged node_row_shown rows ∙ ap parts (all-where (λ (row : NodeRow). is_some row.staged) rows each),
     )
     by true many false e = absurd (false≢true (sym (λ i. many i && e i) ∙ full))
     by false e c f = absurd (false≢true (sym (ap (λ (b : Bool). b && list_all (λ (row : NodeRow). is_some row.staged) rows) e) ∙ full))
@@ -113,20 +120,20 @@ full-staged rows full = by (nat_le 4096 (length rows)) refl (list_all (λ (row :
 -- ---- the rules of the rows that stay
 
 -- those that are staged may have their last calls in earlier sessions
-pub current-staged : (session : ℕ) (rows : List RowShown) → All (IsEarlierRow session) rows → IsCurrent session (filter is_staged rows)
+pub current-staged : (session : ℕ) (rows : List NodeRowShown) → All (IsEarlierRow session) rows → IsCurrent session (filter is_staged rows)
 current-staged session rows earlier k d inside =
     let before = All-filter is_staged (IsEarlierRow session) rows earlier k d inside in
     let passes = filter_passes is_staged rows k d inside in
     record { before = omega (arith, before); empty = λ none. absurd (false≢true (sym (ap is_some none) ∙ passes)) }
 
 -- where a row is put among them, too
-current-put : (number : Number) (new : RowShown) (rows : List RowShown) → new.kept.number ≡ number → All (IsEarlierRow number.session) rows → IsCurrent number.session (put_row new (filter is_staged rows))
+current-put : (number : Number) (new : NodeRowShown) (rows : List NodeRowShown) → new.kept.number ≡ number → All (IsEarlierRow number.session) rows → IsCurrent number.session (put_row new (filter is_staged rows))
 current-put number new rows own earlier = put-all (IsCurrentRow number.session) new (filter is_staged rows) (own-current number new own) (current-staged number.session rows earlier)
 
 -- ---- what stays once a row was put
 
 -- rows that a row was put among, and of which then those that are neither staged nor of this session were forgotten
-pub forgot-put : (session : ℕ) (rows put kept : List NodeRow) (new : RowShown) → new.kept.number.session ≡ session → IsSound (parts rows) → All (IsEarlierRow session) (parts rows)
+pub forgot-put : (session : ℕ) (rows put kept : List NodeRow) (new : NodeRowShown) → new.kept.number.session ≡ session → AreSoundRows (parts rows) → All (IsEarlierRow session) (parts rows)
     → parts put ≡ put_row new (parts rows) → kept ≡ filter (stays_in session) put → parts kept ≡ put_row new (filter is_staged (parts rows))
 forgot-put session rows put kept new own rules earlier is forgot =
     ap parts forgot
@@ -135,23 +142,23 @@ forgot-put session rows put kept new own rules earlier is forgot =
     ∙ forget-put session new (parts rows) own (recursion_from_All (IsEarlierRow session) (parts rows) earlier) (rows_rise (parts rows) rules.rising)
 
 -- the rules then, of a row that was there
-pub rules-begun : (id place : ℕ) (rows kept : List NodeRow) (row : NodeRow) (new : RowShown) → IsSound (parts rows) → There rows id place row → IsSoundRow new → new.id ≡ id
-    → parts kept ≡ put_row new (filter is_staged (parts rows)) → IsSound (parts kept)
+pub rules-begun : (id place : ℕ) (rows kept : List NodeRow) (row : NodeRow) (new : NodeRowShown) → AreSoundRows (parts rows) → There rows id place row → IsSoundRow new → new.id ≡ id
+    → parts kept ≡ put_row new (filter is_staged (parts rows)) → AreSoundRows (parts kept)
 rules-begun id place rows kept row new rules is own same put =
-    subst IsSound (sym put) (rules-put (filter is_staged (parts rows)) new (rules-filter is_staged (parts rows) rules) own (λ none. by row.staged refl (subst (λ (n : ℕ). row_of n (filter is_staged (parts rows)) ≡ None) same none)))
+    subst AreSoundRows (sym put) (rules-put (filter is_staged (parts rows)) new (rules-filter is_staged (parts rows) rules) own (λ none. by row.staged refl (subst (λ (n : ℕ). row_of n (filter is_staged (parts rows)) ≡ None) same none)))
   where
-    now : row_of id (filter is_staged (parts rows)) ≡ cond (is_some row.staged) (Some (shown row)) None
+    now : row_of id (filter is_staged (parts rows)) ≡ cond (is_some row.staged) (Some (node_row_shown row)) None
     now = found-staged (parts rows) (rows_rise (parts rows) rules.rising) id ∙ ap (passing is_staged) is.found
 
-    clash : {A : Type 0} → Some (shown row) ≡ None → A
+    clash : {A : Type 0} → Some (node_row_shown row) ≡ None → A
     clash h = cc
 
     by : (s : Option Capability) → row.staged ≡ s → row_of id (filter is_staged (parts rows)) ≡ None → length (filter is_staged (parts rows)) < 4096
     by None e none = room-unstaged rows id place row rules is e
-    by (Some capability) e none = clash (sym (now ∙ ap (λ (o : Option Capability). cond (is_some o) (Some (shown row)) None) e) ∙ none)
+    by (Some capability) e none = clash (sym (now ∙ ap (λ (o : Option Capability). cond (is_some o) (Some (node_row_shown row)) None) e) ∙ none)
 
 -- and of their sessions
-pub current-begun : (number : Number) (rows kept : List NodeRow) (new : RowShown) → new.kept.number ≡ number → All (IsEarlierRow number.session) (parts rows)
+pub current-begun : (number : Number) (rows kept : List NodeRow) (new : NodeRowShown) → new.kept.number ≡ number → All (IsEarlierRow number.session) (parts rows)
     → parts kept ≡ put_row new (filter is_staged (parts rows)) → IsCurrent number.session (parts kept)
 current-begun number rows kept new own earlier put = subst (IsCurrent number.session) (sym put) (current-put number new (parts rows) own earlier)
 
@@ -160,11 +167,11 @@ pub current-full : (session : ℕ) (rows : List NodeRow) → is_full_of rows ≡
 current-full session rows full earlier = subst (IsCurrent session) (full-staged rows full).1 (current-staged session (parts rows) earlier)
 
 -- the rules of a new row among those that stay
-pub rules-first_begun : (rows kept : List NodeRow) (new : RowShown) → IsSound (parts rows) → is_full_of rows ≡ false → IsSoundRow new → parts kept ≡ put_row new (filter is_staged (parts rows)) → IsSound (parts kept)
+pub rules-first_begun : (rows kept : List NodeRow) (new : NodeRowShown) → AreSoundRows (parts rows) → is_full_of rows ≡ false → IsSoundRow new → parts kept ≡ put_row new (filter is_staged (parts rows)) → AreSoundRows (parts kept)
 rules-first_begun rows kept new rules free own put =
-    let many = length-map rows shown in
+    let many = length-map rows node_row_shown in
     let limit = rules.limit in
-    subst IsSound (sym put)
+    subst AreSoundRows (sym put)
     (rules-put (filter is_staged (parts rows)) new (rules-filter is_staged (parts rows) rules) own (λ none. room-staged rows free (omega (arith, many, limit))))
 
 -- a number of a later session than the last one is fresh
@@ -172,32 +179,32 @@ verdict-later : (last number : Number) → last.session < number.session → ver
 verdict-later last number later = ap (λ (b : Bool). cond b (verdict_of_spent (Some last) number) Fresh) (fresh_in-later last number later)
 
 -- a volume that has no row has none among those that stay
-absent-staged : (rows : List NodeRow) (id place : ℕ) → IsSound (parts rows) → IsGapFor (parts rows) id place → row_of id (filter is_staged (parts rows)) ≡ None
+absent-staged : (rows : List NodeRow) (id place : ℕ) → AreSoundRows (parts rows) → IsGapFor (parts rows) id place → row_of id (filter is_staged (parts rows)) ≡ None
 absent-staged rows id place rules gap = found-staged (parts rows) (rows_rise (parts rows) rules.rising) id ∙ ap (passing is_staged) (absent-gap (parts rows) id place gap)
 
 -- what stays where the call's row was there
-pub there-put : (number : Number) (call : Call) (id : ℕ) (rows : List NodeRow) (place : ℕ) (row new : NodeRow) (kept : List NodeRow) → IsSound (parts rows) → All (IsEarlierRow number.session) (parts rows)
-    → IsAt (parts rows) id place → There rows id place row → IsAfter number call (shown row) (shown new) → kept ≡ filter (stays_in number.session) (set rows place new)
-    → parts kept ≡ put_row (shown new) (filter is_staged (parts rows))
+pub there-put : (number : Number) (call : Call) (id : ℕ) (rows : List NodeRow) (place : ℕ) (row new : NodeRow) (kept : List NodeRow) → AreSoundRows (parts rows) → All (IsEarlierRow number.session) (parts rows)
+    → IsRowAt (parts rows) id place → There rows id place row → IsRowAfter number call (node_row_shown row) (node_row_shown new) → kept ≡ filter (stays_in number.session) (set rows place new)
+    → parts kept ≡ put_row (node_row_shown new) (filter is_staged (parts rows))
 there-put number call id rows place row new kept rules earlier at is after forgot =
-    forgot-put number.session rows (set rows place new) kept (shown new) (ap (λ (k : Kept). k.number.session) after.kept) rules earlier (set-put rows id place new rules at (after.id ∙ is.own)) forgot
+    forgot-put number.session rows (set rows place new) kept (node_row_shown new) (ap (λ (k : Kept). k.number.session) after.kept) rules earlier (set-put rows id place new rules at (after.id ∙ is.own)) forgot
 
 -- and where it is new
-pub first-put : (number : Number) (call : Call) (id : ℕ) (before : RowShown) (rows : List NodeRow) (place : ℕ) (new : NodeRow) (kept : List NodeRow) → IsSound (parts rows)
-    → All (IsEarlierRow number.session) (parts rows) → IsGapFor (parts rows) id place → IsAfter number call before (shown new) → before.id ≡ id → kept ≡ filter (stays_in number.session) (insert rows place new)
-    → parts kept ≡ put_row (shown new) (filter is_staged (parts rows))
+pub first-put : (number : Number) (call : Call) (id : ℕ) (before : NodeRowShown) (rows : List NodeRow) (place : ℕ) (new : NodeRow) (kept : List NodeRow) → AreSoundRows (parts rows)
+    → All (IsEarlierRow number.session) (parts rows) → IsGapFor (parts rows) id place → IsRowAfter number call before (node_row_shown new) → before.id ≡ id → kept ≡ filter (stays_in number.session) (insert rows place new)
+    → parts kept ≡ put_row (node_row_shown new) (filter is_staged (parts rows))
 first-put number call id before rows place new kept rules earlier gap after own forgot =
-    forgot-put number.session rows (insert rows place new) kept (shown new) (ap (λ (k : Kept). k.number.session) after.kept) rules earlier (insert-put rows id place new gap (after.id ∙ own)) forgot
+    forgot-put number.session rows (insert rows place new) kept (node_row_shown new) (ap (λ (k : Kept). k.number.session) after.kept) rules earlier (insert-put rows id place new gap (after.id ∙ own)) forgot
 
 module _ (node : List ℕ) (number : Number) (call : Call) (id : ℕ) (v : volume_of call ≡ Some id) (session : ℕ) (later : session < number.session) where
   -- what rows give that show a state, a record of them gives
-  gives-begun : (old new : List NodeRow) (answer : Answer) → IsSound (parts old)
+  gives-begun : (old new : List NodeRow) (answer : Answer) → AreSoundRows (parts old)
       → ((state : NodeState) → ShowsAll (filter is_staged (parts old)) state → GivesAll (parts new) (answer_frame node number answer) (fenced_call node state number call (kept_for call state)))
-      → (state : NodeState) → Shows (parts_of node session old) state → Gives (parts_of node number.session new) (answer_frame node number answer) (answered_in node state number call)
+      → (state : NodeState) → Shows (node_record_parts node session old) state → IsFencedAnswer (node_record_parts node number.session new) (answer_frame node number answer) (answered_in node state number call)
   gives-begun old new answer rules gives state shows =
       let all = gives (begun number.session state) (forgotten-shows number.session (parts old) state (rows_rise (parts old) rules.rising) (all-from_shows old state shows.shows)) in
       let same = shows.session in
-      subst (Gives (parts_of node number.session new) (answer_frame node number answer)) (sym (answered-begun node state number call (omega (arith, same, later))))
+      subst (IsFencedAnswer (node_record_parts node number.session new) (answer_frame node number answer)) (sym (answered-begun node state number call (omega (arith, same, later))))
       (record {
         reply = all.reply;
         shows = record {
@@ -207,83 +214,98 @@ module _ (node : List ℕ) (number : Number) (call : Call) (id : ℕ) (v : volum
       })
 
   -- an answer by what it changed
-  begun-answered : (old new : List NodeRow) (answer : Answer) (row : Option ℕ) → IsSound (parts old)
+  begun-answered : (old new : List NodeRow) (answer : Answer) (row : Option ℕ) → AreSoundRows (parts old)
       → ((state : NodeState) → ShowsAll (filter is_staged (parts old)) state → GivesAll (parts new) (answer_frame node number answer) (fenced_call node state number call (kept_for call state)))
-      → answer.row ≡ row → Changes row number (parts_of node session old) (parts_of node number.session new)
-      → Answers number call (parts_of node session old) (parts_of node number.session new) answer
+      → answer.row ≡ row → ChangesAt row number (node_record_parts node session old) (node_record_parts node number.session new)
+      → AnswersCall number call (node_record_parts node session old) (node_record_parts node number.session new) answer
   begun-answered old new answer row rules gives is changes = record {
     gives = gives-begun old new answer rules gives;
-    changes = subst (λ (o : Option ℕ). Changes o number (parts_of node session old) (parts_of node number.session new)) (sym is) changes;
+    changes = subst (λ (o : Option ℕ). ChangesAt o number (node_record_parts node session old) (node_record_parts node number.session new)) (sym is) changes;
   }
 
-  -- a row that was put among those that stay
-  put-begun : (rows kept : List NodeRow) (before new : RowShown) (answer : Answer) → IsSound (parts rows) → All (IsEarlierRow number.session) (parts rows)
-      → before.id ≡ id → answer ≡ table_answer before call → IsAfter number call before new
-      → parts kept ≡ put_row new (filter is_staged (parts rows))
-      → ((state : NodeState) → ShowsAll (filter is_staged (parts rows)) state → RowsAfter id (filter is_staged (parts rows)) (parts kept) new
-      → GivesAll (parts kept) (answer_frame node number answer) (fenced_call node state number call (kept_for call state)))
-      → Answers number call (parts_of node session rows) (parts_of node number.session kept) answer
-  put-begun rows kept before new answer rules earlier own is after put gives =
-      begun-answered rows kept answer (Some new.id) rules (λ state all. gives state all rows_after) (ap (λ (a : Answer). a.row) is ∙ ap Some (sym after.id))
-      (put-changes node session number rows kept (after-begun session number later) new (ap (λ (k : Kept). k.number) after.kept)
-      (put ∙ ap (put_row new) (sym (staying-begun session number (parts rows) later)))
-      (λ was found same.
-      let was_earlier : was.kept.number.session < number.session = one-of_all (IsEarlierRow number.session) (parts rows) was earlier (among-find (λ (r : RowShown). r.id == new.id) (parts rows) was found) in
-      let now : was.kept.number.session ≡ number.session = ap (λ (n : Number). n.session) same in
-      absurd (omega (arith, was_earlier, now))))
+  -- a row that was put among those that stay, and was then searched for
+  put-begun : (rows kept : List NodeRow) (place : ℕ) (before new : NodeRowShown) (answer : Answer) (found : Result ℕ ℕ) → AreSoundRows (parts rows) → All (IsEarlierRow number.session) (parts rows)
+      → before.id ≡ id → answer ≡ table_answer place before call → IsRowAfter number call before new
+      → parts kept ≡ put_row new (filter is_staged (parts rows)) → AreSoundRows (parts kept) → IfOk found (IsRowAt (parts kept) id) → IfErr found (IsGapFor (parts kept) id)
+      → ((stands : ℕ) (last : Answer) → last ≡ table_answer stands before call → (state : NodeState) → ShowsAll (filter is_staged (parts rows)) state → RowsAfter id (filter is_staged (parts rows)) (parts kept) new
+      → GivesAll (parts kept) (answer_frame node number last) (fenced_call node state number call (kept_for call state)))
+      → AnswersCall number call (node_record_parts node session rows) (node_record_parts node number.session kept) (record answer { row = result_ok found })
+  put-begun rows kept place before new answer found rules earlier own is after put sound at gap gives =
+      begun-answered rows kept last (Some stands.0) rules (λ state all. gives stands.0 last now state all rows_after) stands.1 (
+        new,
+        stands.2,
+        put-changes node session number rows kept (after-begun session number later) new (ap (λ (k : Kept). k.number) after.kept)
+            (put ∙ ap (put_row new) (sym (staying-begun session number (parts rows) later)))
+            (λ was there same.
+            let was_earlier : was.kept.number.session < number.session = one-of_all (IsEarlierRow number.session) (parts rows) was earlier (among-find (λ (r : NodeRowShown). r.id == new.id) (parts rows) was there) in
+            let now : was.kept.number.session ≡ number.session = ap (λ (n : Number). n.session) same in
+            absurd (omega (arith, was_earlier, now))),
+      )
     where
       rows_after : RowsAfter id (filter is_staged (parts rows)) (parts kept) new
       rows_after =
-          subst (λ (l : List RowShown). RowsAfter id (filter is_staged (parts rows)) l new) (sym put)
+          subst (λ (l : List NodeRowShown). RowsAfter id (filter is_staged (parts rows)) l new) (sym put)
           (after-put (filter is_staged (parts rows)) id new (rows_rise (filter is_staged (parts rows)) (rules-filter is_staged (parts rows) rules).rising) (after.id ∙ own))
 
+      stands : (p : ℕ) × (result_ok found ≡ Some p) × (slice_get (parts kept) p ≡ Some new)
+      stands = found-place kept id new found sound rows_after.this at gap
+
+      last : Answer
+      last = record answer { row = result_ok found }
+
+      now : last ≡ table_answer stands.0 before call
+      now = λ i. record (is i) { row = stands.1 i }
+
   -- a call of a volume that has a row
-  pub begins-there : (rows : List NodeRow) (place : ℕ) (row new : NodeRow) (kept : List NodeRow) → IsSound (parts rows) → All (IsEarlierRow number.session) (parts rows) → IsAt (parts rows) id place
-      → There rows id place row → (answer : Answer) → answer ≡ table_answer (shown row) call → IsAfter number call (shown row) (shown new) → kept ≡ filter (stays_in number.session) (set rows place new)
-      → Answers number call (parts_of node session rows) (parts_of node number.session kept) answer
-  begins-there rows place row new kept rules earlier at is answer is_answer after forgot =
-      put-begun rows kept (shown row) (shown new) answer rules earlier is.own is_answer after
-      (there-put number call id rows place row new kept rules earlier at is after forgot)
-      (λ state all rows_after. by row.staged refl state all rows_after)
+  pub begins-there : (rows : List NodeRow) (place : ℕ) (row new : NodeRow) (kept : List NodeRow) → AreSoundRows (parts rows) → All (IsEarlierRow number.session) (parts rows) → IsRowAt (parts rows) id place
+      → There rows id place row → (answer : Answer) → answer ≡ table_answer place (node_row_shown row) call → IsRowAfter number call (node_row_shown row) (node_row_shown new) → kept ≡ filter (stays_in number.session) (set rows place new)
+      → (found : Result ℕ ℕ) → AreSoundRows (parts kept) → IfOk found (IsRowAt (parts kept) id) → IfErr found (IsGapFor (parts kept) id)
+      → AnswersCall number call (node_record_parts node session rows) (node_record_parts node number.session kept) (record answer { row = result_ok found })
+  begins-there rows place row new kept rules earlier at is answer is_answer after forgot found sound ok gap =
+      put-begun rows kept place (node_row_shown row) (node_row_shown new) answer found rules earlier is.own is_answer after
+      (there-put number call id rows place row new kept rules earlier at is after forgot) sound ok gap
+      (λ stands last is_last state all rows_after. by stands last is_last row.staged refl state all rows_after)
     where
-      now : row_of id (filter is_staged (parts rows)) ≡ cond (is_some row.staged) (Some (shown row)) None
+      now : row_of id (filter is_staged (parts rows)) ≡ cond (is_some row.staged) (Some (node_row_shown row)) None
       now = found-staged (parts rows) (rows_rise (parts rows) rules.rising) id ∙ ap (passing is_staged) is.found
 
       was_earlier : row.last.session < number.session
-      was_earlier = one-of_all (IsEarlierRow number.session) (parts rows) (shown row) earlier (among-find (λ (r : RowShown). r.id == id) (parts rows) (shown row) is.found)
+      was_earlier = one-of_all (IsEarlierRow number.session) (parts rows) (node_row_shown row) earlier (among-find (λ (r : NodeRowShown). r.id == id) (parts rows) (node_row_shown row) is.found)
 
-      by : (s : Option Capability) → row.staged ≡ s → (state : NodeState) → ShowsAll (filter is_staged (parts rows)) state → RowsAfter id (filter is_staged (parts rows)) (parts kept) (shown new)
-          → GivesAll (parts kept) (answer_frame node number answer) (fenced_call node state number call (kept_for call state))
-      by (Some capability) e state all rows_after =
-          gives-again node id number call (filter is_staged (parts rows)) (parts kept) state v all (shown row) (shown new) answer
-          (now ∙ ap (λ (o : Option Capability). cond (is_some o) (Some (shown row)) None) e) rows_after
-          (subst (RowAnswers number call (shown row) (shown new) answer) (sym (verdict-later row.last number was_earlier)) (is_answer, after))
-      by None e state all rows_after =
-          gives-anew node id number call (filter is_staged (parts rows)) (parts kept) state v all (shown row) (shown new) answer
-          (now ∙ ap (λ (o : Option Capability). cond (is_some o) (Some (shown row)) None) e)
-          (room-unstaged rows id place row rules is e) rows_after is.own (alone-unstaged (shown row) e) is_answer after
+      by : (stands : ℕ) (last : Answer) → last ≡ table_answer stands (node_row_shown row) call → (s : Option Capability) → row.staged ≡ s → (state : NodeState) → ShowsAll (filter is_staged (parts rows)) state
+          → RowsAfter id (filter is_staged (parts rows)) (parts kept) (node_row_shown new) → GivesAll (parts kept) (answer_frame node number last) (fenced_call node state number call (kept_for call state))
+      by stands last is_last (Some capability) e state all rows_after =
+          gives-again node id number call (filter is_staged (parts rows)) (parts kept) state v all stands (node_row_shown row) (node_row_shown new) last
+          (now ∙ ap (λ (o : Option Capability). cond (is_some o) (Some (node_row_shown row)) None) e) rows_after
+          (subst (RowAnswers stands number call (node_row_shown row) (node_row_shown new) last) (sym (verdict-later row.last number was_earlier)) (is_last, after))
+      by stands last is_last None e state all rows_after =
+          gives-anew node id number call (filter is_staged (parts rows)) (parts kept) state v all stands (node_row_shown row) (node_row_shown new) last
+          (now ∙ ap (λ (o : Option Capability). cond (is_some o) (Some (node_row_shown row)) None) e)
+          (room-unstaged rows id place row rules is e) rows_after is.own (alone-unstaged (node_row_shown row) e) is_last after
 
   -- the first call of a volume
-  pub begins-first : (rows : List NodeRow) (place : ℕ) (new : NodeRow) (kept : List NodeRow) → IsSound (parts rows) → All (IsEarlierRow number.session) (parts rows) → IsGapFor (parts rows) id place
-      → is_full_of rows ≡ false → (answer : Answer) → answer ≡ table_answer (row_anew id number (kind_of call)) call → IsAfter number call (row_anew id number (kind_of call)) (shown new)
-      → kept ≡ filter (stays_in number.session) (insert rows place new) → Answers number call (parts_of node session rows) (parts_of node number.session kept) answer
-  begins-first rows place new kept rules earlier gap free answer is_answer after forgot =
-      put-begun rows kept (row_anew id number (kind_of call)) (shown new) answer rules earlier refl is_answer after
-      (first-put number call id (row_anew id number (kind_of call)) rows place new kept rules earlier gap after refl forgot)
-      (λ state all rows_after.
-      gives-anew node id number call (filter is_staged (parts rows)) (parts kept) state v all (row_anew id number (kind_of call)) (shown new) answer (absent-staged rows id place rules gap)
-      (let many = length-map rows shown in let limit = rules.limit in room-staged rows free (omega (arith, many, limit))) rows_after refl refl is_answer after)
+  pub begins-first : (rows : List NodeRow) (place : ℕ) (new : NodeRow) (kept : List NodeRow) → AreSoundRows (parts rows) → All (IsEarlierRow number.session) (parts rows) → IsGapFor (parts rows) id place
+      → is_full_of rows ≡ false → (answer : Answer) → answer ≡ table_answer place (row_anew id number (kind_of call)) call → IsRowAfter number call (row_anew id number (kind_of call)) (node_row_shown new)
+      → kept ≡ filter (stays_in number.session) (insert rows place new)
+      → (found : Result ℕ ℕ) → AreSoundRows (parts kept) → IfOk found (IsRowAt (parts kept) id) → IfErr found (IsGapFor (parts kept) id)
+      → AnswersCall number call (node_record_parts node session rows) (node_record_parts node number.session kept) (record answer { row = result_ok found })
+  begins-first rows place new kept rules earlier gap free answer is_answer after forgot found sound ok none =
+      put-begun rows kept place (row_anew id number (kind_of call)) (node_row_shown new) answer found rules earlier refl is_answer after
+      (first-put number call id (row_anew id number (kind_of call)) rows place new kept rules earlier gap after refl forgot) sound ok none
+      (λ stands last is_last state all rows_after.
+      gives-anew node id number call (filter is_staged (parts rows)) (parts kept) state v all stands (row_anew id number (kind_of call)) (node_row_shown new) last (absent-staged rows id place rules gap)
+      (let many = length-map rows node_row_shown in let limit = rules.limit in room-staged rows free (omega (arith, many, limit))) rows_after refl refl is_last after)
 
   -- where there is no room
-  pub begins-full : (rows : List NodeRow) (place : ℕ) (answer : Answer) → IsSound (parts rows) → IsGapFor (parts rows) id place → is_full_of rows ≡ true
+  pub begins-full : (rows : List NodeRow) (place : ℕ) (answer : Answer) → AreSoundRows (parts rows) → IsGapFor (parts rows) id place → is_full_of rows ≡ true
       → answer ≡ record { kind = kind_of call; reply = plain_reply ResourceExhausted (codes "rows"); row = None }
-      → Answers number call (parts_of node session rows) (parts_of node number.session rows) answer
+      → AnswersCall number call (node_record_parts node session rows) (node_record_parts node number.session rows) answer
   begins-full rows place answer rules gap full is =
       let whole = full-staged rows full in
-      let many = length-map rows shown in
+      let many = length-map rows node_row_shown in
       let count = whole.0 in
       begun-answered rows rows answer None rules
-      (λ state all. gives-full node id number call (parts rows) (parts rows) state v (subst (λ (l : List RowShown). ShowsAll l state) whole.1 all) answer (absent-gap (parts rows) id place gap)
+      (λ state all. gives-full node id number call (parts rows) (parts rows) state v (subst (λ (l : List NodeRowShown). ShowsAll l state) whole.1 all) answer (absent-gap (parts rows) id place gap)
       (omega (arith, many, count)) is)
       (ap (λ (a : Answer). a.row) is)
       (same-changes node session number rows rows (after-begun session number later) (sym (staying-begun session number (parts rows) later ∙ whole.1)))

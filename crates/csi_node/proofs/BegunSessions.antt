@@ -3,10 +3,10 @@ use Rattle.std.proofs.Common.{◌≡◌, ◌⊎◌, ℕ, List, Bool, true, false
 use Rattle.std.specs.Prelude.{Option, Some, None, option_map, is_some, ◌==◌}
 use Rattle.std.proofs.lemmas.Bool.{eqb-true, true≢false, false_from_ne_true}
 use Rattle.csi_lists.proofs.Searches.{find-filter, find-filtered}
-use Rattle.csi_types.specs.Key.{Key, Exists, Attached, Staged, Published}
-use Rattle.csi_node.specs.State.{NodeState, Answered, row_with_id, staged_of}
-use Rattle.csi_node.specs.Fenced.{begun}
-use Rattle.csi_node.specs.View.{held_on, kept_on}
+use Rattle.csi_types.specs.Public.Key.{Key, Exists, Attached, Staged, Published}
+use Rattle.csi_node.specs.Model.State.{NodeState, AnsweredVolume, row_with_id, staged_of}
+use Rattle.csi_node.specs.Model.Fenced.{begun}
+use Rattle.csi_node.specs.Public.View.{held_on, kept_on}
 use Rattle.csi_node.proofs.ThingRows.{row_id, kept_at, kept_on-at}
 
 -- how each thing is stays
@@ -18,11 +18,11 @@ begun-held node session state (Published id there target) = refl
 
 module _ (session id : ℕ) (state : NodeState) where
   -- the row has this id
-  abbrev is_own : Answered → Bool
+  abbrev is_own : AnsweredVolume → Bool
   is_own row = row.id == id
 
   -- the row's volume is staged
-  abbrev stays : Answered → Bool
+  abbrev stays : AnsweredVolume → Bool
   stays row = is_some (staged_of row.id state)
 
   -- the row of a volume that is staged stays
@@ -50,8 +50,8 @@ begun-kept node session state key = by (row_id node key) (kept_on-at node (begun
     of_row : (id : ℕ) → (row_with_id id (begun session state) ≡ row_with_id id state) ⊎ (row_with_id id (begun session state) ≡ None)
         → kept_on node (begun session state) key ≡ kept_at (Some id) (begun session state) → kept_on node state key ≡ kept_at (Some id) state
         → (kept_on node (begun session state) key ≡ kept_on node state key) ⊎ (kept_on node (begun session state) key ≡ None)
-    of_row id (inl same) now before = inl (now ∙ ap (option_map (λ (row : Answered). row.kept)) same ∙ sym before)
-    of_row id (inr none) now before = inr (now ∙ ap (option_map (λ (row : Answered). row.kept)) none)
+    of_row id (inl same) now before = inl (now ∙ ap (option_map (λ (row : AnsweredVolume). row.kept)) same ∙ sym before)
+    of_row id (inr none) now before = inr (now ∙ ap (option_map (λ (row : AnsweredVolume). row.kept)) none)
 
     by : (o : Option ℕ) → kept_on node (begun session state) key ≡ kept_at o (begun session state) → kept_on node state key ≡ kept_at o state
         → (kept_on node (begun session state) key ≡ kept_on node state key) ⊎ (kept_on node (begun session state) key ≡ None)

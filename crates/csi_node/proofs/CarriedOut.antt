@@ -6,13 +6,13 @@ use Rattle.csi_types.specs.declared.number.Number.{Number}
 use Rattle.csi_types.specs.declared.call.Call.{Call}
 use Rattle.csi_types.specs.declared.call.Party.TheVariants.{Node}
 use Rattle.csi_types.specs.declared.status.Status.TheVariants.{ResourceExhausted}
-use Rattle.csi_types.specs.Call.{kind_of}
-use Rattle.csi_types.specs.Replies.{plain_reply, reply_frame}
-use Rattle.csi_fence.specs.Fence.{Kept}
-use Rattle.csi_fence.specs.Fenced.{Fenced}
-use Rattle.csi_node.specs.State.{NodeState, volume_of}
-use Rattle.csi_node.specs.Table.{lifecycle_row, node_row, has_no_room, changed}
-use Rattle.csi_node.specs.Fenced.{carried_out, keep}
+use Rattle.csi_types.specs.Model.Call.{kind_of}
+use Rattle.csi_types.specs.Model.Replies.{plain_reply, reply_frame}
+use Rattle.csi_fence.specs.Model.Fence.{Kept}
+use Rattle.csi_fence.specs.Model.Fenced.{Fenced}
+use Rattle.csi_node.specs.Model.State.{NodeState, volume_of}
+use Rattle.csi_node.specs.Model.Table.{lifecycle_row, node_row, has_no_room, changed}
+use Rattle.csi_node.specs.Model.Fenced.{carried_out, keep}
 
 -- what is kept of a call that the table carries out, and what the node answers and is then
 abbrev pub kept_of : NodeState → Number → Call → Kept

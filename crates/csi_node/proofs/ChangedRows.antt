@@ -5,14 +5,15 @@ use Rattle.std.proofs.lemmas.Bool.{lt-ltb}
 use Rattle.std.proofs.lemmas.Bool.Decides.{nat_tests}
 use Rattle.std.proofs.lemmas.Option.{same_Some}
 use Rattle.csi_types.specs.declared.number.Number.{Number}
-use Rattle.csi_types.specs.Same.{same_number}
+use Rattle.csi_types.specs.Model.Same.{same_number}
 use Rattle.csi_fence.specs.declared.fence.Verdict.TheVariants.{Stale, Repeated, Fresh}
-use Rattle.csi_fence.specs.Fence.{begins, verdict_of, verdict_of_spent}
+use Rattle.csi_fence.specs.Model.Fence.{begins, verdict_of, verdict_of_spent}
 use Rattle.csi_fence.proofs.Spent.{own_spent}
 use Rattle.csi_node.specs.declared.row.NodeRow.{NodeRow}
-use Rattle.csi_node.specs.Changes.{Changes, put_row, session_after, staying}
-use Rattle.csi_node.specs.OneRow.{RowShown}
-use Rattle.csi_node.specs.Record.{parts, parts_of}
+use Rattle.csi_node.specs.Public.Changes.{Changes, put_row, session_after, staying}
+use Rattle.csi_node.specs.Model.OneRow.{NodeRowShown}
+use Rattle.csi_node.specs.Model.Record.{parts}
+use Rattle.csi_node.specs.Private.Record.{node_record_parts}
 use Rattle.csi_node.proofs.ShownAfter.{row_of}
 use Rattle.csi_node.proofs.Forgotten.{is_staged}
 
@@ -40,7 +41,7 @@ pub after-now : (number : Number) → session_after number.session number ≡ nu
 after-now number = ap (λ (b : Bool). cond b number.session number.session) (begins-now number)
 
 -- and all rows
-pub staying-now : (number : Number) (rows : List RowShown) → staying number.session number rows ≡ rows
+pub staying-now : (number : Number) (rows : List NodeRowShown) → staying number.session number rows ≡ rows
 staying-now number rows = ap (λ (b : Bool). cond b (filter is_staged rows) rows) (begins-now number)
 
 -- one of a later session begins it: rows of volumes that are staged stay
@@ -48,17 +49,17 @@ pub after-begun : (session : ℕ) (number : Number) → session < number.session
 after-begun session number later = ap (λ (b : Bool). cond b number.session session) (lt-ltb session number.session later)
 
 -- a number of a later session leaves the rows of volumes that are staged
-pub staying-begun : (session : ℕ) (number : Number) (rows : List RowShown) → session < number.session → staying session number rows ≡ filter is_staged rows
+pub staying-begun : (session : ℕ) (number : Number) (rows : List NodeRowShown) → session < number.session → staying session number rows ≡ filter is_staged rows
 staying-begun session number rows later = ap (λ (b : Bool). cond b (filter is_staged rows) rows) (lt-ltb session number.session later)
 
 module _ (node : List ℕ) (session : ℕ) (number : Number) (old new : List NodeRow) (after : session_after session number ≡ number.session) where
   -- no row was put
-  pub same-changes : parts new ≡ staying session number (parts old) → Changes None number (parts_of node session old) (parts_of node number.session new)
+  pub same-changes : parts new ≡ staying session number (parts old) → Changes None number (node_record_parts node session old) (node_record_parts node number.session new)
   same-changes stay = record { session = sym after; same = λ is. stay; put = λ id is. none_some id is; fresh = λ id was is found. none_some id is }
 
   -- this row was put, under a number that its volume didn't have
-  pub put-changes : (there : RowShown) → there.kept.number ≡ number → parts new ≡ put_row there (staying session number (parts old))
-      → ((was : RowShown) → row_of there.id (parts old) ≡ Some was → was.kept.number ≢ number) → Changes (Some there.id) number (parts_of node session old) (parts_of node number.session new)
+  pub put-changes : (there : NodeRowShown) → there.kept.number ≡ number → parts new ≡ put_row there (staying session number (parts old))
+      → ((was : NodeRowShown) → row_of there.id (parts old) ≡ Some was → was.kept.number ≢ number) → Changes (Some there.id) number (node_record_parts node session old) (node_record_parts node number.session new)
   put-changes there own put fresh = record {
     session = sym after;
     same = λ is. none_some there.id (sym is);

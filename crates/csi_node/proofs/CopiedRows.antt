@@ -3,14 +3,14 @@ use Rattle.std.proofs.Common.{◌≡◌, ℕ, List, [], ◌∷◌, refl, sym, �
 use Rattle.std.specs.Prelude.{OnErr, Option, Some, option_map}
 use Rattle.std.specs.List.{AllZip}
 use Rattle.csi_node.specs.declared.row.NodeRow.{NodeRow}
-use Rattle.csi_node.specs.State.{NodeState, row_with_id}
-use Rattle.csi_node.specs.Shown.{RowsShow, row_in, answered_of_row}
-use Rattle.csi_node.specs.OneRow.{shown}
-use Rattle.csi_node.specs.Record.{NodeParts, parts, Shows}
+use Rattle.csi_node.specs.Model.State.{NodeState, row_with_id}
+use Rattle.csi_node.specs.Model.Shown.{RowsShow, row_in, answered_of_row}
+use Rattle.csi_node.specs.Model.OneRow.{node_row_shown}
+use Rattle.csi_node.specs.Model.Record.{NodeParts, parts, Shows}
 use Rattle.csi_node.proofs.ShownAfter.{ShowsAll, answered_of, row_of, row_of-shown, kept-shown, kept-found, all-from_shows, shows-from_all}
 
 -- rows of which each is a copy show what the rows show that were copied
-pub each-copied : (rows copies : List NodeRow) → AllZip (λ (row copy : NodeRow). shown copy ≡ shown row) rows copies → parts copies ≡ parts rows
+pub each-copied : (rows copies : List NodeRow) → AllZip (λ (row copy : NodeRow). node_row_shown copy ≡ node_row_shown row) rows copies → parts copies ≡ parts rows
 each-copied [] [] same = refl
 each-copied [] (copy ∷ copies) same = absurd same
 each-copied (row ∷ rows) [] same = absurd same
@@ -37,19 +37,19 @@ none_is_not_some : {X : Type 0} (x : X) → None ≡ Some x → ⊥
 none_is_not_some x h = cc
 
 -- a copy of the row that is found shows what that shows
-pub copy-found : (rows : List NodeRow) (id : ℕ) (row copy : NodeRow) → Some (shown row) ≡ row_of id (parts rows) → shown copy ≡ shown row → Some (shown copy) ≡ option_map shown (row_in id rows)
+pub copy-found : (rows : List NodeRow) (id : ℕ) (row copy : NodeRow) → Some (node_row_shown row) ≡ row_of id (parts rows) → node_row_shown copy ≡ node_row_shown row → Some (node_row_shown copy) ≡ option_map node_row_shown (row_in id rows)
 copy-found rows id row copy found same = ap Some same ∙ found ∙ row_of-shown id rows
 
 -- where none is found there is none
-pub none-found : (rows : List NodeRow) (id : ℕ) → None ≡ row_of id (parts rows) → None ≡ option_map shown (row_in id rows)
+pub none-found : (rows : List NodeRow) (id : ℕ) → None ≡ row_of id (parts rows) → None ≡ option_map node_row_shown (row_in id rows)
 none-found rows id found = found ∙ row_of-shown id rows
 
 -- where one is found there is one
-pub found-clash : (rows : List NodeRow) (id : ℕ) (row : NodeRow) → Some (shown row) ≡ row_of id (parts rows) → row_in id rows ≡ None → ⊥
-found-clash rows id row found none = none_is_not_some (shown row) (sym (found ∙ row_of-shown id rows ∙ ap (option_map shown) none))
+pub found-clash : (rows : List NodeRow) (id : ℕ) (row : NodeRow) → Some (node_row_shown row) ≡ row_of id (parts rows) → row_in id rows ≡ None → ⊥
+found-clash rows id row found none = none_is_not_some (node_row_shown row) (sym (found ∙ row_of-shown id rows ∙ ap (option_map node_row_shown) none))
 
 -- what a copy of a row keeps is what the state keeps
-pub row-shows : (rows : List NodeRow) (state : NodeState) (id : ℕ) → RowsShow rows state → (row : Option NodeRow) → option_map shown row ≡ option_map shown (row_in id rows)
+pub row-shows : (rows : List NodeRow) (state : NodeState) (id : ℕ) → RowsShow rows state → (row : Option NodeRow) → option_map node_row_shown row ≡ option_map node_row_shown (row_in id rows)
     → option_map answered_of_row row ≡ row_with_id id state
 row-shows rows state id shows row same =
     sym (kept-shown row) ∙ ap (option_map answered_of) (same ∙ sym (row_of-shown id rows)) ∙ kept-found (parts rows) state (all-from_shows rows state shows) id

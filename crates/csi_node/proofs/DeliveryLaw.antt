@@ -11,22 +11,24 @@ use Rattle.csi_types.specs.declared.call.Kind.{Kind}
 use Rattle.csi_types.specs.declared.call.Party.TheVariants.{Node}
 use Rattle.csi_types.specs.declared.status.Status.TheVariants.{Ok, ResourceExhausted}
 use Rattle.csi_types.specs.declared.reply.Reply.{Reply}
-use Rattle.csi_types.specs.Call.{kind_of, is_party_of}
-use Rattle.csi_types.specs.Key.{Key}
-use Rattle.csi_types.specs.Reply.{has_id_by_rule}
-use Rattle.csi_types.specs.Replies.{plain_reply}
-use Rattle.csi_fence.specs.Delivery.{View, view_by, Delivery, Acts, Becomes, IsDelivered, IsEmpty, IsClosed, last_of}
-use Rattle.csi_fence.specs.Fence.{Kept, is_spent, is_over, begins}
-use Rattle.csi_fence.specs.Fenced.{Fenced}
+use Rattle.csi_types.specs.Model.Call.{kind_of}
+use Rattle.csi_types.specs.Public.Call.{is_party_of}
+use Rattle.csi_types.specs.Public.Key.{Key}
+use Rattle.csi_types.specs.Public.Reply.{has_id_by_rule}
+use Rattle.csi_types.specs.Model.Replies.{plain_reply}
+use Rattle.csi_fence.specs.Public.Delivery.{PluginView, view_by, Delivery, Acts, CallBecomes, IsDelivered, IsEmpty, IsClosed, last_of}
+use Rattle.csi_fence.specs.Model.Fence.{Kept, is_spent, is_over, begins}
+use Rattle.csi_fence.specs.Model.Fenced.{Fenced}
 use Rattle.csi_fence.proofs.Begun.{HasBegun, IsUpTo, has-begun}
 use Rattle.csi_fence.proofs.Delivered.{IsKeptFor, answered-delivered}
 use Rattle.csi_fence.proofs.FramesKeep.{own_session}
 use Rattle.csi_fence.proofs.Spent.{not_over-own}
 use Rattle.csi_fence.proofs.Views.{IsLater, carried-acts, closed-view, empty-view}
-use Rattle.csi_node.specs.State.{NodeState, Answered, empty_node, row_of_volume}
-use Rattle.csi_node.specs.Table.{Outcome, lifecycle_row, node_row, changed}
-use Rattle.csi_node.specs.Fenced.{answered_in, begun, carried_out, in_session, keep, kept_for, node_at}
-use Rattle.csi_node.specs.View.{held_on, kept_on, view_of, key_of, IsDeliveredTo}
+use Rattle.csi_node.specs.Model.State.{NodeState, AnsweredVolume, empty_node, row_of_volume}
+use Rattle.csi_node.specs.Model.Table.{Outcome, lifecycle_row, node_row, changed}
+use Rattle.csi_node.specs.Private.Fenced.{answered_in, in_session}
+use Rattle.csi_node.specs.Model.Fenced.{begun, carried_out, keep, kept_for, node_at}
+use Rattle.csi_node.specs.Public.View.{held_on, kept_on, view_of, key_of, IsDeliveredTo}
 use Rattle.csi_node.proofs.BegunSessions.{begun-held, begun-kept}
 use Rattle.csi_node.proofs.CarriedOut.{Carried, no_room, has_room, was_carried, kept_of, state_then}
 use Rattle.csi_node.proofs.LastCalls.{keep-own, keep-session, changed-rows, changed-session}
@@ -87,8 +89,8 @@ module _ (node : List ℕ) (state : NodeState) (number : Number) (call : Call) (
   spent_by earlier same = ap (λ (o : Option Kept). is_spent (last_of o) earlier) same
 
   -- by the call's thing
-  becomes : (kind : Kind) (reply : Reply) (new : View) → Acts key (replied kind reply) (view_of node state) new → Becomes (key_of node call) (replied kind reply) (view_of node state) new
-  becomes kind reply new acts = subst (λ (o : Option Key). Becomes o (replied kind reply) (view_of node state) new) (sym for.is_key) (inl acts)
+  becomes : (kind : Kind) (reply : Reply) (new : PluginView) → Acts key (replied kind reply) (view_of node state) new → CallBecomes (key_of node call) (replied kind reply) (view_of node state) new
+  becomes kind reply new acts = subst (λ (o : Option Key). CallBecomes o (replied kind reply) (view_of node state) new) (sym for.is_key) (inl acts)
 
   -- what is kept for the call is what is kept for its thing
   is_kept_for : IsKeptFor (key_of node call) (kept_on node state) (kept_for call state)
@@ -131,7 +133,7 @@ module _ (node : List ℕ) (state : NodeState) (number : Number) (call : Call) (
 
       kept_before : (o : Option ℕ) → kept_at o changes ≡ kept_at o state
       kept_before None = refl
-      kept_before (Some id) = ap (λ (rows : List Answered). option_map (λ (row : Answered). row.kept) (find (λ (row : Answered). row.id == id) rows)) (changed-rows state (lifecycle_row state call).change)
+      kept_before (Some id) = ap (λ (rows : List AnsweredVolume). option_map (λ (row : AnsweredVolume). row.kept) (find (λ (row : AnsweredVolume). row.id == id) rows)) (changed-rows state (lifecycle_row state call).change)
 
       own_kept : kept_at (Some for.volume) after ≡ Some kept
       own_kept = keep-own for.volume kept changes
@@ -205,8 +207,8 @@ module _ (node : List ℕ) (state : NodeState) (current : AreCurrent state) wher
       by : (o : Option ℕ) → kept_at o state ≡ Some this → this.number.session ≤ state.session
       by None none = absurd (none-some this none)
       by (Some id) found =
-          let row = some-from_map (λ (row : Answered). row.kept) (find (λ (row : Answered). row.id == id) state.rows) this found in
-          subst (λ (k : Kept). k.number.session ≤ state.session) row.2 (current.before row.0 (among-find (λ (row : Answered). row.id == id) state.rows row.0 row.1))
+          let row = some-from_map (λ (row : AnsweredVolume). row.kept) (find (λ (row : AnsweredVolume). row.id == id) state.rows) this found in
+          subst (λ (k : Kept). k.number.session ≤ state.session) row.2 (current.before row.0 (among-find (λ (row : AnsweredVolume). row.id == id) state.rows row.0 row.1))
 
   -- a call that begins a session begins it so
   has_begun : (number : Number) → begins state.session number ≡ true → HasBegun number (view_of node state) (view_of node (begun number.session state))

@@ -6,21 +6,23 @@ use Rattle.std.specs.List.{AllByRecursion}
 use Rattle.std.proofs.lemmas.Bool.{eq-eqb, eqb-true, ne_eqb}
 use Rattle.std.proofs.lemmas.List.Elements.{All-filter}
 use Rattle.csi_types.specs.declared.capability.Capability.{Capability}
-use Rattle.csi_lists.specs.Members.{IsAmong, EachTwo}
-use Rattle.csi_lists.specs.Places.{AtMostOne}
+use Rattle.csi_lists.specs.Model.Members.{IsAmong, EachTwo}
+use Rattle.csi_lists.specs.Public.Places.{AtMostOne}
 use Rattle.csi_lists.proofs.Each.{each-filter, each-weaker}
 use Rattle.csi_lists.proofs.Filters.{filter-no_longer, filter-of_map}
 use Rattle.csi_lists.proofs.Members.{each_of}
 use Rattle.csi_lists.proofs.Pairs.{two-filter}
 use Rattle.csi_lists.proofs.PassingByKey.{find-passing, length-by_key, once-rising, passing, passing-by_key}
 use Rattle.csi_node.specs.declared.row.NodeRow.{NodeRow}
-use Rattle.csi_node.specs.State.{NodeState, Answered, StagedVolume, empty_node, staged_of}
-use Rattle.csi_node.specs.Fenced.{begun}
-use Rattle.csi_node.specs.Changes.{put_row}
-use Rattle.csi_node.specs.OneRow.{RowShown, shown, alone, staged_by, published_by, IsSoundRow}
-use Rattle.csi_node.specs.Record.{parts, IsSound}
-use Rattle.csi_node.specs.Step.{IsEarlierRow}
-use Rattle.csi_node.specs.WithoutSession.{stays_in}
+use Rattle.csi_node.specs.Model.State.{NodeState, AnsweredVolume, StagedVolume, empty_node, staged_of}
+use Rattle.csi_node.specs.Model.Fenced.{begun}
+use Rattle.csi_node.specs.Public.Changes.{put_row}
+use Rattle.csi_node.specs.Model.OneRow.{NodeRowShown, node_row_shown}
+use Rattle.csi_node.specs.Public.OneRow.{state_shown, staged_by, published_by, IsSoundRow}
+use Rattle.csi_node.specs.Model.Record.{parts}
+use Rattle.csi_node.specs.Public.Record.{AreSoundRows}
+use Rattle.csi_node.specs.Private.Step.{IsEarlierRow}
+use Rattle.csi_node.specs.Public.WithoutSession.{stays_in}
 use Rattle.csi_node.proofs.OneRow.{staged_of-alone}
 use Rattle.csi_node.proofs.StateChanges.{part-staged}
 use Rattle.csi_node.proofs.ShownAfter.{ShowsAll, row_of, alone_in, answered_of, part_of}
@@ -28,66 +30,66 @@ use Rattle.csi_node.proofs.Readers.{IsRowBefore, rows_rise}
 use Rattle.csi_node.proofs.PutRows.{higher-from, put-first, rise-rows}
 
 -- the volume is staged
-abbrev pub is_staged : RowShown → Bool
+abbrev pub is_staged : NodeRowShown → Bool
 is_staged row = is_some row.staged
 
 -- ---- rows by rising id
 
 -- each id is there once
-once-rise : (rows : List RowShown) → EachTwo IsRowBefore rows → (k : ℕ) → AtMostOne (λ (row : RowShown). row.id == k) rows
-once-rise = once-rising (λ (row : RowShown). row.id)
+once-rise : (rows : List NodeRowShown) → EachTwo IsRowBefore rows → (k : ℕ) → AtMostOne (λ (row : NodeRowShown). row.id == k) rows
+once-rise = once-rising (λ (row : NodeRowShown). row.id)
 
 -- a row among them is found by its id
-found-among : (rows : List RowShown) → EachTwo IsRowBefore rows → (row : RowShown) → IsAmong row rows → row_of row.id rows ≡ Some row
+found-among : (rows : List NodeRowShown) → EachTwo IsRowBefore rows → (row : NodeRowShown) → IsAmong row rows → row_of row.id rows ≡ Some row
 found-among [] rise row among = absurd among
 found-among (first ∷ rows) rise row (inl same) =
-    ap (λ (b : Bool). cond b (Some first) (row_of row.id rows)) (eq-eqb first.id row.id (ap (λ (r : RowShown). r.id) (sym same))) ∙ ap Some (sym same)
+    ap (λ (b : Bool). cond b (Some first) (row_of row.id rows)) (eq-eqb first.id row.id (ap (λ (r : NodeRowShown). r.id) (sym same))) ∙ ap Some (sym same)
 found-among (first ∷ rows) rise row (inr among) =
     let before = each_of (IsRowBefore first) rows row rise.0 among in
     ap (λ (b : Bool). cond b (Some first) (row_of row.id rows)) (ne_eqb first.id row.id (λ e. omega (arith, e, before))) ∙ found-among rows rise.1 row among
 
 -- a row that isn't staged has nothing of the state
-pub alone-unstaged : (row : RowShown) → row.staged ≡ None → alone row ≡ empty_node
+pub alone-unstaged : (row : NodeRowShown) → row.staged ≡ None → state_shown row ≡ empty_node
 alone-unstaged row e = λ i. record { rows = []; session = 0; staged = staged_by row.id (e i); published = published_by row.id (e i) row.targets }
 
 -- so it is the same of the state whether it is there or not
-alone-passing : (o : Option RowShown) → alone_in (passing is_staged o) ≡ alone_in o
+alone-passing : (o : Option NodeRowShown) → alone_in (passing is_staged o) ≡ alone_in o
 alone-passing None = refl
 alone-passing (Some row) = by row.staged refl
   where
-    by : (s : Option Capability) → row.staged ≡ s → alone_in (cond (is_some row.staged) (Some row) None) ≡ alone row
+    by : (s : Option Capability) → row.staged ≡ s → alone_in (cond (is_some row.staged) (Some row) None) ≡ state_shown row
     by None e = ap (λ (t : Option Capability). alone_in (cond (is_some t) (Some row) None)) e ∙ sym (alone-unstaged row e)
     by (Some capability) e = ap (λ (t : Option Capability). alone_in (cond (is_some t) (Some row) None)) e
 
 -- ---- the state in which a session has begun
 
 -- what isn't staged is forgotten there too
-pub forgotten-shows : (session : ℕ) (rows : List RowShown) (state : NodeState) → EachTwo IsRowBefore rows → ShowsAll rows state → ShowsAll (filter is_staged rows) (begun session state)
+pub forgotten-shows : (session : ℕ) (rows : List NodeRowShown) (state : NodeState) → EachTwo IsRowBefore rows → ShowsAll rows state → ShowsAll (filter is_staged rows) (begun session state)
 forgotten-shows session rows state rise all = record {
-  count = length-by_key answered_of (λ (row : RowShown). row.id) (λ (row : Answered). row.id) is_staged stays rows state.rows (once-rise rows rise) all.kept alike;
-  kept = passing-by_key answered_of (λ (row : RowShown). row.id) (λ (row : Answered). row.id) is_staged stays rows state.rows (once-rise rows rise) all.kept alike;
+  count = length-by_key answered_of (λ (row : NodeRowShown). row.id) (λ (row : AnsweredVolume). row.id) is_staged stays rows state.rows (once-rise rows rise) all.kept alike;
+  kept = passing-by_key answered_of (λ (row : NodeRowShown). row.id) (λ (row : AnsweredVolume). row.id) is_staged stays rows state.rows (once-rise rows rise) all.kept alike;
   staged = λ id. ap (λ (s : NodeState). map (λ (v : StagedVolume). v.capability) s.staged) (same id) ∙ all.staged id;
   published = λ id. ap (λ (s : NodeState). s.published) (same id) ∙ all.published id;
 }
   where
-    stays : Answered → Bool
+    stays : AnsweredVolume → Bool
     stays row = is_some (staged_of row.id state)
 
-    alike : (row : RowShown) → IsAmong row rows → stays (answered_of row) ≡ is_staged row
+    alike : (row : NodeRowShown) → IsAmong row rows → stays (answered_of row) ≡ is_staged row
     alike row among =
         ap is_some (sym (part-staged row.id (alone_in (row_of row.id rows)) state (part_of row.id rows state all))
-        ∙ ap (λ (o : Option RowShown). staged_of row.id (alone_in o)) (found-among rows rise row among)
+        ∙ ap (λ (o : Option NodeRowShown). staged_of row.id (alone_in o)) (found-among rows rise row among)
         ∙ staged_of-alone row)
 
     same : (id : ℕ) → alone_in (row_of id (filter is_staged rows)) ≡ alone_in (row_of id rows)
-    same id = ap alone_in (find-passing (λ (row : RowShown). row.id == id) is_staged rows (once-rise rows rise id)) ∙ alone-passing (row_of id rows)
+    same id = ap alone_in (find-passing (λ (row : NodeRowShown). row.id == id) is_staged rows (once-rise rows rise id)) ∙ alone-passing (row_of id rows)
 
 -- which row is found then
-pub found-staged : (rows : List RowShown) → EachTwo IsRowBefore rows → (id : ℕ) → row_of id (filter is_staged rows) ≡ passing is_staged (row_of id rows)
-found-staged rows rise id = find-passing (λ (row : RowShown). row.id == id) is_staged rows (once-rise rows rise id)
+pub found-staged : (rows : List NodeRowShown) → EachTwo IsRowBefore rows → (id : ℕ) → row_of id (filter is_staged rows) ≡ passing is_staged (row_of id rows)
+found-staged rows rise id = find-passing (λ (row : NodeRowShown). row.id == id) is_staged rows (once-rise rows rise id)
 
 -- rows that pass a test keep the rules
-pub rules-filter : (p : RowShown → Bool) (rows : List RowShown) → IsSound rows → IsSound (filter p rows)
+pub rules-filter : (p : NodeRowShown → Bool) (rows : List NodeRowShown) → AreSoundRows rows → AreSoundRows (filter p rows)
 rules-filter p rows rules = record {
   rising = rise-rows (filter p rows) (two-filter IsRowBefore p rows (rows_rise rows rules.rising));
   limit = let fewer = filter-no_longer p rows in let few = rules.limit in omega (arith, fewer, few);
@@ -97,11 +99,11 @@ rules-filter p rows rules = record {
 -- ---- a row that is put
 
 -- the volume is staged, or its last call is of this session
-abbrev pub is_kept : ℕ → RowShown → Bool
+abbrev pub is_kept : ℕ → NodeRowShown → Bool
 is_kept session row = is_some row.staged || (row.kept.number.session == session)
 
 -- a row of an earlier session is kept where it is staged
-kept-earlier : (session : ℕ) (row : RowShown) → IsEarlierRow session row → is_kept session row ≡ is_staged row
+kept-earlier : (session : ℕ) (row : NodeRowShown) → IsEarlierRow session row → is_kept session row ≡ is_staged row
 kept-earlier session row earlier = by (is_some row.staged) (ne_eqb row.kept.number.session session (λ e. omega (arith, e, earlier)))
   where
     by : (b : Bool) → (row.kept.number.session == session) ≡ false → (b || (row.kept.number.session == session)) ≡ b
@@ -109,7 +111,7 @@ kept-earlier session row earlier = by (is_some row.staged) (ne_eqb row.kept.numb
     by false e = e
 
 -- a row of this session is kept
-kept-own : (session : ℕ) (row : RowShown) → row.kept.number.session ≡ session → is_kept session row ≡ true
+kept-own : (session : ℕ) (row : NodeRowShown) → row.kept.number.session ≡ session → is_kept session row ≡ true
 kept-own session row own = by (is_some row.staged) (eq-eqb row.kept.number.session session own)
   where
     by : (b : Bool) → (row.kept.number.session == session) ≡ true → (b || (row.kept.number.session == session)) ≡ true
@@ -117,19 +119,19 @@ kept-own session row own = by (is_some row.staged) (eq-eqb row.kept.number.sessi
     by false e = e
 
 -- of rows of earlier sessions those that are staged are kept
-pub forget-earlier : (session : ℕ) (rows : List RowShown) → AllByRecursion (IsEarlierRow session) rows → filter (is_kept session) rows ≡ filter is_staged rows
+pub forget-earlier : (session : ℕ) (rows : List NodeRowShown) → AllByRecursion (IsEarlierRow session) rows → filter (is_kept session) rows ≡ filter is_staged rows
 forget-earlier session [] earlier = refl
 forget-earlier session (row ∷ rows) earlier =
     ap (λ (b : Bool). cond b (row ∷ filter (is_kept session) rows) (filter (is_kept session) rows)) (kept-earlier session row earlier.0)
-    ∙ ap (λ (l : List RowShown). cond (is_staged row) (row ∷ l) l) (forget-earlier session rows earlier.1)
+    ∙ ap (λ (l : List NodeRowShown). cond (is_staged row) (row ∷ l) l) (forget-earlier session rows earlier.1)
 
 -- a row of this session that is put among rows of earlier ones, of which then those that aren't staged are forgotten
-pub forget-put : (session : ℕ) (new : RowShown) (rows : List RowShown) → new.kept.number.session ≡ session → AllByRecursion (IsEarlierRow session) rows → EachTwo IsRowBefore rows
+pub forget-put : (session : ℕ) (new : NodeRowShown) (rows : List NodeRowShown) → new.kept.number.session ≡ session → AllByRecursion (IsEarlierRow session) rows → EachTwo IsRowBefore rows
     → filter (is_kept session) (put_row new rows) ≡ put_row new (filter is_staged rows)
 forget-put session new [] own earlier rise = ap (λ (b : Bool). cond b (new ∷ []) []) (kept-own session new own)
 forget-put session new (row ∷ rows) own earlier rise = by (forget-put session new rows own earlier.1 rise.1) (nat_lt row.id new.id) refl (row.id == new.id) refl
   where
-    first : (l : List RowShown) → filter (is_kept session) (new ∷ l) ≡ new ∷ filter (is_kept session) l
+    first : (l : List NodeRowShown) → filter (is_kept session) (new ∷ l) ≡ new ∷ filter (is_kept session) l
     first l = ap (λ (b : Bool). cond b (new ∷ filter (is_kept session) l) (filter (is_kept session) l)) (kept-own session new own)
 
     -- where the row stands before the new one
@@ -151,15 +153,15 @@ forget-put session new (row ∷ rows) own earlier rise = by (forget-put session 
         → filter (is_kept session) (cond b (row ∷ put_row new rows) (cond c (new ∷ rows) (new ∷ row ∷ rows))) ≡ put_row new (filter is_staged (row ∷ rows))
     by rest true lower c e =
         ap (λ (b : Bool). cond b (row ∷ filter (is_kept session) (put_row new rows)) (filter (is_kept session) (put_row new rows))) (kept-earlier session row earlier.0)
-        ∙ ap (λ (l : List RowShown). cond (is_staged row) (row ∷ l) l) rest
+        ∙ ap (λ (l : List NodeRowShown). cond (is_staged row) (row ∷ l) l) rest
         ∙ lower_first (is_staged row) lower
-    by rest false not_lower true same = first rows ∙ ap (λ (l : List RowShown). new ∷ l) (forget-earlier session rows earlier.1) ∙ same_first (is_staged row) not_lower same
+    by rest false not_lower true same = first rows ∙ ap (λ (l : List NodeRowShown). new ∷ l) (forget-earlier session rows earlier.1) ∙ same_first (is_staged row) not_lower same
     by rest false not_lower false other =
         let below : new.id < row.id = higher-from row.id new.id not_lower other in
         first (row ∷ rows)
-        ∙ ap (λ (l : List RowShown). new ∷ l) (forget-earlier session (row ∷ rows) earlier)
+        ∙ ap (λ (l : List NodeRowShown). new ∷ l) (forget-earlier session (row ∷ rows) earlier)
         ∙ sym (put-first new (filter is_staged (row ∷ rows)) (each-filter (IsRowBefore new) is_staged (row ∷ rows) (below, each-weaker (IsRowBefore row) (IsRowBefore new) rows (λ r before. omega (arith, before, below)) rise.0)))
 
 -- rows that are forgotten, as they are shown
 pub parts-forgotten : (session : ℕ) (rows : List NodeRow) → parts (filter (stays_in session) rows) ≡ filter (is_kept session) (parts rows)
-parts-forgotten session rows = sym (filter-of_map (is_kept session) shown rows)
+parts-forgotten session rows = sym (filter-of_map (is_kept session) node_row_shown rows)

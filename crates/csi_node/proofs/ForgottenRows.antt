@@ -6,14 +6,15 @@ use Rattle.csi_types.specs.declared.call.Call.{Call}
 use Rattle.csi_types.specs.declared.call.Call.TheVariants.{NodeStageVolume, NodeUnstageVolume}
 use Rattle.csi_types.specs.declared.mode.Mode.TheVariants.{SingleNodeWriter}
 use Rattle.csi_fence.specs.declared.fence.Verdict.TheVariants.{Fresh}
-use Rattle.csi_fence.specs.Delivery.{last_of}
-use Rattle.csi_fence.specs.Fence.{Kept, is_over, verdict_of}
-use Rattle.csi_fence.specs.Fenced.{Fenced}
+use Rattle.csi_fence.specs.Public.Delivery.{last_of}
+use Rattle.csi_fence.specs.Model.Fence.{Kept, is_over, verdict_of}
+use Rattle.csi_fence.specs.Model.Fenced.{Fenced}
 use Rattle.csi_fence.proofs.LetThrough.{is_carried_out, over_call}
-use Rattle.csi_node.specs.State.{NodeState, Answered, empty_node, row_of_volume, row_for, volume_of}
-use Rattle.csi_node.specs.Table.{Change, changed, lifecycle_row, node_row}
-use Rattle.csi_node.specs.Fenced.{after_frames, carried_out, keep, kept_for, kept_rows, node_at}
-use Rattle.csi_node.specs.Worked.{ForgottenRow, block, call_at, forgotten, number}
+use Rattle.csi_node.specs.Model.State.{NodeState, AnsweredVolume, empty_node, row_of_volume, row_for, volume_of}
+use Rattle.csi_node.specs.Model.Table.{Change, changed, lifecycle_row, node_row}
+use Rattle.csi_node.specs.Public.Fenced.{after_frames}
+use Rattle.csi_node.specs.Model.Fenced.{carried_out, keep, kept_for, kept_rows, node_at}
+use Rattle.csi_node.specs.Private.Worked.{ForgottenRow, block, first_session_call, forgotten, number}
 use Rattle.csi_node.proofs.CarriedOut.{Carried, no_room, has_room, was_carried, kept_of}
 use Rattle.csi_node.proofs.LastCalls.{changed-rows, changed-session, keep-session}
 
@@ -37,7 +38,7 @@ no_row call = by (volume_of call)
 one_row : (volume : Option ℕ) (kept : Kept) (change : Change) → length (keep volume kept (changed bare change)).rows ≤ 1
 one_row None kept change = let none = ap length (changed-rows bare change) in omega (arith, none)
 one_row (Some id) kept change =
-    let one = ap (λ (rows : List Answered). length (kept_rows id kept rows (find (λ (row : Answered). row.id == id) rows))) (changed-rows bare change) in
+    let one = ap (λ (rows : List AnsweredVolume). length (kept_rows id kept rows (find (λ (row : AnsweredVolume). row.id == id) rows))) (changed-rows bare change) in
     omega (arith, one)
 
 -- the session stays, and there is one row at most
@@ -56,8 +57,8 @@ carried_bare call _ (has_room room) = record {
 -- so it is once volume 1 is forgotten
 forgotten_bare : (call : Call) → IsBare (after_frames (codes "n1") empty_node (forgotten call))
 forgotten_bare call =
-    let was : NodeState = after_frames (codes "n1") empty_node (call_at 1 (NodeStageVolume 1 (block SingleNodeWriter)) ∷ call_at 2 (NodeUnstageVolume 1) ∷ []) in
-    let fresh : verdict_of (last_of (kept_for call bare)) first ≡ Fresh = ap (λ (o : Option Answered). verdict_of (last_of (option_map (λ (row : Answered). row.kept) o)) first) (no_row call) in
+    let was : NodeState = after_frames (codes "n1") empty_node (first_session_call 1 (NodeStageVolume 1 (block SingleNodeWriter)) ∷ first_session_call 2 (NodeUnstageVolume 1) ∷ []) in
+    let fresh : verdict_of (last_of (kept_for call bare)) first ≡ Fresh = ap (λ (o : Option AnsweredVolume). verdict_of (last_of (option_map (λ (row : AnsweredVolume). row.kept) o)) first) (no_row call) in
     subst (λ (f : Fenced NodeState). IsBare f.state) (sym (is_carried_out (node_at (codes "n1")) was first call (record { not_over = refl; fresh = fresh })))
     (carried_bare call (carried_out (codes "n1") bare first call (node_row bare call)) (was_carried (codes "n1") bare first call))
 

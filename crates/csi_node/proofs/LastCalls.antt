@@ -2,17 +2,17 @@
 use Rattle.std.proofs.Common.{◌≡◌, ◌⊎◌, ℕ, List, [], ◌∷◌, ◌++◌, map, Bool, true, false, cond, not, refl, sym, ◌∙◌, ap, subst, inl, inr}
 use Rattle.std.specs.Prelude.{Option, Some, None, option_map, find, filter, ◌==◌}
 use Rattle.std.proofs.lemmas.Bool.{eq-eqb, eqb-true}
-use Rattle.csi_lists.specs.Members.{IsAmong}
+use Rattle.csi_lists.specs.Model.Members.{IsAmong}
 use Rattle.csi_lists.proofs.Members.{among-either, among-map, none_passes}
 use Rattle.csi_lists.proofs.Searches.{find-filter, find-append_one, find-map, find-passes}
 use Rattle.csi_lists.proofs.Filters.{filter-append_one, filter-map}
-use Rattle.csi_fence.specs.Fence.{Kept}
+use Rattle.csi_fence.specs.Model.Fence.{Kept}
 use Rattle.csi_lists.proofs.Tests.{not-where}
-use Rattle.csi_node.specs.State.{NodeState, Answered, row_with_id}
-use Rattle.csi_node.specs.Table.{Change, Stays, Stages, Unstages, Publishes, Unpublishes, changed}
-use Rattle.csi_node.specs.Fenced.{kept_in, kept_rows, keep}
-use Rattle.csi_node.specs.Laws.{is_another, ids_in, HasAtMostOneMore}
-use Rattle.csi_node.specs.View.{kept_in_row}
+use Rattle.csi_node.specs.Model.State.{NodeState, AnsweredVolume, row_with_id}
+use Rattle.csi_node.specs.Model.Table.{Change, Stays, Stages, Unstages, Publishes, Unpublishes, changed}
+use Rattle.csi_node.specs.Model.Fenced.{kept_in, kept_rows, keep}
+use Rattle.csi_node.specs.Public.Laws.{is_another, ids_in, HasAtMostOneMore}
+use Rattle.csi_node.specs.Public.View.{kept_in_row}
 
 -- what is kept changes nothing of what is staged
 pub keep-staged : (volume : Option ℕ) (kept : Kept) (state : NodeState) → (keep volume kept state).staged ≡ state.staged
@@ -46,7 +46,7 @@ changed-rows state (Publishes published) = refl
 changed-rows state (Unpublishes id target) = refl
 
 -- what is kept in a row leaves its id
-pub kept_in-id : (id : ℕ) (kept : Kept) (row : Answered) → (kept_in id kept row).id ≡ row.id
+pub kept_in-id : (id : ℕ) (kept : Kept) (row : AnsweredVolume) → (kept_in id kept row).id ≡ row.id
 kept_in-id id kept row = by (row.id == id)
   where
     by : (b : Bool) → (cond b (record row { kept = kept }) row).id ≡ row.id
@@ -54,17 +54,17 @@ kept_in-id id kept row = by (row.id == id)
     by false = refl
 
 -- the rows are of the same volumes, but for a new one
-kept_ids : (id : ℕ) (kept : Kept) (rows : List Answered) → ids_in (map (kept_in id kept) rows) ≡ ids_in rows
+kept_ids : (id : ℕ) (kept : Kept) (rows : List AnsweredVolume) → ids_in (map (kept_in id kept) rows) ≡ ids_in rows
 kept_ids id kept [] = refl
 kept_ids id kept (row ∷ rows) = let first = kept_in-id id kept row in let rest = kept_ids id kept rows in λ i. first i ∷ rest i
 
 -- the ids of rows and one row more are theirs, and then that row's
-ids-append_one : (rows : List Answered) (row : Answered) → ids_in (rows ++ row ∷ []) ≡ ids_in rows ++ row.id ∷ []
+ids-append_one : (rows : List AnsweredVolume) (row : AnsweredVolume) → ids_in (rows ++ row ∷ []) ≡ ids_in rows ++ row.id ∷ []
 ids-append_one [] row = refl
 ids-append_one (first ∷ rows) row = ap (λ (ids : List ℕ). first.id ∷ ids) (ids-append_one rows row)
 
 -- what is kept in a row of a volume leaves the same volumes in the rows, or one more at the end
-rows_grown : (id : ℕ) (kept : Kept) (rows : List Answered) (o : Option Answered) → HasAtMostOneMore rows (kept_rows id kept rows o)
+rows_grown : (id : ℕ) (kept : Kept) (rows : List AnsweredVolume) (o : Option AnsweredVolume) → HasAtMostOneMore rows (kept_rows id kept rows o)
 rows_grown id kept rows None = inr (id, ids-append_one rows (record { id = id; kept = kept }))
 rows_grown id kept rows (Some row) = inl (kept_ids id kept rows)
 
@@ -79,17 +79,17 @@ not_true true h = cc
 not_true false h = refl
 
 -- a row of another id stays as it was
-kept_in-other : (id : ℕ) (kept : Kept) (row : Answered) → not (row.id == id) ≡ true → kept_in id kept row ≡ row
+kept_in-other : (id : ℕ) (kept : Kept) (row : AnsweredVolume) → not (row.id == id) ≡ true → kept_in id kept row ≡ row
 kept_in-other id kept row h = let other : (row.id == id) ≡ false = not_true (row.id == id) h in rw other refl
 
 -- what is kept for a volume leaves the rows of all others as they were
-other_rows : (id : ℕ) (kept : Kept) (rows : List Answered) (o : Option Answered)
-    → filter (λ (row : Answered). not (row.id == id)) (kept_rows id kept rows o) ≡ filter (λ (row : Answered). not (row.id == id)) rows
+other_rows : (id : ℕ) (kept : Kept) (rows : List AnsweredVolume) (o : Option AnsweredVolume)
+    → filter (λ (row : AnsweredVolume). not (row.id == id)) (kept_rows id kept rows o) ≡ filter (λ (row : AnsweredVolume). not (row.id == id)) rows
 other_rows id kept rows None =
     let self : (id == id) ≡ true = eq-eqb id id refl in
-    filter-append_one (λ (row : Answered). not (row.id == id)) rows (record { id = id; kept = kept }) (rw self refl)
+    filter-append_one (λ (row : AnsweredVolume). not (row.id == id)) rows (record { id = id; kept = kept }) (rw self refl)
 other_rows id kept rows (Some row) =
-    filter-map (λ (row : Answered). not (row.id == id)) (kept_in id kept) rows (λ row. ap (λ n. not (n == id)) (kept_in-id id kept row)) (kept_in-other id kept)
+    filter-map (λ (row : AnsweredVolume). not (row.id == id)) (kept_in id kept) rows (λ row. ap (λ n. not (n == id)) (kept_in-id id kept row)) (kept_in-other id kept)
 
 -- what is kept of a call leaves the rows of all volumes but the call's as they were
 pub keep-others : (volume : Option ℕ) (kept : Kept) (state : NodeState)
@@ -98,16 +98,16 @@ keep-others None kept state = refl
 keep-others (Some id) kept state = other_rows id kept state.rows (row_with_id id state)
 
 -- the row of the call's volume keeps the call
-row_kept : (id : ℕ) (kept : Kept) (rows : List Answered) (o : Option Answered) → find (λ (row : Answered). row.id == id) rows ≡ o
-    → option_map (λ (row : Answered). row.kept) (find (λ (row : Answered). row.id == id) (kept_rows id kept rows o)) ≡ Some kept
+row_kept : (id : ℕ) (kept : Kept) (rows : List AnsweredVolume) (o : Option AnsweredVolume) → find (λ (row : AnsweredVolume). row.id == id) rows ≡ o
+    → option_map (λ (row : AnsweredVolume). row.kept) (find (λ (row : AnsweredVolume). row.id == id) (kept_rows id kept rows o)) ≡ Some kept
 row_kept id kept rows None h =
     let self : (id == id) ≡ true = eq-eqb id id refl in
-    ap (option_map (λ (row : Answered). row.kept)) (find-append_one (λ (row : Answered). row.id == id) rows (record { id = id; kept = kept }) self h)
+    ap (option_map (λ (row : AnsweredVolume). row.kept)) (find-append_one (λ (row : AnsweredVolume). row.id == id) rows (record { id = id; kept = kept }) self h)
 row_kept id kept rows (Some row) h =
-    let moved = find-map (λ (row : Answered). row.id == id) (kept_in id kept) rows (λ row. ap (λ n. n == id) (kept_in-id id kept row)) in
-    let own : (row.id == id) ≡ true = find-passes (λ (row : Answered). row.id == id) rows row h in
+    let moved = find-map (λ (row : AnsweredVolume). row.id == id) (kept_in id kept) rows (λ row. ap (λ n. n == id) (kept_in-id id kept row)) in
+    let own : (row.id == id) ≡ true = find-passes (λ (row : AnsweredVolume). row.id == id) rows row h in
     let here : (kept_in id kept row).kept ≡ kept = rw own refl in
-    ap (option_map (λ (row : Answered). row.kept)) (moved ∙ ap (option_map (kept_in id kept)) h) ∙ ap Some here
+    ap (option_map (λ (row : AnsweredVolume). row.kept)) (moved ∙ ap (option_map (kept_in id kept)) h) ∙ ap Some here
 
 -- the row of a volume keeps what is kept for it
 pub keep-own : (id : ℕ) (kept : Kept) (state : NodeState) → kept_in_row id (keep (Some id) kept state) ≡ Some kept
@@ -124,10 +124,10 @@ other_id other id n differ same = not-where (n == id) (λ h. not_both (sym (eq-e
 -- another volume's row is found as it was
 keep-other : (id other : ℕ) (kept : Kept) (state : NodeState) → (other == id) ≡ false → kept_in_row other (keep (Some id) kept state) ≡ kept_in_row other state
 keep-other id other kept state differ =
-    let found : (rows : List Answered) → find (λ row. row.id == other) (filter (λ row. not (row.id == id)) rows) ≡ find (λ row. row.id == other) rows =
-    λ rows. find-filter (λ (row : Answered). row.id == other) (λ (row : Answered). not (row.id == id)) rows (λ row same. other_id other id row.id differ same) in
-    ap (option_map (λ (row : Answered). row.kept))
-    (sym (found (keep (Some id) kept state).rows) ∙ ap (find (λ (row : Answered). row.id == other)) (keep-others (Some id) kept state) ∙ found state.rows)
+    let found : (rows : List AnsweredVolume) → find (λ row. row.id == other) (filter (λ row. not (row.id == id)) rows) ≡ find (λ row. row.id == other) rows =
+    λ rows. find-filter (λ (row : AnsweredVolume). row.id == other) (λ (row : AnsweredVolume). not (row.id == id)) rows (λ row same. other_id other id row.id differ same) in
+    ap (option_map (λ (row : AnsweredVolume). row.kept))
+    (sym (found (keep (Some id) kept state).rows) ∙ ap (find (λ (row : AnsweredVolume). row.id == other)) (keep-others (Some id) kept state) ∙ found state.rows)
 
 -- a row keeps what it kept, or is the volume's, which keeps the call
 pub keep-either : (id other : ℕ) (kept : Kept) (state : NodeState) → (kept_in_row other (keep (Some id) kept state) ≡ kept_in_row other state) ⊎ (other ≡ id)
@@ -138,29 +138,29 @@ keep-either id other kept state = by (other == id) refl
     by false differ = inl (keep-other id other kept state differ)
 
 -- once a call is kept, each row is as it was, of another volume, or keeps the call
-pub keep-each : (volume : Option ℕ) (kept : Kept) (state : NodeState) (row : Answered) → IsAmong row (keep volume kept state).rows
+pub keep-each : (volume : Option ℕ) (kept : Kept) (state : NodeState) (row : AnsweredVolume) → IsAmong row (keep volume kept state).rows
     → (IsAmong row state.rows × (is_another volume row.id ≡ true)) ⊎ (row.kept ≡ kept)
 keep-each None kept state row among = inl (among, refl)
 keep-each (Some id) kept state row among = by (row_with_id id state) refl among
   where
-    own : Answered → Bool
+    own : AnsweredVolume → Bool
     own other = other.id == id
 
-    changed_row : (was : Answered) → IsAmong was state.rows → row ≡ kept_in id kept was → (b : Bool) → (was.id == id) ≡ b
+    changed_row : (was : AnsweredVolume) → IsAmong was state.rows → row ≡ kept_in id kept was → (b : Bool) → (was.id == id) ≡ b
         → (IsAmong row state.rows × (not (row.id == id) ≡ true)) ⊎ (row.kept ≡ kept)
     changed_row was there is true same =
         let now : (kept_in id kept was).kept ≡ kept = rw same refl in
-        inr (ap (λ (r : Answered). r.kept) is ∙ now)
+        inr (ap (λ (r : AnsweredVolume). r.kept) is ∙ now)
     changed_row was there is false differ =
         let other : kept_in id kept was ≡ was = rw differ refl in
         let stays : row ≡ was = is ∙ other in
-        inl (subst (λ (r : Answered). IsAmong r state.rows) (sym stays) there, ap (λ (r : Answered). not (r.id == id)) stays ∙ ap not differ)
+        inl (subst (λ (r : AnsweredVolume). IsAmong r state.rows) (sym stays) there, ap (λ (r : AnsweredVolume). not (r.id == id)) stays ∙ ap not differ)
 
     new_row : row_with_id id state ≡ None → IsAmong row state.rows ⊎ (row ≡ record { id = id; kept = kept }) → (IsAmong row state.rows × (not (row.id == id) ≡ true)) ⊎ (row.kept ≡ kept)
     new_row none (inl there) = inl (there, ap not (none_passes own state.rows row none there))
-    new_row none (inr is) = inr (ap (λ (r : Answered). r.kept) is)
+    new_row none (inr is) = inr (ap (λ (r : AnsweredVolume). r.kept) is)
 
-    by : (o : Option Answered) → row_with_id id state ≡ o → IsAmong row (kept_rows id kept state.rows o) → (IsAmong row state.rows × (not (row.id == id) ≡ true)) ⊎ (row.kept ≡ kept)
+    by : (o : Option AnsweredVolume) → row_with_id id state ≡ o → IsAmong row (kept_rows id kept state.rows o) → (IsAmong row state.rows × (not (row.id == id) ≡ true)) ⊎ (row.kept ≡ kept)
     by (Some there) is inside =
         let was = among-map (kept_in id kept) state.rows row inside in
         changed_row was.0 was.1 was.2 (was.0.id == id) refl

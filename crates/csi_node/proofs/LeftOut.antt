@@ -8,9 +8,10 @@ use Rattle.csi_types.specs.declared.capability.Capability.{Capability}
 use Rattle.csi_lists.proofs.Each.{each-map, each-weaker}
 use Rattle.csi_lists.proofs.Members.{all_of, among-filter, each_of, passes-filter}
 use Rattle.csi_node.specs.declared.row.NodeRow.{NodeRow}
-use Rattle.csi_node.specs.OneRow.{shown}
-use Rattle.csi_node.specs.Record.{parts, IsCurrent, IsCurrentRow, IsSound}
-use Rattle.csi_node.specs.WithoutSession.{latest_session, stays_in}
+use Rattle.csi_node.specs.Model.OneRow.{node_row_shown}
+use Rattle.csi_node.specs.Model.Record.{parts}
+use Rattle.csi_node.specs.Public.Record.{IsCurrent, IsCurrentRow, AreSoundRows}
+use Rattle.csi_node.specs.Public.WithoutSession.{latest_session, stays_in}
 use Rattle.csi_node.proofs.Forgotten.{is_kept, parts-forgotten, rules-filter}
 
 -- no row's last call is of a later session than the greatest
@@ -33,21 +34,21 @@ stays-unstaged session row stays none = eqb-true row.last.session session (by ro
 current-left : (rows : List NodeRow) → IsCurrent (latest_session rows) (parts (filter (stays_in (latest_session rows)) rows))
 current-left rows =
     All-from_recursion (IsCurrentRow (latest_session rows)) (parts (filter (stays_in (latest_session rows)) rows))
-    (each-map (λ (row : NodeRow). IsCurrentRow (latest_session rows) (shown row)) (IsCurrentRow (latest_session rows)) shown (filter (stays_in (latest_session rows)) rows) (λ row current. current)
-    (all_of (λ (row : NodeRow). IsCurrentRow (latest_session rows) (shown row)) (filter (stays_in (latest_session rows)) rows) (λ row among. record {
+    (each-map (λ (row : NodeRow). IsCurrentRow (latest_session rows) (node_row_shown row)) (IsCurrentRow (latest_session rows)) node_row_shown (filter (stays_in (latest_session rows)) rows) (λ row current. current)
+    (all_of (λ (row : NodeRow). IsCurrentRow (latest_session rows) (node_row_shown row)) (filter (stays_in (latest_session rows)) rows) (λ row among. record {
       before = each_of (λ (r : NodeRow). r.last.session ≤ latest_session rows) rows row (latest-most rows) (among-filter (stays_in (latest_session rows)) rows row among);
       empty = λ none. stays-unstaged (latest_session rows) row (passes-filter (stays_in (latest_session rows)) rows row among) none;
     })))
 
 -- and keep the rules of a record
-rules-left : (rows : List NodeRow) → IsSound (parts rows)
-    → IsSound (parts (filter (stays_in (latest_session rows)) rows)) × IsCurrent (latest_session rows) (parts (filter (stays_in (latest_session rows)) rows))
-rules-left rows rules = (subst IsSound (sym (parts-forgotten (latest_session rows) rows)) (rules-filter (is_kept (latest_session rows)) (parts rows) rules), current-left rows)
+rules-left : (rows : List NodeRow) → AreSoundRows (parts rows)
+    → AreSoundRows (parts (filter (stays_in (latest_session rows)) rows)) × IsCurrent (latest_session rows) (parts (filter (stays_in (latest_session rows)) rows))
+rules-left rows rules = (subst AreSoundRows (sym (parts-forgotten (latest_session rows) rows)) (rules-filter (is_kept (latest_session rows)) (parts rows) rules), current-left rows)
 
 -- so do those that were found so, in the session that was found
-pub rules-found : (rows left : List NodeRow) (session : ℕ) → session ≡ latest_session rows → left ≡ filter (stays_in session) rows → IsSound (parts rows)
-    → IsSound (parts left) × IsCurrent session (parts left)
+pub rules-found : (rows left : List NodeRow) (session : ℕ) → session ≡ latest_session rows → left ≡ filter (stays_in session) rows → AreSoundRows (parts rows)
+    → AreSoundRows (parts left) × IsCurrent session (parts left)
 rules-found rows left session latest stay rules =
     let own : left ≡ filter (stays_in (latest_session rows)) rows = stay ∙ ap (λ (s : ℕ). filter (stays_in s) rows) latest in
-    subst (λ (l : List NodeRow). IsSound (parts l) × IsCurrent session (parts l)) (sym own)
-    (subst (λ (s : ℕ). IsSound (parts (filter (stays_in (latest_session rows)) rows)) × IsCurrent s (parts (filter (stays_in (latest_session rows)) rows))) (sym latest) (rules-left rows rules))
+    subst (λ (l : List NodeRow). AreSoundRows (parts l) × IsCurrent session (parts l)) (sym own)
+    (subst (λ (s : ℕ). AreSoundRows (parts (filter (stays_in (latest_session rows)) rows)) × IsCurrent s (parts (filter (stays_in (latest_session rows)) rows))) (sym latest) (rules-left rows rules))

@@ -8,11 +8,11 @@ use Rattle.csi_types.specs.declared.call.Call.{Call}
 use Rattle.csi_types.specs.declared.call.Call.TheVariants as calls
 use Rattle.csi_types.specs.declared.status.Status.{Status}
 use Rattle.csi_types.specs.declared.status.Status.TheVariants.{Ok, InvalidArgument, AlreadyExists}
-use Rattle.csi_types.specs.Replies.{ok_reply}
-use Rattle.csi_types.specs.Same.{same_text, same_flag, same_capability}
-use Rattle.csi_node.specs.State.{NodeState, Answered, StagedVolume, PublishedVolume, staged_of, published_of, published_at, is_published_at, volume_of}
-use Rattle.csi_node.specs.Table.{Outcome, Change, Stays, Stages, Unstages, Publishes, Unpublishes, refused, met, done, begins_with_slash, stage, unstage, publish_at_target, publish, unpublish, lifecycle_row, changed}
-use Rattle.csi_node.specs.Laws.{is_another, IsDone}
+use Rattle.csi_types.specs.Model.Replies.{ok_reply}
+use Rattle.csi_types.specs.Model.Same.{same_text, same_flag, same_capability}
+use Rattle.csi_node.specs.Model.State.{NodeState, AnsweredVolume, StagedVolume, PublishedVolume, staged_of, published_of, published_at, is_published_at, volume_of}
+use Rattle.csi_node.specs.Model.Table.{Outcome, Change, Stays, Stages, Unstages, Publishes, Unpublishes, refused, met, done, begins_with_slash, stage, unstage, publish_at_target, publish, unpublish, lifecycle_row, changed}
+use Rattle.csi_node.specs.Public.Laws.{is_another, IsDone}
 use Rattle.csi_node.proofs.TableOutcomes.{IsOutcome, at_itself, refuses, was_staged, stages, unstages, was_published, publishes, was_unpublished, unpublishes, lifecycle_outcomes, stage_call, publish_call}
 use Rattle.csi_lists.proofs.Searches.{find-append_one, find-filter_not}
 use Rattle.csi_lists.proofs.Filters.{filter-append_one, filter-filter, filter-not_none}
@@ -152,7 +152,7 @@ ready_met state (calls.ControllerPublishVolume id node capability readonly) h = 
 ready_met state (calls.ControllerUnpublishVolume id node) h = absurd h
 
 -- the rows count for nothing there, and a call that is ready is about a volume
-pub ready_kept : (state : NodeState) (rows : List Answered) (call : Call) → IsReady state call → IsReady (record state { rows = rows }) call
+pub ready_kept : (state : NodeState) (rows : List AnsweredVolume) (call : Call) → IsReady state call → IsReady (record state { rows = rows }) call
 unfolding IsReady
 ready_kept state rows (calls.NodeStageVolume id capability) h = h
 ready_kept state rows (calls.NodeUnstageVolume id) h = h

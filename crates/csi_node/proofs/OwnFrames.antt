@@ -4,14 +4,15 @@ use Rattle.csi_types.specs.declared.call.Call.{Call}
 use Rattle.csi_types.specs.declared.call.Party.TheVariants.{Node}
 use Rattle.csi_types.specs.declared.number.Number.{Number}
 use Rattle.csi_types.specs.declared.frame.Body.TheVariants as bodies
-use Rattle.csi_types.specs.Frame.{Frame}
-use Rattle.csi_types.specs.Replies.{call_frame}
-use Rattle.csi_types.specs.Same.{same_text}
+use Rattle.csi_types.specs.Model.Frame.{Frame}
+use Rattle.csi_types.specs.Model.Replies.{call_frame}
+use Rattle.csi_types.specs.Model.Same.{same_text}
 use Rattle.csi_types.proofs.Equality.{same_text-tells}
-use Rattle.csi_node.specs.State.{NodeState}
-use Rattle.csi_fence.specs.Fenced.{fenced_parts}
-use Rattle.csi_node.specs.Fenced.{node_at, fenced, answered_in}
-use Rattle.csi_node.specs.Record.{is_call_for}
+use Rattle.csi_node.specs.Model.State.{NodeState}
+use Rattle.csi_fence.specs.Model.Fenced.{fenced_parts}
+use Rattle.csi_node.specs.Model.Fenced.{node_at, fenced}
+use Rattle.csi_node.specs.Private.Fenced.{answered_in}
+use Rattle.csi_node.specs.Public.Record.{is_call_for}
 
 -- what a node does with a frame that is a call is told by the frame's party and the call
 by_parts : (node : List ℕ) (state : NodeState) (frame : Frame) (id : List ℕ) (call : Call) → frame.party ≡ Node id → frame.body ≡ bodies.Call call

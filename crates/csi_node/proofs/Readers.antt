@@ -7,32 +7,34 @@ use Rattle.std.proofs.lemmas.List.{append-nil}
 use Rattle.std.proofs.lemmas.List.Elements.{filter-append}
 use Rattle.std.proofs.lemmas.List.Folds.{flat_map-map}
 use Rattle.csi_types.specs.declared.capability.Capability.{Capability}
-use Rattle.csi_lists.specs.Members.{EachTwo}
+use Rattle.csi_lists.specs.Model.Members.{EachTwo}
 use Rattle.csi_lists.proofs.Each.{each-append, each-weaker}
 use Rattle.csi_lists.proofs.Members.{each_of}
 use Rattle.csi_lists.proofs.Pairs.{two-joined}
 use Rattle.csi_lists.proofs.Filters.{filter-each, filter-no_one, each-passes}
 use Rattle.csi_node.specs.declared.row.NodeRow.{NodeRow}
 use Rattle.csi_node.specs.declared.row.NodeTarget.{NodeTarget}
-use Rattle.csi_node.specs.State.{NodeState, StagedVolume, PublishedVolume}
-use Rattle.csi_node.specs.Shown.{RowsShow}
-use Rattle.csi_node.specs.OneRow.{RowShown, shown, alone, staged_by, published_by, published_so}
-use Rattle.csi_node.specs.Record.{parts, id_at, IsSound}
-use Rattle.csi_node.specs.Views.{IsStagedBefore, IsPublishedBefore, ListsStaged, ListsPublished}
+use Rattle.csi_node.specs.Model.State.{NodeState, StagedVolume, PublishedVolume}
+use Rattle.csi_node.specs.Model.Shown.{RowsShow}
+use Rattle.csi_node.specs.Model.OneRow.{NodeRowShown, node_row_shown}
+use Rattle.csi_node.specs.Public.OneRow.{state_shown, staged_by, published_by, published_so}
+use Rattle.csi_node.specs.Model.Record.{parts}
+use Rattle.csi_node.specs.Public.Record.{row_id_at, AreSoundRows}
+use Rattle.csi_node.specs.Public.Views.{IsStagedBefore, IsPublishedBefore, ListsStaged, ListsPublished}
 use Rattle.csi_node.proofs.ShownAfter.{ShowsAll, row_of, alone_in, all-from_shows}
 use Rattle.csi_node.proofs.RecordRules.{IsRising}
 
 -- the first has the lower id
-abbrev pub IsRowBefore : RowShown → RowShown → Type 0
+abbrev pub IsRowBefore : NodeRowShown → NodeRowShown → Type 0
 IsRowBefore a b = a.id < b.id
 
 -- where an id is below the id at each place, it is below each row's
-above_first : (id : ℕ) (rows : List RowShown) → ((place : ℕ) → place < length rows → id < id_at rows place) → AllByRecursion (λ (row : RowShown). id < row.id) rows
+above_first : (id : ℕ) (rows : List NodeRowShown) → ((place : ℕ) → place < length rows → id < row_id_at rows place) → AllByRecursion (λ (row : NodeRowShown). id < row.id) rows
 above_first id [] above = tt
 above_first id (row ∷ rows) above = (above 0 (omega arith), above_first id rows (λ place within. above (suc place) (omega arith)))
 
 -- rows with rising ids have the lower id before the higher, any two of them
-pub rows_rise : (rows : List RowShown) → IsRising rows → EachTwo IsRowBefore rows
+pub rows_rise : (rows : List NodeRowShown) → IsRising rows → EachTwo IsRowBefore rows
 rows_rise [] rising = tt
 rows_rise (row ∷ rows) rising = (
   above_first row.id rows (λ place within. rising 0 (suc place) (omega arith) (omega arith)),
@@ -63,14 +65,14 @@ filter_higher volume id own xs same all =
     filter-no_one (λ x. volume x == id) xs (each-weaker (λ x. own < volume x) (λ x. (volume x == id) ≡ false) xs (λ x lt. higher own (volume x) id same lt) all)
 
 -- what rows have of their volumes, one row after another
-module _ {X : Type 0} (volume : X → ℕ) (part : RowShown → List X) (own : (row : RowShown) → AreOf volume row.id (part row)) where
+module _ {X : Type 0} (volume : X → ℕ) (part : NodeRowShown → List X) (own : (row : NodeRowShown) → AreOf volume row.id (part row)) where
   -- what the row of a volume has, if it has one
-  abbrev part_in : Option RowShown → List X
+  abbrev part_in : Option NodeRowShown → List X
   part_in None = []
   part_in (Some row) = part row
 
   -- what rows above an id have is of volumes above it
-  above_all : (id : ℕ) (rows : List RowShown) → AllByRecursion (λ (row : RowShown). id < row.id) rows → AllByRecursion (λ x. id < volume x) (flat_map part rows)
+  above_all : (id : ℕ) (rows : List NodeRowShown) → AllByRecursion (λ (row : NodeRowShown). id < row.id) rows → AllByRecursion (λ x. id < volume x) (flat_map part rows)
   above_all id [] above = tt
   above_all id (row ∷ rows) above =
       each-append (λ x. id < volume x) (part row) (flat_map part rows)
@@ -78,7 +80,7 @@ module _ {X : Type 0} (volume : X → ℕ) (part : RowShown → List X) (own : (
       (above_all id rows above.1)
 
   -- what the rows have of a volume is what its own row has, whether that is the first one or not
-  of_volume : (id : ℕ) (row : RowShown) (rest : List X) (found : Option RowShown) (b : Bool) → (row.id == id) ≡ b → AllByRecursion (λ x. row.id < volume x) rest → filter (λ x. volume x == id) rest ≡ part_in found
+  of_volume : (id : ℕ) (row : NodeRowShown) (rest : List X) (found : Option NodeRowShown) (b : Bool) → (row.id == id) ≡ b → AllByRecursion (λ x. row.id < volume x) rest → filter (λ x. volume x == id) rest ≡ part_in found
       → filter (λ x. volume x == id) (part row) ++ filter (λ x. volume x == id) rest ≡ part_in (cond b (Some row) found)
   of_volume id row rest found true same above here =
       ap (λ (first : List X). first ++ filter (λ x. volume x == id) rest) (filter_own volume id row.id (part row) same (own row))
@@ -88,14 +90,14 @@ module _ {X : Type 0} (volume : X → ℕ) (part : RowShown → List X) (own : (
       ap (λ (first : List X). first ++ filter (λ x. volume x == id) rest) (filter_other volume id row.id (part row) other (own row)) ∙ here
 
   -- of one volume there is what its row has
-  pub of_one : (id : ℕ) (rows : List RowShown) → EachTwo IsRowBefore rows → filter (λ x. volume x == id) (flat_map part rows) ≡ part_in (row_of id rows)
+  pub of_one : (id : ℕ) (rows : List NodeRowShown) → EachTwo IsRowBefore rows → filter (λ x. volume x == id) (flat_map part rows) ≡ part_in (row_of id rows)
   of_one id [] rise = refl
   of_one id (row ∷ rows) rise =
       filter-append (λ x. volume x == id) (part row) (flat_map part rows)
       ∙ of_volume id row (flat_map part rows) (row_of id rows) (row.id == id) refl (above_all row.id rows rise.0) (of_one id rows rise.1)
 
   -- any two of all
-  any_two : (R : X → X → Type 0) → ((x y : X) → volume x < volume y → R x y) → ((row : RowShown) → EachTwo R (part row)) → (rows : List RowShown) → EachTwo IsRowBefore rows → EachTwo R (flat_map part rows)
+  any_two : (R : X → X → Type 0) → ((x y : X) → volume x < volume y → R x y) → ((row : NodeRowShown) → EachTwo R (part row)) → (rows : List NodeRowShown) → EachTwo IsRowBefore rows → EachTwo R (flat_map part rows)
   any_two R lower within [] rise = tt
   any_two R lower within (row ∷ rows) rise =
       two-joined R (part row) (flat_map part rows) (within row) (any_two R lower within rows rise.1) (λ x y here there.
@@ -153,50 +155,50 @@ staged_same id (x ∷ xs) (y ∷ ys) own other same = joined (first same) (own.0
     joined capability volume rest = λ i. (record { volume = volume i; capability = capability i }) ∷ rest i
 
 -- what is listed as staged for a volume is what its row alone has staged
-pub staged_part : (o : Option RowShown) → part_in (λ (s : StagedVolume). s.volume) (λ row. (alone row).staged) (λ row. staged_own row.id row.staged) o ≡ (alone_in o).staged
+pub staged_part : (o : Option NodeRowShown) → part_in (λ (s : StagedVolume). s.volume) (λ row. (state_shown row).staged) (λ row. staged_own row.id row.staged) o ≡ (alone_in o).staged
 staged_part None = refl
 staged_part (Some row) = refl
 
 -- what is listed as published for a volume is what its row alone has published
-pub published_part : (o : Option RowShown) → part_in (λ (p : PublishedVolume). p.volume) (λ row. (alone row).published) (λ row. published_own row.id row.staged row.targets) o ≡ (alone_in o).published
+pub published_part : (o : Option NodeRowShown) → part_in (λ (p : PublishedVolume). p.volume) (λ row. (state_shown row).published) (λ row. published_own row.id row.staged row.targets) o ≡ (alone_in o).published
 published_part None = refl
 published_part (Some row) = refl
 
-module _ (rows : List RowShown) (state : NodeState) (rise : EachTwo IsRowBefore rows) (all : ShowsAll rows state) where
+module _ (rows : List NodeRowShown) (state : NodeState) (rise : EachTwo IsRowBefore rows) (all : ShowsAll rows state) where
   -- the rows and the state have the same stagings of a volume
-  staged_of_one : (id : ℕ) → filter (λ (s : StagedVolume). s.volume == id) (flat_map (λ (row : RowShown). (alone row).staged) rows) ≡ filter (λ (s : StagedVolume). s.volume == id) state.staged
+  staged_of_one : (id : ℕ) → filter (λ (s : StagedVolume). s.volume == id) (flat_map (λ (row : NodeRowShown). (state_shown row).staged) rows) ≡ filter (λ (s : StagedVolume). s.volume == id) state.staged
   staged_of_one id =
       staged_same id _ _
-      (each-weaker (λ (s : StagedVolume). (s.volume == id) ≡ true) (λ (s : StagedVolume). s.volume ≡ id) _ (λ s e. eqb-true s.volume id e) (each-passes (λ (s : StagedVolume). s.volume == id) (flat_map (λ (row : RowShown). (alone row).staged) rows)))
+      (each-weaker (λ (s : StagedVolume). (s.volume == id) ≡ true) (λ (s : StagedVolume). s.volume ≡ id) _ (λ s e. eqb-true s.volume id e) (each-passes (λ (s : StagedVolume). s.volume == id) (flat_map (λ (row : NodeRowShown). (state_shown row).staged) rows)))
       (each-weaker (λ (s : StagedVolume). (s.volume == id) ≡ true) (λ (s : StagedVolume). s.volume ≡ id) _ (λ s e. eqb-true s.volume id e) (each-passes (λ (s : StagedVolume). s.volume == id) state.staged))
-      (ap (map (λ (s : StagedVolume). s.capability)) (of_one (λ (s : StagedVolume). s.volume) (λ row. (alone row).staged) (λ row. staged_own row.id row.staged) id rows rise ∙ staged_part (row_of id rows)) ∙ all.staged id)
+      (ap (map (λ (s : StagedVolume). s.capability)) (of_one (λ (s : StagedVolume). s.volume) (λ row. (state_shown row).staged) (λ row. staged_own row.id row.staged) id rows rise ∙ staged_part (row_of id rows)) ∙ all.staged id)
 
   -- what the rows have staged is what the state lists
-  staged_listed : ListsStaged (flat_map (λ (row : RowShown). (alone row).staged) rows) state
+  staged_listed : ListsStaged (flat_map (λ (row : NodeRowShown). (state_shown row).staged) rows) state
   staged_listed = record {
     items = staged_of_one;
-    rising = any_two (λ (s : StagedVolume). s.volume) (λ row. (alone row).staged) (λ row. staged_own row.id row.staged) IsStagedBefore (λ x y lt. lt) (λ row. staged_once row.id row.staged) rows rise;
+    rising = any_two (λ (s : StagedVolume). s.volume) (λ row. (state_shown row).staged) (λ row. staged_own row.id row.staged) IsStagedBefore (λ x y lt. lt) (λ row. staged_once row.id row.staged) rows rise;
   }
 
   -- what the rows have published is what the state lists
-  published_listed : ListsPublished (flat_map (λ (row : RowShown). (alone row).published) rows) state
+  published_listed : ListsPublished (flat_map (λ (row : NodeRowShown). (state_shown row).published) rows) state
   published_listed = record {
     items = λ id.
-        of_one (λ (p : PublishedVolume). p.volume) (λ row. (alone row).published) (λ row. published_own row.id row.staged row.targets) id rows rise
+        of_one (λ (p : PublishedVolume). p.volume) (λ row. (state_shown row).published) (λ row. published_own row.id row.staged row.targets) id rows rise
         ∙ published_part (row_of id rows)
         ∙ all.published id;
-    rising = any_two (λ (p : PublishedVolume). p.volume) (λ row. (alone row).published) (λ row. published_own row.id row.staged row.targets) IsPublishedBefore (λ x y lt. omega arith)
-        (λ row. none_before row.id (alone row).published (published_own row.id row.staged row.targets)) rows rise;
+    rising = any_two (λ (p : PublishedVolume). p.volume) (λ row. (state_shown row).published) (λ row. published_own row.id row.staged row.targets) IsPublishedBefore (λ x y lt. omega arith)
+        (λ row. none_before row.id (state_shown row).published (published_own row.id row.staged row.targets)) rows rise;
   }
 
 -- what a record's rows have staged, one after another, lists what the state has staged
-pub lists-staged : (rows : List NodeRow) (state : NodeState) (list : List StagedVolume) → IsSound (parts rows) → RowsShow rows state → list ≡ flat_map (λ (row : NodeRow). (alone (shown row)).staged) rows → ListsStaged list state
+pub lists-staged : (rows : List NodeRow) (state : NodeState) (list : List StagedVolume) → AreSoundRows (parts rows) → RowsShow rows state → list ≡ flat_map (λ (row : NodeRow). (state_shown (node_row_shown row)).staged) rows → ListsStaged list state
 lists-staged rows state list rules shows is =
-    subst (λ (l : List StagedVolume). ListsStaged l state) (flat_map-map (λ (row : RowShown). (alone row).staged) shown rows ∙ sym is)
+    subst (λ (l : List StagedVolume). ListsStaged l state) (flat_map-map (λ (row : NodeRowShown). (state_shown row).staged) node_row_shown rows ∙ sym is)
     (staged_listed (parts rows) state (rows_rise (parts rows) rules.rising) (all-from_shows rows state shows))
 
 -- what a record's rows have published, one after another, lists what the state has published
-pub lists-published : (rows : List NodeRow) (state : NodeState) (list : List PublishedVolume) → IsSound (parts rows) → RowsShow rows state → list ≡ flat_map (λ (row : NodeRow). (alone (shown row)).published) rows → ListsPublished list state
+pub lists-published : (rows : List NodeRow) (state : NodeState) (list : List PublishedVolume) → AreSoundRows (parts rows) → RowsShow rows state → list ≡ flat_map (λ (row : NodeRow). (state_shown (node_row_shown row)).published) rows → ListsPublished list state
 lists-published rows state list rules shows is =
-    subst (λ (l : List PublishedVolume). ListsPublished l state) (flat_map-map (λ (row : RowShown). (alone row).published) shown rows ∙ sym is)
+    subst (λ (l : List PublishedVolume). ListsPublished l state) (flat_map-map (λ (row : NodeRowShown). (state_shown row).published) node_row_shown rows ∙ sym is)
     (published_listed (parts rows) state (rows_rise (parts rows) rules.rising) (all-from_shows rows state shows))

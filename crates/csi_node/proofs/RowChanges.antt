@@ -9,10 +9,11 @@ use Rattle.csi_types.specs.declared.call.Call.{Call}
 use Rattle.csi_types.specs.declared.call.Call.TheVariants as calls
 use Rattle.csi_types.specs.declared.number.Number.{Number}
 use Rattle.csi_types.specs.declared.reply.Reply.{Reply}
-use Rattle.csi_fence.specs.Fence.{Kept}
-use Rattle.csi_types.specs.Call.{kind_of, is_node_kind}
-use Rattle.csi_types.specs.Same.{same_text}
-use Rattle.csi_types.specs.Sharing.{allows_one_target}
+use Rattle.csi_fence.specs.Model.Fence.{Kept}
+use Rattle.csi_types.specs.Model.Call.{kind_of}
+use Rattle.csi_types.specs.Public.Call.{is_node_kind}
+use Rattle.csi_types.specs.Model.Same.{same_text}
+use Rattle.csi_types.specs.Model.Sharing.{allows_one_target}
 use Rattle.csi_lists.proofs.Searches.{find-append}
 use Rattle.csi_types.proofs.Equality.{same_text-tells}
 use Rattle.std.specs.Option.{option_or}
@@ -24,10 +25,12 @@ use Rattle.csi_lists.proofs.Searches.{find-none_in_filter}
 use Rattle.csi_node.specs.declared.row.NodeTarget.{NodeTarget}
 use Rattle.csi_node.specs.declared.line.Line.{Line}
 use Rattle.csi_node.specs.declared.line.Line.TheVariants.{Refused, Met, Done}
-use Rattle.csi_node.specs.State.{NodeState, StagedVolume, PublishedVolume, is_published_at, volume_of}
-use Rattle.csi_node.specs.Table.{Change, Outcome, lifecycle_row, changed, begins_with_slash}
-use Rattle.csi_node.specs.Line.{outcome_shown, reply_shown, WhereDone, is_done}
-use Rattle.csi_node.specs.OneRow.{RowShown, alone, staged_by, published_so, published_by, target_among, row_changed, change_of, CanChange, AreDistinct, AreAbsolute, TargetsFit, IsSoundRow, IsAfter}
+use Rattle.csi_node.specs.Model.State.{NodeState, StagedVolume, PublishedVolume, is_published_at, volume_of}
+use Rattle.csi_node.specs.Model.Table.{Change, Outcome, lifecycle_row, changed, begins_with_slash}
+use Rattle.csi_node.specs.Private.Line.{outcome_shown, reply_shown, WhereDone, is_done}
+use Rattle.csi_node.specs.Model.OneRow.{NodeRowShown}
+use Rattle.csi_node.specs.Public.OneRow.{state_shown, staged_by, published_so, published_by, target_among, AreDistinctTargets, AreAbsolute, TargetsFit, IsSoundRow}
+use Rattle.csi_node.specs.Private.OneRow.{row_changed, call_change, CanChange, IsRowAfter}
 use Rattle.csi_node.proofs.OneRow.{itself, itself_and}
 
 -- texts differ both ways
@@ -62,8 +65,8 @@ unpublished_by id (Some capability) targets target =
     (λ there. ap not (itself_and id (same_text there.target target))) targets)
 
 -- the state of the row alone after a change
-pub alone-changed : (row : RowShown) (call : Call) → volume_of call ≡ Some row.id → TargetsFit row.staged row.targets → CanChange row call
-    → alone (row_changed row call) ≡ changed (alone row) (change_of call)
+pub alone-changed : (row : NodeRowShown) (call : Call) → volume_of call ≡ Some row.id → TargetsFit row.staged row.targets → CanChange row call
+    → state_shown (row_changed row call) ≡ changed (state_shown row) (call_change call)
 alone-changed row (calls.NodeStageVolume id capability) volume fits can =
     let same : id ≡ row.id = same_Some id row.id volume in
     let none : row.targets ≡ [] = fits.unstaged can in
@@ -85,7 +88,7 @@ alone-changed row (calls.ControllerPublishVolume id node capability readonly) vo
 alone-changed row (calls.ControllerUnpublishVolume id node) volume fits can = absurd can
 
 -- rules of targets
-append_distinct : (targets : List NodeTarget) (one : NodeTarget) → AreDistinct targets → target_among targets one.target ≡ None → AreDistinct (targets ++ one ∷ [])
+append_distinct : (targets : List NodeTarget) (one : NodeTarget) → AreDistinctTargets targets → target_among targets one.target ≡ None → AreDistinctTargets (targets ++ one ∷ [])
 append_distinct [] one distinct none = (refl, tt)
 append_distinct (first ∷ rest) one distinct none = (step (same_text first.target one.target) refl none, append_distinct rest one distinct.1 (later (same_text first.target one.target) none))
   where
@@ -108,11 +111,11 @@ append_absolute [] one all h = (h, tt)
 append_absolute (first ∷ rest) one all h = (all.0, append_absolute rest one all.1 h)
 
 -- targets that are each there once still are after some are left out
-filter_distinct : (p : NodeTarget → Bool) (targets : List NodeTarget) → AreDistinct targets → AreDistinct (filter p targets)
+filter_distinct : (p : NodeTarget → Bool) (targets : List NodeTarget) → AreDistinctTargets targets → AreDistinctTargets (filter p targets)
 filter_distinct p [] distinct = tt
 filter_distinct p (first ∷ rest) distinct = step (p first) (filter_distinct p rest distinct.1)
   where
-    step : (b : Bool) → AreDistinct (filter p rest) → AreDistinct (cond b (first ∷ filter p rest) (filter p rest))
+    step : (b : Bool) → AreDistinctTargets (filter p rest) → AreDistinctTargets (cond b (first ∷ filter p rest) (filter p rest))
     step true h = (find-none_in_filter (λ there. same_text there.target first.target) p rest distinct.0, h)
     step false h = h
 
@@ -143,7 +146,7 @@ some_is_not_none : {X : Type 0} (x : X) (o : Option X) → o ≡ Some x → o �
 some_is_not_none x o a b = cc
 
 -- the rules after a change
-pub fits-changed : (row : RowShown) (call : Call) → TargetsFit row.staged row.targets → CanChange row call → TargetsFit (row_changed row call).staged (row_changed row call).targets
+pub fits-changed : (row : NodeRowShown) (call : Call) → TargetsFit row.staged row.targets → CanChange row call → TargetsFit (row_changed row call).staged (row_changed row call).targets
 fits-changed row (calls.NodeStageVolume id capability) fits can = let none : row.targets ≡ [] = fits.unstaged can in rw none (no_targets (Some capability))
 fits-changed row (calls.NodeUnstageVolume id) fits can = rw can (no_targets None)
 fits-changed row (calls.NodePublishVolume id target capability readonly) fits can = record {
@@ -169,25 +172,25 @@ fits-changed row (calls.ControllerPublishVolume id node capability readonly) fit
 fits-changed row (calls.ControllerUnpublishVolume id node) fits can = absurd can
 
 -- by the line that answers
-abbrev where_done : Line → RowShown → Call → RowShown
+abbrev where_done : Line → NodeRowShown → Call → NodeRowShown
 where_done line row call = cond (is_done line) (row_changed row call) row
 
 -- the state of the row alone after an answer is the one after the table's change
-alone-by : (row : RowShown) (call : Call) (line : Line) → volume_of call ≡ Some row.id → TargetsFit row.staged row.targets → WhereDone line (CanChange row call)
-    → alone (where_done line row call) ≡ changed (alone row) (outcome_shown (change_of call) line).change
+alone-by : (row : NodeRowShown) (call : Call) (line : Line) → volume_of call ≡ Some row.id → TargetsFit row.staged row.targets → WhereDone line (CanChange row call)
+    → state_shown (where_done line row call) ≡ changed (state_shown row) (outcome_shown (call_change call) line).change
 alone-by row call (Refused status detail) volume fits can = refl
 alone-by row call Met volume fits can = refl
 alone-by row call Done volume fits can = alone-changed row call volume fits can
 
 -- the targets of the row after an answer fit how it is staged
-fits-by : (row : RowShown) (call : Call) (line : Line) → TargetsFit row.staged row.targets → WhereDone line (CanChange row call)
+fits-by : (row : NodeRowShown) (call : Call) (line : Line) → TargetsFit row.staged row.targets → WhereDone line (CanChange row call)
     → TargetsFit (where_done line row call).staged (where_done line row call).targets
 fits-by row call (Refused status detail) fits can = fits
 fits-by row call Met fits can = fits
 fits-by row call Done fits can = fits-changed row call fits can
 
 -- a row that a call changes keeps its id
-id-by : (row : RowShown) (call : Call) → (row_changed row call).id ≡ row.id
+id-by : (row : NodeRowShown) (call : Call) → (row_changed row call).id ≡ row.id
 id-by row (calls.NodeStageVolume id capability) = refl
 id-by row (calls.NodeUnstageVolume id) = refl
 id-by row (calls.NodePublishVolume id target capability readonly) = refl
@@ -198,7 +201,7 @@ id-by row (calls.ControllerPublishVolume id node capability readonly) = refl
 id-by row (calls.ControllerUnpublishVolume id node) = refl
 
 -- a row keeps its id, whether or not the call is carried out
-id-where : (row : RowShown) (call : Call) (b : Bool) → (cond b (row_changed row call) row).id ≡ row.id
+id-where : (row : NodeRowShown) (call : Call) (b : Bool) → (cond b (row_changed row call) row).id ≡ row.id
 id-where row call true = id-by row call
 id-where row call false = refl
 
@@ -215,22 +218,22 @@ no_id-by Met = refl
 no_id-by Done = refl
 
 -- the row after a call is carried out
-pub after-line : (old mid : RowShown) (number : Number) (call : Call) (line : Line) → volume_of call ≡ Some old.id → IsSoundRow old
-    → lifecycle_row (alone old) call ≡ outcome_shown (change_of call) line → WhereDone line (CanChange old call) → mid ≡ where_done line old call
-    → IsAfter number call old (record mid { kept = record { number = number; kind = kind_of call; reply = reply_shown line } })
+pub after-line : (old mid : NodeRowShown) (number : Number) (call : Call) (line : Line) → volume_of call ≡ Some old.id → IsSoundRow old
+    → lifecycle_row (state_shown old) call ≡ outcome_shown (call_change call) line → WhereDone line (CanChange old call) → mid ≡ where_done line old call
+    → IsRowAfter number call old (record mid { kept = record { number = number; kind = kind_of call; reply = reply_shown line } })
 after-line old mid number call line volume rules is can made =
-    let reply : reply_shown line ≡ (lifecycle_row (alone old) call).reply = sym (ap (λ (o : Outcome). o.reply) is ∙ reply-by (change_of call) line) in
+    let reply : reply_shown line ≡ (lifecycle_row (state_shown old) call).reply = sym (ap (λ (o : Outcome). o.reply) is ∙ reply-by (call_change call) line) in
     record {
-      id = ap (λ (r : RowShown). r.id) made ∙ id-where old call (is_done line);
+      id = ap (λ (r : NodeRowShown). r.id) made ∙ id-where old call (is_done line);
       kept = ap (λ (r : Reply). let k : Kept = record { number = number; kind = kind_of call; reply = r } in k) reply;
-      state = ap alone made ∙ alone-by old call line volume rules.targets can ∙ ap (λ (o : Outcome). changed (alone old) o.change) (sym is);
+      state = ap state_shown made ∙ alone-by old call line volume rules.targets can ∙ ap (λ (o : Outcome). changed (state_shown old) o.change) (sym is);
     }
 
 -- and its rules
-pub row-line : (old mid : RowShown) (number : Number) (call : Call) (line : Line) → is_node_kind (kind_of call) ≡ true → IsSoundRow old → WhereDone line (CanChange old call) → mid ≡ where_done line old call
+pub row-line : (old mid : NodeRowShown) (number : Number) (call : Call) (line : Line) → is_node_kind (kind_of call) ≡ true → IsSoundRow old → WhereDone line (CanChange old call) → mid ≡ where_done line old call
     → IsSoundRow (record mid { kept = record { number = number; kind = kind_of call; reply = reply_shown line } })
 row-line old mid number call line kind rules can made = record {
   kind = kind;
   no_id = no_id-by line;
-  targets = subst (λ (r : RowShown). TargetsFit r.staged r.targets) (sym made) (fits-by old call line rules.targets can);
+  targets = subst (λ (r : NodeRowShown). TargetsFit r.staged r.targets) (sym made) (fits-by old call line rules.targets can);
 }

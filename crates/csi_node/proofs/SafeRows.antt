@@ -4,19 +4,21 @@ use Rattle.std.specs.Prelude.{Option, Some, None, filter, ◌==◌, All}
 use Rattle.std.proofs.lemmas.Bool.{eq-eqb, eqb-true}
 use Rattle.std.proofs.lemmas.List.{length-map}
 use Rattle.csi_types.specs.declared.capability.Capability.{Capability}
-use Rattle.csi_lists.specs.Members.{IsAmong, EachTwo}
-use Rattle.csi_types.specs.Sharing.{allows_one_target}
+use Rattle.csi_lists.specs.Model.Members.{IsAmong, EachTwo}
+use Rattle.csi_types.specs.Model.Sharing.{allows_one_target}
 use Rattle.csi_lists.proofs.Members.{all_of, among-find, in_filter}
 use Rattle.csi_lists.proofs.Searches.{find-passes}
 use Rattle.csi_lists.proofs.Members.{one-of_all}
 use Rattle.csi_lists.proofs.Counts.{two-pass, no_fewer}
 use Rattle.csi_node.specs.declared.row.NodeRow.{NodeRow}
 use Rattle.csi_node.specs.declared.row.NodeTarget.{NodeTarget}
-use Rattle.csi_node.specs.State.{NodeState, PublishedVolume, staged_of, published_of}
-use Rattle.csi_node.specs.Shown.{RowsShow}
-use Rattle.csi_node.specs.OneRow.{RowShown, alone, published_so, published_by, IsSoundRow}
-use Rattle.csi_node.specs.Record.{parts, IsSound}
-use Rattle.csi_node.specs.Safe.{AllowTwo, IsPublishedRight}
+use Rattle.csi_node.specs.Model.State.{NodeState, PublishedVolume, staged_of, published_of}
+use Rattle.csi_node.specs.Model.Shown.{RowsShow}
+use Rattle.csi_node.specs.Model.OneRow.{NodeRowShown}
+use Rattle.csi_node.specs.Public.OneRow.{state_shown, published_so, published_by, IsSoundRow}
+use Rattle.csi_node.specs.Model.Record.{parts}
+use Rattle.csi_node.specs.Public.Record.{AreSoundRows}
+use Rattle.csi_node.specs.Public.Safe.{AllowTwo, IsPublishedRight}
 use Rattle.csi_node.proofs.OneRow.{staged_of-alone}
 use Rattle.csi_node.proofs.StateChanges.{part-staged}
 use Rattle.csi_node.proofs.ShownAfter.{ShowsAll, row_of, alone_in, part_of, all-from_shows}
@@ -64,44 +66,44 @@ no_more : (id : ℕ) (o : Option Capability) (targets : List NodeTarget) → len
 no_more id None targets = omega arith
 no_more id (Some capability) targets = let same = length-map targets (published_so id capability) in omega arith
 
-module _ (rows : List RowShown) (state : NodeState) (each : All IsSoundRow rows) (all : ShowsAll rows state) where
+module _ (rows : List NodeRowShown) (state : NodeState) (each : All IsSoundRow rows) (all : ShowsAll rows state) where
   -- the row of an id keeps the rules, and stands for it
-  row_rules : (id : ℕ) (row : RowShown) → row_of id rows ≡ Some row → IsSoundRow row
-  row_rules id row found = one-of_all IsSoundRow rows row each (among-find (λ (r : RowShown). r.id == id) rows row found)
+  row_rules : (id : ℕ) (row : NodeRowShown) → row_of id rows ≡ Some row → IsSoundRow row
+  row_rules id row found = one-of_all IsSoundRow rows row each (among-find (λ (r : NodeRowShown). r.id == id) rows row found)
 
   -- the row that is found for an id has it
-  own : (id : ℕ) (row : RowShown) → row_of id rows ≡ Some row → row.id ≡ id
-  own id row found = eqb-true row.id id (find-passes (λ (r : RowShown). r.id == id) rows row found)
+  own : (id : ℕ) (row : NodeRowShown) → row_of id rows ≡ Some row → row.id ≡ id
+  own id row found = eqb-true row.id id (find-passes (λ (r : NodeRowShown). r.id == id) rows row found)
 
   -- the state has a volume staged as its row has it
-  row_staged : (id : ℕ) (row : RowShown) → row_of id rows ≡ Some row → staged_of id state ≡ row.staged
+  row_staged : (id : ℕ) (row : NodeRowShown) → row_of id rows ≡ Some row → staged_of id state ≡ row.staged
   row_staged id row found =
       sym (part-staged id (alone_in (row_of id rows)) state (part_of id rows state all))
-      ∙ ap (λ (o : Option RowShown). staged_of id (alone_in o)) found
-      ∙ ap (λ (n : ℕ). staged_of n (alone row)) (sym (own id row found))
+      ∙ ap (λ (o : Option NodeRowShown). staged_of id (alone_in o)) found
+      ∙ ap (λ (n : ℕ). staged_of n (state_shown row)) (sym (own id row found))
       ∙ staged_of-alone row
 
   -- what is published of a volume is what its row has
-  row_published : (id : ℕ) (o : Option RowShown) → row_of id rows ≡ o → (alone_in o).published ≡ published_of id state
-  row_published id o found = ap (λ (x : Option RowShown). (alone_in x).published) (sym found) ∙ all.published id
+  row_published : (id : ℕ) (o : Option NodeRowShown) → row_of id rows ≡ o → (alone_in o).published ≡ published_of id state
+  row_published id o found = ap (λ (x : Option NodeRowShown). (alone_in x).published) (sym found) ∙ all.published id
 
   -- what the state has published is among what the volume's row has
-  among_own : (p : PublishedVolume) (o : Option RowShown) → row_of p.volume rows ≡ o → IsAmong p state.published → IsAmong p (alone_in o).published
+  among_own : (p : PublishedVolume) (o : Option NodeRowShown) → row_of p.volume rows ≡ o → IsAmong p state.published → IsAmong p (alone_in o).published
   among_own p o found among =
       subst (IsAmong p) (sym (row_published p.volume o found)) (in_filter (λ (q : PublishedVolume). q.volume == p.volume) state.published p among (eq-eqb p.volume p.volume refl))
 
   -- what a row has published is staged so
-  staged_by_row : (p : PublishedVolume) (o : Option RowShown) → row_of p.volume rows ≡ o → IsAmong p (alone_in o).published → staged_of p.volume state ≡ Some p.capability
+  staged_by_row : (p : PublishedVolume) (o : Option NodeRowShown) → row_of p.volume rows ≡ o → IsAmong p (alone_in o).published → staged_of p.volume state ≡ Some p.capability
   staged_by_row p None found among = absurd among
   staged_by_row p (Some row) found among = row_staged p.volume row found ∙ so_staged row.id row.staged row.targets p among
 
   -- the volume of a publication whose mode allows one target is at one at most
-  single_by_row : (p : PublishedVolume) (o : Option RowShown) → row_of p.volume rows ≡ o → IsAmong p (alone_in o).published → allows_one_target p.capability.mode ≡ true → count_of p.volume state.published ≤ 1
+  single_by_row : (p : PublishedVolume) (o : Option NodeRowShown) → row_of p.volume rows ≡ o → IsAmong p (alone_in o).published → allows_one_target p.capability.mode ≡ true → count_of p.volume state.published ≤ 1
   single_by_row p None found among one = absurd among
   single_by_row p (Some row) found among one =
       let few : length row.targets ≤ 1 = (row_rules p.volume row found).targets.single p.capability (so_staged row.id row.staged row.targets p among) one in
       let more = no_more row.id row.staged row.targets in
-      let same : length (alone row).published ≡ count_of p.volume state.published = ap length (row_published p.volume (Some row) found) in
+      let same : length (state_shown row).published ≡ count_of p.volume state.published = ap length (row_published p.volume (Some row) found) in
       omega arith
 
   -- each publication of the state is right
@@ -112,5 +114,5 @@ module _ (rows : List RowShown) (state : NodeState) (each : All IsSoundRow rows)
   }
 
 -- in a state that a record's rows show, what is published is right
-pub right-from : (rows : List NodeRow) (state : NodeState) → IsSound (parts rows) → RowsShow rows state → IsPublishedRight state
+pub right-from : (rows : List NodeRow) (state : NodeState) → AreSoundRows (parts rows) → RowsShow rows state → IsPublishedRight state
 right-from rows state rules shows = published_right (parts rows) state rules.each (all-from_shows rows state shows)

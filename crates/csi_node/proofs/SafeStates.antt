@@ -6,16 +6,17 @@ use Rattle.csi_lists.proofs.Searches.{find-append}
 use Rattle.csi_types.specs.declared.capability.Capability.{Capability}
 use Rattle.csi_types.specs.declared.number.Number.{Number}
 use Rattle.csi_types.specs.declared.call.Call.{Call}
-use Rattle.csi_types.specs.Frame.{Frame}
-use Rattle.csi_types.specs.Sharing.{allows_one_target}
-use Rattle.csi_fence.specs.Fence.{Kept}
-use Rattle.csi_fence.specs.Fenced.{Fenced}
+use Rattle.csi_types.specs.Model.Frame.{Frame}
+use Rattle.csi_types.specs.Model.Sharing.{allows_one_target}
+use Rattle.csi_fence.specs.Model.Fence.{Kept}
+use Rattle.csi_fence.specs.Model.Fenced.{Fenced}
 use Rattle.csi_fence.proofs.FramesKeep.{IsKept, frames_keep}
-use Rattle.csi_node.specs.State.{NodeState, StagedVolume, PublishedVolume, empty_node, staged_of, published_of, is_published_at, volume_of}
-use Rattle.csi_node.specs.Table.{Outcome, Change, Stages, Unstages, Publishes, Unpublishes, lifecycle_row, node_row, changed}
-use Rattle.csi_node.specs.Fenced.{keep, begun, carried_out, node_at, after_frames}
-use Rattle.csi_lists.specs.Members.{IsAmong}
-use Rattle.csi_node.specs.Safe.{AllowTwo, IsPublishedRight}
+use Rattle.csi_node.specs.Model.State.{NodeState, StagedVolume, PublishedVolume, empty_node, staged_of, published_of, is_published_at, volume_of}
+use Rattle.csi_node.specs.Model.Table.{Outcome, Change, Stages, Unstages, Publishes, Unpublishes, lifecycle_row, node_row, changed}
+use Rattle.csi_node.specs.Model.Fenced.{keep, begun, carried_out, node_at}
+use Rattle.csi_node.specs.Public.Fenced.{after_frames}
+use Rattle.csi_lists.specs.Model.Members.{IsAmong}
+use Rattle.csi_node.specs.Public.Safe.{AllowTwo, IsPublishedRight}
 use Rattle.csi_node.proofs.TableOutcomes.{Fits, IsOutcome, refuses, was_staged, stages, unstages, was_published, publishes, was_unpublished, unpublishes, lifecycle_outcomes}
 use Rattle.csi_node.proofs.CarriedOut.{Carried, no_room, has_room, was_carried, kept_of}
 use Rattle.csi_lists.proofs.Members.{among-either, among-filter, none_kept}

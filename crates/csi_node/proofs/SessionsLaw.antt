@@ -3,40 +3,41 @@
 use Rattle.std.proofs.Common.{◌≡◌, ◌⊎◌, ◌≤◌, ℕ, List, Bool, true, refl, sym, ◌∙◌, ap, subst, inl, inr, arith}
 use Rattle.std.specs.Prelude.{option_map, find, filter, is_some, IsSome, ◌==◌}
 use Rattle.std.proofs.lemmas.Bool.{eq-eqb, eqb-true, ltb-true}
-use Rattle.csi_lists.specs.Members.{IsAmong}
+use Rattle.csi_lists.specs.Model.Members.{IsAmong}
 use Rattle.csi_lists.proofs.Counts.{count-either}
 use Rattle.csi_lists.proofs.Members.{among-kept}
 use Rattle.csi_lists.proofs.Searches.{find-filter}
 use Rattle.csi_types.specs.declared.number.Number.{Number}
 use Rattle.csi_types.specs.declared.call.Call.{Call}
-use Rattle.csi_types.specs.Frame.{Frame}
-use Rattle.csi_fence.specs.Fence.{Kept}
-use Rattle.csi_fence.specs.Fenced.{Fenced}
+use Rattle.csi_types.specs.Model.Frame.{Frame}
+use Rattle.csi_fence.specs.Model.Fence.{Kept}
+use Rattle.csi_fence.specs.Model.Fenced.{Fenced}
 use Rattle.csi_fence.proofs.FramesKeep.{IsKept, frames_keep}
-use Rattle.csi_node.specs.State.{NodeState, Answered, StagedVolume, empty_node, staged_of, volume_of}
-use Rattle.csi_node.specs.Table.{lifecycle_row, node_row, changed}
-use Rattle.csi_node.specs.Fenced.{keep, begun, carried_out, node_at, after_frames}
-use Rattle.csi_node.specs.Laws.{is_another}
-use Rattle.csi_node.specs.Safe.{Remembers}
+use Rattle.csi_node.specs.Model.State.{NodeState, AnsweredVolume, StagedVolume, empty_node, staged_of, volume_of}
+use Rattle.csi_node.specs.Model.Table.{lifecycle_row, node_row, changed}
+use Rattle.csi_node.specs.Model.Fenced.{keep, begun, carried_out, node_at}
+use Rattle.csi_node.specs.Public.Fenced.{after_frames}
+use Rattle.csi_node.specs.Public.Laws.{is_another}
+use Rattle.csi_node.specs.Public.Safe.{Remembers}
 use Rattle.csi_node.proofs.CarriedOut.{Carried, no_room, has_room, was_carried, kept_of}
 use Rattle.csi_node.proofs.LastCalls.{keep-each, keep-session, keep-staged, changed-rows, changed-session}
 use Rattle.csi_node.proofs.OutcomeFacts.{lifecycle_facts}
 
 -- the rows are of no later session, and those of volumes that aren't staged of this one
 pub record AreCurrent (state : NodeState) : Type 0 where
-  pub each : (row : Answered) → IsAmong row state.rows → IsSome (staged_of row.id state) ⊎ (row.kept.number.session ≡ state.session)
-  pub before : (row : Answered) → IsAmong row state.rows → row.kept.number.session ≤ state.session
+  pub each : (row : AnsweredVolume) → IsAmong row state.rows → IsSome (staged_of row.id state) ⊎ (row.kept.number.session ≡ state.session)
+  pub before : (row : AnsweredVolume) → IsAmong row state.rows → row.kept.number.session ≤ state.session
 
 -- so there are at most as many as are of staged volumes and as are of this session
 pub remembers : (state : NodeState) → AreCurrent state → Remembers state
 remembers state current = record {
   each = current.each;
   before = current.before;
-  few = count-either (λ (row : Answered). is_some (staged_of row.id state)) (λ (row : Answered). row.kept.number.session == state.session) state.rows
+  few = count-either (λ (row : AnsweredVolume). is_some (staged_of row.id state)) (λ (row : AnsweredVolume). row.kept.number.session == state.session) state.rows
       (λ row among. by row (current.each row among));
 }
   where
-    by : (row : Answered) → IsSome (staged_of row.id state) ⊎ (row.kept.number.session ≡ state.session)
+    by : (row : AnsweredVolume) → IsSome (staged_of row.id state) ⊎ (row.kept.number.session ≡ state.session)
         → (is_some (staged_of row.id state) ≡ true) ⊎ ((row.kept.number.session == state.session) ≡ true)
     by row (inl staged) = inl staged
     by row (inr same) = inr (eq-eqb row.kept.number.session state.session same)
@@ -44,9 +45,9 @@ remembers state current = record {
 -- where a later session begins they are so
 begun_current : (session : ℕ) (state : NodeState) → state.session ≤ session → AreCurrent state → AreCurrent (begun session state)
 begun_current session state later current = record {
-  each = λ row among. inl ((among-kept (λ (row : Answered). is_some (staged_of row.id state)) state.rows row among).1);
+  each = λ row among. inl ((among-kept (λ (row : AnsweredVolume). is_some (staged_of row.id state)) state.rows row among).1);
   before = λ row among.
-      let earlier = current.before row ((among-kept (λ (row : Answered). is_some (staged_of row.id state)) state.rows row among).0) in
+      let earlier = current.before row ((among-kept (λ (row : AnsweredVolume). is_some (staged_of row.id state)) state.rows row among).0) in
       omega (arith, earlier, later);
 }
 
@@ -86,11 +87,11 @@ module _ (state : NodeState) (number : Number) (call : Call) (now : number.sessi
       ∙ other-staged state call id other
 
   -- a row from before was there
-  was_there : (row : Answered) → IsAmong row next.rows → IsAmong row state.rows
+  was_there : (row : AnsweredVolume) → IsAmong row next.rows → IsAmong row state.rows
   was_there row among = subst (IsAmong row) (changed-rows state (lifecycle_row state call).change) among
 
   -- the row of the call is of this session
-  own_session : (row : Answered) → row.kept ≡ kept → row.kept.number.session ≡ after.session
+  own_session : (row : AnsweredVolume) → row.kept ≡ kept → row.kept.number.session ≡ after.session
   own_session row is = ap (λ (k : Kept). k.number.session) is ∙ now ∙ sym same_session
 
   -- once the call was carried out they are so
@@ -100,16 +101,16 @@ module _ (state : NodeState) (number : Number) (call : Call) (now : number.sessi
     before = λ row among. before row (keep-each (volume_of call) kept next row among);
   }
     where
-      was : (row : Answered) → is_another (volume_of call) row.id ≡ true → IsSome (staged_of row.id state) ⊎ (row.kept.number.session ≡ state.session)
+      was : (row : AnsweredVolume) → is_another (volume_of call) row.id ≡ true → IsSome (staged_of row.id state) ⊎ (row.kept.number.session ≡ state.session)
           → IsSome (staged_of row.id after) ⊎ (row.kept.number.session ≡ after.session)
       was row other (inl staged) = inl (ap is_some (same_staged row.id other) ∙ staged)
       was row other (inr same) = inr (same ∙ sym same_session)
 
-      each : (row : Answered) → (IsAmong row next.rows × (is_another (volume_of call) row.id ≡ true)) ⊎ (row.kept ≡ kept) → IsSome (staged_of row.id after) ⊎ (row.kept.number.session ≡ after.session)
+      each : (row : AnsweredVolume) → (IsAmong row next.rows × (is_another (volume_of call) row.id ≡ true)) ⊎ (row.kept ≡ kept) → IsSome (staged_of row.id after) ⊎ (row.kept.number.session ≡ after.session)
       each row (inl there) = was row there.1 (current.each row (was_there row there.0))
       each row (inr is) = inr (own_session row is)
 
-      before : (row : Answered) → (IsAmong row next.rows × (is_another (volume_of call) row.id ≡ true)) ⊎ (row.kept ≡ kept) → row.kept.number.session ≤ after.session
+      before : (row : AnsweredVolume) → (IsAmong row next.rows × (is_another (volume_of call) row.id ≡ true)) ⊎ (row.kept ≡ kept) → row.kept.number.session ≤ after.session
       before row (inl there) = let earlier = current.before row (was_there row there.0) in omega (arith, earlier, same_session)
       before row (inr is) = omega (arith, own_session row is)
 

@@ -6,12 +6,13 @@ use Rattle.std.proofs.lemmas.List.{nil_from_length}
 use Rattle.std.proofs.lemmas.Option.{same_Some}
 use Rattle.csi_lists.proofs.Options.{none-from_is_some, some_is_not_none}
 use Rattle.csi_types.specs.declared.capability.Capability.{Capability}
-use Rattle.csi_types.specs.Call.{is_node_kind}
-use Rattle.csi_types.specs.Sharing.{allows_one_target}
+use Rattle.csi_types.specs.Public.Call.{is_node_kind}
+use Rattle.csi_types.specs.Model.Sharing.{allows_one_target}
 use Rattle.csi_node.specs.declared.row.NodeTarget.{NodeTarget}
-use Rattle.csi_node.specs.OneRow.{RowShown, target_among, AreAbsolute, AreDistinct, IsSoundRow}
-use Rattle.csi_node.specs.SoundRow.{has_own_reply, fits_mode, are_fit, has_fit_targets, is_sound_row}
-use Rattle.csi_node.specs.Table.{begins_with_slash}
+use Rattle.csi_node.specs.Model.OneRow.{NodeRowShown}
+use Rattle.csi_node.specs.Public.OneRow.{target_among, AreAbsolute, AreDistinctTargets, IsSoundRow}
+use Rattle.csi_node.specs.Private.SoundRow.{has_own_reply, fits_mode, are_fit, has_fit_targets, is_sound_row}
+use Rattle.csi_node.specs.Model.Table.{begins_with_slash}
 
 -- ---- the mode
 
@@ -55,12 +56,12 @@ absolute-where [] h = tt
 absolute-where (there ∷ later) h = let parts = fit-parts there later h in (parts.0, absolute-where later parts.2)
 
 -- and each is there once
-distinct-where : (targets : List NodeTarget) → are_fit targets ≡ true → AreDistinct targets
+distinct-where : (targets : List NodeTarget) → are_fit targets ≡ true → AreDistinctTargets targets
 distinct-where [] h = tt
 distinct-where (there ∷ later) h = let parts = fit-parts there later h in (none-from_is_some (target_among later there.target) parts.1, distinct-where later parts.2)
 
 -- paths from the root that are each there once pass the test
-fit-tested : (targets : List NodeTarget) → AreAbsolute targets → AreDistinct targets → are_fit targets ≡ true
+fit-tested : (targets : List NodeTarget) → AreAbsolute targets → AreDistinctTargets targets → are_fit targets ≡ true
 fit-tested [] absolute distinct = refl
 fit-tested (there ∷ later) absolute distinct =
     and_from (begins_with_slash there.target && not (is_some (target_among later there.target))) (are_fit later)
@@ -71,7 +72,7 @@ fit-tested (there ∷ later) absolute distinct =
 -- ---- all
 
 -- a row that passes all tests keeps the rules
-pub sound-row : (row : RowShown) → is_sound_row row ≡ true → IsSoundRow row
+pub sound-row : (row : NodeRowShown) → is_sound_row row ≡ true → IsSoundRow row
 sound-row row h =
     let all = and_parts (has_own_reply row) (has_fit_targets row) h in
     let reply = and_parts (is_node_kind row.kept.kind) (not (is_some row.kept.reply.id)) all.0 in
@@ -90,7 +91,7 @@ sound-row row h =
     }
 
 -- a row that keeps the rules passes all tests
-pub row-sound : (row : RowShown) → IsSoundRow row → is_sound_row row ≡ true
+pub row-sound : (row : NodeRowShown) → IsSoundRow row → is_sound_row row ≡ true
 row-sound row rules =
     let fit = rules.targets in
     and_from (has_own_reply row) (has_fit_targets row)

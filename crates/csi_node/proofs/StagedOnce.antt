@@ -8,16 +8,17 @@ use Rattle.csi_lists.proofs.Searches.{find-append}
 use Rattle.csi_types.specs.declared.capability.Capability.{Capability}
 use Rattle.csi_types.specs.declared.number.Number.{Number}
 use Rattle.csi_types.specs.declared.call.Call.{Call}
-use Rattle.csi_types.specs.Frame.{Frame}
-use Rattle.csi_fence.specs.Fence.{Kept}
-use Rattle.csi_fence.specs.Fenced.{Fenced}
+use Rattle.csi_types.specs.Model.Frame.{Frame}
+use Rattle.csi_fence.specs.Model.Fence.{Kept}
+use Rattle.csi_fence.specs.Model.Fenced.{Fenced}
 use Rattle.csi_fence.proofs.FramesKeep.{IsKept, frames_keep}
-use Rattle.csi_lists.specs.Members.{IsAmong}
+use Rattle.csi_lists.specs.Model.Members.{IsAmong}
 use Rattle.csi_lists.proofs.Options.{option_or-none, option_or-read, none-from_map}
 use Rattle.csi_lists.proofs.Members.{passes-filter}
-use Rattle.csi_node.specs.State.{NodeState, StagedVolume, empty_node, staged_of, volume_of}
-use Rattle.csi_node.specs.Table.{Outcome, Stages, Unstages, lifecycle_row, node_row, changed}
-use Rattle.csi_node.specs.Fenced.{keep, carried_out, node_at, after_frames}
+use Rattle.csi_node.specs.Model.State.{NodeState, StagedVolume, empty_node, staged_of, volume_of}
+use Rattle.csi_node.specs.Model.Table.{Outcome, Stages, Unstages, lifecycle_row, node_row, changed}
+use Rattle.csi_node.specs.Model.Fenced.{keep, carried_out, node_at}
+use Rattle.csi_node.specs.Public.Fenced.{after_frames}
 use Rattle.csi_node.proofs.TableOutcomes.{IsOutcome, refuses, was_staged, stages, unstages, was_published, publishes, was_unpublished, unpublishes, lifecycle_outcomes}
 use Rattle.csi_node.proofs.CarriedOut.{Carried, no_room, has_room, was_carried, kept_of}
 

@@ -7,13 +7,13 @@ use Rattle.csi_types.specs.declared.capability.Capability.{Capability}
 use Rattle.csi_types.specs.declared.call.Call.{Call}
 use Rattle.csi_types.specs.declared.call.Call.TheVariants as calls
 use Rattle.csi_types.specs.declared.status.Status.TheVariants.{InvalidArgument, AlreadyExists, FailedPrecondition, ResourceExhausted}
-use Rattle.csi_types.specs.Same.{same_text, same_capability, same_flag}
-use Rattle.csi_types.specs.Sharing.{allows_one_target}
+use Rattle.csi_types.specs.Model.Same.{same_text, same_capability, same_flag}
+use Rattle.csi_types.specs.Model.Sharing.{allows_one_target}
 use Rattle.csi_lists.proofs.Filters.{filter-filter, filter-swap, filter-none, filter-append_passes}
 use Rattle.std.proofs.lemmas.Option.{same_Some}
 use Rattle.csi_lists.proofs.Searches.{find-first, find-filter, first_of_list}
-use Rattle.csi_node.specs.State.{NodeState, StagedVolume, PublishedVolume, staged_of, published_of, published_at, is_published_at, volume_of}
-use Rattle.csi_node.specs.Table.{Change, Stays, Stages, Unstages, Publishes, Unpublishes, Outcome, refused, met, done, stage, unstage, publish, publish_at_target, publish_staged, publish_new, unpublish, lifecycle_row, changed, begins_with_slash}
+use Rattle.csi_node.specs.Model.State.{NodeState, StagedVolume, PublishedVolume, staged_of, published_of, published_at, is_published_at, volume_of}
+use Rattle.csi_node.specs.Model.Table.{Change, Stays, Stages, Unstages, Publishes, Unpublishes, Outcome, refused, met, done, stage, unstage, publish, publish_at_target, publish_staged, publish_new, unpublish, lifecycle_row, changed, begins_with_slash}
 
 -- the part of a state that is the volume's, in another state
 pub record IsPart (id : ℕ) (part state : NodeState) : Type 0 where

@@ -6,18 +6,20 @@ use Rattle.csi_types.specs.declared.call.Call.{Call}
 use Rattle.csi_types.specs.declared.call.Party.TheVariants.{Node}
 use Rattle.csi_types.specs.declared.status.Status.TheVariants.{Ok, ResourceExhausted}
 use Rattle.csi_types.specs.declared.reply.Reply.{Reply}
-use Rattle.csi_types.specs.Call.{kind_of}
-use Rattle.csi_types.specs.Number.{IsBefore}
-use Rattle.csi_types.specs.Replies.{ok_reply, call_frame, reply_frame}
-use Rattle.csi_fence.specs.Fence.{Kept}
-use Rattle.csi_fence.specs.Fenced.{Fenced}
-use Rattle.csi_fence.specs.Lawful.{IsIdempotent, IsLawful, IsLawfulIn}
+use Rattle.csi_types.specs.Model.Call.{kind_of}
+use Rattle.csi_types.specs.Model.Number.{IsBefore}
+use Rattle.csi_types.specs.Model.Replies.{ok_reply, call_frame, reply_frame}
+use Rattle.csi_fence.specs.Model.Fence.{Kept}
+use Rattle.csi_fence.specs.Model.Fenced.{Fenced}
+use Rattle.csi_fence.specs.Public.Lawful.{IsIdempotent, IsLawful, IsLawfulIn}
 use Rattle.csi_fence.proofs.FramesKeep.{own_session}
 use Rattle.csi_fence.proofs.LetThrough.{is_carried_out, later-carried_out}
-use Rattle.csi_node.specs.State.{NodeState, Answered, row_with_id, row_of_volume, row_for, volume_of}
-use Rattle.csi_node.specs.Table.{Outcome, Change, refused, lifecycle_row, node_row, has_no_room, changed}
-use Rattle.csi_node.specs.Fenced.{carried_out, fenced, in_session, kept_for, kept_rows, keep, node_at}
-use Rattle.csi_node.specs.Laws.{plugin_at, IsLetThrough, IsSameApart, LeavesOthers, HasAtMostOneMore, is_another, reply_at}
+use Rattle.csi_node.specs.Model.State.{NodeState, AnsweredVolume, row_with_id, row_of_volume, row_for, volume_of}
+use Rattle.csi_node.specs.Model.Table.{Outcome, Change, refused, lifecycle_row, node_row, has_no_room, changed}
+use Rattle.csi_node.specs.Model.Fenced.{carried_out, fenced, kept_for, kept_rows, keep, node_at}
+use Rattle.csi_node.specs.Private.Fenced.{in_session}
+use Rattle.csi_node.specs.Public.Laws.{plugin_at, IsSameApart, LeavesOthers, HasAtMostOneMore, is_another, table_reply}
+use Rattle.csi_node.specs.Private.Laws.{IsLetThrough}
 use Rattle.csi_node.proofs.CarriedOut.{kept_of, state_then, done_then}
 use Rattle.csi_node.proofs.LastCalls.{keep-staged, keep-published, keep-session, keep-others, keep-own, keep-rows, changed-rows, changed-session}
 use Rattle.csi_node.proofs.OutcomeFacts.{IsReady, lifecycle_facts, ready_met, ready_kept, ready_volume, ready_done}
@@ -41,7 +43,7 @@ state_without node state number call outcome h = rw h refl
 
 -- the row of the call's volume keeps the call
 volume_kept : (volume : Option ℕ) (id : ℕ) (kept : Kept) (state : NodeState) → volume ≡ Some id
-    → option_map (λ (row : Answered). row.kept) (row_of_volume volume (keep volume kept state)) ≡ Some kept
+    → option_map (λ (row : AnsweredVolume). row.kept) (row_of_volume volume (keep volume kept state)) ≡ Some kept
 volume_kept None id kept state h = cc
 volume_kept (Some other) id kept state h = keep-own other kept state
 
@@ -65,7 +67,7 @@ rows_then : (state : NodeState) (number : Number) (call : Call) → HasAtMostOne
 rows_then state number call =
     let change = (lifecycle_row state call).change in
     let kept = kept_of state number call in
-    subst (λ (rows : List Answered). HasAtMostOneMore rows (keep (volume_of call) kept (changed state change)).rows) (changed-rows state change)
+    subst (λ (rows : List AnsweredVolume). HasAtMostOneMore rows (keep (volume_of call) kept (changed state change)).rows) (changed-rows state change)
     (keep-rows (volume_of call) kept (changed state change))
 
 -- a call that is ready, once more in its session
@@ -73,7 +75,7 @@ once_more : (node : List ℕ) (after : NodeState) (later : Number) (call : Call)
     → ((fenced node after (call_frame later (Node node) call)).reply ≡ Some (reply_frame later (Node node) (kind_of call) ok_reply))
     × IsSameApart after (fenced node after (call_frame later (Node node) call)).state
 once_more node after later call kept now is before ready =
-    let found : is_none (row_for call after) ≡ false = found_then (λ (row : Answered). row.kept) (row_for call after) kept is in
+    let found : is_none (row_for call after) ≡ false = found_then (λ (row : AnsweredVolume). row.kept) (row_for call after) kept is in
     let room : has_no_room after call ≡ false = rw found refl in
     let e = later-carried_out (node_at node) after later call kept now is before ∙ with_room node after later call room in
     let again = ready_met after call ready in (
@@ -101,7 +103,7 @@ module _ (node : List ℕ) (state : NodeState) (number : Number) (call : Call) (
   without_room : has_no_room state call ≡ true → IsLawfulHere (carried_out node state number call (node_row state call)).state
   without_room full =
       let e : (carried_out node state number call (node_row state call)).state ≡ state = state_without node state number call (node_row state call) full in
-      let status : (reply_at state call).status ≡ ResourceExhausted = ap (λ (o : Outcome). o.reply.status) (row_without state call full) in
+      let status : (table_reply state call).status ≡ ResourceExhausted = ap (λ (o : Outcome). o.reply.status) (row_without state call full) in
       record {
         refused = λ h. subst (IsSameApart state) (sym e) (record { rows = inl refl; session = refl; staged = refl; published = refl });
         done = λ h. absurd (exhausted (sym status ∙ h));
@@ -114,7 +116,7 @@ module _ (node : List ℕ) (state : NodeState) (number : Number) (call : Call) (
   having_room room =
       let e : (carried_out node state number call (node_row state call)).state ≡ state_then state number call = ap (λ (f : Fenced NodeState). f.state) (with_room node state number call room) in
       let row : node_row state call ≡ lifecycle_row state call = row_with_room state call room in
-      let status : (reply_at state call).status ≡ (lifecycle_row state call).reply.status = ap (λ (o : Outcome). o.reply.status) row in
+      let status : (table_reply state call).status ≡ (lifecycle_row state call).reply.status = ap (λ (o : Outcome). o.reply.status) row in
       let facts = lifecycle_facts state call in
       let next : NodeState = changed state (lifecycle_row state call).change in
       let kept : Kept = kept_of state number call in
@@ -130,12 +132,12 @@ module _ (node : List ℕ) (state : NodeState) (number : Number) (call : Call) (
             let ready = facts.ready (sym status ∙ h) in
             let volume = ready_volume next call ready in
             let is : kept_for call (state_then state number call) ≡ Some kept = volume_kept (volume_of call) volume.0 kept next volume.1 in
-            let plain : reply_at state call ≡ ok_reply = ap (λ (o : Outcome). o.reply) row ∙ facts.plain (sym status ∙ h) in
+            let plain : table_reply state call ≡ ok_reply = ap (λ (o : Outcome). o.reply) row ∙ facts.plain (sym status ∙ h) in
             subst (λ (reply : Reply). IsIdempotent (plugin_at node) (state_then state number call) reply number call) (sym plain)
             (λ later same before.
             once_more node (state_then state number call) later call kept (same ∙ now ∙ sym (session_then state number call)) is before (ready_state (volume_of call) kept next call ready));
         others = record {
-          rows = keep-others (volume_of call) kept next ∙ ap (filter (λ (row : Answered). is_another (volume_of call) row.id)) (changed-rows state (lifecycle_row state call).change);
+          rows = keep-others (volume_of call) kept next ∙ ap (filter (λ (row : AnsweredVolume). is_another (volume_of call) row.id)) (changed-rows state (lifecycle_row state call).change);
           staged = ap (filter (λ s. is_another (volume_of call) s.volume)) (keep-staged (volume_of call) kept next) ∙ facts.others.staged;
           published = ap (filter (λ p. is_another (volume_of call) p.volume)) (keep-published (volume_of call) kept next) ∙ facts.others.published;
         };

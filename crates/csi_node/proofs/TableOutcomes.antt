@@ -10,10 +10,10 @@ use Rattle.csi_types.specs.declared.call.Call.{Call}
 use Rattle.csi_types.specs.declared.call.Call.TheVariants as calls
 use Rattle.csi_types.specs.declared.status.Status.{Status}
 use Rattle.csi_types.specs.declared.status.Status.TheVariants.{Ok, InvalidArgument, AlreadyExists, ResourceExhausted, FailedPrecondition, Unimplemented}
-use Rattle.csi_types.specs.Same.{same_text, same_flag, same_capability}
-use Rattle.csi_types.specs.Sharing.{allows_one_target}
-use Rattle.csi_node.specs.State.{NodeState, StagedVolume, PublishedVolume, staged_of, published_of, published_at, is_published_at}
-use Rattle.csi_node.specs.Table.{Outcome, Stages, Unstages, Publishes, Unpublishes, refused, met, done, begins_with_slash, stage, unstage, publish_new, publish_staged, publish_at_target, publish, unpublish, lifecycle_row, has_no_room, node_row}
+use Rattle.csi_types.specs.Model.Same.{same_text, same_flag, same_capability}
+use Rattle.csi_types.specs.Model.Sharing.{allows_one_target}
+use Rattle.csi_node.specs.Model.State.{NodeState, StagedVolume, PublishedVolume, staged_of, published_of, published_at, is_published_at}
+use Rattle.csi_node.specs.Model.Table.{Outcome, Stages, Unstages, Publishes, Unpublishes, refused, met, done, begins_with_slash, stage, unstage, publish_new, publish_staged, publish_at_target, publish, unpublish, lifecycle_row, has_no_room, node_row}
 
 -- the calls that stage and publish this
 abbrev pub stage_call : StagedVolume → Call

@@ -8,14 +8,14 @@ use Rattle.csi_lists.proofs.Searches.{find-append_one, find-filter_not}
 use Rattle.csi_types.specs.declared.call.Call.{Call}
 use Rattle.csi_types.specs.declared.call.Call.TheVariants as calls
 use Rattle.csi_types.specs.declared.status.Status.TheVariants.{Ok}
-use Rattle.csi_types.specs.Key.{Key, Exists, Attached, Staged, Published, Form, StagedAs, PublishedAs, same_key, asked}
-use Rattle.csi_types.specs.Same.{same_text}
+use Rattle.csi_types.specs.Public.Key.{Key, Exists, Attached, Staged, Published, Form, StagedAs, PublishedAs, same_key, asked}
+use Rattle.csi_types.specs.Model.Same.{same_text}
 use Rattle.csi_lists.proofs.Options.{none-from_map}
 use Rattle.csi_lists.proofs.Searches.{find-append_other}
 use Rattle.csi_lists.proofs.Tests.{not-where}
-use Rattle.csi_node.specs.State.{NodeState, StagedVolume, PublishedVolume, is_published_at}
-use Rattle.csi_node.specs.Table.{Outcome, Change, Stays, Stages, Unstages, Publishes, Unpublishes, refused, met, done, changed}
-use Rattle.csi_node.specs.View.{held_on, key_of}
+use Rattle.csi_node.specs.Model.State.{NodeState, StagedVolume, PublishedVolume, is_published_at}
+use Rattle.csi_node.specs.Model.Table.{Outcome, Change, Stays, Stages, Unstages, Publishes, Unpublishes, refused, met, done, changed}
+use Rattle.csi_node.specs.Public.View.{held_on, key_of}
 use Rattle.csi_node.proofs.ThingRows.{here}
 use Rattle.csi_node.proofs.TableOutcomes.{IsOutcome, at_itself, refuses, was_staged, stages, unstages, was_published, publishes, was_unpublished, unpublishes, stage_call, publish_call}
 

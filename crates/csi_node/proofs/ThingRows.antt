@@ -5,13 +5,14 @@ use Rattle.csi_types.proofs.Equality.{same_text-tells}
 use Rattle.csi_types.specs.declared.call.Call.{Call}
 use Rattle.csi_types.specs.declared.call.Call.TheVariants as calls
 use Rattle.csi_types.specs.declared.call.Party.TheVariants.{Node}
-use Rattle.csi_types.specs.Call.{kind_of, is_party_of}
-use Rattle.csi_fence.specs.Fence.{Kept}
-use Rattle.csi_types.specs.Key.{Key, Exists, Attached, Staged, Published}
-use Rattle.csi_types.specs.Same.{same_text}
-use Rattle.csi_node.specs.State.{NodeState, empty_node, volume_of}
-use Rattle.csi_node.specs.Fenced.{keep}
-use Rattle.csi_node.specs.View.{held_on, kept_in_row, kept_on, key_of}
+use Rattle.csi_types.specs.Model.Call.{kind_of}
+use Rattle.csi_types.specs.Public.Call.{is_party_of}
+use Rattle.csi_fence.specs.Model.Fence.{Kept}
+use Rattle.csi_types.specs.Public.Key.{Key, Exists, Attached, Staged, Published}
+use Rattle.csi_types.specs.Model.Same.{same_text}
+use Rattle.csi_node.specs.Model.State.{NodeState, empty_node, volume_of}
+use Rattle.csi_node.specs.Model.Fenced.{keep}
+use Rattle.csi_node.specs.Public.View.{held_on, kept_in_row, kept_on, key_of}
 use Rattle.csi_node.proofs.LastCalls.{keep-either}
 
 -- a node is itself

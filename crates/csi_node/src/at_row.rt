@@ -1,11 +1,14 @@
 //! What a row of a node answers to the calls of its volume.
 ghost use Rattle.std.specs.Prelude.{◌≡◌, ◌≤◌, length, true, Some, None, IfOk, OnOk, OnErr};
-ghost use Rattle.csi_types.specs.Call.{kind_of, is_node_kind};
-ghost use Rattle.csi_fence.specs.Fence.{verdict_of};
-ghost use Rattle.csi_types.specs.Lent.{lent_call};
-ghost use Rattle.csi_types.specs.Replies.{plain_reply};
-ghost use Rattle.csi_node.specs.State.{volume_of};
-ghost use Rattle.csi_node.specs.OneRow.{shown, row_anew, table_answer, IsSoundRow, IsAfter, IsFirst, IsNodeAnswer, RowAnswers};
+ghost use Rattle.csi_types.specs.Model.Call.{kind_of};
+ghost use Rattle.csi_types.specs.Public.Call.{is_node_kind};
+ghost use Rattle.csi_fence.specs.Model.Fence.{verdict_of};
+ghost use Rattle.csi_types.specs.Public.Lent.{lent_call};
+ghost use Rattle.csi_types.specs.Model.Replies.{plain_reply};
+ghost use Rattle.csi_node.specs.Model.State.{volume_of};
+ghost use Rattle.csi_node.specs.Model.OneRow.{node_row_shown};
+ghost use Rattle.csi_node.specs.Private.OneRow.{row_anew, table_answer, IsRowAfter, IsFirst, IsNodeAnswer, RowAnswers};
+ghost use Rattle.csi_node.specs.Public.OneRow.{IsSoundRow};
 
 use crate::changes::change_where;
 use crate::line::Line;
@@ -15,21 +18,22 @@ use csi_fence::{Answer, CoreFault, Verdict, verdict_of};
 use csi_types::{CallRef, Kind, Number, Status, VolumeId};
 use std::alloc::Global;
 
-/// Answers a call by the table, and keeps its number and the reply in the row. An `Err` changes nothing.
+/// Answers a call by the table, and keeps its number and the reply in the row, which is at this place. An `Err` changes nothing.
 pub(crate) fn carry_out(
     row: &mut NodeRow,
+    place: usize,
     alloc: Global,
     number: Number,
     call: &CallRef<'_>,
 ) -> Result<Answer, CoreFault>
     requires volume { volume_of (lent_call call.now) ≡ Some row.old.id }
     requires kind { is_node_kind (kind_of (lent_call call.now)) ≡ true }
-    requires rules { IsSoundRow (shown row.old) }
-    ensures answer { IfOk result (λ answer. answer ≡ table_answer (shown row.old) (lent_call call.now)) }
+    requires rules { IsSoundRow (node_row_shown row.old) }
+    ensures answer { IfOk result (λ answer. answer ≡ table_answer place (node_row_shown row.old) (lent_call call.now)) }
     ensures fits { IfOk result IsNodeAnswer }
-    ensures row { OnOk result (IsAfter number (lent_call call.now) (shown row.old) (shown row.new)) }
-    ensures rules { OnOk result (IsSoundRow (shown row.new)) }
-    ensures err { OnErr result (shown row.new ≡ shown row.old) }
+    ensures row { OnOk result (IsRowAfter number (lent_call call.now) (node_row_shown row.old) (node_row_shown row.new)) }
+    ensures rules { OnOk result (IsSoundRow (node_row_shown row.new)) }
+    ensures err { OnErr result (node_row_shown row.new ≡ node_row_shown row.old) }
 {
     let line = line(row, call);
     let is_done = line.is_done();
@@ -42,13 +46,13 @@ pub(crate) fn carry_out(
     Ok(Answer {
         kind: row.kind,
         reply,
-        row: Some(row.id),
+        row: Some(place),
     })
 }
 
 // The row of a volume for which no call was answered yet. What it keeps is a placeholder, which is overwritten, or the row is dropped.
 fn new_row(alloc: Global, id: VolumeId, number: Number, kind: Kind) -> Result<NodeRow, CoreFault>
-    ensures { IfOk result (λ row. shown row ≡ row_anew id number kind) }
+    ensures { IfOk result (λ row. node_row_shown row ≡ row_anew id number kind) }
 {
     let reply = Line::Done.reply(alloc)?;
     Ok(NodeRow {
@@ -78,7 +82,7 @@ pub(crate) fn answer_with_new_row(
     ensures err { OnErr result (rows.new.items ≡ rows.old.items) }
 {
     let mut row = new_row(alloc, id, number, call.kind())?;
-    let answer = carry_out(&mut row, alloc, number, call)?;
+    let answer = carry_out(&mut row, place, alloc, number, call)?;
     rows.insert(place, row)?;
     Ok(answer)
 }
@@ -114,24 +118,26 @@ fn kept_answer(row: &NodeRow) -> Result<Answer, CoreFault>
     })
 }
 
-/// Answers a call of the row's volume, behind the fence. An `Err` changes nothing.
+/// Answers a call of the volume of the row at this place, behind the fence. An `Err` changes nothing.
 pub(crate) fn answer_at_row(
     row: &mut NodeRow,
+    place: usize,
     alloc: Global,
     number: Number,
     call: &CallRef<'_>,
 ) -> Result<Answer, CoreFault>
     requires volume { volume_of (lent_call call.now) ≡ Some row.old.id }
     requires kind { is_node_kind (kind_of (lent_call call.now)) ≡ true }
-    requires rules { IsSoundRow (shown row.old) }
-    ensures ok { IfOk result (λ answer. RowAnswers number (lent_call call.now) (shown row.old) (shown row.new) answer (verdict_of (Some row.old.last) number)) }
+    requires rules { IsSoundRow (node_row_shown row.old) }
+    ensures ok { IfOk result (λ answer. RowAnswers place number (lent_call call.now) (node_row_shown row.old) (node_row_shown row.new) answer
+        (verdict_of (Some row.old.last) number)) }
     ensures fits { IfOk result IsNodeAnswer }
-    ensures rules { IsSoundRow (shown row.new) }
-    ensures err { OnErr result (shown row.new ≡ shown row.old) }
+    ensures rules { IsSoundRow (node_row_shown row.new) }
+    ensures err { OnErr result (node_row_shown row.new ≡ node_row_shown row.old) }
 {
     match verdict_of(Some(row.last), number) {
         Verdict::Stale => refusal(alloc, call.kind(), Status::Aborted, "stale"),
         Verdict::Repeated => kept_answer(row),
-        Verdict::Fresh => carry_out(row, alloc, number, call),
+        Verdict::Fresh => carry_out(row, place, alloc, number, call),
     }
 }

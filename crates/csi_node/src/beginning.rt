@@ -2,12 +2,15 @@
 //! memory comes before the first row goes; then rows are forgotten.
 ghost use Rattle.std.specs.Prelude.{◌≡◌, ◌<◌, ◌&&◌, ℕ, List, length, nat_le, All, true, Some, is_some, IfOk, OnOk, OnErr};
 ghost use Rattle.std.specs.List.{list_all};
-ghost use Rattle.csi_types.specs.Call.{kind_of, is_node_kind};
-ghost use Rattle.csi_types.specs.Lent.{lent_call};
-ghost use Rattle.csi_node.specs.OneRow.{IsNodeAnswer};
-ghost use Rattle.csi_node.specs.Record.{parts, parts_of, IsSound, IsCurrent, IsAt, IsGapFor};
-ghost use Rattle.csi_node.specs.State.{volume_of};
-ghost use Rattle.csi_node.specs.Step.{Answers, IsEarlierRow};
+ghost use Rattle.csi_types.specs.Model.Call.{kind_of};
+ghost use Rattle.csi_types.specs.Public.Call.{is_node_kind};
+ghost use Rattle.csi_types.specs.Public.Lent.{lent_call};
+ghost use Rattle.csi_node.specs.Private.OneRow.{IsNodeAnswer};
+ghost use Rattle.csi_node.specs.Model.Record.{parts};
+ghost use Rattle.csi_node.specs.Private.Record.{node_record_parts, IsRowAt, IsGapFor};
+ghost use Rattle.csi_node.specs.Public.Record.{AreSoundRows, IsCurrent};
+ghost use Rattle.csi_node.specs.Model.State.{volume_of};
+ghost use Rattle.csi_node.specs.Private.Step.{AnswersCall, IsEarlierRow};
 
 use crate::at_row::{answer_with_new_row, carry_out, refusal};
 use crate::forgetting::forget;
@@ -29,17 +32,20 @@ fn begin_with_row(
 ) -> Result<Answer, CoreFault>
     requires volume { volume_of (lent_call call.now) ≡ Some id }
     requires kind { is_node_kind (kind_of (lent_call call.now)) ≡ true }
-    requires rules { IsSound (parts rows.old.items) }
+    requires rules { AreSoundRows (parts rows.old.items) }
     requires earlier { All (IsEarlierRow number.session) (parts rows.old.items) }
-    requires place { IsAt (parts rows.old.items) id place }
-    ensures ok { (node : List ℕ) (session : ℕ) → session < number.session → IfOk result (Answers number (lent_call call.now) (parts_of node session rows.old.items) (parts_of node number.session rows.new.items)) }
+    requires place { IsRowAt (parts rows.old.items) id place }
+    ensures ok { (node : List ℕ) (session : ℕ) → session < number.session →
+        IfOk result (AnswersCall number (lent_call call.now) (node_record_parts node session rows.old.items)
+        (node_record_parts node number.session rows.new.items)) }
     ensures fits { IfOk result IsNodeAnswer }
-    ensures rules { IsSound (parts rows.new.items) }
+    ensures rules { AreSoundRows (parts rows.new.items) }
     ensures current { OnOk result (IsCurrent number.session (parts rows.new.items)) }
     ensures err { OnErr result (parts rows.new.items ≡ parts rows.old.items) }
 {
-    let answer = carry_out(&mut rows[place], alloc, number, call)?;
+    let mut answer = carry_out(&mut rows[place], place, alloc, number, call)?;
     forget(rows, number.session);
+    answer.row = place_of(rows, id).ok();
     Ok(answer)
 }
 
@@ -70,20 +76,23 @@ fn begin_without_row(
 ) -> Result<Answer, CoreFault>
     requires volume { volume_of (lent_call call.now) ≡ Some id }
     requires kind { is_node_kind (kind_of (lent_call call.now)) ≡ true }
-    requires rules { IsSound (parts rows.old.items) }
+    requires rules { AreSoundRows (parts rows.old.items) }
     requires earlier { All (IsEarlierRow number.session) (parts rows.old.items) }
     requires place { IsGapFor (parts rows.old.items) id place }
-    ensures ok { (node : List ℕ) (session : ℕ) → session < number.session → IfOk result (Answers number (lent_call call.now) (parts_of node session rows.old.items) (parts_of node number.session rows.new.items)) }
+    ensures ok { (node : List ℕ) (session : ℕ) → session < number.session →
+        IfOk result (AnswersCall number (lent_call call.now) (node_record_parts node session rows.old.items)
+        (node_record_parts node number.session rows.new.items)) }
     ensures fits { IfOk result IsNodeAnswer }
-    ensures rules { IsSound (parts rows.new.items) }
+    ensures rules { AreSoundRows (parts rows.new.items) }
     ensures current { OnOk result (IsCurrent number.session (parts rows.new.items)) }
     ensures err { OnErr result (parts rows.new.items ≡ parts rows.old.items) }
 {
     if is_full(rows) {
         return refusal(alloc, call.kind(), Status::ResourceExhausted, "rows");
     }
-    let answer = answer_with_new_row(rows, place, alloc, number, id, call)?;
+    let mut answer = answer_with_new_row(rows, place, alloc, number, id, call)?;
     forget(rows, number.session);
+    answer.row = place_of(rows, id).ok();
     Ok(answer)
 }
 
@@ -98,11 +107,13 @@ pub(crate) fn begin(
 ) -> Result<Answer, CoreFault>
     requires volume { volume_of (lent_call call.now) ≡ Some id }
     requires kind { is_node_kind (kind_of (lent_call call.now)) ≡ true }
-    requires rules { IsSound (parts rows.old.items) }
+    requires rules { AreSoundRows (parts rows.old.items) }
     requires earlier { All (IsEarlierRow number.session) (parts rows.old.items) }
-    ensures ok { (node : List ℕ) (session : ℕ) → session < number.session → IfOk result (Answers number (lent_call call.now) (parts_of node session rows.old.items) (parts_of node number.session rows.new.items)) }
+    ensures ok { (node : List ℕ) (session : ℕ) → session < number.session →
+        IfOk result (AnswersCall number (lent_call call.now) (node_record_parts node session rows.old.items)
+        (node_record_parts node number.session rows.new.items)) }
     ensures fits { IfOk result IsNodeAnswer }
-    ensures rules { IsSound (parts rows.new.items) }
+    ensures rules { AreSoundRows (parts rows.new.items) }
     ensures current { OnOk result (IsCurrent number.session (parts rows.new.items)) }
     ensures err { OnErr result (parts rows.new.items ≡ parts rows.old.items) }
 {

@@ -1,8 +1,9 @@
 //! What a call changes in the row of its volume.
 ghost use Rattle.std.specs.Prelude.{◌≡◌, [], ◌∷◌, ◌++◌, Some, None, filter, not, OnOk, OnErr, if◌then◌else◌};
-ghost use Rattle.csi_types.specs.Lent.{lent_capability, lent_call};
-ghost use Rattle.csi_types.specs.Same.{same_text};
-ghost use Rattle.csi_node.specs.OneRow.{shown, row_changed};
+ghost use Rattle.csi_types.specs.Public.Lent.{lent_capability, lent_call};
+ghost use Rattle.csi_types.specs.Model.Same.{same_text};
+ghost use Rattle.csi_node.specs.Model.OneRow.{node_row_shown};
+ghost use Rattle.csi_node.specs.Private.OneRow.{row_changed};
 
 use crate::row::{NodeRow, NodeTarget};
 use csi_fence::CoreFault;
@@ -11,8 +12,8 @@ use std::alloc::Global;
 
 // The volume is staged with this capability. An `Err` changes nothing.
 fn stage(row: &mut NodeRow, alloc: Global, capability: &CapabilityRef<'_>) -> Result<(), CoreFault>
-    ensures ok { OnOk result (shown row.new ≡ record (shown row.old) { staged = Some (lent_capability capability.now) }) }
-    ensures err { OnErr result (shown row.new ≡ shown row.old) }
+    ensures ok { OnOk result (node_row_shown row.new ≡ record (node_row_shown row.old) { staged = Some (lent_capability capability.now) }) }
+    ensures err { OnErr result (node_row_shown row.new ≡ node_row_shown row.old) }
 {
     match capability.to_capability(alloc) {
         Ok(capability) => {
@@ -25,8 +26,10 @@ fn stage(row: &mut NodeRow, alloc: Global, capability: &CapabilityRef<'_>) -> Re
 
 // The volume is published at this target too. An `Err` changes nothing.
 fn publish(row: &mut NodeRow, alloc: Global, target: &str, readonly: bool) -> Result<(), CoreFault>
-    ensures ok { OnOk result (shown row.new ≡ record (shown row.old) { targets = row.old.targets.items ++ (record { target = target.now; readonly = readonly }) ∷ [] }) }
-    ensures err { OnErr result (shown row.new ≡ shown row.old) }
+    ensures ok { OnOk result (node_row_shown row.new ≡ record (node_row_shown row.old) {
+      targets = row.old.targets.items ++ (record { target = target.now; readonly = readonly }) ∷ [];
+    }) }
+    ensures err { OnErr result (node_row_shown row.new ≡ node_row_shown row.old) }
 {
     let Ok(target) = Target::try_new(alloc, target) else {
         return Err(CoreFault::NoMemory);
@@ -37,15 +40,17 @@ fn publish(row: &mut NodeRow, alloc: Global, target: &str, readonly: bool) -> Re
 
 // The volume isn't published at this target.
 fn unpublish(row: &mut NodeRow, target: &str)
-    ensures { shown row.new ≡ record (shown row.old) { targets = filter (λ there. not (same_text there.target target.now)) row.old.targets.items } }
+    ensures { node_row_shown row.new ≡ record (node_row_shown row.old) {
+      targets = filter (λ there. not (same_text there.target target.now)) row.old.targets.items;
+    } }
 {
     row.targets.retain(|there| there.target.as_str() != target);
 }
 
 // Makes the call's change to the row. An `Err` changes nothing.
 fn change(row: &mut NodeRow, alloc: Global, call: &CallRef<'_>) -> Result<(), CoreFault>
-    ensures ok { OnOk result (shown row.new ≡ row_changed (shown row.old) (lent_call call.now)) }
-    ensures err { OnErr result (shown row.new ≡ shown row.old) }
+    ensures ok { OnOk result (node_row_shown row.new ≡ row_changed (node_row_shown row.old) (lent_call call.now)) }
+    ensures err { OnErr result (node_row_shown row.new ≡ node_row_shown row.old) }
 {
     match call {
         CallRef::NodeStageVolume { capability, .. } => stage(row, alloc, capability),
@@ -73,8 +78,9 @@ pub(crate) fn change_where(
     alloc: Global,
     call: &CallRef<'_>,
 ) -> Result<(), CoreFault>
-    ensures ok { OnOk result (shown row.new ≡ (if is_done then row_changed (shown row.old) (lent_call call.now) else shown row.old)) }
-    ensures err { OnErr result (shown row.new ≡ shown row.old) }
+    ensures ok { OnOk result (node_row_shown row.new ≡ (if is_done then row_changed (node_row_shown row.old)
+        (lent_call call.now) else node_row_shown row.old)) }
+    ensures err { OnErr result (node_row_shown row.new ≡ node_row_shown row.old) }
 {
     if !is_done {
         return Ok(());

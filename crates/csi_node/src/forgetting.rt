@@ -1,6 +1,6 @@
 //! Which rows a node forgets.
 ghost use Rattle.std.specs.Prelude.{◌≡◌, filter};
-ghost use Rattle.csi_node.specs.WithoutSession.{stays_in};
+ghost use Rattle.csi_node.specs.Public.WithoutSession.{stays_in};
 
 use crate::row::NodeRow;
 

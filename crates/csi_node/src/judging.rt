@@ -1,9 +1,10 @@
 //! Which of the rows that a record is to be made of is the first that no record has there.
 ghost use Rattle.std.specs.Prelude.{◌≡◌, MatchOption};
-ghost use Rattle.csi_node.specs.Judging.{KeepRules, IsFirstRefused, is_current as is_current_row, may_follow as is_fit_after};
-ghost use Rattle.csi_node.specs.WithoutSession.{latest_session as latest_of};
-ghost use Rattle.csi_node.specs.OneRow.{shown};
-ghost use Rattle.csi_node.specs.Record.{parts};
+ghost use Rattle.csi_node.specs.Public.Judging.{KeepRules, IsFirstRefused};
+ghost use Rattle.csi_node.specs.Private.Judging.{is_current as is_current_row, may_follow as is_fit_after};
+ghost use Rattle.csi_node.specs.Public.WithoutSession.{latest_session as latest_of};
+ghost use Rattle.csi_node.specs.Model.OneRow.{node_row_shown};
+ghost use Rattle.csi_node.specs.Model.Record.{parts};
 
 use crate::row::NodeRow;
 use crate::sound_row::is_sound_row;
@@ -11,7 +12,7 @@ use crate::step::MAX_ROWS;
 
 // Whether the row's last call is of a session that a record may have there, of which this is the greatest session, if one is told.
 fn is_current(session: Option<u64>, row: &NodeRow) -> bool
-    ensures { result ≡ is_current_row session (shown row.now) }
+    ensures { result ≡ is_current_row session (node_row_shown row.now) }
 {
     match session {
         None => true,
@@ -23,7 +24,7 @@ fn is_current(session: Option<u64>, row: &NodeRow) -> bool
 
 // Whether the row may follow so many others, the last of which has this id.
 fn may_follow(session: Option<u64>, count: usize, last: u64, row: &NodeRow) -> bool
-    ensures { result ≡ is_fit_after session count last (shown row.now) }
+    ensures { result ≡ is_fit_after session count last (node_row_shown row.now) }
 {
     count < MAX_ROWS && last < row.id.number() && is_sound_row(row) && is_current(session, row)
 }

@@ -1,9 +1,10 @@
 //! The laws of the node's table, and of every node.
-ghost use Rattle.csi_node.specs.Laws.{NodeTableLaw};
-ghost use Rattle.csi_node.specs.Record.{parts, IsSound, IsCurrent, Shows};
-ghost use Rattle.csi_node.specs.Safe.{NodeSafetyLaw, NodeSessionsLaw, IsPublishedRight};
-ghost use Rattle.csi_node.specs.State.{NodeState};
-ghost use Rattle.csi_node.specs.View.{NodeDeliveryLaw};
+ghost use Rattle.csi_node.specs.Public.Laws.{NodeTableLaw};
+ghost use Rattle.csi_node.specs.Model.Record.{parts, Shows};
+ghost use Rattle.csi_node.specs.Public.Record.{AreSoundRows, IsCurrent};
+ghost use Rattle.csi_node.specs.Public.Safe.{NodeSafetyLaw, NodeSessionsLaw, IsPublishedRight};
+ghost use Rattle.csi_node.specs.Model.State.{NodeState};
+ghost use Rattle.csi_node.specs.Public.View.{NodeDeliveryLaw};
 
 use crate::node::Node;
 
@@ -53,7 +54,7 @@ pub fn publishing_law(node: &Node)
 /// of a record: they stand by rising id, at most 4,096, and each keeps the rules of a row; none has its last call in a later
 /// session than the greatest that came, and that of a volume that isn't staged is of that session. This profile's own.
 pub fn record_law(node: &Node)
-    ensures rules { IsSound (parts node.now.rows) }
+    ensures rules { AreSoundRows (parts node.now.rows) }
     ensures current { IsCurrent node.now.session (parts node.now.rows) }
 {
     node.assert_rules();

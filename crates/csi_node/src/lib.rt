@@ -5,8 +5,8 @@
 mod at_row;
 mod beginning;
 mod changes;
-mod empty;
 mod entries;
+mod forgettable;
 mod forgetting;
 mod judging;
 mod laws;

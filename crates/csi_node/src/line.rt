@@ -1,6 +1,6 @@
 //! What a line of the node's table answers.
 ghost use Rattle.std.specs.Prelude.{◌≡◌, IfOk};
-ghost use Rattle.csi_node.specs.Line.{reply_shown, is_done};
+ghost use Rattle.csi_node.specs.Private.Line.{reply_shown, is_done};
 
 use csi_fence::CoreFault;
 use csi_types::{Detail, Reply, Status};

@@ -1,13 +1,13 @@
 //! The node plugin.
-ghost use Rattle.std.specs.Prelude.{◌≡◌, ◌≤◌, ◌+◌, ◌==◌, false, Some, None, is_some, is_none, [], length, filter, count_by, IfOk, OnOk, OnErr, Ok, IsOk, IfSome, option_map, map};
+ghost use Rattle.std.specs.Prelude.{◌≡◌, ◌≤◌, ◌+◌, ◌==◌, false, Some, None, is_some, is_none, [], length, filter, count_by, IfOk, OnOk, OnErr, Ok, IsOk, IfSome, option_map, map, slice_get};
 ghost use Rattle.std.specs.Option.{option_copied};
-ghost use Rattle.csi_types.specs.Lent.{lent_call};
-ghost use Rattle.csi_types.specs.Same.{same_text};
-ghost use Rattle.csi_node.specs.Fenced.{answer_frame};
-ghost use Rattle.csi_node.specs.OneRow.{IsNodeAnswer};
+ghost use Rattle.csi_types.specs.Public.Lent.{lent_call};
+ghost use Rattle.csi_types.specs.Model.Same.{same_text};
+ghost use Rattle.csi_node.specs.Public.Fenced.{answer_frame};
+ghost use Rattle.csi_node.specs.Private.OneRow.{IsNodeAnswer};
 
-use crate::empty::empty_in;
 use crate::entries::{Published, Staged};
+use crate::forgettable::forgettable_ids;
 use crate::record::NodeRecord;
 use crate::row::NodeRow;
 use crate::step::place_of;
@@ -28,7 +28,7 @@ pub struct Node {
 }
 
 impl Model for Node {
-    ghost use Rattle.csi_node.specs.Record.{NodeParts};
+    ghost use Rattle.csi_node.specs.Model.Record.{NodeParts};
 
     ghost Value = { NodeParts };
 
@@ -58,18 +58,21 @@ fn frame_of(node: NodeId, number: Number, answer: Answer) -> Frame
 impl Node {
     ghost use Rattle.csi_types.specs.declared.call.Party.TheVariants.{Node as OfNode};
     ghost use Rattle.csi_types.specs.declared.frame.Body.TheVariants.{Call as CallBody, Reply as ReplyBody};
-    ghost use Rattle.csi_types.specs.Call.{kind_of, is_party_of};
-    ghost use Rattle.csi_types.specs.Frame.{IsAllowed};
-    ghost use Rattle.csi_types.specs.Lent.{HasFitTexts};
-    ghost use Rattle.csi_types.specs.Replies.{call_frame};
-    ghost use Rattle.csi_node.specs.Fenced.{fenced};
-    ghost use Rattle.csi_node.specs.Record.{parts, is_call_for, IsSound, IsCurrent, Shows};
-    ghost use Rattle.csi_node.specs.OneRow.{shown, alone, IsSoundRow};
-    ghost use Rattle.csi_node.specs.Changes.{row_by_id, Changes};
+    ghost use Rattle.csi_types.specs.Model.Call.{kind_of};
+    ghost use Rattle.csi_types.specs.Public.Call.{is_party_of};
+    ghost use Rattle.csi_types.specs.Public.Frame.{IsAllowed};
+    ghost use Rattle.csi_types.specs.Public.Lent.{HasFitTexts};
+    ghost use Rattle.csi_types.specs.Model.Replies.{call_frame};
+    ghost use Rattle.csi_node.specs.Model.Fenced.{fenced};
+    ghost use Rattle.csi_node.specs.Model.Record.{parts, Shows};
+    ghost use Rattle.csi_node.specs.Public.Record.{is_call_for, AreSoundRows, IsCurrent};
+    ghost use Rattle.csi_node.specs.Model.OneRow.{node_row_shown};
+    ghost use Rattle.csi_node.specs.Public.OneRow.{state_shown, IsSoundRow};
+    ghost use Rattle.csi_node.specs.Public.Changes.{row_by_id, ChangesAt};
     ghost use Rattle.std.specs.List.{flat_map};
-    ghost use Rattle.csi_node.specs.Views.{staged_shown, published_shown, ListsStaged, ListsPublished};
-    ghost use Rattle.csi_node.specs.Shown.{row_in, answered_of_row};
-    ghost use Rattle.csi_node.specs.State.{NodeState, empty_node, row_with_id};
+    ghost use Rattle.csi_node.specs.Public.Views.{staged_shown, published_shown, ListsStaged, ListsPublished};
+    ghost use Rattle.csi_node.specs.Model.Shown.{row_in, answered_of_row};
+    ghost use Rattle.csi_node.specs.Model.State.{NodeState, empty_node, row_with_id};
 
     /// A node of this id that has answered nothing. It takes no memory.
     pub fn new(alloc: Global, id: NodeId) -> Node
@@ -131,7 +134,7 @@ impl Node {
             CallRef::NodeStageVolume { id, .. }
             | CallRef::NodeUnstageVolume { id }
             | CallRef::NodePublishVolume { id, .. }
-            | CallRef::NodeUnpublishVolume { id, .. } => *id,
+            | CallRef::NodeUnpublishVolume { id, .. } => id.volume_id(),
             // No frame to a node has another call.
             _ => return Ok(None),
         };
@@ -141,7 +144,7 @@ impl Node {
     }
 
     /// Answers a call as `step` answers a frame of it to this node, by the kind and the reply that the frame of the answer
-    /// has: those that were kept, where the call comes again; and tells which row the call changed or made. The controller's call,
+    /// has: those that were kept, where the call comes again; and tells where the row is that the call changed or made. The controller's call,
     /// and a call with a text outside its limits, which no frame has, get no answer, change nothing, so that they begin no session,
     /// and take no memory. An `Err`, an allocation that was refused, leaves the node as it was.
     pub fn answer(
@@ -150,15 +153,17 @@ impl Node {
         call: &CallRef<'_>,
     ) -> Result<Option<Answer>, CoreFault>
         // What a frame of the call gets.
-        ensures reply { (state : NodeState) → Shows self.old state → IsAllowed (OfNode self.old.id) (CallBody (lent_call call.now)) → HasFitTexts (lent_call call.now) →
+        ensures reply { (state : NodeState) → Shows self.old state → IsAllowed (OfNode self.old.id) (CallBody (lent_call call.now)) →
+            HasFitTexts (lent_call call.now) →
             IfOk result (λ answer. option_map (answer_frame self.old.id number) answer ≡ (fenced self.old.id state (call_frame number (OfNode self.old.id) (lent_call call.now))).reply) }
-        ensures state { (state : NodeState) → Shows self.old state → IsAllowed (OfNode self.old.id) (CallBody (lent_call call.now)) → HasFitTexts (lent_call call.now) →
+        ensures state { (state : NodeState) → Shows self.old state → IsAllowed (OfNode self.old.id) (CallBody (lent_call call.now)) →
+            HasFitTexts (lent_call call.now) →
             OnOk result (Shows self.new (fenced self.old.id state (call_frame number (OfNode self.old.id) (lent_call call.now))).state) }
         ensures allowed { IfOk result (λ answer. IfSome answer (λ own. IsAllowed (OfNode self.old.id) (ReplyBody own.kind own.reply))) }
         ensures id { self.new.id ≡ self.old.id }
         ensures err { (state : NodeState) → Shows self.old state → OnErr result (Shows self.new state) }
         // What becomes of the rows.
-        ensures changes { IfOk result (λ answer. IfSome answer (λ own. Changes own.row number self.old self.new)) }
+        ensures changes { IfOk result (λ answer. IfSome answer (λ own. ChangesAt own.row number self.old self.new)) }
         ensures silent { result ≡ Ok None → self.new ≡ self.old }
         ensures err_rows { OnErr result (parts self.new.rows ≡ parts self.old.rows) }
         ensures err_session { OnErr result (self.new.session ≡ self.old.session) }
@@ -172,7 +177,7 @@ impl Node {
             CallRef::NodeStageVolume { id, .. }
             | CallRef::NodeUnstageVolume { id }
             | CallRef::NodePublishVolume { id, .. }
-            | CallRef::NodeUnpublishVolume { id, .. } => *id,
+            | CallRef::NodeUnpublishVolume { id, .. } => id.volume_id(),
             _ => return Ok(None),
         };
         if !call.is_within_limits() {
@@ -209,7 +214,7 @@ impl Node {
     /// The row of a volume as the record has it, if it has one. The node stays as it is. An `Err` is an allocation
     /// that was refused; without a row none is asked for.
     pub fn row(&self, id: VolumeId) -> Result<Option<NodeRow>, CoreFault>
-        ensures row { IfOk result (λ row. option_map shown row ≡ option_map shown (row_in id self.now.rows)) }
+        ensures row { IfOk result (λ row. option_map node_row_shown row ≡ option_map node_row_shown (row_in id self.now.rows)) }
         ensures succeeds { row_in id self.now.rows ≡ None → IsOk result }
         ensures shows { (state : NodeState) → Shows self.now state →
             IfOk result (λ row. option_map answered_of_row row ≡ row_with_id id state) }
@@ -222,14 +227,22 @@ impl Node {
 
     /// The row of a volume, if the node has one, as it is kept: it keeps the rules of a row. It takes no memory.
     pub fn row_with_id(&self, id: VolumeId) -> Option<&NodeRow>
-        ensures row { option_map shown (option_copied result) ≡ row_by_id id (parts self.now.rows) }
-        ensures rules { IfSome (option_copied result) (λ row. IsSoundRow (shown row)) }
+        ensures row { option_map node_row_shown (option_copied result) ≡ row_by_id id (parts self.now.rows) }
+        ensures rules { IfSome (option_copied result) (λ row. IsSoundRow (node_row_shown row)) }
     {
         let rows = self.record.rows();
         match place_of(rows, id) {
             Ok(place) => Some(&rows[place]),
             Err(_) => None,
         }
+    }
+
+    /// The row at this place, by rising id, as it is kept: it keeps the rules of a row. It takes no memory, and is no search.
+    pub fn row_at(&self, place: usize) -> Option<&NodeRow>
+        ensures row { option_map node_row_shown (option_copied result) ≡ slice_get (parts self.now.rows) place }
+        ensures rules { IfSome (option_copied result) (λ row. IsSoundRow (node_row_shown row)) }
+    {
+        self.record.rows().get(place)
     }
 
     /// The greatest session of which a call came, 0 before any did. It takes no memory.
@@ -241,9 +254,10 @@ impl Node {
 
     /// How many rows there are: at most as many as are of staged volumes and as have their last call in the greatest session that
     /// came. It takes no memory.
-    pub fn rows(&self) -> usize
+    pub fn row_count(&self) -> usize
         ensures count { result ≡ length self.now.rows }
-        ensures few { result ≤ count_by (λ row. is_some row.staged) (parts self.now.rows) + count_by (λ row. row.kept.number.session == self.now.session) (parts self.now.rows) }
+        ensures few { result ≤ count_by (λ row. is_some row.staged) (parts self.now.rows) + count_by
+            (λ row. row.kept.number.session == self.now.session) (parts self.now.rows) }
     {
         self.record.rows().len()
     }
@@ -251,17 +265,17 @@ impl Node {
     /// The ids of the rows of volumes that aren't staged, by rising id: these are forgotten where a call begins a session, the
     /// call's own too, which is then made anew. The node stays as it is. Where there is none it takes no memory. An `Err` is an
     /// allocation that was refused.
-    pub fn empty(&self) -> Result<Vec<VolumeId>, CoreFault>
+    pub fn forgettable(&self) -> Result<Vec<VolumeId>, CoreFault>
         ensures ids { IfOk result (λ list. list.items ≡ map (λ row. row.id) (filter (λ row. is_none row.staged) (parts self.now.rows))) }
         ensures none { filter (λ row. is_none row.staged) (parts self.now.rows) ≡ [] → IsOk result }
     {
-        empty_in(self.alloc, self.record.rows())
+        forgettable_ids(self.alloc, self.record.rows())
     }
 
     /// What is staged, each volume once, by rising id. The node stays as it is. An `Err` is an allocation that was
     /// refused.
     pub fn staged(&self) -> Result<Vec<Staged>, CoreFault>
-        ensures list { IfOk result (λ list. map staged_shown list.items ≡ flat_map (λ row. (alone (shown row)).staged) self.now.rows) }
+        ensures list { IfOk result (λ list. map staged_shown list.items ≡ flat_map (λ row. (state_shown (node_row_shown row)).staged) self.now.rows) }
         ensures shows { (state : NodeState) → Shows self.now state →
             IfOk result (λ list. ListsStaged (map staged_shown list.items) state) }
     {
@@ -271,7 +285,7 @@ impl Node {
     /// What is published, each target once, by rising id and then in the order in which it was published. The node
     /// stays as it is. An `Err` is an allocation that was refused.
     pub fn published(&self) -> Result<Vec<Published>, CoreFault>
-        ensures list { IfOk result (λ list. map published_shown list.items ≡ flat_map (λ row. (alone (shown row)).published) self.now.rows) }
+        ensures list { IfOk result (λ list. map published_shown list.items ≡ flat_map (λ row. (state_shown (node_row_shown row)).published) self.now.rows) }
         ensures shows { (state : NodeState) → Shows self.now state →
             IfOk result (λ list. ListsPublished (map published_shown list.items) state) }
     {
@@ -280,7 +294,7 @@ impl Node {
 
     // Nothing that runs: the rules of the rows hold.
     pub(crate) fn assert_rules(&self)
-        ensures rules { IsSound (parts self.now.rows) }
+        ensures rules { AreSoundRows (parts self.now.rows) }
         ensures current { IsCurrent self.now.session (parts self.now.rows) }
     {
         let _rows = self.record.rows();

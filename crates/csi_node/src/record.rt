@@ -35,24 +35,27 @@ impl Drop for NodeRecord {
 }
 
 impl Model for NodeRecord {
-    ghost use Rattle.csi_node.specs.Record.{NodeParts, parts, IsSound, IsCurrent};
+    ghost use Rattle.csi_node.specs.Model.Record.{NodeParts, parts};
+    ghost use Rattle.csi_node.specs.Public.Record.{AreSoundRows, IsCurrent};
 
     ghost Value = { NodeParts };
 
     ghost view = { λ record_. record { id = record_.id; session = record_.session; rows = record_.rows.items } };
 
-    ghost invariant = { λ record_. IsSound (parts record_.rows.items) × IsCurrent record_.session (parts record_.rows.items) };
+    ghost invariant = { λ record_. AreSoundRows (parts record_.rows.items) × IsCurrent record_.session (parts record_.rows.items) };
 }
 
 impl NodeRecord {
-    ghost use Rattle.csi_types.specs.Call.{kind_of, is_node_kind};
-    ghost use Rattle.csi_types.specs.Lent.{lent_call};
-    ghost use Rattle.csi_node.specs.Judging.{IsRecordRefusal};
-    ghost use Rattle.csi_node.specs.Record.{parts, IsSound, IsCurrent};
-    ghost use Rattle.csi_node.specs.OneRow.{IsNodeAnswer};
-    ghost use Rattle.csi_node.specs.State.{volume_of};
-    ghost use Rattle.csi_node.specs.Step.{Answers};
-    ghost use Rattle.csi_node.specs.WithoutSession.{without_session as kept_without_session};
+    ghost use Rattle.csi_types.specs.Model.Call.{kind_of};
+    ghost use Rattle.csi_types.specs.Public.Call.{is_node_kind};
+    ghost use Rattle.csi_types.specs.Public.Lent.{lent_call};
+    ghost use Rattle.csi_node.specs.Public.Judging.{IsRecordRefusal};
+    ghost use Rattle.csi_node.specs.Model.Record.{parts};
+    ghost use Rattle.csi_node.specs.Public.Record.{AreSoundRows, IsCurrent};
+    ghost use Rattle.csi_node.specs.Private.OneRow.{IsNodeAnswer};
+    ghost use Rattle.csi_node.specs.Model.State.{volume_of};
+    ghost use Rattle.csi_node.specs.Private.Step.{AnswersCall};
+    ghost use Rattle.csi_node.specs.Public.WithoutSession.{without_session as kept_without_session};
 
     /// The record of the node of this id that has these rows, by rising id, and of which this is the greatest session of a call
     /// that came (this profile's own). It is refused with `BadRow` at the first row that no record has there: its id isn't above the
@@ -61,10 +64,10 @@ impl NodeRecord {
     /// staged; or 4,096 rows stand before it. It takes no memory, and so doesn't answer `NoMemory`.
     pub fn try_new(id: NodeId, rows: Vec<NodeRow>, session: u64) -> Result<NodeRecord, RecordFault>
         ensures value { IfOk result (λ made. made ≡ record { id = id; session = session; rows = rows.items }) }
-        ensures rules { OnOk result (IsSound (parts rows.items)) }
+        ensures rules { OnOk result (AreSoundRows (parts rows.items)) }
         ensures current { OnOk result (IsCurrent session (parts rows.items)) }
         ensures refused { IfErr result (IsRecordRefusal (Some session) rows.items) }
-        ensures accepted { IsSound (parts rows.items) → IsCurrent session (parts rows.items) → IsOk result }
+        ensures accepted { AreSoundRows (parts rows.items) → IsCurrent session (parts rows.items) → IsOk result }
     {
         match first_refused(Some(session), rows.as_slice()) {
             None => Ok(NodeRecord { id, session, rows }),
@@ -78,10 +81,10 @@ impl NodeRecord {
     /// no memory, and so doesn't answer `NoMemory`.
     pub fn without_session(id: NodeId, rows: Vec<NodeRow>) -> Result<NodeRecord, RecordFault>
         ensures value { IfOk result (λ made. made ≡ kept_without_session id rows.items) }
-        ensures rules { OnOk result (IsSound (parts rows.items)) }
+        ensures rules { OnOk result (AreSoundRows (parts rows.items)) }
         ensures current { IfOk result (λ made. IsCurrent made.session (parts made.rows)) }
         ensures refused { IfErr result (IsRecordRefusal None rows.items) }
-        ensures accepted { IsSound (parts rows.items) → IsOk result }
+        ensures accepted { AreSoundRows (parts rows.items) → IsOk result }
     {
         match first_refused(None, rows.as_slice()) {
             None => {
@@ -111,7 +114,7 @@ impl NodeRecord {
     /// The rows, by rising id.
     pub fn rows(&self) -> &[NodeRow]
         ensures value { result.now ≡ self.now.rows }
-        ensures rules { IsSound (parts self.now.rows) }
+        ensures rules { AreSoundRows (parts self.now.rows) }
         ensures current { IsCurrent self.now.session (parts self.now.rows) }
     {
         self.rows.as_slice()
@@ -128,7 +131,7 @@ impl NodeRecord {
     ) -> Result<Answer, CoreFault>
         requires volume { volume_of (lent_call call.now) ≡ Some id }
         requires kind { is_node_kind (kind_of (lent_call call.now)) ≡ true }
-        ensures ok { IfOk result (Answers number (lent_call call.now) self.old self.new) }
+        ensures ok { IfOk result (AnswersCall number (lent_call call.now) self.old self.new) }
         ensures fits { IfOk result IsNodeAnswer }
         ensures current { IsCurrent self.new.session (parts self.new.rows) }
         ensures id { self.new.id ≡ self.old.id }

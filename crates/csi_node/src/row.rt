@@ -1,6 +1,6 @@
 //! A node's rows, as its record has them.
 ghost use Rattle.std.specs.Prelude.{◌≡◌};
-ghost use Rattle.csi_node.specs.OneRow.{shown};
+ghost use Rattle.csi_node.specs.Model.OneRow.{node_row_shown};
 
 use csi_types::{Capability, Kind, Number, Reply, Target, VolumeId};
 use std::alloc::AllocError;
@@ -39,7 +39,7 @@ impl Clone for NodeTarget {
 }
 
 impl Clone for NodeRow {
-    ghost is_clone = { λ row copy. shown copy ≡ shown row };
+    ghost is_clone = { λ row copy. node_row_shown copy ≡ node_row_shown row };
 
     fn clone(&self) -> Result<NodeRow, AllocError> {
         let staged = self.staged.clone()?;

@@ -1,13 +1,16 @@
 //! The node's table, for the row of a call's volume.
 ghost use Rattle.std.specs.Prelude.{◌≡◌, ◌<◌, [], length, true, Some, None, option_copied, codes, if◌then◌else◌};
-ghost use Rattle.csi_types.specs.Call.{kind_of, is_node_kind};
-ghost use Rattle.csi_types.specs.Lent.{lent_capability, lent_call};
-ghost use Rattle.csi_types.specs.Sharing.{allows_one_target as allows_one};
+ghost use Rattle.csi_types.specs.Model.Call.{kind_of};
+ghost use Rattle.csi_types.specs.Public.Call.{is_node_kind};
+ghost use Rattle.csi_types.specs.Public.Lent.{lent_capability, lent_call};
+ghost use Rattle.csi_types.specs.Model.Sharing.{allows_one_target as allows_one};
 ghost use Rattle.csi_types.specs.declared.status.Status.TheVariants.{AlreadyExists};
-ghost use Rattle.csi_node.specs.Line.{outcome_shown, WhereDone};
-ghost use Rattle.csi_node.specs.OneRow.{shown, alone, target_among, target_in, published_by, publish_by_row, change_of, CanChange, HasRoomFor, IsNew, IsSoundRow};
-ghost use Rattle.csi_node.specs.State.{volume_of, published_at, PublishedVolume};
-ghost use Rattle.csi_node.specs.Table.{Change, Stages, Unstages, Publishes, Unpublishes, stage, unstage, refused, met, publish, publish_new, unpublish, lifecycle_row, begins_with_slash};
+ghost use Rattle.csi_node.specs.Private.Line.{outcome_shown, WhereDone};
+ghost use Rattle.csi_node.specs.Model.OneRow.{node_row_shown};
+ghost use Rattle.csi_node.specs.Public.OneRow.{state_shown, target_among, published_by, IsSoundRow};
+ghost use Rattle.csi_node.specs.Private.OneRow.{target_of_row, publish_by_row, call_change, CanChange, HasRoomFor, IsNew};
+ghost use Rattle.csi_node.specs.Model.State.{volume_of, published_at, PublishedVolume};
+ghost use Rattle.csi_node.specs.Model.Table.{Change, Stages, Unstages, Publishes, Unpublishes, stage, unstage, refused, met, publish, publish_new, unpublish, lifecycle_row, begins_with_slash};
 
 use crate::line::Line;
 use crate::row::{NodeRow, NodeTarget};
@@ -56,7 +59,7 @@ fn stage_line(row: &NodeRow, capability: &CapabilityRef<'_>) -> Line<'static>
 
 // NodeUnstageVolume.
 fn unstage_line(row: &NodeRow) -> Line<'_>
-    requires rules { IsSoundRow (shown row.now) }
+    requires rules { IsSoundRow (node_row_shown row.now) }
     ensures line { unstage row.now.id (published_by row.now.id row.now.staged row.now.targets.items) ≡ outcome_shown (Unstages row.now.id) result }
     ensures ready { WhereDone result (row.now.targets.items ≡ []) }
 {
@@ -106,9 +109,14 @@ fn publish_staged_line<'a>(
     capability: &CapabilityRef<'_>,
     readonly: bool,
 ) -> Line<'a>
-    ensures line { let published : PublishedVolume = record { volume = row.now.id; target = target.now; capability = lent_capability capability.now; readonly = readonly } in
-        publish_by_row (shown row.now) staged.now published (target_in (shown row.now) target.now) ≡ outcome_shown (Publishes published) result }
-    ensures ready { WhereDone result (IsNew (shown row.now) staged.now target.now (lent_capability capability.now)) }
+    ensures line { let published : PublishedVolume = record {
+      volume = row.now.id;
+      target = target.now;
+      capability = lent_capability capability.now;
+      readonly = readonly;
+    } in
+        publish_by_row (node_row_shown row.now) staged.now published (target_of_row (node_row_shown row.now) target.now) ≡ outcome_shown (Publishes published) result }
+    ensures ready { WhereDone result (IsNew (node_row_shown row.now) staged.now target.now (lent_capability capability.now)) }
 {
     match find_target(row.targets.as_slice(), target) {
         Some(there) => {
@@ -131,9 +139,14 @@ fn publish_line<'a>(
     capability: &CapabilityRef<'_>,
     readonly: bool,
 ) -> Line<'a>
-    ensures line { let published : PublishedVolume = record { volume = row.now.id; target = target.now; capability = lent_capability capability.now; readonly = readonly } in
-        publish (alone (shown row.now)) published ≡ outcome_shown (Publishes published) result }
-    ensures ready { WhereDone result (HasRoomFor (shown row.now) target.now (lent_capability capability.now)) }
+    ensures line { let published : PublishedVolume = record {
+      volume = row.now.id;
+      target = target.now;
+      capability = lent_capability capability.now;
+      readonly = readonly;
+    } in
+        publish (state_shown (node_row_shown row.now)) published ≡ outcome_shown (Publishes published) result }
+    ensures ready { WhereDone result (HasRoomFor (node_row_shown row.now) target.now (lent_capability capability.now)) }
 {
     if !is_absolute(target) {
         return Line::Refused(Status::InvalidArgument, "target");
@@ -146,8 +159,9 @@ fn publish_line<'a>(
 
 // NodeUnpublishVolume.
 fn unpublish_line(row: &NodeRow, target: &str) -> Line<'static>
-    requires rules { IsSoundRow (shown row.now) }
-    ensures { unpublish row.now.id target.now (published_at row.now.id target.now (alone (shown row.now))) ≡ outcome_shown (Unpublishes row.now.id target.now) result }
+    requires rules { IsSoundRow (node_row_shown row.now) }
+    ensures { unpublish row.now.id target.now (published_at row.now.id target.now (state_shown (node_row_shown row.now))) ≡ outcome_shown
+        (Unpublishes row.now.id target.now) result }
 {
     match find_target(row.targets.as_slice(), target) {
         None => Line::Met,
@@ -159,9 +173,9 @@ fn unpublish_line(row: &NodeRow, target: &str) -> Line<'static>
 pub(crate) fn line<'a>(row: &'a NodeRow, call: &CallRef<'_>) -> Line<'a>
     requires volume { volume_of (lent_call call.now) ≡ Some row.now.id }
     requires kind { is_node_kind (kind_of (lent_call call.now)) ≡ true }
-    requires rules { IsSoundRow (shown row.now) }
-    ensures line { lifecycle_row (alone (shown row.now)) (lent_call call.now) ≡ outcome_shown (change_of (lent_call call.now)) result }
-    ensures ready { WhereDone result (CanChange (shown row.now) (lent_call call.now)) }
+    requires rules { IsSoundRow (node_row_shown row.now) }
+    ensures line { lifecycle_row (state_shown (node_row_shown row.now)) (lent_call call.now) ≡ outcome_shown (call_change (lent_call call.now)) result }
+    ensures ready { WhereDone result (CanChange (node_row_shown row.now) (lent_call call.now)) }
 {
     match call {
         CallRef::NodeStageVolume { capability, .. } => stage_line(row, capability),

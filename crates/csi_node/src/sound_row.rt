@@ -1,8 +1,8 @@
 //! The rules of one row of a record.
 ghost use Rattle.std.specs.Prelude.{◌≡◌};
-ghost use Rattle.csi_types.specs.Call.{is_node_kind as is_own_kind};
-ghost use Rattle.csi_node.specs.OneRow.{shown};
-ghost use Rattle.csi_node.specs.SoundRow.{has_own_reply as is_own_reply, fits_mode as is_fit_for, are_fit as is_each_fit, has_fit_targets as are_fit_targets, is_sound_row as is_sound};
+ghost use Rattle.csi_types.specs.Public.Call.{is_node_kind as is_own_kind};
+ghost use Rattle.csi_node.specs.Model.OneRow.{node_row_shown};
+ghost use Rattle.csi_node.specs.Private.SoundRow.{has_own_reply as is_own_reply, fits_mode as is_fit_for, are_fit as is_each_fit, has_fit_targets as are_fit_targets, is_sound_row as is_sound};
 
 use crate::row::{NodeRow, NodeTarget};
 use crate::row_table::{MAX_TARGETS, find_target, is_absolute};
@@ -23,7 +23,7 @@ fn is_node_kind(kind: Kind) -> bool
 
 // Whether the kept reply is one that a node gives.
 fn has_own_reply(row: &NodeRow) -> bool
-    ensures { result ≡ is_own_reply (shown row.now) }
+    ensures { result ≡ is_own_reply (node_row_shown row.now) }
 {
     is_node_kind(row.kind) && !row.reply.id.is_some()
 }
@@ -56,7 +56,7 @@ fn are_fit(targets: &[NodeTarget]) -> bool
 
 // Whether the volume may have these targets, staged as it is.
 fn has_fit_targets(row: &NodeRow) -> bool
-    ensures { result ≡ are_fit_targets (shown row.now) }
+    ensures { result ≡ are_fit_targets (node_row_shown row.now) }
 {
     let targets = row.targets.as_slice();
     targets.len() <= MAX_TARGETS && fits_mode(&row.staged, targets.len()) && are_fit(targets)
@@ -64,7 +64,7 @@ fn has_fit_targets(row: &NodeRow) -> bool
 
 /// Whether a record may have this row, whichever rows are before it.
 pub(crate) fn is_sound_row(row: &NodeRow) -> bool
-    ensures { result ≡ is_sound (shown row.now) }
+    ensures { result ≡ is_sound (node_row_shown row.now) }
 {
     has_own_reply(row) && has_fit_targets(row)
 }

@@ -1,11 +1,14 @@
 //! How the rows of a node answer a call of the present session.
 ghost use Rattle.std.specs.Prelude.{◌≡◌, ℕ, List, true, Some, IfOk, IfErr, OnErr};
-ghost use Rattle.csi_types.specs.Call.{kind_of, is_node_kind};
-ghost use Rattle.csi_types.specs.Lent.{lent_call};
-ghost use Rattle.csi_node.specs.OneRow.{IsNodeAnswer};
-ghost use Rattle.csi_node.specs.Record.{parts, parts_of, IsSound, IsCurrent, IsAt, IsGapFor};
-ghost use Rattle.csi_node.specs.State.{volume_of};
-ghost use Rattle.csi_node.specs.Step.{Answers};
+ghost use Rattle.csi_types.specs.Model.Call.{kind_of};
+ghost use Rattle.csi_types.specs.Public.Call.{is_node_kind};
+ghost use Rattle.csi_types.specs.Public.Lent.{lent_call};
+ghost use Rattle.csi_node.specs.Private.OneRow.{IsNodeAnswer};
+ghost use Rattle.csi_node.specs.Model.Record.{parts};
+ghost use Rattle.csi_node.specs.Private.Record.{node_record_parts, IsRowAt, IsGapFor};
+ghost use Rattle.csi_node.specs.Public.Record.{AreSoundRows, IsCurrent};
+ghost use Rattle.csi_node.specs.Model.State.{volume_of};
+ghost use Rattle.csi_node.specs.Private.Step.{AnswersCall};
 
 use crate::at_row::{answer_at_row, answer_with_new_row, refusal};
 use crate::row::NodeRow;
@@ -18,8 +21,8 @@ pub(crate) const MAX_ROWS: usize = 4096;
 
 /// Where the row of this id is, or where it would go.
 pub(crate) fn place_of(rows: &[NodeRow], id: VolumeId) -> Result<usize, usize>
-    requires { IsSound (parts rows.now) }
-    ensures found { IfOk result (IsAt (parts rows.now) id) }
+    requires { AreSoundRows (parts rows.now) }
+    ensures found { IfOk result (IsRowAt (parts rows.now) id) }
     ensures absent { IfErr result (IsGapFor (parts rows.now) id) }
 {
     rows.binary_search_by_key(&id.number(), |row| row.id.number())
@@ -36,16 +39,17 @@ fn answer_with_row(
 ) -> Result<Answer, CoreFault>
     requires volume { volume_of (lent_call call.now) ≡ Some id }
     requires kind { is_node_kind (kind_of (lent_call call.now)) ≡ true }
-    requires rules { IsSound (parts rows.old.items) }
+    requires rules { AreSoundRows (parts rows.old.items) }
     requires current { IsCurrent number.session (parts rows.old.items) }
-    requires place { IsAt (parts rows.old.items) id place }
-    ensures ok { (node : List ℕ) → IfOk result (Answers number (lent_call call.now) (parts_of node number.session rows.old.items) (parts_of node number.session rows.new.items)) }
+    requires place { IsRowAt (parts rows.old.items) id place }
+    ensures ok { (node : List ℕ) → IfOk result (AnswersCall number (lent_call call.now) (node_record_parts node number.session rows.old.items)
+        (node_record_parts node number.session rows.new.items)) }
     ensures fits { IfOk result IsNodeAnswer }
-    ensures rules { IsSound (parts rows.new.items) }
+    ensures rules { AreSoundRows (parts rows.new.items) }
     ensures current { IsCurrent number.session (parts rows.new.items) }
     ensures err { OnErr result (parts rows.new.items ≡ parts rows.old.items) }
 {
-    answer_at_row(&mut rows[place], alloc, number, call)
+    answer_at_row(&mut rows[place], place, alloc, number, call)
 }
 
 // Answers the first call of a volume, whose row would have this place. An `Err` changes nothing.
@@ -59,12 +63,13 @@ fn answer_without_row(
 ) -> Result<Answer, CoreFault>
     requires volume { volume_of (lent_call call.now) ≡ Some id }
     requires kind { is_node_kind (kind_of (lent_call call.now)) ≡ true }
-    requires rules { IsSound (parts rows.old.items) }
+    requires rules { AreSoundRows (parts rows.old.items) }
     requires current { IsCurrent number.session (parts rows.old.items) }
     requires place { IsGapFor (parts rows.old.items) id place }
-    ensures ok { (node : List ℕ) → IfOk result (Answers number (lent_call call.now) (parts_of node number.session rows.old.items) (parts_of node number.session rows.new.items)) }
+    ensures ok { (node : List ℕ) → IfOk result (AnswersCall number (lent_call call.now) (node_record_parts node number.session rows.old.items)
+        (node_record_parts node number.session rows.new.items)) }
     ensures fits { IfOk result IsNodeAnswer }
-    ensures rules { IsSound (parts rows.new.items) }
+    ensures rules { AreSoundRows (parts rows.new.items) }
     ensures current { IsCurrent number.session (parts rows.new.items) }
     ensures err { OnErr result (parts rows.new.items ≡ parts rows.old.items) }
 {
@@ -84,11 +89,12 @@ pub(crate) fn answer(
 ) -> Result<Answer, CoreFault>
     requires volume { volume_of (lent_call call.now) ≡ Some id }
     requires kind { is_node_kind (kind_of (lent_call call.now)) ≡ true }
-    requires rules { IsSound (parts rows.old.items) }
+    requires rules { AreSoundRows (parts rows.old.items) }
     requires current { IsCurrent number.session (parts rows.old.items) }
-    ensures ok { (node : List ℕ) → IfOk result (Answers number (lent_call call.now) (parts_of node number.session rows.old.items) (parts_of node number.session rows.new.items)) }
+    ensures ok { (node : List ℕ) → IfOk result (AnswersCall number (lent_call call.now) (node_record_parts node number.session rows.old.items)
+        (node_record_parts node number.session rows.new.items)) }
     ensures fits { IfOk result IsNodeAnswer }
-    ensures rules { IsSound (parts rows.new.items) }
+    ensures rules { AreSoundRows (parts rows.new.items) }
     ensures current { IsCurrent number.session (parts rows.new.items) }
     ensures err { OnErr result (parts rows.new.items ≡ parts rows.old.items) }
 {

@@ -1,8 +1,9 @@
 //! What is staged and published on a node, as lists.
 ghost use Rattle.std.specs.Prelude.{◌≡◌, ◌++◌, map, Some, IfOk, OnOk};
 ghost use Rattle.std.specs.List.{flat_map};
-ghost use Rattle.csi_node.specs.OneRow.{shown, alone, published_so};
-ghost use Rattle.csi_node.specs.Views.{staged_shown, published_shown};
+ghost use Rattle.csi_node.specs.Model.OneRow.{node_row_shown};
+ghost use Rattle.csi_node.specs.Public.OneRow.{state_shown, published_so};
+ghost use Rattle.csi_node.specs.Public.Views.{staged_shown, published_shown};
 
 use crate::entries::{Published, Staged, published_at};
 use crate::row::{NodeRow, NodeTarget};
@@ -12,7 +13,7 @@ use std::alloc::Global;
 
 // Puts what the row has staged at the end.
 fn push_staged(list: &mut Vec<Staged>, row: &NodeRow) -> Result<(), CoreFault>
-    ensures { OnOk result (map staged_shown list.new.items ≡ map staged_shown list.old.items ++ (alone (shown row.now)).staged) }
+    ensures { OnOk result (map staged_shown list.new.items ≡ map staged_shown list.old.items ++ (state_shown (node_row_shown row.now)).staged) }
 {
     if let Some(capability) = &row.staged {
         let capability = capability.clone()?;
@@ -26,7 +27,7 @@ fn push_staged(list: &mut Vec<Staged>, row: &NodeRow) -> Result<(), CoreFault>
 
 /// What rows have staged, in their order.
 pub(crate) fn staged_in(alloc: Global, rows: &[NodeRow]) -> Result<Vec<Staged>, CoreFault>
-    ensures { IfOk result (λ list. map staged_shown list.items ≡ flat_map (λ row. (alone (shown row)).staged) rows.now) }
+    ensures { IfOk result (λ list. map staged_shown list.items ≡ flat_map (λ row. (state_shown (node_row_shown row)).staged) rows.now) }
 {
     let mut list = Vec::new(alloc);
     for row in rows {
@@ -53,7 +54,7 @@ fn push_targets(
 
 // Puts what the row has published at the end.
 fn push_published(list: &mut Vec<Published>, row: &NodeRow) -> Result<(), CoreFault>
-    ensures { OnOk result (map published_shown list.new.items ≡ map published_shown list.old.items ++ (alone (shown row.now)).published) }
+    ensures { OnOk result (map published_shown list.new.items ≡ map published_shown list.old.items ++ (state_shown (node_row_shown row.now)).published) }
 {
     match &row.staged {
         None => Ok(()),
@@ -63,7 +64,7 @@ fn push_published(list: &mut Vec<Published>, row: &NodeRow) -> Result<(), CoreFa
 
 /// What rows have published, in their order.
 pub(crate) fn published_in(alloc: Global, rows: &[NodeRow]) -> Result<Vec<Published>, CoreFault>
-    ensures { IfOk result (λ list. map published_shown list.items ≡ flat_map (λ row. (alone (shown row)).published) rows.now) }
+    ensures { IfOk result (λ list. map published_shown list.items ≡ flat_map (λ row. (state_shown (node_row_shown row)).published) rows.now) }
 {
     let mut list = Vec::new(alloc);
     for row in rows {

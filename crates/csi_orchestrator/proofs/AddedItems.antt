@@ -1,34 +1,36 @@
 -- What each input adds to a history: at most three items that leave it well-formed, each reply among them came, and the answer has
 -- the frame of the call that is sent, if one is.
-use Rattle.std.proofs.Common.{◌≡◌, ◌+◌, ◌^◌, ◌≤◌, ℕ, List, [], ◌∷◌, length, map, Bool, true, false, cond, not, refl, sym, ◌∙◌, ap, subst, arith}
+use Rattle.std.proofs.Common.{◌≡◌, ◌+◌, ◌^◌, ◌≤◌, ℕ, List, [], ◌∷◌, length, map, Bool, true, false, cond, refl, sym, ◌∙◌, ap, subst, arith}
 use Rattle.std.specs.Prelude.{suc, Option, Some, None, nat_lt, is_none, ◌==◌, ◌&&◌, Result, Ok, Err, option_and_then}
 use Rattle.std.proofs.lemmas.Bool.{eq-eqb, lt-ltb, le-ltb}
 use Rattle.csi_types.specs.declared.call.Call.{Call}
 use Rattle.csi_types.specs.declared.call.Call.TheVariants as calls
 use Rattle.csi_types.specs.declared.call.Kind.{Kind}
+use Rattle.csi_types.specs.declared.call.Kind.TheVariants as kinds
 use Rattle.csi_types.specs.declared.frame.Body.{Body}
 use Rattle.csi_types.specs.declared.frame.Body.TheVariants as bodies
 use Rattle.csi_types.specs.declared.number.Number.{Number}
 use Rattle.csi_types.specs.declared.reply.Reply.{Reply}
-use Rattle.csi_types.specs.Call.{kind_of}
-use Rattle.csi_types.specs.Frame.{Frame}
-use Rattle.csi_types.specs.Number.{IsBefore}
-use Rattle.csi_types.specs.Reply.{is_ok_status}
-use Rattle.csi_types.specs.Replies.{reply_frame}
-use Rattle.csi_types.specs.Same.{same_number, same_party, same_kind}
+use Rattle.csi_types.specs.Model.Call.{kind_of}
+use Rattle.csi_types.specs.Model.Frame.{Frame}
+use Rattle.csi_types.specs.Model.Number.{IsBefore}
+use Rattle.csi_types.specs.Model.Reply.{is_ok_status}
+use Rattle.csi_types.specs.Model.Replies.{reply_frame}
+use Rattle.csi_types.specs.Model.Same.{same_number, same_party, same_kind}
 use Rattle.csi_lists.proofs.Members.{among-find}
 use Rattle.csi_lists.proofs.Searches.{find-passes}
 use Rattle.csi_orchestrator.specs.declared.fault.OrchFault.{OrchFault}
 use Rattle.csi_orchestrator.specs.declared.fault.OrchFault.TheVariants.{NumbersSpent}
-use Rattle.csi_orchestrator.specs.declared.thing.Thing.TheVariants.{Exists, Attached, Staged, Published}
-use Rattle.csi_orchestrator.specs.Thing.{Issued, is_yes, is_no}
-use Rattle.csi_orchestrator.specs.History.{Usage, Goal, Create, Use, Stop, Delete, Item, Started, Sent, Accepted, Closed, Noted, History, with_items}
-use Rattle.csi_orchestrator.specs.Readings.{known, id_of, goal_of, open_call, tries, last_number, issued_in}
-use Rattle.csi_orchestrator.specs.WellFormed.{IsOfName, IsNext, IsWellFormed}
-use Rattle.csi_orchestrator.specs.Commands.{next_number, create_fault, use_fault, use_room_fault, stop_fault, delete_fault, delete_busy_fault, timeout_fault}
-use Rattle.csi_orchestrator.specs.Due.{Due, due_use, due_leave, due_stop, due_delete, due_for, due_call, targets_in_use}
-use Rattle.csi_orchestrator.specs.Moves.{Input, ToCreate, ToUse, ToStop, ToDelete, TimesOut, Comes, Restarts, Answer, Sends, Moved, met, sent_as, send_due, command, use_when, delete_when, stopped, closing, is_forward_due, timeout, is_number_open, call_replied, hears, heard, heard_refusal, deliver, restart, moves, moved_to}
-use Rattle.csi_orchestrator.specs.Steps.{IsReplyTo, frame_of, frame_in, frames_in}
+use Rattle.csi_orchestrator.specs.declared.thing.Thing.TheVariants.{Exists}
+use Rattle.csi_orchestrator.specs.Model.Thing.{Issued, is_no}
+use Rattle.csi_orchestrator.specs.Model.History.{Usage, Goal, Create, Use, Stop, Delete, Item, Started, Sent, Accepted, Closed, Noted, History, with_items}
+use Rattle.csi_orchestrator.specs.Model.Readings.{known, id_of, goal_of, open_call, tries, last_number, issued_in}
+use Rattle.csi_orchestrator.specs.Model.WellFormed.{IsOfName, IsNextNumber, IsWellFormed}
+use Rattle.csi_orchestrator.specs.Model.Commands.{next_number, create_fault, use_fault, use_room_fault, stop_fault, delete_fault, delete_busy_fault, timeout_fault}
+use Rattle.csi_orchestrator.specs.Model.Due.{Due, call_for, due_kind, due_for, due_call}
+use Rattle.csi_orchestrator.specs.Model.Moves.{Input, ToCreate, ToUse, ToStop, ToDelete, TimesOut, Comes, Restarts, Answer, Sends, Moved, met_already, sent_as, send_due, command, use_when, delete_when, undoing_goal, closing, is_forward_due, timeout, is_number_open, call_replied, hears, heard, heard_refusal, deliver, restart, moves}
+use Rattle.csi_orchestrator.specs.Public.Moves.{moved_to}
+use Rattle.csi_orchestrator.specs.Public.Steps.{IsReplyTo, frame_of, frame_if_sent, frames_in}
 use Rattle.csi_orchestrator.proofs.RepliedRows.{own-open}
 
 -- what is so of both is so of either
@@ -41,43 +43,30 @@ abbrev IsNamed : List ℕ → Option Due → Type 0
 IsNamed name None = Unit {0}
 IsNamed name (Some due) = IsOfName name due.call
 
--- the call that is due to leave a node, for a use, for a stop and for a delete
-named_leave : (history : History) (name node : List ℕ) (id : ℕ) (targets : List (List ℕ)) → IsNamed name (due_leave history name node id targets)
-named_leave history name node id (target ∷ targets) = tt
-named_leave history name node id [] =
-    either (IsNamed name) (not (is_no (known history (Staged name node)))) _ _ tt (either (IsNamed name) (not (is_no (known history (Attached name node)))) _ _ tt tt)
+-- whatever its kind
+named_call : (name : List ℕ) (goal : Option Goal) (id : Option ℕ) (kind : Kind) → IsNamed name (call_for name goal id kind)
+named_call name (Some (Create arguments)) id kinds.CreateVolume = refl
+named_call name (Some (Use usage)) (Some id) kinds.ControllerPublishVolume = tt
+named_call name (Some (Use usage)) (Some id) kinds.NodeStageVolume = tt
+named_call name (Some (Use usage)) (Some id) kinds.NodePublishVolume = tt
+named_call name (Some (Stop node target)) (Some id) kinds.NodeUnpublishVolume = tt
+named_call name (Some (Stop node target)) (Some id) kinds.NodeUnstageVolume = tt
+named_call name (Some (Stop node target)) (Some id) kinds.ControllerUnpublishVolume = tt
+named_call name (Some Delete) (Some id) kinds.DeleteVolume = tt
+named_call name goal id kind = tt
 
--- the call that is due for a use is of the name
-named_use : (history : History) (name : List ℕ) (usage : Usage) (id : Option ℕ) → IsNamed name (option_and_then (due_use history name usage) id)
-named_use history name usage None = tt
-named_use history name usage (Some id) =
-    either (IsNamed name) (not (is_yes (known history (Attached name usage.node)))) _ _ tt
-    (either (IsNamed name) (not (is_yes (known history (Staged name usage.node)))) _ _ tt
-    (either (IsNamed name) (not (is_yes (known history (Published name usage.node usage.target)))) _ _ tt tt))
-
--- the call that is due for a stop is of the name
-named_stop : (history : History) (name node target : List ℕ) (id : Option ℕ) → IsNamed name (option_and_then (due_stop history name node target) id)
-named_stop history name node target None = tt
-named_stop history name node target (Some id) =
-    either (IsNamed name) (not (is_no (known history (Published name node target)))) _ _ tt (named_leave history name node id (targets_in_use history name node))
-
--- the call that is due for a delete is of the name
-named_delete : (history : History) (name : List ℕ) (id : Option ℕ) → IsNamed name (option_and_then (due_delete history name) id)
-named_delete history name None = tt
-named_delete history name (Some id) = either (IsNamed name) (is_no (known history (Exists name))) _ _ tt tt
-
--- the call that is due for any goal
+-- the call that is due for a goal
 named_for : (history : History) (name : List ℕ) (goal : Option Goal) → IsNamed name (due_for history name goal)
-named_for history name None = tt
-named_for history name (Some (Create arguments)) = either (IsNamed name) (is_yes (known history (Exists name))) _ _ tt refl
-named_for history name (Some (Use usage)) = named_use history name usage (id_of history name)
-named_for history name (Some (Stop node target)) = named_stop history name node target (id_of history name)
-named_for history name (Some Delete) = named_delete history name (id_of history name)
+named_for history name goal = by (option_and_then (due_kind history name) goal)
+  where
+    by : (kind : Option Kind) → IsNamed name (option_and_then (call_for name goal (id_of history name)) kind)
+    by None = tt
+    by (Some kind) = named_call name goal (id_of history name) kind
 
 -- the next number, where one is left
 abbrev pub IsNextIfSome : Number → Option Number → Type 0
 IsNextIfSome last None = Unit {0}
-IsNextIfSome last (Some number) = IsNext last number
+IsNextIfSome last (Some number) = IsNextNumber last number
 
 -- a call of a session is before the next one
 is_before_next : (session call : ℕ) → IsBefore (record { session = session; call = call }) (record { session = session; call = call + 1 })
@@ -136,7 +125,7 @@ rests history input answer items says quiet =
     record { form = quiet.form; replies = quiet.replies; few = omega (arith, few); frames = ap (map frame_of) quiet.silent ∙ sym says }
 
 -- the due call is sent, or the goal dropped
-sends-due : (history : History) (input : Input) (name : List ℕ) (answer : Option Frame → Answer) (items : List Item) → ((o : Option Frame) → frames_in (answer o) ≡ frame_in o) → AreQuiet history input items
+sends-due : (history : History) (input : Input) (name : List ℕ) (answer : Option Frame → Answer) (items : List Item) → ((o : Option Frame) → frames_in (answer o) ≡ frame_if_sent o) → AreQuiet history input items
     → AreAdded history input (send_due history name answer items)
 sends-due history input name answer items says quiet =
     by (due_call (with_items history items) name) (next_number (last_number history)) (named_for (with_items history items) name (goal_of (with_items history items) name))
@@ -166,13 +155,13 @@ commanded history input name goal None form = sends-due history input name Sends
 used : (history : History) (input : Input) (name : List ℕ) (usage : Usage) (fault : Option OrchFault) → IsWellFormed history → AreAdded history input (use_when history name usage fault)
 used history input name usage (Some fault) form = tt
 used history input name usage None form =
-    either (AreAdded history input) (is_none (option_and_then (due_use history name usage) (id_of history name))) (Ok met) _ (rests history input _ [] refl (no-items history input form)) (commanded history input name (Use usage) (use_room_fault history name usage) form)
+    either (AreAdded history input) (is_none (due_for history name (Some (Use usage)))) (Ok met_already) _ (rests history input _ [] refl (no-items history input form)) (commanded history input name (Use usage) (use_room_fault history name usage) form)
 
 -- what a delete adds is as it has to be
 deleted : (history : History) (input : Input) (name : List ℕ) (fault : Option OrchFault) → IsWellFormed history → AreAdded history input (delete_when history name fault)
 deleted history input name (Some fault) form = tt
 deleted history input name None form =
-    either (AreAdded history input) (is_no (known history (Exists name))) (Ok met) _ (rests history input _ [] refl (no-items history input form)) (commanded history input name Delete (delete_busy_fault history name) form)
+    either (AreAdded history input) (is_no (known history (Exists name))) (Ok met_already) _ (rests history input _ [] refl (no-items history input form)) (commanded history input name Delete (delete_busy_fault history name) form)
 
 -- the open call, if there is one, is given up
 given-up : (history : History) (input : Input) (name : List ℕ) (o : Option Issued) → open_call history name ≡ o → IsWellFormed history → AreQuiet history input (closing o) × (length (closing o) ≤ 1)
@@ -185,7 +174,7 @@ timed-out : (history : History) (input : Input) (name : List ℕ) (fault : Optio
 timed-out history input name (Some fault) form = tt
 timed-out history input name None form =
     let closed = given-up history input name (open_call history name) refl form in
-    either (AreAdded history input) (is_forward_due (due_call history name) && (tries history name == 3)) _ _ (sends-due history input name Sends _ (λ o. refl) (noted-after history input name (stopped (goal_of history name)) _ closed.0 closed.1))
+    either (AreAdded history input) (is_forward_due (due_call history name) && (tries history name == 3)) _ _ (sends-due history input name Sends _ (λ o. refl) (noted-after history input name (undoing_goal (goal_of history name)) _ closed.0 closed.1))
     (sends-due history input name Sends _ (λ o. refl) closed.0)
 
 -- a reply that is taken
@@ -205,9 +194,9 @@ taken history input reply issued form now is =
 
     refused : (call : Call) → AreAdded history input (heard_refusal history issued (Accepted issued.number reply.status reply.id) call)
     refused (calls.CreateVolume name required limit capabilities) = rests history input _ _ refl (noted None)
-    refused (calls.ControllerPublishVolume id node capability readonly) = sends-due history input issued.name hears _ (λ o. refl) (noted (stopped (goal_of history issued.name)))
-    refused (calls.NodeStageVolume id capability) = sends-due history input issued.name hears _ (λ o. refl) (noted (stopped (goal_of history issued.name)))
-    refused (calls.NodePublishVolume id target capability readonly) = sends-due history input issued.name hears _ (λ o. refl) (noted (stopped (goal_of history issued.name)))
+    refused (calls.ControllerPublishVolume id node capability readonly) = sends-due history input issued.name hears _ (λ o. refl) (noted (undoing_goal (goal_of history issued.name)))
+    refused (calls.NodeStageVolume id capability) = sends-due history input issued.name hears _ (λ o. refl) (noted (undoing_goal (goal_of history issued.name)))
+    refused (calls.NodePublishVolume id target capability readonly) = sends-due history input issued.name hears _ (λ o. refl) (noted (undoing_goal (goal_of history issued.name)))
     refused call = rests history input _ _ refl quiet
 
 -- a frame with a call's number, party and kind that has a reply is the frame of that reply

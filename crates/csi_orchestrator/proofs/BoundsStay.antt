@@ -11,10 +11,10 @@ use Rattle.csi_types.specs.declared.call.Party.{Party}
 use Rattle.csi_types.specs.declared.frame.Body.{Body}
 use Rattle.csi_types.specs.declared.frame.Body.TheVariants as bodies
 use Rattle.csi_types.specs.declared.number.Number.{Number}
-use Rattle.csi_types.specs.Frame.{Frame}
-use Rattle.csi_types.specs.Same.{same_text}
+use Rattle.csi_types.specs.Model.Frame.{Frame}
+use Rattle.csi_types.specs.Model.Same.{same_text}
 use Rattle.csi_types.proofs.Equality.{same_text-tells}
-use Rattle.csi_lists.specs.Members.{IsAmong, EachTwo}
+use Rattle.csi_lists.specs.Model.Members.{IsAmong, EachTwo}
 use Rattle.csi_lists.proofs.Counts.{count-cons}
 use Rattle.csi_lists.proofs.Each.{each-filter, each-map, each-weaker}
 use Rattle.csi_lists.proofs.Filters.{filter-no_longer}
@@ -31,18 +31,21 @@ use Rattle.csi_orchestrator.specs.declared.step.Step.{Step}
 use Rattle.csi_orchestrator.specs.declared.step.Step.TheVariants as steps
 use Rattle.csi_orchestrator.specs.declared.thing.Known.{Known}
 use Rattle.csi_orchestrator.specs.declared.thing.Known.TheVariants.{Yes, No, Maybe}
-use Rattle.csi_orchestrator.specs.Thing.{is_no, is_yes}
-use Rattle.csi_orchestrator.specs.History.{Arguments, Usage}
-use Rattle.csi_orchestrator.specs.Moves.{Input, ToCreate, ToUse, ToStop, ToDelete, TimesOut, Comes, Restarts, Answer, Sends, Restarted, hears}
-use Rattle.csi_orchestrator.specs.Shown.{NodeEntryShown, RowShown, Parts, row_of, node_entry_of, due_in, open_in_row, closed, in_session}
-use Rattle.csi_orchestrator.specs.RowChanges.{Aspect, Existence, Attachment, Staging, Publication, aspect_of, node_marked, marked_at, at_goal, nodes_marked, marked, is_target_kept, with_kept_targets, is_node_kept, tidied, new_row, new_target_entry, with_target, held_as, entry_for, with_entry, stopped_goal, wanted, told_of}
-use Rattle.csi_orchestrator.specs.RowRefusals.{is_last, first_fault, others_count, use_refusal, room_refusal, step_refusal, late_refusal}
-use Rattle.csi_orchestrator.specs.RowSteps.{MovedRow, outgoing_by, row_after, row_sends_due, row_rests, row_unless, is_met, waits, is_given_up, timed_out, failed, changed, row_step}
-use Rattle.csi_orchestrator.specs.RowMoves.{MovedRows, moved_rows, placed, steps_at, creates, is_issued_as, row_replied, step_heard, hears_reply, receives, starts_again, row_moves}
-use Rattle.csi_orchestrator.specs.Keyed.{change_by, put_by}
-use Rattle.csi_orchestrator.specs.Bounds.{HasFewTargets, HasFewNodes, IsBounded, IsEntryWithin, AreWithin, IsWithin}
-use Rattle.csi_orchestrator.specs.Commands.{next_number}
-use Rattle.csi_orchestrator.specs.Sound.{IsNeeded, IsSoundRow, IsSound, AreNodesApart}
+use Rattle.csi_orchestrator.specs.Model.Thing.{is_no, is_yes}
+use Rattle.csi_orchestrator.specs.Model.History.{Arguments, Usage}
+use Rattle.csi_orchestrator.specs.Model.Moves.{Input, ToCreate, ToUse, ToStop, ToDelete, TimesOut, Comes, Restarts, Answer, Sends, Restarted, hears}
+use Rattle.csi_orchestrator.specs.Model.Shown.{NodeEntryShown, RowShown, OrchestratorParts, row_of, node_entry_of, open_in_row}
+use Rattle.csi_orchestrator.specs.Private.Shown.{closed, parts_in_session}
+use Rattle.csi_orchestrator.specs.Public.RowDue.{due_in}
+use Rattle.csi_orchestrator.specs.Private.RowChanges.{Aspect, Existence, Attachment, Staging, Publication, aspect_of, node_marked, marked_at, at_goal, nodes_marked, marked_row, is_target_kept, with_kept_targets, is_node_kept, tidied_entries, new_row, new_target_entry, with_target, held_as, entry_for, with_entry, stopped_goal, wanted_row, known_by_success_of}
+use Rattle.csi_orchestrator.specs.Private.RowRefusals.{is_last, first_fault, others_count, use_refusal, room_refusal, step_refusal, late_refusal}
+use Rattle.csi_orchestrator.specs.Private.RowSteps.{MovedRow, outgoing_by, row_moved, row_sends_due, row_rests, row_unless, is_step_met, waits, is_given_up, timed_out, failed, row_before_call, row_step}
+use Rattle.csi_orchestrator.specs.Public.RowMoves.{MovedRows, moved_rows}
+use Rattle.csi_orchestrator.specs.Private.RowMoves.{all_rows_moved, steps_at, creates, is_issued_as, row_replied, step_heard, hears_reply, receives, starts_again, row_moves}
+use Rattle.csi_orchestrator.specs.Private.Keyed.{change_by, put_by}
+use Rattle.csi_orchestrator.specs.Public.Bounds.{HasFewTargets, HasFewNodes, IsBounded, IsEntryWithin, AreWithin, IsWithin}
+use Rattle.csi_orchestrator.specs.Model.Commands.{next_number}
+use Rattle.csi_orchestrator.specs.Public.Sound.{IsNeeded, IsSoundRow, AreSoundRows, AreNodesApart}
 use Rattle.csi_orchestrator.proofs.EntryRules.{by_if, each-change, each-put}
 use Rattle.csi_orchestrator.proofs.OpenCalls.{GoesOn, step-goes}
 use Rattle.csi_orchestrator.proofs.RulesStay.{found-kept}
@@ -108,11 +111,11 @@ nodes-marked nodes mark Existence goal entries all = all
 nodes-marked nodes mark aspect goal entries all = at-goal nodes mark aspect goal entries all
 
 -- so does a row that a call's kind marks
-row-marked : (nodes : List (List ℕ)) (mark : Known) (kind : Kind) (row : RowShown) → AreWithin nodes row → AreWithin nodes (marked mark kind row)
+row-marked : (nodes : List (List ℕ)) (mark : Known) (kind : Kind) (row : RowShown) → AreWithin nodes row → AreWithin nodes (marked_row mark kind row)
 row-marked nodes mark kind row all = nodes-marked nodes mark (aspect_of kind) row.goal row.node_entries all
 
 -- entries are dropped
-all-tidied : (nodes : List (List ℕ)) (entries : List NodeEntryShown) → AllByRecursion (IsEntryWithin nodes) entries → AllByRecursion (IsEntryWithin nodes) (tidied entries)
+all-tidied : (nodes : List (List ℕ)) (entries : List NodeEntryShown) → AllByRecursion (IsEntryWithin nodes) entries → AllByRecursion (IsEntryWithin nodes) (tidied_entries entries)
 all-tidied nodes entries all =
     each-filter (IsEntryWithin nodes) is_node_kept (map with_kept_targets entries)
     (each-map (IsEntryWithin nodes) (IsEntryWithin nodes) with_kept_targets entries
@@ -180,7 +183,7 @@ WithinAfter nodes (Err fault) = Unit {0}
 sends-due-within : (nodes : List (List ℕ)) (last : Number) (row : RowShown) → AreWithin nodes row → WithinAfter nodes (row_sends_due last row)
 sends-due-within nodes last row all = by (outgoing_by (due_in row) (next_number last))
   where
-    by : (next : Result (Option Outgoing) OrchFault) → WithinAfter nodes (row_after row next)
+    by : (next : Result (Option Outgoing) OrchFault) → WithinAfter nodes (row_moved row next)
     by (Err fault) = tt
     by (Ok None) = all-tidied nodes row.node_entries all
     by (Ok (Some next)) = row-marked nodes Maybe next.kind row all
@@ -217,7 +220,7 @@ used-within nodes last usage row own all free room =
 -- so does one whose call timed out
 timed-out-within : (nodes : List (List ℕ)) (row : RowShown) (goal : Option Goal) → AreWithin nodes row → AreWithin nodes (timed_out row goal)
 timed-out-within nodes row None all = all
-timed-out-within nodes row (Some goal) all = by_if (AreWithin nodes) (is_given_up row) (wanted (stopped_goal goal) row) (closed row) (λ spent. all) (λ more. all)
+timed-out-within nodes row (Some goal) all = by_if (AreWithin nodes) (is_given_up row) (wanted_row (stopped_goal goal) row) (closed row) (λ spent. all) (λ more. all)
 
 -- so does one whose call failed
 failed-within : (nodes : List (List ℕ)) (row : RowShown) (goal : Option Goal) → AreWithin nodes row → AreWithin nodes (failed row goal)
@@ -226,10 +229,10 @@ failed-within nodes row goal all = all
 
 -- so does one that is changed by whatever step isn't refused
 changed-within : (nodes : List (List ℕ)) (last : Number) (step : Step) (row : RowShown) → IsSoundRow row → AreWithin nodes row → step_refusal nodes last step row ≡ None → late_refusal last step row ≡ None
-    → AreWithin nodes (changed step row)
+    → AreWithin nodes (row_before_call step row)
 changed-within nodes last (steps.Use usage) row own all free room = used-within nodes last usage row own all free room
 changed-within nodes last steps.TimeOut row own all free room = timed-out-within nodes row row.goal all
-changed-within nodes last (steps.Succeed kind id) row own all free room = row-marked nodes (told_of kind) kind row all
+changed-within nodes last (steps.Succeed kind id) row own all free room = row-marked nodes (known_by_success_of kind) kind row all
 changed-within nodes last steps.Fail row own all free room = failed-within nodes row row.goal all
 changed-within nodes last step row own all free room = all
 
@@ -242,9 +245,9 @@ unless-within nodes (Some fault) result f = tt
 step-within : (nodes : List (List ℕ)) (last : Number) (step : Step) (row : RowShown) → IsSoundRow row → AreWithin nodes row → WithinAfter nodes (row_step nodes last step row)
 step-within nodes last step row own all =
     unless-within nodes (step_refusal nodes last step row) _
-    (λ free. by_if (WithinAfter nodes) (is_met step row) (row_rests row) _ (λ met. all)
+    (λ free. by_if (WithinAfter nodes) (is_step_met step row) (row_rests row) _ (λ met. all)
     (λ unmet. by_if (WithinAfter nodes) (waits step row) (row_rests (closed row)) _ (λ left. all)
-    (λ on. unless-within nodes (late_refusal last step row) _ (λ room. sends-due-within nodes last (changed step row) (changed-within nodes last step row own all free room)))))
+    (λ on. unless-within nodes (late_refusal last step row) _ (λ room. sends-due-within nodes last (row_before_call step row) (changed-within nodes last step row own all free room)))))
 
 -- ---- what becomes of all the rows
 
@@ -254,13 +257,13 @@ BoundedAfter (Ok moved_rows) = IsWithin moved_rows.parts
 BoundedAfter (Err fault) = Unit {0}
 
 -- the row that is found takes a step
-found-within : (parts : Parts) (answer : Option Frame → Answer) (step : Step) (p : RowShown → Bool) (row : RowShown) → IsSound parts.rows → IsWithin parts → find p parts.rows ≡ Some row
+found-within : (parts : OrchestratorParts) (answer : Option Frame → Answer) (step : Step) (p : RowShown → Bool) (row : RowShown) → AreSoundRows parts.rows → IsWithin parts → find p parts.rows ≡ Some row
     → BoundedAfter (steps_at parts answer step (Some row))
 found-within parts answer step p row kept within e =
     by (row_step parts.nodes parts.last step row) (step-within parts.nodes parts.last step row (found-kept p parts.rows row kept e) (each_of (AreWithin parts.nodes) parts.rows row within.entries (among-find p parts.rows row e)))
     (step-goes parts.nodes parts.last step row)
   where
-    by : (result : Result MovedRow OrchFault) → WithinAfter parts.nodes result → GoesOn parts.last row result → BoundedAfter (placed parts answer result)
+    by : (result : Result MovedRow OrchFault) → WithinAfter parts.nodes result → GoesOn parts.last row result → BoundedAfter (all_rows_moved parts answer result)
     by (Err fault) all on = tt
     by (Ok moved_row) all on =
         let least = within.rows in
@@ -271,19 +274,19 @@ found-within parts answer step p row kept within e =
         }
 
 -- rows stay within the bounds where one of them is asked something, or none has the name
-asked-within : (parts : Parts) (step : Step) (name : List ℕ) → IsSound parts.rows → IsWithin parts → (o : Option RowShown) → row_of parts.rows name ≡ o → BoundedAfter (steps_at parts Sends step o)
+asked-within : (parts : OrchestratorParts) (step : Step) (name : List ℕ) → AreSoundRows parts.rows → IsWithin parts → (o : Option RowShown) → row_of parts.rows name ≡ o → BoundedAfter (steps_at parts Sends step o)
 asked-within parts step name kept within None e = tt
 asked-within parts step name kept within (Some row) e = found-within parts Sends step (λ (r : RowShown). same_text r.name name) row kept within e
 
 -- a new row goes last, where there is room for one
-creates-within : (parts : Parts) (name : List ℕ) (arguments : Arguments) → IsSound parts.rows → IsWithin parts → (o : Option RowShown) → row_of parts.rows name ≡ o → BoundedAfter (creates parts name arguments o)
+creates-within : (parts : OrchestratorParts) (name : List ℕ) (arguments : Arguments) → AreSoundRows parts.rows → IsWithin parts → (o : Option RowShown) → row_of parts.rows name ≡ o → BoundedAfter (creates parts name arguments o)
 creates-within parts name arguments kept within (Some row) e = found-within parts Sends (steps.Create arguments) (λ (r : RowShown). same_text r.name name) row kept within e
 creates-within parts name arguments kept within None e = by (first_fault parts.last parts.rows) refl
   where
     free : first_fault parts.last parts.rows ≡ None → nat_le 4096 (length parts.rows) ≡ false
     free none = (first-held (nat_le 4096 (length parts.rows)) faults.Full None (first-held (is_last parts.last) faults.NumbersSpent _ none).1).0
 
-    put-in : nat_le 4096 (length parts.rows) ≡ false → (result : Result MovedRow OrchFault) → WithinAfter parts.nodes result → BoundedAfter (placed parts Sends result)
+    put-in : nat_le 4096 (length parts.rows) ≡ false → (result : Result MovedRow OrchFault) → WithinAfter parts.nodes result → BoundedAfter (all_rows_moved parts Sends result)
     put-in room (Err fault) all = tt
     put-in room (Ok moved_row) all =
         record {
@@ -291,12 +294,12 @@ creates-within parts name arguments kept within None e = by (first_fault parts.l
           entries = each-put (AreWithin parts.nodes) (λ (r : RowShown). r.name) moved_row.row parts.rows all within.entries;
         }
 
-    by : (fault : Option OrchFault) → first_fault parts.last parts.rows ≡ fault → BoundedAfter (placed parts Sends (row_unless fault (row_sends_due parts.last (new_row name arguments))))
+    by : (fault : Option OrchFault) → first_fault parts.last parts.rows ≡ fault → BoundedAfter (all_rows_moved parts Sends (row_unless fault (row_sends_due parts.last (new_row name arguments))))
     by (Some fault) e = tt
     by None e = put-in (free e) (row_sends_due parts.last (new_row name arguments)) (sends-due-within parts.nodes parts.last (new_row name arguments) tt)
 
 -- rows stay within the bounds where a frame comes
-receives-within : (parts : Parts) (number : Number) (party : Party) (body : Body) → IsSound parts.rows → IsWithin parts → BoundedAfter (receives parts number party body)
+receives-within : (parts : OrchestratorParts) (number : Number) (party : Party) (body : Body) → AreSoundRows parts.rows → IsWithin parts → BoundedAfter (receives parts number party body)
 receives-within parts number party (bodies.Call call) kept within = within
 receives-within parts number party (bodies.Reply kind reply) kept within = by (row_replied parts.rows number party kind) refl
   where
@@ -305,9 +308,9 @@ receives-within parts number party (bodies.Reply kind reply) kept within = by (r
     by (Some row) e = found-within parts hears (step_heard kind reply) (λ (r : RowShown). is_issued_as number party kind (open_in_row r)) row kept within e
 
 -- rows stay within the bounds at a restart
-restart-within : (parts : Parts) → IsWithin parts → BoundedAfter (starts_again parts)
+restart-within : (parts : OrchestratorParts) → IsWithin parts → BoundedAfter (starts_again parts)
 restart-within parts within =
-    by_if BoundedAfter (nat_lt (parts.last.session + 1) (2 ^ 64)) (moved_rows (in_session (parts.last.session + 1) parts) Restarted) (Err faults.NumbersSpent)
+    by_if BoundedAfter (nat_lt (parts.last.session + 1) (2 ^ 64)) (moved_rows (parts_in_session (parts.last.session + 1) parts) Restarted) (Err faults.NumbersSpent)
     (λ free.
     let least = within.rows in
     let long = length-map parts.rows closed in
@@ -315,7 +318,7 @@ restart-within parts within =
     (λ spent. tt)
 
 -- rows stay within the bounds at every input
-moves-within : (parts : Parts) (input : Input) → IsSound parts.rows → IsWithin parts → BoundedAfter (row_moves parts input)
+moves-within : (parts : OrchestratorParts) (input : Input) → AreSoundRows parts.rows → IsWithin parts → BoundedAfter (row_moves parts input)
 moves-within parts (ToCreate name arguments) kept within = creates-within parts name arguments kept within (row_of parts.rows name) refl
 moves-within parts (ToUse name usage) kept within = asked-within parts (steps.Use usage) name kept within (row_of parts.rows name) refl
 moves-within parts (ToStop name node target) kept within = asked-within parts (steps.Stop node target) name kept within (row_of parts.rows name) refl
@@ -325,7 +328,7 @@ moves-within parts (Comes frame) kept within = receives-within parts frame.numbe
 moves-within parts Restarts kept within = restart-within parts within
 
 -- whatever comes, the rows stay within their bounds
-pub rows-stay-within : (parts : Parts) (input : Input) (moved_rows : MovedRows) → IsSound parts.rows → IsWithin parts → row_moves parts input ≡ Ok moved_rows → IsWithin moved_rows.parts
+pub rows-stay-within : (parts : OrchestratorParts) (input : Input) (moved_rows : MovedRows) → AreSoundRows parts.rows → IsWithin parts → row_moves parts input ≡ Ok moved_rows → IsWithin moved_rows.parts
 rows-stay-within parts input moved_rows kept within e = subst BoundedAfter e (moves-within parts input kept within)
 
 -- ---- what is told of the bounds
@@ -384,7 +387,7 @@ few-nodes nodes row own all =
     )
 
 -- what the type keeps bounds what is kept
-pub bounded : (parts : Parts) → IsSound parts.rows → IsWithin parts → IsBounded parts
+pub bounded : (parts : OrchestratorParts) → AreSoundRows parts.rows → IsWithin parts → IsBounded parts
 bounded parts kept within =
     record {
       rows = within.rows;

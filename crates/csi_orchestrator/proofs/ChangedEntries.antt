@@ -7,8 +7,8 @@ use Rattle.std.proofs.lemmas.List.Quantifiers.{position-Some}
 use Rattle.csi_lists.proofs.Options.{some_is_not_none}
 use Rattle.csi_lists.proofs.Searches.{find-no_place, find-of_map}
 use Rattle.csi_lists.proofs.Tests.{any-find}
-use Rattle.csi_types.specs.Same.{same_text}
-use Rattle.csi_orchestrator.specs.Keyed.{change_by, put_by}
+use Rattle.csi_types.specs.Model.Same.{same_text}
+use Rattle.csi_orchestrator.specs.Private.Keyed.{change_by, put_by}
 
 -- the entry of a place, and what is written there
 find-there : {R X : Type 0} (view : R → X) (p : X → Bool) (rs : List R) (i : ℕ) (r : R) → i < length rs → p (view (get_or rs i r)) ≡ true

@@ -3,8 +3,8 @@ use Rattle.std.proofs.Common.{◌≡◌, ℕ, List, Bool, true, false, cond, not
 use Rattle.std.specs.Prelude.{Option, Some, None, is_some, is_none, option_and_then, ◌&&◌, ◌||◌, nat_lt, nat_le, Result, Err}
 use Rattle.std.specs.List.{list_any}
 use Rattle.csi_types.specs.declared.number.Number.{Number}
-use Rattle.csi_types.specs.Same.{same_text, has_capability}
-use Rattle.csi_types.specs.Sharing.{allows_one_target}
+use Rattle.csi_types.specs.Model.Same.{same_text, has_capability}
+use Rattle.csi_types.specs.Model.Sharing.{allows_one_target}
 use Rattle.csi_lists.proofs.Counts.{any-counted}
 use Rattle.csi_orchestrator.specs.declared.decision.Decision.{Decision}
 use Rattle.csi_orchestrator.specs.declared.decision.Decision.TheVariants.{Refuse, Met, Wait, Send}
@@ -15,12 +15,15 @@ use Rattle.csi_orchestrator.specs.declared.request.Usage.{Usage}
 use Rattle.csi_orchestrator.specs.declared.row.TargetEntry.{TargetEntry}
 use Rattle.csi_orchestrator.specs.declared.step.Step.{Step}
 use Rattle.csi_orchestrator.specs.declared.step.Step.TheVariants as steps
-use Rattle.csi_orchestrator.specs.Thing.{is_yes, is_no}
-use Rattle.csi_orchestrator.specs.Commands.{is_for_one_node, is_second_writer}
-use Rattle.csi_orchestrator.specs.Decisions.{refused_or, decided_then, decided, is_used_at, decided_at}
-use Rattle.csi_orchestrator.specs.RowRefusals.{is_last, has_elsewhere, is_entry_otherwise, others_count, use_refusal, is_attached_somewhere, step_refusal, late_refusal}
-use Rattle.csi_orchestrator.specs.RowSteps.{MovedRow, row_sends_due, row_rests, row_unless, is_met, waits, changed, row_step}
-use Rattle.csi_orchestrator.specs.Shown.{NodeEntryShown, RowShown, node_entry_of, others_in, marks_at, use_due, closed}
+use Rattle.csi_orchestrator.specs.Model.Thing.{is_yes, is_no}
+use Rattle.csi_orchestrator.specs.Model.Commands.{is_for_one_node, uses_as_second_writer}
+use Rattle.csi_orchestrator.specs.Private.Decisions.{refused_or, decided_then, decided, is_used_at, decided_at}
+use Rattle.csi_orchestrator.specs.Private.RowRefusals.{is_last, is_entry_otherwise, others_count, use_refusal, is_attached_somewhere, step_refusal, late_refusal}
+use Rattle.csi_orchestrator.specs.Public.RowRefusals.{has_elsewhere}
+use Rattle.csi_orchestrator.specs.Private.RowSteps.{MovedRow, row_sends_due, row_rests, row_unless, is_step_met, waits, row_before_call, row_step}
+use Rattle.csi_orchestrator.specs.Model.Shown.{NodeEntryShown, RowShown, node_entry_of}
+use Rattle.csi_orchestrator.specs.Private.Shown.{closed}
+use Rattle.csi_orchestrator.specs.Public.RowDue.{others_in, marks_at, use_due}
 use Rattle.csi_orchestrator.proofs.DueCases.{attaching, staging, publishing}
 
 -- ---- what becomes of the row
@@ -30,17 +33,17 @@ abbrev pub row_decided : Decision → Number → Step → RowShown → Result Mo
 row_decided (Refuse fault) last step row = Err fault
 row_decided Met last step row = row_rests row
 row_decided Wait last step row = row_rests (closed row)
-row_decided Send last step row = row_sends_due last (changed step row)
+row_decided Send last step row = row_sends_due last (row_before_call step row)
 
 -- the step makes the same of it
 pub decision-tells : (nodes : List (List ℕ)) (last : Number) (step : Step) (row : RowShown) (decision : Decision) → decision ≡ decided nodes last step row
     → row_decided decision last step row ≡ row_step nodes last step row
 decision-tells nodes last step row decision is =
-    ap (λ (d : Decision). row_decided d last step row) is ∙ by (step_refusal nodes last step row) (is_met step row) (waits step row) (late_refusal last step row)
+    ap (λ (d : Decision). row_decided d last step row) is ∙ by (step_refusal nodes last step row) (is_step_met step row) (waits step row) (late_refusal last step row)
   where
     by : (fault : Option OrchFault) (met waiting : Bool) (late : Option OrchFault)
         → row_decided (refused_or fault (cond met Met (cond waiting Wait (refused_or late Send)))) last step row
-        ≡ row_unless fault (cond met (row_rests row) (cond waiting (row_rests (closed row)) (row_unless late (row_sends_due last (changed step row)))))
+        ≡ row_unless fault (cond met (row_rests row) (cond waiting (row_rests (closed row)) (row_unless late (row_sends_due last (row_before_call step row)))))
     by (Some fault) met waiting late = refl
     by None true waiting late = refl
     by None false true late = refl
@@ -48,8 +51,8 @@ decision-tells nodes last step row decision is =
     by None false false None = refl
 
 -- a step for which a call is sent isn't met yet
-pub sends-unmet : (nodes : List (List ℕ)) (last : Number) (step : Step) (row : RowShown) → Send ≡ decided nodes last step row → is_met step row ≡ false
-sends-unmet nodes last step row is = by (step_refusal nodes last step row) (is_met step row) is
+pub sends-unmet : (nodes : List (List ℕ)) (last : Number) (step : Step) (row : RowShown) → Send ≡ decided nodes last step row → is_step_met step row ≡ false
+sends-unmet nodes last step row is = by (step_refusal nodes last step row) (is_step_met step row) is
   where
     by : (fault : Option OrchFault) (met : Bool) → Send ≡ refused_or fault (cond met Met (cond (waits step row) Wait (refused_or (late_refusal last step row) Send))) → met ≡ false
     by (Some fault) met e = cc
@@ -124,7 +127,7 @@ none-holds made busy known able elsewhere written rest a b c d e f = rw (a, b, c
 -- what a use comes to that nothing else refuses
 pub use-decided : (nodes : List (List ℕ)) (last : Number) (usage : Usage) (row : RowShown) (entry : Option NodeEntryShown)
     → is_yes row.exists ≡ true → is_some row.goal ≡ false → list_any (same_text usage.node) nodes ≡ true → has_capability row.arguments.capabilities usage.capability ≡ true
-    → has_elsewhere (is_for_one_node usage) usage.node row ≡ false → has_elsewhere (is_second_writer usage) usage.node row ≡ false → node_entry_of row usage.node ≡ entry
+    → has_elsewhere (is_for_one_node usage) usage.node row ≡ false → has_elsewhere (uses_as_second_writer usage) usage.node row ≡ false → node_entry_of row usage.node ≡ entry
     → decided_at last usage row.id entry ≡ refused_or (use_refusal nodes usage row) (decided_then last (steps.Use usage) row)
 use-decided nodes last usage row entry made idle known able alone single is =
     let here = node_entry_of row usage.node in
@@ -137,9 +140,9 @@ use-decided nodes last usage row entry made idle known able alone single is =
     (λ (met : Bool).
     tested (is_entry_otherwise usage here) (allows_one_target usage.capability.mode && others_in usage.target here) met (is_last last) (nat_le 16 (others_count usage.target here)))
     (sym (none-due usage (marks_at row usage.node usage.target) row.id))
-    ∙ tests-first (is_entry_otherwise usage here) (allows_one_target usage.capability.mode && others_in usage.target here) (is_met (steps.Use usage) row) (is_last last) (nat_le 16 (others_count usage.target here))
+    ∙ tests-first (is_entry_otherwise usage here) (allows_one_target usage.capability.mode && others_in usage.target here) (is_step_met (steps.Use usage) row) (is_last last) (nat_le 16 (others_count usage.target here))
     ∙ ap (λ (fault : Option OrchFault). refused_or fault (decided_then last (steps.Use usage) row))
     (none-holds (is_yes row.exists) (is_some row.goal) (list_any (same_text usage.node) nodes) (has_capability row.arguments.capabilities usage.capability)
-    (has_elsewhere (is_for_one_node usage) usage.node row) (has_elsewhere (is_second_writer usage) usage.node row)
+    (has_elsewhere (is_for_one_node usage) usage.node row) (has_elsewhere (uses_as_second_writer usage) usage.node row)
     (cond (is_entry_otherwise usage here) (Some faults.HeldOtherwise) (cond (allows_one_target usage.capability.mode && others_in usage.target here) (Some faults.TargetTaken) None))
     made idle known able alone single)

@@ -5,7 +5,7 @@ use Rattle.std.specs.List.{list_any}
 use Rattle.std.proofs.lemmas.Bool.{false≢true}
 use Rattle.std.proofs.lemmas.List.Folds.{list_any-append}
 use Rattle.csi_types.specs.declared.number.Number.{Number}
-use Rattle.csi_types.specs.Same.{same_text}
+use Rattle.csi_types.specs.Model.Same.{same_text}
 use Rattle.csi_orchestrator.specs.declared.decision.Decision.TheVariants.{Send}
 use Rattle.csi_orchestrator.specs.declared.sending.Outgoing.{Outgoing}
 use Rattle.csi_orchestrator.specs.declared.row.Goal.TheVariants.{Use}
@@ -14,13 +14,14 @@ use Rattle.csi_orchestrator.specs.declared.request.Usage.{Usage}
 use Rattle.csi_orchestrator.specs.declared.step.Step.{Step}
 use Rattle.csi_orchestrator.specs.declared.step.Step.TheVariants as steps
 use Rattle.csi_orchestrator.specs.declared.thing.Thing.TheVariants.{Attached, Staged, Published}
-use Rattle.csi_orchestrator.specs.Thing.{is_no}
-use Rattle.csi_orchestrator.specs.Commands.{next_number}
-use Rattle.csi_orchestrator.specs.Due.{Due}
-use Rattle.csi_orchestrator.specs.RowChanges.{wanted, with_entry, entry_for, with_target, new_target_entry}
-use Rattle.csi_orchestrator.specs.Shown.{NodeEntryShown, RowShown, node_entry_of, others_in, marks_at, use_due, due_with, due_in}
-use Rattle.csi_orchestrator.specs.Decisions.{decided}
-use Rattle.csi_orchestrator.specs.RowSteps.{outgoing_by, row_after, row_sends_due, due_for_use, is_met, needs_entry, changed, row_step, SendsNothing}
+use Rattle.csi_orchestrator.specs.Model.Thing.{is_no}
+use Rattle.csi_orchestrator.specs.Model.Commands.{next_number}
+use Rattle.csi_orchestrator.specs.Model.Due.{Due}
+use Rattle.csi_orchestrator.specs.Private.RowChanges.{wanted_row, with_entry, entry_for, with_target, new_target_entry}
+use Rattle.csi_orchestrator.specs.Model.Shown.{NodeEntryShown, RowShown, node_entry_of}
+use Rattle.csi_orchestrator.specs.Public.RowDue.{others_in, marks_at, use_due, due_with, due_by, due_in}
+use Rattle.csi_orchestrator.specs.Private.Decisions.{decided}
+use Rattle.csi_orchestrator.specs.Private.RowSteps.{outgoing_by, row_moved, row_sends_due, is_step_met, needs_entry, row_before_call, row_step, SendsNothing}
 use Rattle.csi_orchestrator.proofs.DecisionsTold.{decision-tells, sends-unmet}
 use Rattle.csi_orchestrator.proofs.TextLists.{text-same}
 use Rattle.csi_orchestrator.proofs.RowsAfterNotes.{mark-with-entry, entry-there}
@@ -81,16 +82,16 @@ marks-with-entry usage row =
     cc
 
 -- the call that is due once a use is wanted, by the row before
-pub due-used : (usage : Usage) (row : RowShown) → due_in (wanted (Use usage) (with_entry usage row)) ≡ due_for_use usage row
+pub due-used : (usage : Usage) (row : RowShown) → due_in (wanted_row (Use usage) (with_entry usage row)) ≡ due_by row (Some (Use usage))
 due-used usage row = ap (λ marks. due_with row.name row.arguments row.id marks (Use usage)) (marks-with-entry usage row)
 
 -- the same, by the volume's id
 pub due-used-by : (usage : Usage) (row : RowShown) (id : Option ℕ) → row.id ≡ id
-    → option_and_then (use_due usage (marks_at row usage.node usage.target)) id ≡ due_in (wanted (Use usage) (with_entry usage row))
+    → option_and_then (use_due usage (marks_at row usage.node usage.target)) id ≡ due_in (wanted_row (Use usage) (with_entry usage row))
 due-used-by usage row id is = ap (option_and_then (use_due usage (marks_at row usage.node usage.target))) (sym is) ∙ sym (due-used usage row)
 
 -- where a call is due, one is sent
-sends-due : (row : RowShown) (due : Option Due) (number : Option Number) → SendsNothing (row_after row (outgoing_by due number)) → is_none due ≡ true
+sends-due : (row : RowShown) (due : Option Due) (number : Option Number) → SendsNothing (row_moved row (outgoing_by due number)) → is_none due ≡ true
 sends-due row None number nothing = refl
 sends-due row (Some due) None nothing = absurd nothing
 sends-due row (Some due) (Some number) nothing = absurd (clash _ nothing)
@@ -99,14 +100,14 @@ sends-due row (Some due) (Some number) nothing = absurd (clash _ nothing)
     clash next e = cc
 
 -- so for a use that isn't met yet one is sent
-needs-none : (last : Number) (step : Step) (row : RowShown) → is_met step row ≡ false → SendsNothing (row_sends_due last (changed step row)) → needs_entry step ≡ false
+needs-none : (last : Number) (step : Step) (row : RowShown) → is_step_met step row ≡ false → SendsNothing (row_sends_due last (row_before_call step row)) → needs_entry step ≡ false
 needs-none last (steps.Use usage) row unmet nothing =
-    absurd (false≢true (sym unmet ∙ ap is_none (sym (due-used usage row)) ∙ sends-due (changed (steps.Use usage) row) (due_in (changed (steps.Use usage) row)) (next_number last) nothing))
+    absurd (false≢true (sym unmet ∙ ap is_none (sym (due-used usage row)) ∙ sends-due (row_before_call (steps.Use usage) row) (due_in (row_before_call (steps.Use usage) row)) (next_number last) nothing))
 needs-none last step row unmet nothing = refl
 
 -- where a call is to be sent for a step, but nothing is sent, no entry is needed, and nothing is due
 pub goes-quietly : (nodes : List (List ℕ)) (last : Number) (step : Step) (row : RowShown) → Send ≡ decided nodes last step row → SendsNothing (row_step nodes last step row)
-    → (needs_entry step ≡ false) × SendsNothing (row_sends_due last (changed step row))
+    → (needs_entry step ≡ false) × SendsNothing (row_sends_due last (row_before_call step row))
 goes-quietly nodes last step row is nothing =
     let quiet = subst SendsNothing (sym (decision-tells nodes last step row Send is)) nothing in
     (needs-none last step row (sends-unmet nodes last step row is) quiet, quiet)

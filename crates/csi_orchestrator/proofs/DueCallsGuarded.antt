@@ -3,27 +3,29 @@ use Rattle.std.proofs.Common.{◌≡◌, ◌≢◌, ℕ, List, Bool, true, false
 use Rattle.std.specs.Prelude.{Option, Some, None, option_map, ◌&&◌}
 use Rattle.std.specs.List.{AllByRecursion}
 use Rattle.std.proofs.lemmas.Bool.{false≢true, true_from_ne_false, or_parts}
-use Rattle.csi_types.specs.Holding.{CanHoldBoth}
-use Rattle.csi_lists.specs.Members.{IsAmong}
+use Rattle.csi_types.specs.Public.Holding.{CanHoldBoth}
+use Rattle.csi_lists.specs.Model.Members.{IsAmong}
 use Rattle.csi_lists.proofs.Members.{among-find, each_of, some-has}
 use Rattle.csi_lists.proofs.Searches.{find-passes}
 use Rattle.std.proofs.lemmas.Option.{same_Some, none-some}
 use Rattle.csi_lists.proofs.Tests.{then-any}
-use Rattle.csi_types.specs.Same.{same_text}
-use Rattle.csi_types.specs.Sharing.{is_single_node}
+use Rattle.csi_types.specs.Model.Same.{same_text}
+use Rattle.csi_types.specs.Model.Sharing.{is_single_node}
 use Rattle.csi_types.proofs.Equality.{same_text-tells}
 use Rattle.csi_orchestrator.specs.declared.thing.Thing.{Thing}
 use Rattle.csi_orchestrator.specs.declared.thing.Thing.TheVariants.{Exists, Attached, Staged, Published}
 use Rattle.csi_orchestrator.specs.declared.thing.Known.TheVariants.{Yes, No}
-use Rattle.csi_orchestrator.specs.Thing.{name_in, is_yes, is_no}
-use Rattle.csi_orchestrator.specs.History.{Usage, Held, History}
-use Rattle.csi_orchestrator.specs.Readings.{known, held, open_call}
-use Rattle.csi_orchestrator.specs.Due.{Due}
-use Rattle.csi_orchestrator.specs.Commands.{is_for_one_node, is_second_writer}
-use Rattle.csi_orchestrator.specs.Guards.{CanBeHeldToo, holding_by, IsGuarded, MayIssue}
-use Rattle.csi_orchestrator.specs.Shown.{NodeEntryShown, RowShown, node_entry_of, mark_in, published_in, mark_of, held_at, others_in, due_in, AreTargetsApart}
-use Rattle.csi_orchestrator.specs.RowRefusals.{is_so_elsewhere, has_elsewhere}
-use Rattle.csi_orchestrator.specs.Sound.{IsUsable, MayBeWanted}
+use Rattle.csi_orchestrator.specs.Model.Thing.{name_in, is_yes, is_no}
+use Rattle.csi_orchestrator.specs.Model.History.{Usage, Held, History}
+use Rattle.csi_orchestrator.specs.Model.Readings.{known, held, open_call}
+use Rattle.csi_orchestrator.specs.Model.Due.{Due}
+use Rattle.csi_orchestrator.specs.Model.Commands.{is_for_one_node, uses_as_second_writer}
+use Rattle.csi_orchestrator.specs.Public.Guards.{CanBeHeldToo, holding_by, IsGuarded, MayIssue}
+use Rattle.csi_orchestrator.specs.Model.Shown.{NodeEntryShown, RowShown, node_entry_of, mark_in, publication_known, mark_of, held_at}
+use Rattle.csi_orchestrator.specs.Public.Shown.{AreTargetsApart}
+use Rattle.csi_orchestrator.specs.Public.RowDue.{others_in, due_in}
+use Rattle.csi_orchestrator.specs.Public.RowRefusals.{is_so_elsewhere, has_elsewhere}
+use Rattle.csi_orchestrator.specs.Public.Sound.{IsUsable, MayBeWanted}
 use Rattle.csi_orchestrator.proofs.DueCases.{IsDueFor, due-cases, ToMake, ToRemove, ToAttach, ToStage, ToPublish, ToUnpublish, ToUnstage, ToDetach}
 use Rattle.csi_orchestrator.proofs.InUse.{in-use-alike, target-in-use}
 use Rattle.csi_orchestrator.proofs.KnownTests.{yes_is_yes, no_is_no, not_yes, not_no, yes_not_no, is_not_no}
@@ -97,7 +99,7 @@ shared-so row history usage id told usable other there apart maybe holds = by (n
     alike entry e same =
         let modes = or_parts (is_single_node there.capability.mode) (is_single_node usage.capability.mode)
         (ap (is_for_one_node usage) (sym same) ∙ not-so row (is_for_one_node usage) usage.node other entry usable.shared e apart (attached entry e)) in
-        let writers = ap (is_second_writer usage) (sym same) ∙ not-so row (is_second_writer usage) usage.node other entry usable.one_writer e apart (attached entry e) in
+        let writers = ap (uses_as_second_writer usage) (sym same) ∙ not-so row (uses_as_second_writer usage) usage.node other entry usable.one_writer e apart (attached entry e) in
         inr (record { apart = apart; first_shared = ap not modes.0; second_shared = ap not modes.1; no_second_writer = ap not writers })
 
     by : (o : Option NodeEntryShown) → node_entry_of row other ≡ o → option_map held_at o ≡ Some there → CanHoldBoth (holding_by id other there) (holding_by id usage.node (held-so usage))
@@ -114,7 +116,7 @@ held-there row history usage told usable e =
 
 -- no target of the node is published where the goal's own isn't, and no other is
 quiet-targets : (row : RowShown) (history : History) (node target other : List ℕ) → IsRowOf row history row.name → AllByRecursion AreTargetsApart row.node_entries
-    → is_no (mark_in (published_in target) (node_entry_of row node)) ≡ true → others_in target (node_entry_of row node) ≡ false → known history (Published row.name node other) ≡ No
+    → is_no (mark_in (publication_known target) (node_entry_of row node)) ≡ true → others_in target (node_entry_of row node) ≡ false → known history (Published row.name node other) ≡ No
 quiet-targets row history node target other told apart this others =
     no_is_no _ (true_from_ne_false _ (λ maybe.
     false≢true (sym (in-use-alike row history row.name node target told apart this ∙ others) ∙ some-has _ other (target-in-use history row.name node other maybe))))

@@ -4,12 +4,14 @@ use Rattle.std.specs.Prelude.{Option, Some, None, option_and_then}
 use Rattle.std.proofs.lemmas.Option.{same_Some, none-some}
 use Rattle.csi_types.specs.declared.call.Call.TheVariants as calls
 use Rattle.csi_types.specs.declared.call.Party.TheVariants.{Controller, Node}
+use Rattle.csi_types.specs.Model.Call.{kind_of}
 use Rattle.csi_orchestrator.specs.declared.row.Goal.{Goal}
 use Rattle.csi_orchestrator.specs.declared.row.Goal.TheVariants.{Create, Use, Stop, Delete}
 use Rattle.csi_orchestrator.specs.declared.request.Usage.{Usage}
-use Rattle.csi_orchestrator.specs.Thing.{is_yes, is_no}
-use Rattle.csi_orchestrator.specs.Due.{Due}
-use Rattle.csi_orchestrator.specs.Shown.{RowShown, marks_for, due_by, due_in, use_due, stop_due, delete_due}
+use Rattle.csi_orchestrator.specs.Model.Thing.{is_yes, is_no}
+use Rattle.csi_orchestrator.specs.Model.Due.{Due, call_for}
+use Rattle.csi_orchestrator.specs.Model.Shown.{RowShown, goal_in}
+use Rattle.csi_orchestrator.specs.Public.RowDue.{marks_for, due_by, due_in, use_due, stop_due, delete_due}
 
 -- the eight calls
 abbrev pub making : RowShown → Due
@@ -124,3 +126,14 @@ due-cases row due is = by row.goal refl is
     by (Some (Use usage)) e is = by-use row due usage e row.id refl is
     by (Some (Stop node target)) e is = by-stop row due node target e row.id refl is
     by (Some Delete) e is = by-delete row due e row.id refl is
+
+-- the call that is due is the one of its kind for the row's goal
+pub spelled : (row : RowShown) (due : Due) → IsDueFor row due → call_for row.name (goal_in row) row.id (kind_of due.call) ≡ Some due
+spelled row _ (ToMake goal e) = rw goal refl
+spelled row _ (ToRemove id goal own e) = rw (goal, own) refl
+spelled row _ (ToAttach usage id goal own a) = rw (goal, own) refl
+spelled row _ (ToStage usage id goal own a s) = rw (goal, own) refl
+spelled row _ (ToPublish usage id goal own a s p) = rw (goal, own) refl
+spelled row _ (ToUnpublish node target id goal own p) = rw (goal, own) refl
+spelled row _ (ToUnstage node target id goal own p o s) = rw (goal, own) refl
+spelled row _ (ToDetach node target id goal own p o s a) = rw (goal, own) refl

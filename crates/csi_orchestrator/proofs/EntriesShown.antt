@@ -3,7 +3,7 @@ use Rattle.std.proofs.Common.{◌≡◌, ◌<◌, ◌≤◌, ◌+◌, ℕ, zero,
 use Rattle.std.specs.Prelude.{Some, None, count_by, position, ◌||◌}
 use Rattle.std.specs.List.{list_any}
 use Rattle.std.proofs.lemmas.List.Sums.{count_by_more_yes, count_by_more_no}
-use Rattle.csi_lists.specs.Places.{FirstAt}
+use Rattle.csi_lists.specs.Public.Places.{FirstAt}
 use Rattle.csi_lists.proofs.Places.{position-first, position-none}
 
 -- this one passes

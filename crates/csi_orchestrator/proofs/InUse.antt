@@ -5,28 +5,31 @@ use Rattle.std.specs.List.{AllByRecursion, list_any}
 use Rattle.std.proofs.lemmas.Bool.{false≢true, false_from_ne_true, and_parts, not-true}
 use Rattle.std.proofs.lemmas.List.Sums.{length-filter}
 use Rattle.std.proofs.lemmas.Option.{same_Some}
-use Rattle.csi_lists.specs.Members.{IsAmong}
+use Rattle.csi_lists.specs.Model.Members.{IsAmong}
 use Rattle.csi_lists.proofs.Members.{among-find, each_of, all_of, in_filter, among-kept, in-filter_map, empty-where, among-filter_map, has-some, some-has}
 use Rattle.csi_lists.proofs.Pairs.{two-filter}
 use Rattle.csi_lists.proofs.Searches.{find-passes}
 use Rattle.csi_lists.proofs.Tests.{alike, then-any, any-then}
 use Rattle.csi_lists.proofs.Counts.{any-counted}
 use Rattle.csi_lists.proofs.Filters.{filter-each}
-use Rattle.csi_types.specs.Same.{same_text}
+use Rattle.csi_types.specs.Model.Same.{same_text}
 use Rattle.csi_types.proofs.Equality.{same_text-tells}
 use Rattle.csi_orchestrator.specs.declared.row.TargetEntry.{TargetEntry}
 use Rattle.csi_orchestrator.specs.declared.thing.Known.{Known}
 use Rattle.csi_orchestrator.specs.declared.thing.Known.TheVariants.{Yes, No, Maybe}
 use Rattle.csi_orchestrator.specs.declared.thing.Thing.{Thing}
 use Rattle.csi_orchestrator.specs.declared.thing.Thing.TheVariants.{Attached, Published}
-use Rattle.csi_orchestrator.specs.Thing.{Issued, name_in, thing_of, is_thing, touches, is_no}
-use Rattle.csi_orchestrator.specs.History.{Usage, Held, History}
-use Rattle.csi_orchestrator.specs.Readings.{known, known_by, held, issued_in, issued_of, distinct}
-use Rattle.csi_orchestrator.specs.Due.{attached_node, nodes_in_use, published_target, targets_in_use}
-use Rattle.csi_orchestrator.specs.Commands.{held_elsewhere, is_otherwise, is_held_otherwise}
-use Rattle.csi_orchestrator.specs.Shown.{NodeEntryShown, RowShown, node_entry_of, target_entry_of, mark_in, published_in, held_at, others_in, AreTargetsApart}
-use Rattle.csi_orchestrator.specs.Sound.{AreNodesApart}
-use Rattle.csi_orchestrator.specs.RowRefusals.{is_so_elsewhere, has_elsewhere, is_entry_otherwise, others_count, is_attached_somewhere}
+use Rattle.csi_orchestrator.specs.Model.Thing.{Issued, name_in, thing_of, is_thing, touches, is_no}
+use Rattle.csi_orchestrator.specs.Model.History.{Usage, Held, History}
+use Rattle.csi_orchestrator.specs.Model.Readings.{known, known_by, held, issued_in, issued_of, distinct}
+use Rattle.csi_orchestrator.specs.Model.Due.{attached_node, nodes_in_use, published_target, targets_in_use}
+use Rattle.csi_orchestrator.specs.Model.Commands.{held_elsewhere, is_otherwise, is_held_otherwise}
+use Rattle.csi_orchestrator.specs.Model.Shown.{NodeEntryShown, RowShown, node_entry_of, target_entry_of, mark_in, publication_known, held_at}
+use Rattle.csi_orchestrator.specs.Public.Shown.{AreTargetsApart}
+use Rattle.csi_orchestrator.specs.Public.RowDue.{others_in}
+use Rattle.csi_orchestrator.specs.Public.Sound.{AreNodesApart}
+use Rattle.csi_orchestrator.specs.Public.RowRefusals.{is_so_elsewhere, has_elsewhere}
+use Rattle.csi_orchestrator.specs.Private.RowRefusals.{is_entry_otherwise, others_count, is_attached_somewhere}
 use Rattle.csi_orchestrator.proofs.ViewsFollow.{touches-name}
 use Rattle.csi_orchestrator.proofs.JoinedLists.{own-entry}
 use Rattle.csi_orchestrator.proofs.RowViews.{IsRowOf}
@@ -168,20 +171,20 @@ others-alike row history name node target own apart = by (node_entry_of row node
     targets = filter (λ t. not (same_text t target)) (targets_in_use history name node)
 
     -- a target among them is another one, and may be published
-    may : (t : List ℕ) → IsAmong t targets → (not (same_text t target) ≡ true) × (is_no (mark_in (published_in t) (node_entry_of row node)) ≡ false)
+    may : (t : List ℕ) → IsAmong t targets → (not (same_text t target) ≡ true) × (is_no (mark_in (publication_known t) (node_entry_of row node)) ≡ false)
     may t among =
         let other = among-kept (λ t. not (same_text t target)) (targets_in_use history name node) t among in
         (other.1, ap is_no (own.marks (Published name node t) refl) ∙ target-may history name node t other.0)
 
     by : (o : Option NodeEntryShown) → node_entry_of row node ≡ o → length targets ≡ others_count target o
-    by None e = ap length (empty-where targets (λ t among. false≢true (sym (may t among).1 ∙ ap (λ o. is_no (mark_in (published_in t) o)) e)))
+    by None e = ap length (empty-where targets (λ t among. false≢true (sym (may t among).1 ∙ ap (λ o. is_no (mark_in (publication_known t) o)) e)))
     by (Some node_entry) e =
         as-many-as targets (λ (a : TargetEntry). a.target) (filter is_other node_entry.target_entries)
         (two-filter (λ (a b : List ℕ). same_text a b ≡ false) (λ t. not (same_text t target)) _
         (two-filter (λ (a b : List ℕ). same_text a b ≡ false) (λ (t : List ℕ). not (is_no (known history (Published name node t)))) _
         (distinct-once (filter_map (λ (i : Issued). published_target node (thing_of i)) (issued_of history name)))))
         (two-filter (λ (a b : TargetEntry). same_text a.target b.target ≡ false) is_other node_entry.target_entries targets_apart)
-        (λ t among. let it = may t among in entry t it.0 (target_entry_of node_entry t) refl (sym (ap (λ o. is_no (mark_in (published_in t) o)) e) ∙ it.1)) from ∙ length-filter is_other node_entry.target_entries
+        (λ t among. let it = may t among in entry t it.0 (target_entry_of node_entry t) refl (sym (ap (λ o. is_no (mark_in (publication_known t) o)) e) ∙ it.1)) from ∙ length-filter is_other node_entry.target_entries
       where
         is_other : TargetEntry → Bool
         is_other target_entry = not (same_text target_entry.target target) && not (is_no target_entry.published)
@@ -201,7 +204,7 @@ others-alike row history name node target own apart = by (node_entry_of row node
         from target_entry among =
             let kept = among-kept is_other node_entry.target_entries target_entry among in
             let parts = and_parts (not (same_text target_entry.target target)) (not (is_no target_entry.published)) kept.1 in
-            let mark : mark_in (published_in target_entry.target) (node_entry_of row node) ≡ target_entry.published = ap (mark_in (published_in target_entry.target)) e ∙ ap (mark_in (λ (a : TargetEntry). a.published)) (own-entry (λ (a : TargetEntry). a.target) node_entry.target_entries target_entry targets_apart kept.0) in
+            let mark : mark_in (publication_known target_entry.target) (node_entry_of row node) ≡ target_entry.published = ap (mark_in (publication_known target_entry.target)) e ∙ ap (mark_in (λ (a : TargetEntry). a.published)) (own-entry (λ (a : TargetEntry). a.target) node_entry.target_entries target_entry targets_apart kept.0) in
             in_filter (λ t. not (same_text t target)) (targets_in_use history name node) target_entry.target
             (target-in-use history name node target_entry.target (ap is_no (sym (own.marks (Published name node target_entry.target) refl) ∙ mark) ∙ not-true _ parts.1)) parts.0
 
@@ -212,7 +215,7 @@ others-counted target (Some node_entry) = any-counted (λ (a : TargetEntry). not
 
 -- where this target isn't published, some target is in use where another one may be published
 pub in-use-alike : (row : RowShown) (history : History) (name node target : List ℕ) → IsRowOf row history name → AllByRecursion AreTargetsApart row.node_entries
-    → is_no (mark_in (published_in target) (node_entry_of row node)) ≡ true → nat_lt 0 (length (targets_in_use history name node)) ≡ others_in target (node_entry_of row node)
+    → is_no (mark_in (publication_known target) (node_entry_of row node)) ≡ true → nat_lt 0 (length (targets_in_use history name node)) ≡ others_in target (node_entry_of row node)
 in-use-alike row history name node target own apart quiet =
     ap (λ ts. nat_lt 0 (length ts)) (sym (filter-each (λ t. not (same_text t target)) _ (all_of _ (targets_in_use history name node) others)))
     ∙ ap (nat_lt 0) (others-alike row history name node target own apart) ∙ others-counted target (node_entry_of row node)

@@ -3,7 +3,7 @@ use Rattle.std.proofs.Common.{◌≡◌, ◌≢◌, true, false, sym, ◌∙◌,
 use Rattle.std.proofs.lemmas.Bool.{false≢true, false_from_ne_true}
 use Rattle.csi_orchestrator.specs.declared.thing.Known.{Known}
 use Rattle.csi_orchestrator.specs.declared.thing.Known.TheVariants.{Yes, No, Maybe}
-use Rattle.csi_orchestrator.specs.Thing.{is_yes, is_no}
+use Rattle.csi_orchestrator.specs.Model.Thing.{is_yes, is_no}
 
 -- what passes the test for Yes is Yes
 pub yes_is_yes : (k : Known) → is_yes k ≡ true → k ≡ Yes

@@ -7,13 +7,14 @@ use Rattle.std.proofs.lemmas.Bool.Decides.{eqb_tells}
 use Rattle.std.proofs.lemmas.List.{length-map}
 use Rattle.std.proofs.lemmas.Option.{none-some, slice_get_cases, same_Some}
 use Rattle.indexmap.specs.IndexMap.{IndexMap, values, get, spare, index_map_len, Updates}
-use Rattle.csi_lists.specs.Places.{IsAt}
+use Rattle.csi_lists.specs.Public.Places.{IsAt}
 use Rattle.csi_lists.proofs.Places.{same-at}
-use Rattle.csi_types.specs.declared.number.Number.{Number}
+use Rattle.csi_orchestrator.specs.declared.row.OpenCall.{OpenCall}
 use Rattle.csi_orchestrator.specs.declared.row.Row.{Row}
 use Rattle.csi_orchestrator.specs.declared.catalog.Catalog.{Catalog}
-use Rattle.csi_orchestrator.specs.Catalog.{rows_of, by_name, place_noted, HasRoom, IsNoted, IsNotedWith, IsIndexed, IsClosedAt}
-use Rattle.csi_orchestrator.specs.Shown.{without_call}
+use Rattle.csi_orchestrator.specs.Public.Catalog.{rows_of, by_name, place_noted, HasRoomForCalls, IsNoted, IsIndexed}
+use Rattle.csi_orchestrator.specs.Private.Catalog.{IsNotedWith, IsClosedAt}
+use Rattle.csi_orchestrator.specs.Private.Shown.{without_call}
 use Rattle.csi_orchestrator.proofs.RowsUnderNames.{rows-within}
 use Rattle.csi_orchestrator.proofs.ListPlaces.{at-of_get, get-of_at, at-within, all-mapped}
 
@@ -41,26 +42,26 @@ noted-cases old new call place other updates = by (eqb_tells call other)
 -- those of the first rows are noted, and no other
 pub record Renewed (old : Catalog) (k : ℕ) (now : Catalog) : Type 0 where
   pub rows : now.rows ≡ old.rows
-  pub all : (place : ℕ) (row : Row) (number : Number) → IsAt (rows_of old) place row → row.open_number ≡ Some number → place < k → place_noted now number.call ≡ Some place
+  pub all : (place : ℕ) (row : Row) (kept : OpenCall) → IsAt (rows_of old) place row → row.open_call ≡ Some kept → place < k → place_noted now kept.number.call ≡ Some place
   pub only : (call place : ℕ) → place_noted now call ≡ Some place → (place < k) × (place_noted old call ≡ Some place)
   pub count : index_map_len now.calls ≤ k
   pub room : index_map_len old.calls + spare old.calls ≤ index_map_len now.calls + spare now.calls
 
 -- another call of the map has no place that the call of this row has
-unnoted : (old now : Catalog) (k : ℕ) (row : Row) (number : Number) → IsNoted old → Renewed old k now → IsAt (rows_of old) k row → row.open_number ≡ Some number → place_noted now number.call ≡ None
-unnoted old now k row number noted renewed at is_open = by (place_noted now number.call) refl
+unnoted : (old now : Catalog) (k : ℕ) (row : Row) (kept : OpenCall) → IsNoted old → Renewed old k now → IsAt (rows_of old) k row → row.open_call ≡ Some kept → place_noted now kept.number.call ≡ None
+unnoted old now k row kept noted renewed at is_open = by (place_noted now kept.number.call) refl
   where
-    by : (o : Option ℕ) → place_noted now number.call ≡ o → o ≡ None
+    by : (o : Option ℕ) → place_noted now kept.number.call ≡ o → o ≡ None
     by None e = refl
     by (Some place) e =
-        let before = renewed.only number.call place e in
-        let same : place ≡ k = same_Some place k (sym before.1 ∙ noted.found k row number at is_open) in
+        let before = renewed.only kept.number.call place e in
+        let same : place ≡ k = same_Some place k (sym before.1 ∙ noted.found k row kept at is_open) in
         let below = before.0 in
         absurd (omega (arith, same, below))
 
 -- once the call of the next row is noted, if it has one, those of one more row are
-pub renewed-more : (old now then : Catalog) (k : ℕ) (row : Row) → IsNoted old → Renewed old k now → IsAt (rows_of old) k row → then.rows ≡ now.rows → IsNotedWith k row.open_number now then → Renewed old (k + 1) then
-renewed-more old now then k row noted renewed at rows more = by row.open_number refl more
+pub renewed-more : (old now then : Catalog) (k : ℕ) (row : Row) → IsNoted old → Renewed old k now → IsAt (rows_of old) k row → then.rows ≡ now.rows → IsNotedWith k row.open_call now then → Renewed old (k + 1) then
+renewed-more old now then k row noted renewed at rows more = by row.open_call refl more
   where
     below_cases : (place : ℕ) → place < k + 1 → (place < k) ⊎ (place ≡ k)
     below_cases place below = split (eqb_tells place k)
@@ -72,57 +73,57 @@ renewed-more old now then k row noted renewed at rows more = by row.open_number 
     own : (place : ℕ) (other : Row) → IsAt (rows_of old) place other → place ≡ k → other ≡ row
     own place other there same = same-at (rows_of old) k other row (subst (λ (n : ℕ). IsAt (rows_of old) n other) same there) at
 
-    by : (o : Option Number) → row.open_number ≡ o → IsNotedWith k o now then → Renewed old (k + 1) then
+    by : (o : Option OpenCall) → row.open_call ≡ o → IsNotedWith k o now then → Renewed old (k + 1) then
     by None none same =
         let calls : (call : ℕ) → place_noted then call ≡ place_noted now call = λ call. ap (λ (m : IndexMap ℕ ℕ _). get nat_eq m call) same in
         let count = renewed.count in
         record {
           rows = rows ∙ renewed.rows;
-          all = λ place other number there is_open below. step place other number there is_open (below_cases place below);
+          all = λ place other kept there is_open below. step place other kept there is_open (below_cases place below);
           only = λ call place is. let before = renewed.only call place (sym (calls call) ∙ is) in let inside = before.0 in (omega (arith, inside), before.1);
           count = subst (λ (m : IndexMap ℕ ℕ _). index_map_len m ≤ k + 1) (sym same) (omega (arith, count));
           room = subst (λ (m : IndexMap ℕ ℕ _). index_map_len old.calls + spare old.calls ≤ index_map_len m + spare m) (sym same) renewed.room;
         }
       where
-        step : (place : ℕ) (other : Row) (number : Number) → IsAt (rows_of old) place other → other.open_number ≡ Some number → (place < k) ⊎ (place ≡ k) → place_noted then number.call ≡ Some place
-        step place other number there is_open (inl below) = ap (λ (m : IndexMap ℕ ℕ _). get nat_eq m number.call) same ∙ renewed.all place other number there is_open below
-        step place other number there is_open (inr is) = absurd (none-some number (sym none ∙ sym (ap (λ (r : Row). r.open_number) (own place other there is)) ∙ is_open))
-    by (Some number) is more =
-        let new = unnoted old now k row number noted renewed at is in
+        step : (place : ℕ) (other : Row) (kept : OpenCall) → IsAt (rows_of old) place other → other.open_call ≡ Some kept → (place < k) ⊎ (place ≡ k) → place_noted then kept.number.call ≡ Some place
+        step place other kept there is_open (inl below) = ap (λ (m : IndexMap ℕ ℕ _). get nat_eq m kept.number.call) same ∙ renewed.all place other kept there is_open below
+        step place other kept there is_open (inr is) = absurd (none-some kept (sym none ∙ sym (ap (λ (r : Row). r.open_call) (own place other there is)) ∙ is_open))
+    by (Some kept) is more =
+        let new = unnoted old now k row kept noted renewed at is in
         let long = more.2 new in
         let used = more.1 in
         let count = renewed.count in
         let room = renewed.room in
         record {
           rows = rows ∙ renewed.rows;
-          all = λ place other own_number there is_open below. step place other own_number there is_open (below_cases place below);
-          only = λ call place is. before call place is (noted-cases now.calls then.calls number.call k call more.0);
+          all = λ place other own_kept there is_open below. step place other own_kept there is_open (below_cases place below);
+          only = λ call place is. before call place is (noted-cases now.calls then.calls kept.number.call k call more.0);
           count = omega (arith, long, count);
           room = omega (arith, long, used, room);
         }
       where
-        step : (place : ℕ) (other : Row) (own_number : Number) → IsAt (rows_of old) place other → other.open_number ≡ Some own_number → (place < k) ⊎ (place ≡ k) → place_noted then own_number.call ≡ Some place
-        step place other own_number there is_open (inl below) = pick (noted-cases now.calls then.calls number.call k own_number.call more.0)
+        step : (place : ℕ) (other : Row) (own_kept : OpenCall) → IsAt (rows_of old) place other → other.open_call ≡ Some own_kept → (place < k) ⊎ (place ≡ k) → place_noted then own_kept.number.call ≡ Some place
+        step place other own_kept there is_open (inl below) = pick (noted-cases now.calls then.calls kept.number.call k own_kept.number.call more.0)
           where
-            held : place_noted now own_number.call ≡ Some place
-            held = renewed.all place other own_number there is_open below
+            held : place_noted now own_kept.number.call ≡ Some place
+            held = renewed.all place other own_kept there is_open below
 
-            pick : ((number.call ≡ own_number.call) × (place_noted then own_number.call ≡ Some k)) ⊎ ((number.call ≡ own_number.call → ⊥) × (place_noted then own_number.call ≡ place_noted now own_number.call)) → place_noted then own_number.call ≡ Some place
-            pick (inl p) = absurd (none-some place (sym (unnoted old now k row number noted renewed at is) ∙ ap (place_noted now) p.0 ∙ held))
+            pick : ((kept.number.call ≡ own_kept.number.call) × (place_noted then own_kept.number.call ≡ Some k)) ⊎ ((kept.number.call ≡ own_kept.number.call → ⊥) × (place_noted then own_kept.number.call ≡ place_noted now own_kept.number.call)) → place_noted then own_kept.number.call ≡ Some place
+            pick (inl p) = absurd (none-some place (sym (unnoted old now k row kept noted renewed at is) ∙ ap (place_noted now) p.0 ∙ held))
             pick (inr p) = p.1 ∙ held
-        step place other own_number there is_open (inr at_k) = pick (noted-cases now.calls then.calls number.call k own_number.call more.0)
+        step place other own_kept there is_open (inr at_k) = pick (noted-cases now.calls then.calls kept.number.call k own_kept.number.call more.0)
           where
-            same : number ≡ own_number
-            same = same_Some number own_number (sym is ∙ sym (ap (λ (r : Row). r.open_number) (own place other there at_k)) ∙ is_open)
+            same : kept ≡ own_kept
+            same = same_Some kept own_kept (sym is ∙ sym (ap (λ (r : Row). r.open_call) (own place other there at_k)) ∙ is_open)
 
-            pick : ((number.call ≡ own_number.call) × (place_noted then own_number.call ≡ Some k)) ⊎ ((number.call ≡ own_number.call → ⊥) × (place_noted then own_number.call ≡ place_noted now own_number.call)) → place_noted then own_number.call ≡ Some place
+            pick : ((kept.number.call ≡ own_kept.number.call) × (place_noted then own_kept.number.call ≡ Some k)) ⊎ ((kept.number.call ≡ own_kept.number.call → ⊥) × (place_noted then own_kept.number.call ≡ place_noted now own_kept.number.call)) → place_noted then own_kept.number.call ≡ Some place
             pick (inl p) = p.1 ∙ ap Some (sym at_k)
-            pick (inr p) = absurd (p.0 (ap (λ (n : Number). n.call) same))
+            pick (inr p) = absurd (p.0 (ap (λ (n : OpenCall). n.number.call) same))
 
-        before : (call place : ℕ) → place_noted then call ≡ Some place → ((number.call ≡ call) × (place_noted then call ≡ Some k)) ⊎ ((number.call ≡ call → ⊥) × (place_noted then call ≡ place_noted now call)) → (place < k + 1) × (place_noted old call ≡ Some place)
+        before : (call place : ℕ) → place_noted then call ≡ Some place → ((kept.number.call ≡ call) × (place_noted then call ≡ Some k)) ⊎ ((kept.number.call ≡ call → ⊥) × (place_noted then call ≡ place_noted now call)) → (place < k + 1) × (place_noted old call ≡ Some place)
         before call place noted_then (inl p) =
             let same : k ≡ place = same_Some k place (sym p.1 ∙ noted_then) in
-            (omega (arith, same), ap (place_noted old) (sym p.0) ∙ noted.found k row number at is ∙ ap Some same)
+            (omega (arith, same), ap (place_noted old) (sym p.0) ∙ noted.found k row kept at is ∙ ap Some same)
         before call place noted_then (inr p) = let earlier = renewed.only call place (sym p.1 ∙ noted_then) in let inside = earlier.0 in (omega (arith, inside), earlier.1)
 
 -- all of them are
@@ -130,10 +131,10 @@ pub renewed-noted : (old now : Catalog) (k : ℕ) → IsNoted old → Renewed ol
 renewed-noted old now k noted renewed over =
     let same : rows_of now ≡ rows_of old = ap values renewed.rows in
     record {
-      found = λ place row number at is_open.
+      found = λ place row kept at is_open.
           let there = subst (λ (rs : List Row). IsAt rs place row) same at in
           let inside = at-within (rows_of old) place row there in
-          renewed.all place row number there is_open (omega (arith, inside, over));
+          renewed.all place row kept there is_open (omega (arith, inside, over));
       room = λ some. let long = ap length same in let least = noted.room (omega (arith, long, some)) in let room = renewed.room in omega (arith, long, least, room);
     }
 
@@ -193,45 +194,45 @@ looked-up (e ∷ es) call place is none = by (nat_eq call e.0) is (λ rest. look
 pub closed-all : (old now : Catalog) (turn : ℕ) → IsNoted old → ClosedBefore old turn now → index_map_len old.calls ≤ turn → rows_of now ≡ map without_call (rows_of old)
 closed-all old now turn noted closed over = all-mapped without_call (rows_of old) (rows_of now) closed.long (λ place row at. by place row at (closed.each place row at))
   where
-    not_open : (place : ℕ) (row : Row) → IsAt (rows_of old) place row → ((i : ℕ) → i < turn → slice_get (values old.calls) i ≡ Some place → ⊥) → (o : Option Number) → row.open_number ≡ o → o ≡ None
+    not_open : (place : ℕ) (row : Row) → IsAt (rows_of old) place row → ((i : ℕ) → i < turn → slice_get (values old.calls) i ≡ Some place → ⊥) → (o : Option OpenCall) → row.open_call ≡ o → o ≡ None
     not_open place row at none None e = refl
-    not_open place row at none (Some number) e =
-        absurd (looked-up old.calls.entries number.call place (noted.found place row number at e) (λ i below is. none i (omega (arith, below, over)) is))
+    not_open place row at none (Some kept) e =
+        absurd (looked-up old.calls.entries kept.number.call place (noted.found place row kept at e) (λ i below is. none i (omega (arith, below, over)) is))
 
     by : (place : ℕ) (row : Row) → IsAt (rows_of old) place row → IsAt (rows_of now) place (without_call row) ⊎ (IsAt (rows_of now) place row × ((i : ℕ) → i < turn → slice_get (values old.calls) i ≡ Some place → ⊥))
         → IsAt (rows_of now) place (without_call row)
     by place row at (inl there) = there
     by place row at (inr there) =
-        let none : row.open_number ≡ None = not_open place row at there.1 row.open_number refl in
-        subst (λ (r : Row). IsAt (rows_of now) place r) (λ i. record row { open_number = none i }) there.0
+        let none : row.open_call ≡ None = not_open place row at there.1 row.open_call refl in
+        subst (λ (r : Row). IsAt (rows_of now) place r) (λ i. record row { open_call = none i }) there.0
 
 -- no call is noted after that
 pub emptied-indexed : (rows : List Row) (now then : Catalog) → rows_of now ≡ map without_call rows → now.rows.entries ≡ map by_name (rows_of now) → then.rows ≡ now.rows → then.calls.entries ≡ []
-    → HasRoom then → IsIndexed then
+    → HasRoomForCalls then → IsIndexed then
 emptied-indexed rows now then closed names same empty room =
     let rows_same : rows_of then ≡ rows_of now = ap values same in
     record {
       rows = subst (λ (m : IndexMap (List ℕ) Row _). m.entries ≡ map by_name (values m)) (sym same) names;
       noted = record {
-        found = λ place row number at is_open. absurd (none-open place row number rows (subst (λ (rs : List Row). IsAt rs place row) (rows_same ∙ closed) at) is_open);
+        found = λ place row kept at is_open. absurd (none-open place row kept rows (subst (λ (rs : List Row). IsAt rs place row) (rows_same ∙ closed) at) is_open);
         room = room;
       };
       free = λ some. let least = room some in let none = ap length empty in omega (arith, least, none);
       few = let none = ap length empty in omega (arith, none);
     }
   where
-    none-open : (place : ℕ) (row : Row) (number : Number) (rs : List Row) → IsAt (map without_call rs) place row → row.open_number ≡ Some number → ⊥
-    none-open place row number [] at is_open = at
-    none-open zero row number (r ∷ rs) at is_open = none-some number (ap (λ (x : Row). x.open_number) at ∙ is_open)
-    none-open (suc place) row number (r ∷ rs) at is_open = none-open place row number rs at is_open
+    none-open : (place : ℕ) (row : Row) (kept : OpenCall) (rs : List Row) → IsAt (map without_call rs) place row → row.open_call ≡ Some kept → ⊥
+    none-open place row kept [] at is_open = at
+    none-open zero row kept (r ∷ rs) at is_open = none-some kept (ap (λ (x : Row). x.open_call) at ∙ is_open)
+    none-open (suc place) row kept (r ∷ rs) at is_open = none-open place row kept rs at is_open
 
 -- the open call of the row at a place
-pub open-there : (rows : List Row) (place : ℕ) (read row : Row) → slice_get rows place ≡ Some read → IsAt rows place row → read.open_number ≡ row.open_number
-open-there rows place read row at is = ap (λ (r : Row). r.open_number) (same_Some read row (sym at ∙ get-of_at rows place row is))
+pub open-there : (rows : List Row) (place : ℕ) (read row : Row) → slice_get rows place ≡ Some read → IsAt rows place row → read.open_call ≡ row.open_call
+open-there rows place read row at is = ap (λ (r : Row). r.open_call) (same_Some read row (sym at ∙ get-of_at rows place row is))
 
 -- a turn that notes the call of the row at its place, if it has one
 pub renewed-step : (old now then : Catalog) (k last : ℕ) → IsNoted old → Renewed old k now → last ≡ length old.rows.entries → k < last → then.rows ≡ now.rows
-    → ((row : Row) → IsAt (rows_of now) k row → IsNotedWith k row.open_number now then) → Renewed old (k + 1) then
+    → ((row : Row) → IsAt (rows_of now) k row → IsNotedWith k row.open_call now then) → Renewed old (k + 1) then
 renewed-step old now then k last noted renewed is below rows more = by (slice_get_cases (rows_of old) k).1 (rows-within old k (omega (arith, is, below)))
   where
     same : rows_of now ≡ rows_of old
@@ -244,7 +245,7 @@ renewed-step old now then k last noted renewed is below rows more = by (slice_ge
     by (inr past) inside = let over = past.0 in absurd (omega (arith, over, inside))
 
 -- more calls can be noted then than there are rows
-pub emptied-room : (old now then : Catalog) (turn : ℕ) → IsNoted old → ClosedBefore old turn now → then.rows ≡ now.rows → index_map_len now.calls + spare now.calls ≤ spare then.calls → HasRoom then
+pub emptied-room : (old now then : Catalog) (turn : ℕ) → IsNoted old → ClosedBefore old turn now → then.rows ≡ now.rows → index_map_len now.calls + spare now.calls ≤ spare then.calls → HasRoomForCalls then
 emptied-room old now then turn noted closed same room = λ some.
     let long : length (rows_of then) ≡ length (rows_of old) = ap (λ (m : IndexMap (List ℕ) Row _). length (values m)) same ∙ closed.long in
     let before = subst (λ (m : IndexMap ℕ ℕ _). index_map_len m + spare m ≤ spare then.calls) closed.calls room in

@@ -5,16 +5,16 @@ use Rattle.std.specs.Prelude.{Option, Some, None, filter_map}
 use Rattle.std.proofs.lemmas.Bool.{false_from_ne_true}
 use Rattle.std.proofs.lemmas.Bool.Decides.{nat_tests}
 use Rattle.csi_types.specs.declared.number.Number.{Number}
-use Rattle.csi_lists.specs.Members.{IsAmong}
+use Rattle.csi_lists.specs.Model.Members.{IsAmong}
 use Rattle.std.proofs.lemmas.Option.{same_Some, none-some}
-use Rattle.csi_types.specs.Number.{is_before, IsBefore}
-use Rattle.csi_types.specs.Same.{same_number, same_text}
+use Rattle.csi_types.specs.Model.Number.{is_before, IsBefore}
+use Rattle.csi_types.specs.Model.Same.{same_number, same_text}
 use Rattle.csi_types.proofs.Equality.{same_number-tells}
 use Rattle.csi_types.proofs.Order.{before-from, before-trans}
-use Rattle.csi_orchestrator.specs.Thing.{Issued}
-use Rattle.csi_orchestrator.specs.History.{Item, Started, Sent, Accepted, Closed, Noted}
-use Rattle.csi_orchestrator.specs.Readings.{issued_in, has_success, id_in, open_in, unless, last_in}
-use Rattle.csi_orchestrator.specs.WellFormed.{AreWellFormed}
+use Rattle.csi_orchestrator.specs.Model.Thing.{Issued}
+use Rattle.csi_orchestrator.specs.Model.History.{Item, Started, Sent, Accepted, Closed, Noted}
+use Rattle.csi_orchestrator.specs.Model.Readings.{issued_in, has_success, id_in, open_in, unless, last_in}
+use Rattle.csi_orchestrator.specs.Model.WellFormed.{AreWellFormed}
 
 -- the order of numbers is one as a test and as a relation, it passes on, and no number is before itself
 is_before-then : (a b : Number) → IsBefore a b → is_before a b ≡ true

@@ -1,10 +1,10 @@
 -- Where the row of an open call stands: the place that is noted for the call's number.
-use Rattle.std.proofs.Common.{◌≡◌, ℕ, List, get_or, Bool, true, false, refl, sym, ◌∙◌, ap}
+use Rattle.std.proofs.Common.{◌≡◌, ℕ, List, get_or, Bool, true, false, refl, sym, ◌∙◌, ap, subst}
 use Rattle.std.specs.Prelude.{Option, Some, None, position, slice_get}
 use Rattle.std.proofs.lemmas.Bool.{false≢true, false_from_ne_true}
 use Rattle.std.proofs.lemmas.List.Quantifiers.{position-Some}
 use Rattle.std.proofs.lemmas.Option.{none-some, same_Some}
-use Rattle.csi_lists.specs.Places.{IsAt}
+use Rattle.csi_lists.specs.Public.Places.{IsAt}
 use Rattle.csi_lists.proofs.Places.{at-index, find-not_none, position-none}
 use Rattle.csi_lists.proofs.Searches.{find-no_place}
 use Rattle.csi_types.specs.declared.call.Kind.{Kind}
@@ -12,9 +12,10 @@ use Rattle.csi_types.specs.declared.call.Party.{Party}
 use Rattle.csi_types.specs.declared.number.Number.{Number}
 use Rattle.csi_orchestrator.specs.declared.row.Row.{Row}
 use Rattle.csi_orchestrator.specs.declared.catalog.Catalog.{Catalog}
-use Rattle.csi_orchestrator.specs.Catalog.{rows_of, place_noted, IsIndexed}
-use Rattle.csi_orchestrator.specs.RowMoves.{is_issued_as}
-use Rattle.csi_orchestrator.specs.Shown.{row_shown, open_in_row}
+use Rattle.csi_orchestrator.specs.Public.Catalog.{rows_of, place_noted, IsIndexed}
+use Rattle.csi_orchestrator.specs.Private.RowMoves.{is_issued_as}
+use Rattle.csi_orchestrator.specs.Public.Shown.{row_shown}
+use Rattle.csi_orchestrator.specs.Model.Shown.{open_in_row}
 use Rattle.csi_orchestrator.proofs.ListPlaces.{at-of_get, get-of_at}
 use Rattle.csi_orchestrator.proofs.RepliedRows.{hears-it}
 
@@ -37,7 +38,8 @@ Replied number party kind row = is_issued_as number party kind (open_in_row (row
 -- the place of a row that a reply is to is noted for the reply's number
 noted-at : (catalog : Catalog) (number : Number) (party : Party) (kind : Kind) → IsIndexed catalog → (j : ℕ) (row : Row) → IsAt (rows_of catalog) j row → Replied number party kind row ≡ true → place_noted catalog number.call ≡ Some j
 noted-at catalog number party kind indexed j row at passes =
-    indexed.noted.found j row number at (hears-it (row_shown row) number party kind passes).own
+    let it = hears-it (row_shown row) number party kind passes in
+    subst (λ (n : Number). place_noted catalog n.call ≡ Some j) it.has_number (indexed.noted.found j row it.kept at it.own)
 
 -- no call of the number is noted
 pub replied-unnoted : (catalog : Catalog) (number : Number) (party : Party) (kind : Kind) → IsIndexed catalog → place_noted catalog number.call ≡ None

@@ -7,18 +7,23 @@ use Rattle.csi_orchestrator.specs.declared.fault.OrchFault.{OrchFault}
 use Rattle.csi_orchestrator.specs.declared.sending.Outgoing.{Outgoing}
 use Rattle.csi_orchestrator.specs.declared.row.Goal.{Goal}
 use Rattle.csi_orchestrator.specs.declared.row.Goal.TheVariants.{Create}
+use Rattle.csi_orchestrator.specs.declared.row.OpenCall.{OpenCall}
 use Rattle.csi_orchestrator.specs.declared.row.Row.{Row}
 use Rattle.csi_orchestrator.specs.declared.step.Step.{Step}
 use Rattle.csi_orchestrator.specs.declared.step.Step.TheVariants as steps
 use Rattle.csi_orchestrator.specs.declared.catalog.Catalog.{Catalog}
-use Rattle.csi_orchestrator.specs.Catalog.{rows_of, IsIndexed, IsReady, IsNextFor, AreUpTo, call_in, IsAfter}
-use Rattle.csi_orchestrator.specs.Commands.{next_number}
-use Rattle.csi_orchestrator.specs.RowRefusals.{step_refusal, late_refusal}
-use Rattle.csi_orchestrator.specs.RowSteps.{MovedRow, outgoing_by, sent_or_dropped, row_after, row_sends_due, row_rests, row_unless, is_met, waits, is_given_up, timed_out, failed, changed, row_takes, row_step}
-use Rattle.csi_orchestrator.specs.Due.{Due}
-use Rattle.csi_orchestrator.specs.History.{Arguments}
-use Rattle.csi_orchestrator.specs.RowChanges.{new_row, wanted, stopped_goal}
-use Rattle.csi_orchestrator.specs.Shown.{RowShown, row_shown, due_in, closed}
+use Rattle.csi_orchestrator.specs.Public.Catalog.{rows_of, IsIndexed, AreUpTo}
+use Rattle.csi_orchestrator.specs.Private.Catalog.{IsReady, IsNextFor, outgoing_call_number, IsNumberedAfter}
+use Rattle.csi_orchestrator.specs.Model.Commands.{next_number}
+use Rattle.csi_orchestrator.specs.Private.RowRefusals.{step_refusal, late_refusal}
+use Rattle.csi_orchestrator.specs.Private.RowSteps.{MovedRow, outgoing_by, sent_or_dropped, row_moved, row_sends_due, row_rests, row_unless, is_step_met, waits, is_given_up, timed_out, failed, row_before_call, row_takes, row_step}
+use Rattle.csi_orchestrator.specs.Model.Due.{Due}
+use Rattle.csi_orchestrator.specs.Model.History.{Arguments}
+use Rattle.csi_orchestrator.specs.Private.RowChanges.{new_row, wanted_row, stopped_goal}
+use Rattle.csi_orchestrator.specs.Model.Shown.{RowShown}
+use Rattle.csi_orchestrator.specs.Public.Shown.{row_shown}
+use Rattle.csi_orchestrator.specs.Private.Shown.{closed}
+use Rattle.csi_orchestrator.specs.Public.RowDue.{due_in}
 use Rattle.csi_orchestrator.proofs.RowsUnderNames.{IsOpened, catalog_with, next-unnoted, ready-set}
 use Rattle.csi_orchestrator.proofs.EntryRules.{by_if}
 
@@ -31,7 +36,7 @@ ok-is : (a b : Option Outgoing) → ◌≡◌ {A = Result (Option Outgoing) Orch
 ok-is a b h = cc
 
 -- nothing is sent
-none-after : (last : ℕ) → IsAfter last None
+none-after : (last : ℕ) → IsNumberedAfter last None
 none-after last = λ call is. absurd (none-some call is)
 
 -- the next number
@@ -43,20 +48,20 @@ numbered last number is = by (nat_lt (last.call + 1) (2 ^ 64)) is
     by false e = absurd (none-some number e)
 
 -- a call that is sent comes right after the last one
-after-sent : (last : Number) (due : Option Due) (next : Option Outgoing) → outgoing_by due (next_number last) ≡ Ok next → IsAfter last.call next
+after-sent : (last : Number) (due : Option Due) (next : Option Outgoing) → outgoing_by due (next_number last) ≡ Ok next → IsNumberedAfter last.call next
 after-sent last due next is = by due (next_number last) refl is
   where
-    by : (due : Option Due) (number : Option Number) → next_number last ≡ number → outgoing_by due number ≡ Ok next → IsAfter last.call next
-    by None number own e = subst (IsAfter last.call) (ok-is None next e) (none-after last.call)
+    by : (due : Option Due) (number : Option Number) → next_number last ≡ number → outgoing_by due number ≡ Ok next → IsNumberedAfter last.call next
+    by None number own e = subst (IsNumberedAfter last.call) (ok-is None next e) (none-after last.call)
     by (Some due) None own e = cc
     by (Some due) (Some number) own e =
-        λ call named. sym (some-is number.call call (ap call_in (ok-is _ next e) ∙ named)) ∙ numbered last number own
+        λ call named. sym (some-is number.call call (ap outgoing_call_number (ok-is _ next e) ∙ named)) ∙ numbered last number own
 
 -- the row's name stays, its open call was open or is sent, and what is sent comes right after the last call
 pub record IsOn (last : Number) (row : RowShown) (moved_row : MovedRow) : Type 0 where
   pub name : (moved_row.row).name ≡ row.name
-  pub opened : IsOpened row.open_number moved_row.outgoing (moved_row.row).open_number
-  pub after : IsAfter last.call moved_row.outgoing
+  pub opened : IsOpened row.open_call moved_row.outgoing (moved_row.row).open_call
+  pub after : IsNumberedAfter last.call moved_row.outgoing
 
 -- so it is, unless it is refused
 abbrev pub GoesOn : Number → RowShown → Result MovedRow OrchFault → Type 0
@@ -64,9 +69,9 @@ GoesOn last row (Ok moved_row) = IsOn last row moved_row
 GoesOn last row (Err fault) = Unit {0}
 
 -- a row of the same name whose due call is sent or whose goal is dropped, and one that rests
-sent_or_dropped-opened : (old : Option Number) (next : Option Outgoing) (row : RowShown) → IsOpened old next (sent_or_dropped next row).open_number
-sent_or_dropped-opened old None row = λ number e. absurd (none-some number e)
-sent_or_dropped-opened old (Some next) row = λ number e. inr (ap (option_map (λ (n : Number). n.call)) e)
+sent_or_dropped-opened : (old : Option OpenCall) (next : Option Outgoing) (row : RowShown) → IsOpened old next (sent_or_dropped next row).open_call
+sent_or_dropped-opened old None row = λ kept e. absurd (none-some kept e)
+sent_or_dropped-opened old (Some next) row = λ kept e. inr (ap (option_map (λ (c : OpenCall). c.number.call)) e)
 
 -- sending the due call, or dropping the goal, leaves the row's name
 sent_or_dropped-name : (next : Option Outgoing) (row : RowShown) → (sent_or_dropped next row).name ≡ row.name
@@ -77,9 +82,9 @@ sent_or_dropped-name (Some next) row = refl
 pub sends-due-goes : (last : Number) (row then : RowShown) → then.name ≡ row.name → GoesOn last row (row_sends_due last then)
 sends-due-goes last row then same = by (outgoing_by (due_in then) (next_number last)) refl
   where
-    by : (next : Result (Option Outgoing) OrchFault) → outgoing_by (due_in then) (next_number last) ≡ next → GoesOn last row (row_after then next)
+    by : (next : Result (Option Outgoing) OrchFault) → outgoing_by (due_in then) (next_number last) ≡ next → GoesOn last row (row_moved then next)
     by (Err fault) e = tt
-    by (Ok next) e = record { name = sent_or_dropped-name next then ∙ same; opened = sent_or_dropped-opened row.open_number next then; after = after-sent last (due_in then) next e }
+    by (Ok next) e = record { name = sent_or_dropped-name next then ∙ same; opened = sent_or_dropped-opened row.open_call next then; after = after-sent last (due_in then) next e }
 
 -- a row that goes on so does where it isn't refused
 unless-goes : (last : Number) (row : RowShown) (fault : Option OrchFault) (moved_row : Result MovedRow OrchFault) → GoesOn last row moved_row → GoesOn last row (row_unless fault moved_row)
@@ -89,7 +94,7 @@ unless-goes last row (Some fault) moved_row goes = tt
 -- a step leaves the row's name
 timed-out-name : (row : RowShown) (goal : Option Goal) → (timed_out row goal).name ≡ row.name
 timed-out-name row None = refl
-timed-out-name row (Some goal) = by_if (λ (r : RowShown). r.name ≡ row.name) (is_given_up row) (wanted (stopped_goal goal) row) (closed row) (λ e. refl) (λ e. refl)
+timed-out-name row (Some goal) = by_if (λ (r : RowShown). r.name ≡ row.name) (is_given_up row) (wanted_row (stopped_goal goal) row) (closed row) (λ e. refl) (λ e. refl)
 
 -- a call that failed leaves the row's name
 failed-name : (row : RowShown) (goal : Option Goal) → (failed row goal).name ≡ row.name
@@ -97,7 +102,7 @@ failed-name row (Some Create) = refl
 failed-name row goal = refl
 
 -- whatever a step changes, it leaves the row's name
-changed-name : (step : Step) (row : RowShown) → (changed step row).name ≡ row.name
+changed-name : (step : Step) (row : RowShown) → (row_before_call step row).name ≡ row.name
 changed-name steps.TimeOut row = timed-out-name row row.goal
 changed-name steps.Fail row = failed-name row row.goal
 changed-name step row = refl
@@ -106,32 +111,32 @@ changed-name step row = refl
 pub step-goes : (nodes : List (List ℕ)) (last : Number) (step : Step) (row : RowShown) → GoesOn last row (row_step nodes last step row)
 step-goes nodes last step row =
     unless-goes last row (step_refusal nodes last step row) (row_takes last step row)
-    (by_if (GoesOn last row) (is_met step row) (row_rests row) _ (λ e. record { name = refl; opened = λ number is. inl is; after = none-after last.call })
+    (by_if (GoesOn last row) (is_step_met step row) (row_rests row) _ (λ e. record { name = refl; opened = λ kept is. inl is; after = none-after last.call })
     (λ e. by_if (GoesOn last row) (waits step row) (row_rests (closed row)) _
-    (λ f. record { name = refl; opened = λ number is. absurd (none-some number is); after = none-after last.call })
-    (λ f. unless-goes last row (late_refusal last step row) (row_sends_due last (changed step row)) (sends-due-goes last row (changed step row) (changed-name step row)))))
+    (λ f. record { name = refl; opened = λ kept is. absurd (none-some kept is); after = none-after last.call })
+    (λ f. unless-goes last row (late_refusal last step row) (row_sends_due last (row_before_call step row)) (sends-due-goes last row (row_before_call step row) (changed-name step row)))))
 
 -- once a row took a step, only the call that is sent for it isn't noted yet
 pub ready-told : (catalog : Catalog) (nodes : List (List ℕ)) (last : Number) (place : ℕ) (row new : Row) (step : Step) (next : Option Outgoing) → IsIndexed catalog → AreUpTo last.call catalog
     → slice_get (rows_of catalog) place ≡ Some row
-    → row_step nodes last step (row_shown row) ≡ Ok (record { outgoing = next; row = row_shown new }) → IsReady (catalog_with catalog place new) place (call_in next) × IsAfter last.call next
+    → row_step nodes last step (row_shown row) ≡ Ok (record { outgoing = next; row = row_shown new }) → IsReady (catalog_with catalog place new) place (outgoing_call_number next) × IsNumberedAfter last.call next
 ready-told catalog nodes last place row new step next indexed known at is =
     let on = subst (GoesOn last (row_shown row)) is (step-goes nodes last step (row_shown row)) in
     (ready-set catalog last.call place row new next indexed known at on.name on.opened on.after, on.after)
 
 -- a new row
 pub next-created : (catalog : Catalog) (last : Number) (name : List ℕ) (arguments : Arguments) (row : Row) (next : Option Outgoing) → AreUpTo last.call catalog
-    → row_sends_due last (new_row name arguments) ≡ Ok (record { outgoing = next; row = row_shown row }) → IsNextFor catalog row.open_number (call_in next) × (row.name ≡ name) × IsAfter last.call next
+    → row_sends_due last (new_row name arguments) ≡ Ok (record { outgoing = next; row = row_shown row }) → IsNextFor catalog row.open_call (outgoing_call_number next) × (row.name ≡ name) × IsNumberedAfter last.call next
 next-created catalog last name arguments row next known is =
     let on = subst (GoesOn last (new_row name arguments)) is (sends-due-goes last (new_row name arguments) (new_row name arguments) refl) in (
       record {
-        is = λ number is_open. by number (on.opened number is_open);
+        is = λ kept is_open. by kept (on.opened kept is_open);
         new = λ call named. next-unnoted catalog last.call call known (on.after call named);
       },
       on.name,
       on.after,
     )
   where
-    by : (number : Number) → (◌≡◌ {A = Option Number} None (Some number)) ⊎ (call_in next ≡ Some number.call) → call_in next ≡ Some number.call
-    by number (inl none) = absurd (none-some number none)
-    by number (inr named) = named
+    by : (kept : OpenCall) → (◌≡◌ {A = Option OpenCall} None (Some kept)) ⊎ (outgoing_call_number next ≡ Some kept.number.call) → outgoing_call_number next ≡ Some kept.number.call
+    by kept (inl none) = absurd (none-some kept none)
+    by kept (inr named) = named

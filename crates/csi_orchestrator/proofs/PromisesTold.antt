@@ -2,14 +2,16 @@
 use Rattle.std.proofs.Common.{◌≡◌, ℕ, List, refl, sym, ◌∙◌, ap, subst}
 use Rattle.std.specs.Prelude.{Result, Ok, Err, IfOk, IfErr}
 use Rattle.csi_orchestrator.specs.declared.fault.OrchFault.{OrchFault}
-use Rattle.csi_orchestrator.specs.History.{History, with_items}
-use Rattle.csi_orchestrator.specs.WellFormed.{IsWellFormed}
-use Rattle.csi_orchestrator.specs.Moves.{Input, Answer, Moved, moves, moved_to}
-use Rattle.csi_orchestrator.specs.Shown.{Parts, Shows}
-use Rattle.csi_orchestrator.specs.RowMoves.{MovedRows, row_moves, IsRefusal, IsMoveOf, RowsAnswer}
-use Rattle.csi_orchestrator.specs.Sound.{IsSound, HasHistory, IsKept}
-use Rattle.csi_orchestrator.specs.Steps.{IsReached, GoesOn}
-use Rattle.csi_orchestrator.specs.Promises.{IsDone, IsAnsweredAs}
+use Rattle.csi_orchestrator.specs.Model.History.{History, with_items}
+use Rattle.csi_orchestrator.specs.Model.WellFormed.{IsWellFormed}
+use Rattle.csi_orchestrator.specs.Model.Moves.{Input, Answer, Moved, moves}
+use Rattle.csi_orchestrator.specs.Public.Moves.{moved_to}
+use Rattle.csi_orchestrator.specs.Model.Shown.{OrchestratorParts, Shows}
+use Rattle.csi_orchestrator.specs.Public.RowMoves.{MovedRows, IsRefusal}
+use Rattle.csi_orchestrator.specs.Private.RowMoves.{row_moves, IsMoveOf, RowsAnswer}
+use Rattle.csi_orchestrator.specs.Public.Sound.{AreSoundRows, HasHistory, AreSoundParts}
+use Rattle.csi_orchestrator.specs.Public.Steps.{IsReached, GoesOn}
+use Rattle.csi_orchestrator.specs.Public.Promises.{FollowsUnrefused, IsAnsweredAs}
 use Rattle.csi_orchestrator.proofs.AddedItems.{moves-add, stays-formed}
 use Rattle.csi_orchestrator.proofs.SendingAgrees.{Tells}
 use Rattle.csi_orchestrator.proofs.RulesStay.{rows-stay-sound}
@@ -17,13 +19,13 @@ use Rattle.csi_orchestrator.proofs.BoundsStay.{rows-stay-within}
 use Rattle.csi_orchestrator.proofs.RepliesAgree.{all-tell}
 
 -- where the rows tell what the history tells, what is told is done
-done : (history : History) (moved_rows : MovedRows) (moved : Result Moved OrchFault) → Tells history (Ok moved_rows) moved → IsDone history moved moved_rows.answer moved_rows.parts
+done : (history : History) (moved_rows : MovedRows) (moved : Result Moved OrchFault) → Tells history (Ok moved_rows) moved → FollowsUnrefused history moved moved_rows.answer moved_rows.parts
 done history moved_rows (Ok moved) tells = record { answered = sym tells.0.0; agrees = tells.0.1; guarded = tells.1 }
 done history moved_rows (Err fault) tells = absurd tells.0
 
 -- what was told is done
-pub is-done : (old : Parts) (history : History) (input : Input) (moved_rows : MovedRows) → IsSound old.rows → IsWellFormed history → Shows old history → row_moves old input ≡ Ok moved_rows
-    → IsDone history (moves old.nodes history input) moved_rows.answer moved_rows.parts
+pub is-done : (old : OrchestratorParts) (history : History) (input : Input) (moved_rows : MovedRows) → AreSoundRows old.rows → IsWellFormed history → Shows old history → row_moves old input ≡ Ok moved_rows
+    → FollowsUnrefused history (moves old.nodes history input) moved_rows.answer moved_rows.parts
 is-done old history input moved_rows kept form agrees e =
     done history moved_rows (moves old.nodes history input) (subst (λ r. Tells history r (moves old.nodes history input)) e (all-tell old history input form kept agrees))
 
@@ -35,12 +37,12 @@ refused history (Err other) (Ok moved) fault tells is = absurd tells.0
 refused history (Err one) (Err other) fault tells is = is ∙ tells.0
 
 -- what is refused by the rows is refused
-pub is-refused : (old : Parts) (history : History) (input : Input) (fault : OrchFault) → IsSound old.rows → IsWellFormed history → Shows old history → IsRefusal (row_moves old input) fault
+pub is-refused : (old : OrchestratorParts) (history : History) (input : Input) (fault : OrchFault) → AreSoundRows old.rows → IsWellFormed history → Shows old history → IsRefusal (row_moves old input) fault
     → IsRefusal (moves old.nodes history input) fault
 is-refused old history input fault kept form agrees is = refused history (row_moves old input) (moves old.nodes history input) fault (all-tell old history input form kept agrees) is
 
 -- what was told is told by a history that goes on
-told-on : (old new : Parts) (told : HasHistory old) (input : Input) (answer : Answer) → new.nodes ≡ old.nodes → (moved : Result Moved OrchFault) → moves old.nodes told.history input ≡ moved → IsDone told.history moved answer new → HasHistory new
+told-on : (old new : OrchestratorParts) (told : HasHistory old) (input : Input) (answer : Answer) → new.nodes ≡ old.nodes → (moved : Result Moved OrchFault) → moves old.nodes told.history input ≡ moved → FollowsUnrefused told.history moved answer new → HasHistory new
 told-on old new told input answer nodes (Ok moved) e done =
     record {
       history = with_items told.history moved.items;
@@ -53,31 +55,31 @@ told-on old new told input answer nodes (Ok moved) e done =
 told-on old new told input answer nodes (Err fault) e done = absurd done
 
 -- the same of a call's result, by the parts that are shown
-pub ok-promised : {R : Type 0} {old now new : Parts} {input : Input} {says : R → Answer} {result : Result R OrchFault} → old ≡ now → IsSound old.rows → IsMoveOf old new input says result
+pub ok-promised : {R : Type 0} {old now new : OrchestratorParts} {input : Input} {says : R → Answer} {result : Result R OrchFault} → old ≡ now → AreSoundRows old.rows → IsMoveOf old new input says result
     → (history : History) → IsWellFormed history → Shows now history
-    → IfOk result (λ r. IsDone history (moves now.nodes history input) (says r) new)
+    → IfOk result (λ r. FollowsUnrefused history (moves now.nodes history input) (says r) new)
 ok-promised {old = old} {now = now} {new = new} {input = input} {says = says} {result = Err fault} is kept told history form agrees = tt
 ok-promised {old = old} {now = now} {new = new} {input = input} {says = says} {result = Ok r} is kept told history form agrees =
-    subst (λ (p : Parts). IsDone history (moves p.nodes history input) (says r) new) is
-    (is-done old history input (record { answer = says r; parts = new }) kept form (subst (λ (p : Parts). Shows p history) (sym is) agrees) told.ok)
+    subst (λ (p : OrchestratorParts). FollowsUnrefused history (moves p.nodes history input) (says r) new) is
+    (is-done old history input (record { answer = says r; parts = new }) kept form (subst (λ (p : OrchestratorParts). Shows p history) (sym is) agrees) told.ok)
 
 -- a refusal is the one that the history tells, by the parts that are shown
-pub err-promised : {R : Type 0} {old now new : Parts} {input : Input} {says : R → Answer} {result : Result R OrchFault} → old ≡ now → IsSound old.rows → IsMoveOf old new input says result
+pub err-promised : {R : Type 0} {old now new : OrchestratorParts} {input : Input} {says : R → Answer} {result : Result R OrchFault} → old ≡ now → AreSoundRows old.rows → IsMoveOf old new input says result
     → (history : History) → IsWellFormed history → Shows now history
     → IfErr result (IsRefusal (moves now.nodes history input))
 err-promised {old = old} {now = now} {new = new} {input = input} {says = says} {result = Ok r} is kept told history form agrees = tt
 err-promised {old = old} {now = now} {new = new} {input = input} {says = says} {result = Err fault} is kept told history form agrees =
-    subst (λ (p : Parts). IsRefusal (moves p.nodes history input) fault) is (is-refused old history input fault kept form (subst (λ (p : Parts). Shows p history) (sym is) agrees) told.err)
+    subst (λ (p : OrchestratorParts). IsRefusal (moves p.nodes history input) fault) is (is-refused old history input fault kept form (subst (λ (p : OrchestratorParts). Shows p history) (sym is) agrees) told.err)
 
 -- the rows stay sound and the nodes as they were, whatever the result
-sound-promised : {R : Type 0} {old new : Parts} {input : Input} {says : R → Answer} {result : Result R OrchFault} → IsSound old.rows → IsMoveOf old new input says result
-    → IsSound new.rows × (new.nodes ≡ old.nodes)
+sound-promised : {R : Type 0} {old new : OrchestratorParts} {input : Input} {says : R → Answer} {result : Result R OrchFault} → AreSoundRows old.rows → IsMoveOf old new input says result
+    → AreSoundRows new.rows × (new.nodes ≡ old.nodes)
 sound-promised {old = old} {new = new} {input = input} {says = says} {result = Ok r} kept told = rows-stay-sound old input (record { answer = says r; parts = new }) kept told.ok
 sound-promised {old = old} {new = new} {input = input} {says = says} {result = Err fault} kept told =
-    (subst (λ (p : Parts). IsSound p.rows) (sym told.stays) kept, ap (λ (p : Parts). p.nodes) told.stays)
+    (subst (λ (p : OrchestratorParts). AreSoundRows p.rows) (sym told.stays) kept, ap (λ (p : OrchestratorParts). p.nodes) told.stays)
 
 -- parts that are kept as they have to be stay so, whatever the result
-pub kept-promised : {R : Type 0} {old new : Parts} {input : Input} {says : R → Answer} {result : Result R OrchFault} → IsKept old → IsMoveOf old new input says result → IsKept new
+pub kept-promised : {R : Type 0} {old new : OrchestratorParts} {input : Input} {says : R → Answer} {result : Result R OrchFault} → AreSoundParts old → IsMoveOf old new input says result → AreSoundParts new
 kept-promised {old = old} {new = new} {input = input} {says = says} {result = Ok r} kept told =
     let after = sound-promised {input = input} {says = says} {result = Ok r} kept.sound told in
     record {
@@ -87,12 +89,12 @@ kept-promised {old = old} {new = new} {input = input} {says = says} {result = Ok
           told-on old new kept.told input (says r) after.1 _ refl
           (is-done old kept.told.history input (record { answer = says r; parts = new }) kept.sound kept.told.form kept.told.agrees told.ok);
     }
-kept-promised {old = old} {new = new} {input = input} {says = says} {result = Err fault} kept told = subst IsKept (sym told.stays) kept
+kept-promised {old = old} {new = new} {input = input} {says = says} {result = Err fault} kept told = subst AreSoundParts (sym told.stays) kept
 
 -- the nodes stay as they were shown, whatever the result
-pub nodes-promised : {R : Type 0} {old now new : Parts} {input : Input} {says : R → Answer} {result : Result R OrchFault} → old ≡ now → IsSound old.rows → IsMoveOf old new input says result
+pub nodes-promised : {R : Type 0} {old now new : OrchestratorParts} {input : Input} {says : R → Answer} {result : Result R OrchFault} → old ≡ now → AreSoundRows old.rows → IsMoveOf old new input says result
     → new.nodes ≡ now.nodes
-nodes-promised is kept told = (sound-promised kept told).1 ∙ ap (λ (p : Parts). p.nodes) is
+nodes-promised is kept told = (sound-promised kept told).1 ∙ ap (λ (p : OrchestratorParts). p.nodes) is
 
 -- where they do, what the history answers the rows answer
 told-so : (history : History) (answer : Answer) (result : Result MovedRows OrchFault) (moved : Result Moved OrchFault) → Tells history result moved → IsAnsweredAs answer moved → RowsAnswer answer result
@@ -102,9 +104,9 @@ told-so history answer (Err fault) (Ok moved) tells is = absurd tells.0
 told-so history answer (Err fault) (Err other) tells is = absurd is
 
 -- as a history answers, so the rows do
-pub answered-promised : {old now : Parts} (input : Input) (answer : Answer) → old ≡ now → IsSound old.rows → (history : History) → IsWellFormed history → Shows now history
+pub answered-promised : {old now : OrchestratorParts} (input : Input) (answer : Answer) → old ≡ now → AreSoundRows old.rows → (history : History) → IsWellFormed history → Shows now history
     → IsAnsweredAs answer (moves now.nodes history input)
     → RowsAnswer answer (row_moves old input)
 answered-promised {old = old} {now = now} input answer is kept history form agrees answered =
-    told-so history answer (row_moves old input) (moves old.nodes history input) (all-tell old history input form kept (subst (λ (p : Parts). Shows p history) (sym is) agrees))
-    (subst (λ (p : Parts). IsAnsweredAs answer (moves p.nodes history input)) (sym is) answered)
+    told-so history answer (row_moves old input) (moves old.nodes history input) (all-tell old history input form kept (subst (λ (p : OrchestratorParts). Shows p history) (sym is) agrees))
+    (subst (λ (p : OrchestratorParts). IsAnsweredAs answer (moves p.nodes history input)) (sym is) answered)

@@ -2,22 +2,23 @@
 use Rattle.std.proofs.Common.{◌≡◌, ℕ, List, true, false, cond, length, refl, sym, ◌∙◌, ap, subst}
 use Rattle.std.specs.Prelude.{Option, Some, None, is_some, is_none, option_and_then, filter_map, nat_lt}
 use Rattle.std.proofs.lemmas.Bool.{false≢true}
-use Rattle.csi_lists.specs.Members.{IsAmong}
+use Rattle.csi_lists.specs.Model.Members.{IsAmong}
 use Rattle.csi_lists.proofs.Members.{among-find, some-found}
 use Rattle.csi_lists.proofs.Options.{is_some-map}
 use Rattle.csi_lists.proofs.Tests.{then-any, any-then}
-use Rattle.csi_types.specs.Same.{same_text}
+use Rattle.csi_types.specs.Model.Same.{same_text}
 use Rattle.csi_types.proofs.Equality.{same_text-tells}
 use Rattle.csi_orchestrator.specs.declared.fault.OrchFault.TheVariants as faults
 use Rattle.csi_orchestrator.specs.declared.thing.Thing.TheVariants.{Exists, Published}
-use Rattle.csi_orchestrator.specs.History.{Usage, History}
-use Rattle.csi_orchestrator.specs.Readings.{id_of, goal_of, name_noted, names_of, has_row}
-use Rattle.csi_orchestrator.specs.Due.{due_use}
-use Rattle.csi_orchestrator.specs.Commands.{next_number, is_spent, create_fault, is_for_one_node, is_second_writer, use_fault, use_room_fault, stop_fault, delete_fault, delete_busy_fault, timeout_fault}
-use Rattle.csi_orchestrator.specs.Shown.{RowShown, Parts, row_of, node_entry_of, goal_shown, goal_in, Shows}
-use Rattle.csi_orchestrator.specs.Sound.{IsSound}
-use Rattle.csi_orchestrator.specs.RowRefusals.{is_last, first_fault, again_fault, use_refusal, room_refusal, stop_refusal, delete_refusal, busy_refusal}
-use Rattle.csi_orchestrator.specs.RowSteps.{due_for_use}
+use Rattle.csi_orchestrator.specs.declared.row.Goal.TheVariants as kept
+use Rattle.csi_orchestrator.specs.Model.History.{Usage, Use, History}
+use Rattle.csi_orchestrator.specs.Model.Readings.{id_of, goal_of, name_noted, names_of, has_row}
+use Rattle.csi_orchestrator.specs.Model.Due.{due_for}
+use Rattle.csi_orchestrator.specs.Model.Commands.{next_number, is_session_spent, create_fault, is_for_one_node, uses_as_second_writer, use_fault, use_room_fault, stop_fault, delete_fault, delete_busy_fault, timeout_fault}
+use Rattle.csi_orchestrator.specs.Model.Shown.{RowShown, OrchestratorParts, row_of, node_entry_of, goal_shown, goal_in, Shows}
+use Rattle.csi_orchestrator.specs.Public.Sound.{AreSoundRows}
+use Rattle.csi_orchestrator.specs.Private.RowRefusals.{is_last, first_fault, again_fault, use_refusal, room_refusal, stop_refusal, delete_refusal, busy_refusal}
+use Rattle.csi_orchestrator.specs.Public.RowDue.{due_by}
 use Rattle.csi_orchestrator.proofs.DueCalls.{use-told}
 use Rattle.csi_orchestrator.proofs.InUse.{elsewhere-alike, attached-alike, otherwise-alike, others-alike, others-counted}
 use Rattle.csi_orchestrator.proofs.RulesStay.{found-kept}
@@ -26,18 +27,18 @@ use Rattle.csi_orchestrator.proofs.TextLists.{text-same, distinct-once, as-many-
 
 -- something is wanted of it, or nothing, alike
 wanted-alike : (row : RowShown) (history : History) (name : List ℕ) → IsRowOf row history name → is_some (goal_of history name) ≡ is_some row.goal
-wanted-alike row history name own = ap is_some (sym own.goals) ∙ is_some-map (goal_shown row) row.goal
+wanted-alike row history name own = ap is_some (sym own.goals) ∙ is_some-map (goal_shown row.arguments) row.goal
 
 -- the numbers are spent alike
-spent-alike : (parts : Parts) (history : History) → Shows parts history → is_spent history ≡ is_last parts.last
+spent-alike : (parts : OrchestratorParts) (history : History) → Shows parts history → is_session_spent history ≡ is_last parts.last
 spent-alike parts history agrees = ap (λ last. is_none (next_number last)) (sym agrees.same_last)
 
 -- a name that has no row
-unknown : (parts : Parts) (history : History) (name : List ℕ) → Shows parts history → row_of parts.rows name ≡ None → has_row history name ≡ false
+unknown : (parts : OrchestratorParts) (history : History) (name : List ℕ) → Shows parts history → row_of parts.rows name ≡ None → has_row history name ≡ false
 unknown parts history name agrees e = sym (agrees.same_rows name) ∙ ap is_some e
 
 -- there are as many names as rows
-names-alike : (parts : Parts) (history : History) → IsSound parts.rows → Shows parts history → length (names_of history) ≡ length parts.rows
+names-alike : (parts : OrchestratorParts) (history : History) → AreSoundRows parts.rows → Shows parts history → length (names_of history) ≡ length parts.rows
 names-alike parts history are agrees = as-many-as (names_of history) (λ (r : RowShown). r.name) parts.rows (distinct-once (filter_map name_noted history.items)) are.names to from
   where
     to : (name : List ℕ) → IsAmong name (names_of history) → (row : RowShown) × IsAmong row parts.rows × (row.name ≡ name)
@@ -54,24 +55,24 @@ names-alike parts history are agrees = as-many-as (names_of history) (λ (r : Ro
         subst (λ n. IsAmong n (names_of history)) (sym ((same_text-tells row.name noted.0).0 noted.2)) noted.1
 
 -- a create
-pub create-first : (parts : Parts) (history : History) (name : List ℕ) → IsSound parts.rows → Shows parts history → row_of parts.rows name ≡ None → create_fault history name ≡ first_fault parts.last parts.rows
+pub create-first : (parts : OrchestratorParts) (history : History) (name : List ℕ) → AreSoundRows parts.rows → Shows parts history → row_of parts.rows name ≡ None → create_fault history name ≡ first_fault parts.last parts.rows
 create-first parts history name are agrees e =
     let no_id : id_of history name ≡ None = sym (agrees.same_ids name) ∙ ap (option_and_then (λ (r : RowShown). r.id)) e in
     let no_goal : goal_of history name ≡ None = sym (agrees.same_goals name) ∙ ap (option_and_then goal_in) e in
     rw (no_id, no_goal, spent-alike parts history agrees, unknown parts history name agrees e, names-alike parts history are agrees) refl
 
 -- a create of a name that has a row is refused as the row tells
-pub create-again : (parts : Parts) (history : History) (name : List ℕ) (row : RowShown) → IsSound parts.rows → Shows parts history → row_of parts.rows name ≡ Some row → create_fault history name ≡ again_fault parts.last row
+pub create-again : (parts : OrchestratorParts) (history : History) (name : List ℕ) (row : RowShown) → AreSoundRows parts.rows → Shows parts history → row_of parts.rows name ≡ Some row → create_fault history name ≡ again_fault parts.last row
 create-again parts history name row are agrees e =
     let own = is-row-of parts history name row agrees e in
     rw (sym own.ids, wanted-alike row history name own, spent-alike parts history agrees, own.there) refl
 
 -- a use
-pub use-unknown : (parts : Parts) (history : History) (name : List ℕ) (usage : Usage) → IsSound parts.rows → Shows parts history → row_of parts.rows name ≡ None → use_fault parts.nodes history name usage ≡ Some faults.NoSuchVolume
+pub use-unknown : (parts : OrchestratorParts) (history : History) (name : List ℕ) (usage : Usage) → AreSoundRows parts.rows → Shows parts history → row_of parts.rows name ≡ None → use_fault parts.nodes history name usage ≡ Some faults.NoSuchVolume
 use-unknown parts history name usage are agrees e = rw (unknown parts history name agrees e) refl
 
 -- a use of a name that has a row is refused as the row tells
-pub use-refused : (parts : Parts) (history : History) (name : List ℕ) (usage : Usage) (row : RowShown) → IsSound parts.rows → Shows parts history → row_of parts.rows name ≡ Some row
+pub use-refused : (parts : OrchestratorParts) (history : History) (name : List ℕ) (usage : Usage) (row : RowShown) → AreSoundRows parts.rows → Shows parts history → row_of parts.rows name ≡ Some row
     → use_fault parts.nodes history name usage ≡ use_refusal parts.nodes usage row
 use-refused parts history name usage row are agrees e =
     let own = is-row-of parts history name row agrees e in
@@ -82,50 +83,50 @@ use-refused parts history name usage row are agrees e =
       wanted-alike row history name own,
       sym own.arguments,
       elsewhere-alike (is_for_one_node usage) row history name usage.node own kept.nodes,
-      elsewhere-alike (is_second_writer usage) row history name usage.node own kept.nodes,
+      elsewhere-alike (uses_as_second_writer usage) row history name usage.node own kept.nodes,
       otherwise-alike row history name usage own,
       ap (nat_lt 0) (others-alike row history name usage.node usage.target own kept.targets) ∙ others-counted usage.target (node_entry_of row usage.node),
     ) refl
 
 -- one that isn't met yet is refused for want of numbers or of room as the row tells
-pub room-refused : (parts : Parts) (history : History) (name : List ℕ) (usage : Usage) (row : RowShown) → IsSound parts.rows → Shows parts history → row_of parts.rows name ≡ Some row
+pub room-refused : (parts : OrchestratorParts) (history : History) (name : List ℕ) (usage : Usage) (row : RowShown) → AreSoundRows parts.rows → Shows parts history → row_of parts.rows name ≡ Some row
     → use_room_fault history name usage ≡ room_refusal parts.last usage row
 room-refused parts history name usage row are agrees e =
     let targets = (found-kept (λ (r : RowShown). same_text r.name name) parts.rows row are e).targets in
     rw (spent-alike parts history agrees, others-alike row history name usage.node usage.target (is-row-of parts history name row agrees e) targets) refl
 
 -- the call that is due for a use is read from the row
-pub use-due : (parts : Parts) (history : History) (name : List ℕ) (usage : Usage) (row : RowShown) → IsSound parts.rows → Shows parts history → row_of parts.rows name ≡ Some row
-    → option_and_then (due_use history name usage) (id_of history name) ≡ due_for_use usage row
+pub use-due : (parts : OrchestratorParts) (history : History) (name : List ℕ) (usage : Usage) (row : RowShown) → AreSoundRows parts.rows → Shows parts history → row_of parts.rows name ≡ Some row
+    → due_for history name (Some (Use usage)) ≡ due_by row (Some (kept.Use usage))
 use-due parts history name usage row are agrees e = use-told row history name usage (is-row-of parts history name row agrees e)
 
 -- a stop
-pub stop-unknown : (parts : Parts) (history : History) (name node target : List ℕ) → IsSound parts.rows → Shows parts history → row_of parts.rows name ≡ None → stop_fault parts.nodes history name node target ≡ Some faults.NoSuchVolume
+pub stop-unknown : (parts : OrchestratorParts) (history : History) (name node target : List ℕ) → AreSoundRows parts.rows → Shows parts history → row_of parts.rows name ≡ None → stop_fault parts.nodes history name node target ≡ Some faults.NoSuchVolume
 stop-unknown parts history name node target are agrees e = rw (unknown parts history name agrees e) refl
 
 -- a stop of a name that has a row is refused as the row tells
-pub stop-refused : (parts : Parts) (history : History) (name node target : List ℕ) (row : RowShown) → IsSound parts.rows → Shows parts history → row_of parts.rows name ≡ Some row
+pub stop-refused : (parts : OrchestratorParts) (history : History) (name node target : List ℕ) (row : RowShown) → AreSoundRows parts.rows → Shows parts history → row_of parts.rows name ≡ Some row
     → stop_fault parts.nodes history name node target ≡ stop_refusal parts.nodes parts.last node target row
 stop-refused parts history name node target row are agrees e =
     let own = is-row-of parts history name row agrees e in
     rw (own.there, sym (own.marks (Exists name) refl), wanted-alike row history name own, sym (own.marks (Published name node target) refl), spent-alike parts history agrees) refl
 
 -- a delete
-pub delete-unknown : (parts : Parts) (history : History) (name : List ℕ) → IsSound parts.rows → Shows parts history → row_of parts.rows name ≡ None → delete_fault history name ≡ Some faults.NoSuchVolume
+pub delete-unknown : (parts : OrchestratorParts) (history : History) (name : List ℕ) → AreSoundRows parts.rows → Shows parts history → row_of parts.rows name ≡ None → delete_fault history name ≡ Some faults.NoSuchVolume
 delete-unknown parts history name are agrees e = rw (unknown parts history name agrees e) refl
 
 -- a delete of a name that has a row is refused as the row tells
-pub delete-refused : (parts : Parts) (history : History) (name : List ℕ) (row : RowShown) → IsSound parts.rows → Shows parts history → row_of parts.rows name ≡ Some row → delete_fault history name ≡ delete_refusal row
+pub delete-refused : (parts : OrchestratorParts) (history : History) (name : List ℕ) (row : RowShown) → AreSoundRows parts.rows → Shows parts history → row_of parts.rows name ≡ Some row → delete_fault history name ≡ delete_refusal row
 delete-refused parts history name row are agrees e =
     let own = is-row-of parts history name row agrees e in
     rw (own.there, sym own.ids, attached-alike row history name own (found-kept (λ (r : RowShown). same_text r.name name) parts.rows row are e).nodes) refl
 
 -- one that isn't met yet is refused for another goal or for want of numbers as the row tells
-pub busy-refused : (parts : Parts) (history : History) (name : List ℕ) (row : RowShown) → IsSound parts.rows → Shows parts history → row_of parts.rows name ≡ Some row → delete_busy_fault history name ≡ busy_refusal parts.last row
+pub busy-refused : (parts : OrchestratorParts) (history : History) (name : List ℕ) (row : RowShown) → AreSoundRows parts.rows → Shows parts history → row_of parts.rows name ≡ Some row → delete_busy_fault history name ≡ busy_refusal parts.last row
 busy-refused parts history name row are agrees e = rw (wanted-alike row history name (is-row-of parts history name row agrees e), spent-alike parts history agrees) refl
 
 -- a timeout
-pub timeout-unknown : (parts : Parts) (history : History) (name : List ℕ) → Shows parts history → row_of parts.rows name ≡ None → timeout_fault history name ≡ Some faults.NoSuchVolume
+pub timeout-unknown : (parts : OrchestratorParts) (history : History) (name : List ℕ) → Shows parts history → row_of parts.rows name ≡ None → timeout_fault history name ≡ Some faults.NoSuchVolume
 timeout-unknown parts history name agrees e = rw (unknown parts history name agrees e) refl
 
 -- a timeout of a name that has a row is refused where nothing is wanted of the row, and only there

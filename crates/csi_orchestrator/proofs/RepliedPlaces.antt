@@ -9,25 +9,27 @@ use Rattle.csi_types.specs.declared.frame.Body.{Body}
 use Rattle.csi_types.specs.declared.frame.Body.TheVariants as bodies
 use Rattle.csi_types.specs.declared.number.Number.{Number}
 use Rattle.csi_types.specs.declared.reply.Reply.{Reply}
-use Rattle.csi_types.specs.Frame.{Frame}
-use Rattle.csi_lists.specs.Members.{EachTwo}
-use Rattle.csi_lists.specs.Places.{IsAt, FirstAt}
+use Rattle.csi_types.specs.Model.Frame.{Frame}
+use Rattle.csi_lists.specs.Model.Members.{EachTwo}
+use Rattle.csi_lists.specs.Public.Places.{IsAt, FirstAt}
 use Rattle.csi_lists.proofs.Places.{position-first}
-use Rattle.csi_types.specs.Same.{same_text}
+use Rattle.csi_types.specs.Model.Same.{same_text}
 use Rattle.csi_types.proofs.Equality.{same_text-tells}
 use Rattle.csi_orchestrator.specs.declared.fault.Heard.TheVariants.{Ignored}
 use Rattle.csi_orchestrator.specs.declared.fault.OrchFault.{OrchFault}
 use Rattle.csi_orchestrator.specs.declared.state.OrchestratorCore.{OrchestratorCore}
 use Rattle.csi_orchestrator.specs.declared.row.Row.{Row}
 use Rattle.csi_orchestrator.specs.declared.step.Step.{Step}
-use Rattle.csi_orchestrator.specs.Catalog.{rows_of}
-use Rattle.csi_orchestrator.specs.CoreParts.{parts_of}
-use Rattle.csi_orchestrator.specs.Hearing.{Fits}
-use Rattle.csi_orchestrator.specs.Moves.{Input, Comes, Answer, Hears, hears}
-use Rattle.csi_orchestrator.specs.Shown.{RowShown, Parts, row_shown, row_of, open_in_row}
-use Rattle.csi_orchestrator.specs.RowSteps.{MovedRow, row_step}
-use Rattle.csi_orchestrator.specs.RowMoves.{moved_rows, frame_in, placed, steps_at, is_issued_as, step_heard, hears_reply, receives, row_moves, IsRefusal, RowsAnswer, IsMoveOf}
-use Rattle.csi_orchestrator.specs.Sound.{IsSound}
+use Rattle.csi_orchestrator.specs.Public.Catalog.{rows_of}
+use Rattle.csi_orchestrator.specs.Public.CoreParts.{orchestrator_parts_shown}
+use Rattle.csi_orchestrator.specs.Private.Hearing.{IsDueSuccess}
+use Rattle.csi_orchestrator.specs.Model.Moves.{Input, Comes, Answer, Hears, hears}
+use Rattle.csi_orchestrator.specs.Model.Shown.{RowShown, OrchestratorParts, row_of, open_in_row}
+use Rattle.csi_orchestrator.specs.Public.Shown.{row_shown}
+use Rattle.csi_orchestrator.specs.Private.RowSteps.{MovedRow, row_step}
+use Rattle.csi_orchestrator.specs.Public.RowMoves.{moved_rows, IsRefusal}
+use Rattle.csi_orchestrator.specs.Private.RowMoves.{outgoing_frame, all_rows_moved, steps_at, is_issued_as, step_heard, hears_reply, receives, row_moves, RowsAnswer, IsMoveOf}
+use Rattle.csi_orchestrator.specs.Public.Sound.{AreSoundRows}
 use Rattle.csi_orchestrator.proofs.RowsByName.{row-at, shown-there}
 use Rattle.csi_orchestrator.proofs.ChangedEntries.{find-place, find-none_placed}
 use Rattle.csi_orchestrator.proofs.RowsUnderNames.{read-at}
@@ -49,7 +51,7 @@ first-own (x ∷ rows) zero row apart at = ((same_text-tells x.name row.name).1 
 first-own (x ∷ rows) (suc i) row apart at = (each-at (λ (b : RowShown). same_text x.name b.name ≡ false) rows i row apart.0 at, first-own rows i row apart.1 at)
 
 -- what is told of a frame, by its parts
-received : (parts : Parts) (frame : Frame) (number : Number) (party : Party) (body : Body) → number ≡ frame.number → party ≡ frame.party → frame.body ≡ body
+received : (parts : OrchestratorParts) (frame : Frame) (number : Number) (party : Party) (body : Body) → number ≡ frame.number → party ≡ frame.party → frame.body ≡ body
     → row_moves parts (Comes frame) ≡ receives parts number party body
 received parts frame number party body numbers parties is = cc
 
@@ -57,12 +59,12 @@ received parts frame number party body numbers parties is = cc
 pub record IsDelivered (core : OrchestratorCore) (frame : Frame) (index : ℕ) (step : Step) : Type 0 where
   pub name : List ℕ
   pub named : position (λ (r : Row). same_text r.name name) (rows_of core.catalog) ≡ Some index
-  pub fits : (row : Row) → slice_get (rows_of core.catalog) index ≡ Some row → Fits step (row_shown row)
-  pub told : row_moves (parts_of core) (Comes frame) ≡ steps_at (parts_of core) hears step (row_of (map row_shown (rows_of core.catalog)) name)
+  pub fits : (row : Row) → slice_get (rows_of core.catalog) index ≡ Some row → IsDueSuccess step (row_shown row)
+  pub told : row_moves (orchestrator_parts_shown core) (Comes frame) ≡ steps_at (orchestrator_parts_shown core) hears step (row_of (map row_shown (rows_of core.catalog)) name)
 
 -- so it is with a reply to the open call of the row
 pub delivered : (core : OrchestratorCore) (frame : Frame) (number : Number) (party : Party) (kind : Kind) (reply : Reply) (index : ℕ) (step : Step) → number ≡ frame.number → party ≡ frame.party
-    → frame.body ≡ bodies.Reply kind reply → IsSound (map row_shown (rows_of core.catalog))
+    → frame.body ≡ bodies.Reply kind reply → AreSoundRows (map row_shown (rows_of core.catalog))
     → position (λ (row : Row). is_issued_as number party kind (open_in_row (row_shown row))) (rows_of core.catalog) ≡ Some index → step ≡ step_heard kind reply → IsDelivered core frame index step
 delivered core frame number party kind reply index step numbers parties body kept at is =
     let rows = rows_of core.catalog in
@@ -76,34 +78,34 @@ delivered core frame number party kind reply index step numbers parties body kep
       name = row.name;
       named = named;
       fits = λ r at_r.
-          subst (λ s. Fits s (row_shown r)) (sym is)
-          (subst (λ (q : Row). Fits (step_heard kind reply) (row_shown q)) (same_Some row r (sym stands ∙ at_r)) (heard-fits (row_shown row) number party kind reply there.1.1 own));
+          subst (λ s. IsDueSuccess s (row_shown r)) (sym is)
+          (subst (λ (q : Row). IsDueSuccess (step_heard kind reply) (row_shown q)) (same_Some row r (sym stands ∙ at_r)) (heard-fits (row_shown row) number party kind reply there.1.1 own));
       told =
-          received (parts_of core) frame number party (bodies.Reply kind reply) numbers parties body ∙ ap (hears_reply (parts_of core) kind reply) found
-          ∙ ap (λ s. steps_at (parts_of core) hears s (Some (row_shown row))) (sym is) ∙ sym (ap (steps_at (parts_of core) hears step) (shown-there rows row.name index row named stands));
+          received (orchestrator_parts_shown core) frame number party (bodies.Reply kind reply) numbers parties body ∙ ap (hears_reply (orchestrator_parts_shown core) kind reply) found
+          ∙ ap (λ s. steps_at (orchestrator_parts_shown core) hears s (Some (row_shown row))) (sym is) ∙ sym (ap (steps_at (orchestrator_parts_shown core) hears step) (shown-there rows row.name index row named stands));
     }
 
 -- a reply to no row's open call
 pub undelivered : (core : OrchestratorCore) (frame : Frame) (number : Number) (party : Party) (kind : Kind) (reply : Reply) → number ≡ frame.number → party ≡ frame.party → frame.body ≡ bodies.Reply kind reply
-    → position (λ (row : Row). is_issued_as number party kind (open_in_row (row_shown row))) (rows_of core.catalog) ≡ None → row_moves (parts_of core) (Comes frame) ≡ moved_rows (parts_of core) (Hears Ignored)
+    → position (λ (row : Row). is_issued_as number party kind (open_in_row (row_shown row))) (rows_of core.catalog) ≡ None → row_moves (orchestrator_parts_shown core) (Comes frame) ≡ moved_rows (orchestrator_parts_shown core) (Hears Ignored)
 undelivered core frame number party kind reply numbers parties body none =
-    received (parts_of core) frame number party (bodies.Reply kind reply) numbers parties body
-    ∙ ap (hears_reply (parts_of core) kind reply) (find-none_placed row_shown (λ (row : RowShown). is_issued_as number party kind (open_in_row row)) (rows_of core.catalog) none)
+    received (orchestrator_parts_shown core) frame number party (bodies.Reply kind reply) numbers parties body
+    ∙ ap (hears_reply (orchestrator_parts_shown core) kind reply) (find-none_placed row_shown (λ (row : RowShown). is_issued_as number party kind (open_in_row row)) (rows_of core.catalog) none)
 
 -- a refusal is told where it is passed on
-pub told-at_err : {R : Type 0} (old new : Parts) (input : Input) (says : R → Answer) (result : Result R OrchFault) (fault : OrchFault) → IsErrAnd result (λ y. y ≡ fault) → IsRefusal (row_moves old input) fault → new ≡ old
+pub told-at_err : {R : Type 0} (old new : OrchestratorParts) (input : Input) (says : R → Answer) (result : Result R OrchFault) (fault : OrchFault) → IsErrAnd result (λ y. y ≡ fault) → IsRefusal (row_moves old input) fault → new ≡ old
     → IsMoveOf old new input says result
 told-at_err old new input says (Ok r) fault is refused same = absurd is
 told-at_err old new input says (Err other) fault is refused same = record { ok = tt; err = subst (IsRefusal (row_moves old input)) (sym is) refused; stays = same }
 
 -- what is told by a step isn't ignored
-pub never-ignored : (parts : Parts) (step : Step) (o : Option RowShown) → RowsAnswer (Hears Ignored) (steps_at parts hears step o) → ⊥
+pub never-ignored : (parts : OrchestratorParts) (step : Step) (o : Option RowShown) → RowsAnswer (Hears Ignored) (steps_at parts hears step o) → ⊥
 never-ignored parts step None told = told
 never-ignored parts step (Some row) told = by (row_step parts.nodes parts.last step row) told
   where
     clash : (frame : Option Frame) → hears frame ≡ Hears Ignored → ⊥
     clash frame e = cc
 
-    by : (r : Result MovedRow OrchFault) → RowsAnswer (Hears Ignored) (placed parts hears r) → ⊥
-    by (Ok moved_row) is = clash (frame_in moved_row.outgoing) is
+    by : (r : Result MovedRow OrchFault) → RowsAnswer (Hears Ignored) (all_rows_moved parts hears r) → ⊥
+    by (Ok moved_row) is = clash (outgoing_frame moved_row.outgoing) is
     by (Err fault) is = is

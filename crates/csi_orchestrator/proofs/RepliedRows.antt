@@ -1,27 +1,30 @@
 -- Why the row whose open call a reply is to is found by its number, plugin and kind.
 use Rattle.std.proofs.Common.{◌≡◌, Bool, true, refl, sym, ◌∙◌, ap}
-use Rattle.std.specs.Prelude.{Option, Some, None, option_and_then, find, ◌&&◌}
+use Rattle.std.specs.Prelude.{Option, Some, None, option_map, option_and_then, find, ◌&&◌}
 use Rattle.std.proofs.lemmas.Bool.{and_parts, and_from, false≢true, false_from_ne_true}
 use Rattle.csi_types.specs.declared.call.Kind.{Kind}
 use Rattle.csi_types.specs.declared.call.Party.{Party}
 use Rattle.csi_types.specs.declared.number.Number.{Number}
-use Rattle.csi_types.specs.Call.{kind_of}
-use Rattle.csi_lists.specs.Members.{IsAmong}
+use Rattle.csi_types.specs.Model.Call.{kind_of}
+use Rattle.csi_lists.specs.Model.Members.{IsAmong}
 use Rattle.csi_lists.proofs.Members.{among-find, none_passes}
 use Rattle.csi_lists.proofs.Searches.{find-passes, find-one, find-none}
 use Rattle.std.proofs.lemmas.Option.{none-some}
-use Rattle.csi_types.specs.Same.{same_text, same_number, same_party, same_kind}
+use Rattle.csi_types.specs.Model.Same.{same_text, same_number, same_party, same_kind}
 use Rattle.csi_types.proofs.Equality.{same_text-tells, same_number-tells, same_party-tells, same_kind-tells}
-use Rattle.csi_orchestrator.specs.Thing.{Issued}
-use Rattle.csi_orchestrator.specs.History.{History}
-use Rattle.csi_orchestrator.specs.Readings.{open_call, issued_in}
-use Rattle.csi_orchestrator.specs.Moves.{call_replied, is_number_open}
-use Rattle.csi_orchestrator.specs.WellFormed.{IsWellFormed}
-use Rattle.csi_orchestrator.specs.Due.{Due}
-use Rattle.csi_orchestrator.specs.Shown.{RowShown, Parts, row_of, due_in, issued_as, open_in_row, Shows}
-use Rattle.csi_orchestrator.specs.RowMoves.{is_issued_as, row_replied}
-use Rattle.csi_orchestrator.specs.Sound.{IsSound}
+use Rattle.csi_orchestrator.specs.declared.row.OpenCall.{OpenCall}
+use Rattle.csi_orchestrator.specs.Model.Thing.{Issued}
+use Rattle.csi_orchestrator.specs.Model.History.{History}
+use Rattle.csi_orchestrator.specs.Model.Readings.{open_call, issued_in}
+use Rattle.csi_orchestrator.specs.Model.Moves.{call_replied, is_number_open}
+use Rattle.csi_orchestrator.specs.Model.WellFormed.{IsWellFormed}
+use Rattle.csi_orchestrator.specs.Model.Due.{Due, call_for}
+use Rattle.csi_orchestrator.specs.Model.Shown.{RowShown, OrchestratorParts, row_of, goal_in, issued_as, open_in_row, Shows}
+use Rattle.csi_orchestrator.specs.Public.RowDue.{due_open}
+use Rattle.csi_orchestrator.specs.Private.RowMoves.{is_issued_as, row_replied}
+use Rattle.csi_orchestrator.specs.Public.Sound.{AreSoundRows}
 use Rattle.csi_orchestrator.proofs.Numbers.{one-call, open-sent}
+use Rattle.csi_orchestrator.proofs.RowsAfterSending.{issued-by}
 use Rattle.csi_orchestrator.proofs.JoinedLists.{own-entry}
 
 -- the call has this number, party and kind
@@ -50,23 +53,38 @@ that-passes : (number : Number) (party : Party) (kind : Kind) (o : Option Issued
 that-passes number party kind None e = absurd (false≢true e)
 that-passes number party kind (Some issued) e = (issued, refl, e)
 
--- a row whose open call a reply is to: the call is the one that is due, under the reply's number
+-- a row whose open call a reply is to
 pub record HearsIt (row : RowShown) (number : Number) (party : Party) (kind : Kind) : Type 0 where
-  pub own : row.open_number ≡ Some number
+  pub kept : OpenCall
   pub due : Due
-  pub is_due : due_in row ≡ Some due
+  pub own : row.open_call ≡ Some kept
+  pub has_number : kept.number ≡ number
   pub has_kind : kind_of due.call ≡ kind
+  pub is_open : due_open row ≡ Some due
+  pub told : open_in_row row ≡ Some (issued-by row.name number due)
 
 -- a row whose open call has the reply's number, party and kind is one that the reply is to
 pub hears-it : (row : RowShown) (number : Number) (party : Party) (kind : Kind) → is_issued_as number party kind (open_in_row row) ≡ true → HearsIt row number party kind
-hears-it row number party kind e = by row.open_number refl (due_in row) refl e
+hears-it row number party kind e = by row.open_call refl e
   where
-    by : (o : Option Number) → row.open_number ≡ o → (d : Option Due) → due_in row ≡ d → is_issued_as number party kind (issued_as row.name o d) ≡ true → HearsIt row number party kind
-    by None own d is f = absurd (false≢true f)
-    by (Some n) own None is f = absurd (false≢true f)
-    by (Some n) own (Some due) is f =
-        let such = such-call number party kind (record { name = row.name; number = n; party = due.party; call = due.call }) f in
-        record { own = own ∙ ap Some such.has_number; due = due; is_due = is; has_kind = such.has_kind }
+    found : (kept : OpenCall) → row.open_call ≡ Some kept → (d : Option Due) → call_for row.name (goal_in row) row.id kept.kind ≡ d
+        → is_issued_as number party kind (option_map (issued-by row.name kept.number) d) ≡ true → HearsIt row number party kind
+    found kept own None is f = absurd (false≢true f)
+    found kept own (Some due) is f =
+        let such = such-call number party kind (issued-by row.name kept.number due) f in
+        record {
+          kept = kept;
+          due = due;
+          own = own;
+          has_number = such.has_number;
+          has_kind = such.has_kind;
+          is_open = ap (λ o. due_open (record row { open_call = o })) own ∙ is;
+          told = ap (option_and_then (issued_as row)) own ∙ ap (option_map (issued-by row.name kept.number)) is ∙ ap (λ n. Some (issued-by row.name n due)) such.has_number;
+        }
+
+    by : (o : Option OpenCall) → row.open_call ≡ o → is_issued_as number party kind (option_and_then (issued_as row) o) ≡ true → HearsIt row number party kind
+    by None own f = absurd (false≢true f)
+    by (Some kept) own f = found kept own (call_for row.name (goal_in row) row.id kept.kind) refl f
 
 -- a call that a reply is to, by the history, is the open call of its name
 pub own-open : (history : History) (number : Number) (party : Party) (kind : Kind) (issued : Issued) → IsWellFormed history → IsAmong issued (issued_in history.items)
@@ -83,12 +101,12 @@ own-open history number party kind issued form among e = (by (open_call history 
         ((same_number-tells other.number number).0 f ∙ sym (such-call number party kind issued parted.0).has_number))
 
 -- it is also the row that is found for its name
-pub found-own : (parts : Parts) (number : Number) (party : Party) (kind : Kind) (row : RowShown) → IsSound parts.rows → row_replied parts.rows number party kind ≡ Some row → row_of parts.rows row.name ≡ Some row
+pub found-own : (parts : OrchestratorParts) (number : Number) (party : Party) (kind : Kind) (row : RowShown) → AreSoundRows parts.rows → row_replied parts.rows number party kind ≡ Some row → row_of parts.rows row.name ≡ Some row
 found-own parts number party kind row kept e =
     own-entry (λ (r : RowShown). r.name) parts.rows row kept.names (among-find (λ (r : RowShown). is_issued_as number party kind (open_in_row r)) parts.rows row e)
 
 -- the open call that a reply is to is that of the row found by it
-pub replied : (parts : Parts) (history : History) (number : Number) (party : Party) (kind : Kind) → IsWellFormed history → IsSound parts.rows → Shows parts history
+pub replied : (parts : OrchestratorParts) (history : History) (number : Number) (party : Party) (kind : Kind) → IsWellFormed history → AreSoundRows parts.rows → Shows parts history
     → call_replied history number party kind ≡ option_and_then open_in_row (row_replied parts.rows number party kind)
 replied parts history number party kind form kept agrees = by (row_replied parts.rows number party kind) refl
   where

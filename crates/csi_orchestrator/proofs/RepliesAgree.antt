@@ -9,41 +9,47 @@ use Rattle.csi_types.specs.declared.frame.Body.{Body}
 use Rattle.csi_types.specs.declared.frame.Body.TheVariants as bodies
 use Rattle.csi_types.specs.declared.number.Number.{Number}
 use Rattle.csi_types.specs.declared.reply.Reply.{Reply}
-use Rattle.csi_types.specs.Call.{kind_of}
-use Rattle.csi_types.specs.Frame.{Frame}
-use Rattle.csi_types.specs.Reply.{is_ok_status}
-use Rattle.csi_types.specs.Same.{same_text}
+use Rattle.csi_types.specs.Model.Call.{kind_of}
+use Rattle.csi_types.specs.Model.Frame.{Frame}
+use Rattle.csi_types.specs.Model.Reply.{is_ok_status}
+use Rattle.csi_types.specs.Model.Same.{same_text}
 use Rattle.csi_lists.proofs.Searches.{find-passes}
 use Rattle.csi_orchestrator.specs.declared.fault.Heard.TheVariants.{Ignored}
 use Rattle.csi_orchestrator.specs.declared.fault.OrchFault.{OrchFault}
 use Rattle.csi_orchestrator.specs.declared.fault.OrchFault.TheVariants as faults
 use Rattle.csi_orchestrator.specs.declared.row.Goal.{Goal}
+use Rattle.csi_orchestrator.specs.declared.row.OpenCall.{OpenCall}
 use Rattle.csi_orchestrator.specs.declared.row.Goal.TheVariants.{Create, Use, Stop, Delete}
 use Rattle.csi_orchestrator.specs.declared.request.Usage.{Usage}
 use Rattle.csi_orchestrator.specs.declared.step.Step.TheVariants.{TimeOut, Succeed, Fail}
-use Rattle.csi_orchestrator.specs.Thing.{Issued}
-use Rattle.csi_orchestrator.specs.History.{Item, Started, Accepted, Closed, Noted, History, with_items}
-use Rattle.csi_orchestrator.specs.History as wishes
-use Rattle.csi_orchestrator.specs.Readings.{goal_of, open_call, tries, last_number}
-use Rattle.csi_orchestrator.specs.WellFormed.{IsWellFormed}
-use Rattle.csi_orchestrator.specs.Commands.{timeout_fault}
-use Rattle.csi_orchestrator.specs.Due.{Due}
-use Rattle.csi_orchestrator.specs.Moves.{Input, ToCreate, ToUse, ToStop, ToDelete, TimesOut, Comes, Restarts, Answer, Sends, Hears, Restarted, Moved, send_due, is_forward, is_forward_due, stopped, closing, timeout, hears, call_replied, heard, heard_refusal, deliver, restart, moves}
-use Rattle.csi_orchestrator.specs.Agrees.{View, Agrees}
-use Rattle.csi_orchestrator.specs.Following.{after_accepted, after_closed, after_noted}
-use Rattle.csi_orchestrator.specs.Shown.{RowShown, Parts, row_of, goal_shown, held_in, due_in, open_in_row, issued_as, closed, in_session, view_of, Shows}
-use Rattle.csi_orchestrator.specs.Found.{kind_due}
-use Rattle.csi_orchestrator.specs.RowChanges.{succeeded, wanted, stopped_goal}
-use Rattle.csi_orchestrator.specs.RowRefusals.{idle_refusal}
-use Rattle.csi_orchestrator.specs.RowSteps.{MovedRow, row_sends_due, row_rests, row_unless, waits_for, is_given_up, timed_out, failed}
-use Rattle.csi_orchestrator.specs.RowMoves.{MovedRows, moved_rows, placed, steps_at, row_replied, is_issued_as, hears_reply, receives, starts_again, row_moves}
-use Rattle.csi_orchestrator.specs.Sound.{IsSoundRow, IsSound, AreGuarded, RowsTell, MovesAreGuarded}
+use Rattle.csi_orchestrator.specs.Model.Thing.{Issued}
+use Rattle.csi_orchestrator.specs.Model.History.{Item, Started, Accepted, Closed, Noted, History, with_items}
+use Rattle.csi_orchestrator.specs.Model.History as wishes
+use Rattle.csi_orchestrator.specs.Model.Readings.{goal_of, open_call, tries, last_number}
+use Rattle.csi_orchestrator.specs.Model.WellFormed.{IsWellFormed}
+use Rattle.csi_orchestrator.specs.Model.Commands.{timeout_fault}
+use Rattle.csi_orchestrator.specs.Model.Due.{Due, call_for}
+use Rattle.csi_orchestrator.specs.Model.Moves.{Input, ToCreate, ToUse, ToStop, ToDelete, TimesOut, Comes, Restarts, Answer, Sends, Hears, Restarted, Moved, send_due, is_forward, is_forward_due, undoing_goal, closing, timeout, hears, call_replied, heard, heard_refusal, deliver, restart, moves}
+use Rattle.csi_orchestrator.specs.Model.Agrees.{OrchestratorView, Agrees}
+use Rattle.csi_orchestrator.specs.Private.Following.{after_accepted, after_closed, after_noted}
+use Rattle.csi_orchestrator.specs.Model.Shown.{RowShown, OrchestratorParts, row_of, goal_in, goal_shown, held_on_node, open_in_row, issued_as, orchestrator_view, Shows}
+use Rattle.csi_orchestrator.specs.Private.Shown.{closed, parts_in_session}
+use Rattle.csi_orchestrator.specs.Public.RowDue.{due_in}
+use Rattle.csi_orchestrator.specs.Private.Found.{kind_due}
+use Rattle.csi_orchestrator.specs.Private.RowChanges.{succeeded_row, wanted_row, stopped_goal}
+use Rattle.csi_orchestrator.specs.Private.RowRefusals.{idle_refusal}
+use Rattle.csi_orchestrator.specs.Private.RowSteps.{MovedRow, row_sends_due, row_rests, row_unless, waits_for, is_given_up, timed_out, failed}
+use Rattle.csi_orchestrator.specs.Public.RowMoves.{MovedRows, moved_rows}
+use Rattle.csi_orchestrator.specs.Private.RowMoves.{all_rows_moved, steps_at, row_replied, is_issued_as, hears_reply, receives, starts_again, row_moves}
+use Rattle.csi_orchestrator.specs.Public.Sound.{IsSoundRow, AreSoundRows, AreGuarded}
+use Rattle.csi_orchestrator.specs.Private.Sound.{RowsTell, MovesAreGuarded}
 use Rattle.csi_orchestrator.proofs.TextLists.{text-same}
 use Rattle.csi_orchestrator.proofs.DueCalls.{due-of-row}
 use Rattle.csi_orchestrator.proofs.DueCases.{IsDueFor, due-cases, ToMake, ToRemove, ToAttach, ToStage, ToPublish, ToUnpublish, ToUnstage, ToDetach}
 use Rattle.csi_orchestrator.proofs.ViewsFollow.{closed-follows, noted-follows, started-follows}
 use Rattle.csi_orchestrator.proofs.RepliesFollow.{accepted-follows}
-use Rattle.csi_orchestrator.proofs.SendingAgrees.{Guards, Tells, IsReady, has-entry, then-dropped, sends-due-tells}
+use Rattle.csi_orchestrator.proofs.RowMarks.{has-entry}
+use Rattle.csi_orchestrator.proofs.SendingAgrees.{Guards, Tells, IsReady, then-dropped, sends-due-tells}
 use Rattle.csi_orchestrator.proofs.StepsSound.{closed-may, stopped-may, changed-may}
 use Rattle.csi_orchestrator.proofs.RowsAfterNotes.{reads-wanted, reads-closed, reads-quiet, reads-refused}
 use Rattle.csi_orchestrator.proofs.RefusalsRead.{timeout-unknown, timeout-refused}
@@ -69,23 +75,26 @@ forward-due row forward = by (due_in row) refl forward
     by (Some due) e f = forward-goal row due (due-cases row due e) f
 
 -- an open call is of its row's name
-open-name : (name : List ℕ) (o : Option Number) (d : Option Due) (issued : Issued) → issued_as name o d ≡ Some issued → issued.name ≡ name
-open-name name None d issued e = absurd (none-some issued e)
-open-name name (Some number) None issued e = absurd (none-some issued e)
-open-name name (Some number) (Some due) issued e = sym (ap (λ (i : Issued). i.name) (same_Some (issued-by name number due) issued e))
+open-name : (row : RowShown) (o : Option OpenCall) (issued : Issued) → option_and_then (issued_as row) o ≡ Some issued → issued.name ≡ row.name
+open-name row None issued e = absurd (none-some issued e)
+open-name row (Some open_call) issued e = by (call_for row.name (goal_in row) row.id open_call.kind) e
+  where
+    by : (d : Option Due) → option_map (issued-by row.name open_call.number) d ≡ Some issued → issued.name ≡ row.name
+    by None e = absurd (none-some issued e)
+    by (Some due) e = sym (ap (λ (i : Issued). i.name) (same_Some (issued-by row.name open_call.number due) issued e))
 
 -- its call was closed, by a timeout or by a refusal: it tells what is shown after these items
-record IsClosed (parts : Parts) (history : History) (name : List ℕ) (row : RowShown) (items : List Item) : Type 0 where
-  view : View
+record IsClosed (parts : OrchestratorParts) (history : History) (name : List ℕ) (row : RowShown) (items : List Item) : Type 0 where
+  view : OrchestratorView
   form : IsWellFormed (with_items history items)
   agrees : Agrees view (with_items history items)
   reads : Reads (closed row) view name
-  others : (other : List ℕ) → same_text name other ≡ false → SameAt view (view_of parts) other
+  others : (other : List ℕ) → same_text name other ≡ false → SameAt view (orchestrator_view parts) other
   same_last : parts.last ≡ view.last
   guarded : AreGuarded history items
 
 -- the due call may be sent, or that of a stopped use
-closed-ready : (parts : Parts) (history : History) (name : List ℕ) (row : RowShown) (items : List Item) → IsFound parts history name row → (c : IsClosed parts history name row items)
+closed-ready : (parts : OrchestratorParts) (history : History) (name : List ℕ) (row : RowShown) (items : List Item) → IsFound parts history name row → (c : IsClosed parts history name row items)
     → IsReady parts history name (closed row) c.view items
 closed-ready parts history name row items at c =
     record {
@@ -101,17 +110,17 @@ closed-ready parts history name row items at c =
     }
 
 -- the rows tell the same as the history where a use, whose call was closed, becomes a stop
-use-stops : (parts : Parts) (history : History) (name : List ℕ) (row : RowShown) (items : List Item) (usage : Usage) (answer : Option Frame → Answer) → IsFound parts history name row → IsClosed parts history name row items
-    → row.goal ≡ Some (Use usage) → Tells history (placed parts answer (row_sends_due parts.last (wanted (Stop usage.node usage.target) row))) (send_due history name answer (Noted name (stopped (goal_of history name)) ∷ items))
+use-stops : (parts : OrchestratorParts) (history : History) (name : List ℕ) (row : RowShown) (items : List Item) (usage : Usage) (answer : Option Frame → Answer) → IsFound parts history name row → IsClosed parts history name row items
+    → row.goal ≡ Some (Use usage) → Tells history (all_rows_moved parts answer (row_sends_due parts.last (wanted_row (Stop usage.node usage.target) row))) (send_due history name answer (Noted name (undoing_goal (goal_of history name)) ∷ items))
 use-stops parts history name row items usage answer at c goal =
-    subst (λ g. Tells history (placed parts answer (row_sends_due parts.last (wanted (Stop usage.node usage.target) row))) (send_due history name answer (Noted name (stopped g) ∷ items)))
-    (sym (ap (option_map (goal_shown row)) goal) ∙ (is-row-of parts history name row (at.right).agrees at.found).goals)
-    (sends-due-tells parts history name (wanted (Stop usage.node usage.target) (closed row)) (after_noted name stop c.view) (Noted name stop ∷ items)
+    subst (λ g. Tells history (all_rows_moved parts answer (row_sends_due parts.last (wanted_row (Stop usage.node usage.target) row))) (send_due history name answer (Noted name (undoing_goal g) ∷ items)))
+    (sym (ap (option_map (goal_shown row.arguments)) goal) ∙ (is-row-of parts history name row (at.right).agrees at.found).goals)
+    (sends-due-tells parts history name (wanted_row (Stop usage.node usage.target) (closed row)) (after_noted name stop c.view) (Noted name stop ∷ items)
     (record {
       form = (tt, c.form);
       agrees = noted-follows c.view (with_items history items) name stop c.agrees;
       reads = reads-wanted (Stop usage.node usage.target) (closed row) c.view name c.reads (sym (c.reads).open_calls);
-      others = λ other differs. same-then (after_noted name stop c.view) c.view (view_of parts) other (same-noted name stop c.view other differs) (c.others other differs);
+      others = λ other differs. same-then (after_noted name stop c.view) c.view (orchestrator_view parts) other (same-noted name stop c.view other differs) (c.others other differs);
       same_last = c.same_last;
       old_last = sym ((at.right).agrees).same_last;
       quiet = sym (c.reads).open_calls;
@@ -123,40 +132,40 @@ use-stops parts history name row items usage answer at c goal =
     stop = Some (wishes.Stop usage.node usage.target)
 
 -- the call of a name is given up, if it has one
-given-up : (parts : Parts) (history : History) (name : List ℕ) (row : RowShown) → IsFound parts history name row → (o : Option Issued) → open_call history name ≡ o → IsClosed parts history name row (closing o)
+given-up : (parts : OrchestratorParts) (history : History) (name : List ℕ) (row : RowShown) → IsFound parts history name row → (o : Option Issued) → open_call history name ≡ o → IsClosed parts history name row (closing o)
 given-up parts history name row at None f =
     record {
-      view = view_of parts;
+      view = orchestrator_view parts;
       form = (at.right).form;
       agrees = (at.right).agrees;
-      reads = reads-quiet row (view_of parts) name (own-reads parts history name row at) (((at.right).agrees).same_open_calls name ∙ f);
-      others = λ other differs. same-self (view_of parts) other;
+      reads = reads-quiet row (orchestrator_view parts) name (own-reads parts history name row at) (((at.right).agrees).same_open_calls name ∙ f);
+      others = λ other differs. same-self (orchestrator_view parts) other;
       same_last = refl;
       guarded = tt;
     }
 given-up parts history name row at (Some issued) f =
     record {
-      view = after_closed issued (view_of parts);
+      view = after_closed issued (orchestrator_view parts);
       form = (record { name = name; issued = issued; is_open = f; has_number = refl }, (at.right).form);
-      agrees = closed-follows (view_of parts) history issued (at.right).form (at.right).agrees (ap (open_call history) its ∙ f);
-      reads = reads-closed row issued (view_of parts) name its (own-reads parts history name row at);
-      others = λ other differs. same-closed issued (view_of parts) other (ap (λ n. same_text n other) its ∙ differs);
+      agrees = closed-follows (orchestrator_view parts) history issued (at.right).form (at.right).agrees (ap (open_call history) its ∙ f);
+      reads = reads-closed row issued (orchestrator_view parts) name its (own-reads parts history name row at);
+      others = λ other differs. same-closed issued (orchestrator_view parts) other (ap (λ n. same_text n other) its ∙ differs);
       same_last = refl;
       guarded = tt;
     }
   where
     its : issued.name ≡ name
     its =
-        open-name row.name row.open_number (due_in row) issued (sym (ap (option_and_then open_in_row) at.found) ∙ ((at.right).agrees).same_open_calls name ∙ f)
+        open-name row row.open_call issued (sym (ap (option_and_then open_in_row) at.found) ∙ ((at.right).agrees).same_open_calls name ∙ f)
         ∙ own-name parts name row at.found
 
 -- a timeout
-timeout-tells : (parts : Parts) (history : History) (name : List ℕ) (row : RowShown) → IsFound parts history name row → (goal : Option Goal) → row.goal ≡ goal
-    → Tells history (placed parts Sends (row_unless (idle_refusal goal) (row_sends_due parts.last (timed_out row goal)))) (timeout history name (cond (is_none goal) (Some faults.Idle) None))
+timeout-tells : (parts : OrchestratorParts) (history : History) (name : List ℕ) (row : RowShown) → IsFound parts history name row → (goal : Option Goal) → row.goal ≡ goal
+    → Tells history (all_rows_moved parts Sends (row_unless (idle_refusal goal) (row_sends_due parts.last (timed_out row goal)))) (timeout history name (cond (is_none goal) (Some faults.Idle) None))
 timeout-tells parts history name row at None g = (refl, tt)
 timeout-tells parts history name row at (Some goal) g =
-    subst (λ d. Tells history (placed parts Sends on) (cond (is_forward_due d && (tries history name == 3)) stop more)) (sym (due-of-row row history name own (own-kept parts history name row at).targets))
-    (subst (λ t. Tells history (placed parts Sends on) (cond (is_forward_due (due_in row) && (t == 3)) stop more)) own.counts (by (is_given_up row) refl))
+    subst (λ d. Tells history (all_rows_moved parts Sends on) (cond (is_forward_due d && (tries history name == 3)) stop more)) (sym (due-of-row row history name own (own-kept parts history name row at).targets))
+    (subst (λ t. Tells history (all_rows_moved parts Sends on) (cond (is_forward_due (due_in row) && (t == 3)) stop more)) own.counts (by (is_given_up row) refl))
   where
     own : IsRowOf row history name
     own = is-row-of parts history name row (at.right).agrees at.found
@@ -171,20 +180,20 @@ timeout-tells parts history name row at (Some goal) g =
     on = row_sends_due parts.last (timed_out row (Some goal))
 
     stop : Result Moved OrchFault
-    stop = send_due history name Sends (Noted name (stopped (goal_of history name)) ∷ items)
+    stop = send_due history name Sends (Noted name (undoing_goal (goal_of history name)) ∷ items)
 
     more : Result Moved OrchFault
     more = send_due history name Sends items
 
-    by : (b : Bool) → is_given_up row ≡ b → Tells history (placed parts Sends (row_sends_due parts.last (cond b (wanted (stopped_goal goal) row) (closed row)))) (cond b stop more)
+    by : (b : Bool) → is_given_up row ≡ b → Tells history (all_rows_moved parts Sends (row_sends_due parts.last (cond b (wanted_row (stopped_goal goal) row) (closed row)))) (cond b stop more)
     by true spent =
         let wish = forward-due row (and_parts (is_forward_due (due_in row)) (row.tries == 3) spent).0 in
-        subst (λ w. Tells history (placed parts Sends (row_sends_due parts.last (wanted (stopped_goal w) row))) stop) (same_Some (Use wish.0) goal (sym wish.1 ∙ g))
+        subst (λ w. Tells history (all_rows_moved parts Sends (row_sends_due parts.last (wanted_row (stopped_goal w) row))) stop) (same_Some (Use wish.0) goal (sym wish.1 ∙ g))
         (use-stops parts history name row items wish.0 Sends at given wish.1)
     by false left = sends-due-tells parts history name (closed row) given.view items (closed-ready parts history name row items at given) Sends
 
 -- the same, whether the name has a row or not
-timeouts-tell : (parts : Parts) (history : History) (name : List ℕ) → AreRight parts history → (o : Option RowShown) → row_of parts.rows name ≡ o
+timeouts-tell : (parts : OrchestratorParts) (history : History) (name : List ℕ) → AreRight parts history → (o : Option RowShown) → row_of parts.rows name ≡ o
     → Tells history (steps_at parts Sends TimeOut o) (timeout history name (timeout_fault history name))
 timeouts-tell parts history name right None e =
     subst (λ f. Tells history (Err faults.NoSuchVolume) (timeout history name f)) (sym (timeout-unknown parts history name right.agrees e)) (refl, tt)
@@ -193,7 +202,7 @@ timeouts-tell parts history name right (Some row) e =
     (timeout-tells parts history name row (record { right = right; found = e }) row.goal refl)
 
 -- a reply comes to the due call of the row
-record IsHeardBy (parts : Parts) (history : History) (row : RowShown) (number : Number) (due : Due) : Type 0 where
+record IsHeardBy (parts : OrchestratorParts) (history : History) (row : RowShown) (number : Number) (due : Due) : Type 0 where
   at : IsFound parts history row.name row
   is_due : due_in row ≡ Some due
   is_open : open_call history row.name ≡ Some (issued-by row.name number due)
@@ -203,22 +212,22 @@ taken : Number → Reply → Item
 taken number reply = Accepted number reply.status reply.id
 
 -- what is shown after it
-heard-view : Parts → RowShown → Number → Due → Reply → View
-heard-view parts row number due reply = after_accepted (issued-by row.name number due) reply.status reply.id (view_of parts)
+heard-view : OrchestratorParts → RowShown → Number → Due → Reply → OrchestratorView
+heard-view parts row number due reply = after_accepted (issued-by row.name number due) reply.status reply.id (orchestrator_view parts)
 
 -- the history is well-formed then, and agrees with what is shown
-heard-form : (parts : Parts) (history : History) (row : RowShown) (number : Number) (due : Due) (reply : Reply) → IsHeardBy parts history row number due → IsWellFormed (with_items history (taken number reply ∷ []))
+heard-form : (parts : OrchestratorParts) (history : History) (row : RowShown) (number : Number) (due : Due) (reply : Reply) → IsHeardBy parts history row number due → IsWellFormed (with_items history (taken number reply ∷ []))
 unfolding taken
 heard-form parts history row number due reply by = (record { name = row.name; issued = issued-by row.name number due; is_open = by.is_open; has_number = refl }, (by.at.right).form)
 
 -- the history with that item agrees with what is shown
-heard-agrees : (parts : Parts) (history : History) (row : RowShown) (number : Number) (due : Due) (reply : Reply) → IsHeardBy parts history row number due
+heard-agrees : (parts : OrchestratorParts) (history : History) (row : RowShown) (number : Number) (due : Due) (reply : Reply) → IsHeardBy parts history row number due
     → Agrees (heard-view parts row number due reply) (with_items history (taken number reply ∷ []))
 unfolding heard-view taken
-heard-agrees parts history row number due reply by = accepted-follows (view_of parts) history (issued-by row.name number due) reply.status reply.id (by.at.right).form (by.at.right).agrees by.is_open
+heard-agrees parts history row number due reply by = accepted-follows (orchestrator_view parts) history (issued-by row.name number due) reply.status reply.id (by.at.right).form (by.at.right).agrees by.is_open
 
 -- a status other than OK
-heard-closed : (parts : Parts) (history : History) (row : RowShown) (number : Number) (due : Due) (reply : Reply) → IsHeardBy parts history row number due → is_ok_status reply.status ≡ false
+heard-closed : (parts : OrchestratorParts) (history : History) (row : RowShown) (number : Number) (due : Due) (reply : Reply) → IsHeardBy parts history row number due → is_ok_status reply.status ≡ false
     → IsClosed parts history row.name row (taken number reply ∷ [])
 unfolding heard-view taken
 heard-closed parts history row number due reply by bad =
@@ -226,27 +235,27 @@ heard-closed parts history row number due reply by bad =
       view = heard-view parts row number due reply;
       form = heard-form parts history row number due reply by;
       agrees = heard-agrees parts history row number due reply by;
-      reads = reads-refused row (issued-by row.name number due) reply.status reply.id (view_of parts) row.name refl bad (row-reads parts row.name row refl (by.at).found);
-      others = λ other differs. same-accepted (issued-by row.name number due) reply.status reply.id (view_of parts) other differs;
+      reads = reads-refused row (issued-by row.name number due) reply.status reply.id (orchestrator_view parts) row.name refl bad (row-reads parts row.name row refl (by.at).found);
+      others = λ other differs. same-accepted (issued-by row.name number due) reply.status reply.id (orchestrator_view parts) other differs;
       same_last = refl;
       guarded = tt;
     }
 
 -- a success
-success-tells : (parts : Parts) (history : History) (row : RowShown) (number : Number) (due : Due) (reply : Reply) → IsHeardBy parts history row number due → is_ok_status reply.status ≡ true
-    → Tells history (placed parts hears (row_sends_due parts.last (succeeded (kind_of due.call) reply.id row))) (send_due history row.name hears (taken number reply ∷ []))
+success-tells : (parts : OrchestratorParts) (history : History) (row : RowShown) (number : Number) (due : Due) (reply : Reply) → IsHeardBy parts history row number due → is_ok_status reply.status ≡ true
+    → Tells history (all_rows_moved parts hears (row_sends_due parts.last (succeeded_row (kind_of due.call) reply.id row))) (send_due history row.name hears (taken number reply ∷ []))
 unfolding heard-view taken
 success-tells parts history row number due reply by fine =
-    sends-due-tells parts history row.name (succeeded (kind_of due.call) reply.id row) (heard-view parts row number due reply) (taken number reply ∷ [])
+    sends-due-tells parts history row.name (succeeded_row (kind_of due.call) reply.id row) (heard-view parts row number due reply) (taken number reply ∷ [])
     (record {
       form = heard-form parts history row number due reply by;
       agrees = heard-agrees parts history row number due reply by;
-      reads = reads-succeeded row (view_of parts) row.name due number reply.status reply.id (row-reads parts row.name row refl (by.at).found) (λ node. sym (ap (option_and_then (λ (r : RowShown). held_in r node)) (by.at).found))
+      reads = reads-succeeded row (orchestrator_view parts) row.name due number reply.status reply.id (row-reads parts row.name row refl (by.at).found) (λ node. sym (ap (option_and_then (λ (r : RowShown). held_on_node r node)) (by.at).found))
           (has-entry row row.goal own.goal) (due-cases row due by.is_due) fine;
-      others = λ other differs. same-accepted (issued-by row.name number due) reply.status reply.id (view_of parts) other differs;
+      others = λ other differs. same-accepted (issued-by row.name number due) reply.status reply.id (orchestrator_view parts) other differs;
       same_last = refl;
       old_last = sym ((by.at.right).agrees).same_last;
-      quiet = ap (λ b. cond b None ((view_of parts).open_calls row.name)) (text-same row.name);
+      quiet = ap (λ b. cond b None ((orchestrator_view parts).open_calls row.name)) (text-same row.name);
       may_send = changed-may parts.nodes parts.last (Succeed (kind_of due.call) reply.id) row own (own, ap kind_due by.is_due) refl;
       guarded = tt;
     }) hears
@@ -255,20 +264,20 @@ success-tells parts history row number due reply by fine =
     own = own-kept parts history row.name row by.at
 
 -- what is told by a failure of the call that is due for this goal
-Fails : Parts → RowShown → Option Goal → Result MovedRows OrchFault
-Fails parts row goal = placed parts hears (cond (waits_for goal) (row_rests (closed row)) (row_sends_due parts.last (failed row goal)))
+Fails : OrchestratorParts → RowShown → Option Goal → Result MovedRows OrchFault
+Fails parts row goal = all_rows_moved parts hears (cond (waits_for goal) (row_rests (closed row)) (row_sends_due parts.last (failed row goal)))
 
 -- a refusal after which nothing is sent
-waits-tell : (parts : Parts) (history : History) (row : RowShown) (number : Number) (due : Due) (reply : Reply) (goal : Goal) → IsHeardBy parts history row number due → is_ok_status reply.status ≡ false
+waits-tell : (parts : OrchestratorParts) (history : History) (row : RowShown) (number : Number) (due : Due) (reply : Reply) (goal : Goal) → IsHeardBy parts history row number due → is_ok_status reply.status ≡ false
     → waits_for (Some goal) ≡ true → row.goal ≡ Some goal → Tells history (Fails parts row row.goal) (Ok (let m : Moved = record { answer = hears None; items = taken number reply ∷ [] } in m))
 unfolding taken Fails
 waits-tell parts history row number due reply goal by bad waiting wish =
     let c = heard-closed parts history row number due reply by bad in
-    subst (λ b. Tells history (placed parts hears (cond b (row_rests (closed row)) (row_sends_due parts.last (failed row row.goal)))) (Ok (let m : Moved = record { answer = hears None; items = taken number reply ∷ [] } in m)))
+    subst (λ b. Tells history (all_rows_moved parts hears (cond b (row_rests (closed row)) (row_sends_due parts.last (failed row row.goal)))) (Ok (let m : Moved = record { answer = hears None; items = taken number reply ∷ [] } in m)))
     (sym (ap waits_for wish ∙ waiting)) ((refl, put-agrees parts parts.last row.name (closed row) c.view (with_items history (taken number reply ∷ [])) c.reads c.others c.same_last c.agrees), tt)
 
 -- a create that was refused
-drops-tell : (parts : Parts) (history : History) (row : RowShown) (number : Number) (due : Due) (reply : Reply) → IsHeardBy parts history row number due → is_ok_status reply.status ≡ false → row.goal ≡ Some Create
+drops-tell : (parts : OrchestratorParts) (history : History) (row : RowShown) (number : Number) (due : Due) (reply : Reply) → IsHeardBy parts history row number due → is_ok_status reply.status ≡ false → row.goal ≡ Some Create
     → Tells history (Fails parts row row.goal) (Ok (let m : Moved = record { answer = hears None; items = Noted row.name None ∷ taken number reply ∷ [] } in m))
 unfolding taken Fails
 drops-tell parts history row number due reply by bad wish =
@@ -277,15 +286,15 @@ drops-tell parts history row number due reply by bad wish =
     ((refl, then-dropped parts history row.name (closed row) c.view (taken number reply ∷ []) (closed-ready parts history row.name row (taken number reply ∷ []) by.at c)), tt)
 
 -- a forward call that was refused: the use is stopped
-stops-after : (parts : Parts) (history : History) (row : RowShown) (number : Number) (due : Due) (reply : Reply) (usage : Usage) → IsHeardBy parts history row number due → is_ok_status reply.status ≡ false
-    → row.goal ≡ Some (Use usage) → Tells history (Fails parts row row.goal) (send_due history row.name hears (Noted row.name (stopped (goal_of history row.name)) ∷ taken number reply ∷ []))
+stops-after : (parts : OrchestratorParts) (history : History) (row : RowShown) (number : Number) (due : Due) (reply : Reply) (usage : Usage) → IsHeardBy parts history row number due → is_ok_status reply.status ≡ false
+    → row.goal ≡ Some (Use usage) → Tells history (Fails parts row row.goal) (send_due history row.name hears (Noted row.name (undoing_goal (goal_of history row.name)) ∷ taken number reply ∷ []))
 unfolding Fails
 stops-after parts history row number due reply usage by bad wish =
-    subst (λ g. Tells history (Fails parts row g) (send_due history row.name hears (Noted row.name (stopped (goal_of history row.name)) ∷ taken number reply ∷ []))) (sym wish)
+    subst (λ g. Tells history (Fails parts row g) (send_due history row.name hears (Noted row.name (undoing_goal (goal_of history row.name)) ∷ taken number reply ∷ []))) (sym wish)
     (use-stops parts history row.name row (taken number reply ∷ []) usage hears by.at (heard-closed parts history row number due reply by bad) wish)
 
 -- a status other than OK, by each call that may be due
-refusal-tells : (parts : Parts) (history : History) (row : RowShown) (number : Number) (due : Due) (reply : Reply) → IsHeardBy parts history row number due → is_ok_status reply.status ≡ false → IsDueFor row due
+refusal-tells : (parts : OrchestratorParts) (history : History) (row : RowShown) (number : Number) (due : Due) (reply : Reply) → IsHeardBy parts history row number due → is_ok_status reply.status ≡ false → IsDueFor row due
     → Tells history (Fails parts row row.goal) (heard_refusal history (issued-by row.name number due) (taken number reply) due.call)
 refusal-tells parts history row number _ reply by bad (ToMake goal e) = drops-tell parts history row number _ reply by bad goal
 refusal-tells parts history row number _ reply by bad (ToRemove id goal own e) = waits-tell parts history row number _ reply Delete by bad refl goal
@@ -297,7 +306,7 @@ refusal-tells parts history row number _ reply by bad (ToUnstage node target id 
 refusal-tells parts history row number _ reply by bad (ToDetach node target id goal own p o s a) = waits-tell parts history row number _ reply (Stop node target) by bad refl goal
 
 -- a reply to the open call of a row
-heard-tells : (parts : Parts) (history : History) (row : RowShown) (number : Number) (due : Due) (reply : Reply) → IsHeardBy parts history row number due
+heard-tells : (parts : OrchestratorParts) (history : History) (row : RowShown) (number : Number) (due : Due) (reply : Reply) → IsHeardBy parts history row number due
     → Tells history (hears_reply parts (kind_of due.call) reply (Some row)) (heard history reply (Some (issued-by row.name number due)))
 unfolding taken Fails
 heard-tells parts history row number due reply by = tells (is_ok_status reply.status) refl
@@ -308,44 +317,44 @@ heard-tells parts history row number due reply by = tells (is_ok_status reply.st
     tells false bad = refusal-tells parts history row number due reply by bad (due-cases row due by.is_due)
 
 -- a reply, whether it is to the open call of a row or not
-replies-tell : (parts : Parts) (history : History) (number : Number) (party : Party) (kind : Kind) (reply : Reply) → AreRight parts history
+replies-tell : (parts : OrchestratorParts) (history : History) (number : Number) (party : Party) (kind : Kind) (reply : Reply) → AreRight parts history
     → (o : Option RowShown) → row_replied parts.rows number party kind ≡ o → Tells history (hears_reply parts kind reply o) (heard history reply (call_replied history number party kind))
 replies-tell parts history number party kind reply right None e =
     subst (λ c. Tells history (moved_rows parts (Hears Ignored)) (heard history reply c)) (sym (replied parts history number party kind right.form right.kept right.agrees ∙ ap (option_and_then open_in_row) e))
     ((refl, right.agrees), tt)
 replies-tell parts history number party kind reply right (Some row) e =
     let there = found-own parts number party kind row right.kept e in
+    let at : IsFound parts history row.name row = record { right = right; found = there } in
     let it = hears-it row number party kind (find-passes (λ (r : RowShown). is_issued_as number party kind (open_in_row r)) parts.rows row e) in
-    let call : open_in_row row ≡ Some (issued-by row.name number it.due) = λ i. issued_as row.name (it.own i) (it.is_due i) in
     subst (λ c. Tells history (hears_reply parts kind reply (Some row)) (heard history reply c))
-    (sym (replied parts history number party kind right.form right.kept right.agrees ∙ ap (option_and_then open_in_row) e ∙ call))
+    (sym (replied parts history number party kind right.form right.kept right.agrees ∙ ap (option_and_then open_in_row) e ∙ it.told))
     (subst (λ k. Tells history (hears_reply parts k reply (Some row)) (heard history reply (Some (issued-by row.name number it.due)))) it.has_kind
     (heard-tells parts history row number it.due reply
     (record {
-      at = record { right = right; found = there };
-      is_due = it.is_due;
-      is_open = sym ((right.agrees).same_open_calls row.name) ∙ ap (option_and_then open_in_row) there ∙ call;
+      at = at;
+      is_due = (own-kept parts history row.name row at).open_due it.due it.is_open;
+      is_open = sym ((right.agrees).same_open_calls row.name) ∙ ap (option_and_then open_in_row) there ∙ it.told;
     })))
 
 -- a frame that comes, of which a call is ignored
-deliveries-tell : (parts : Parts) (history : History) (number : Number) (party : Party) (body : Body) → AreRight parts history → Tells history (receives parts number party body) (deliver history number party body)
+deliveries-tell : (parts : OrchestratorParts) (history : History) (number : Number) (party : Party) (body : Body) → AreRight parts history → Tells history (receives parts number party body) (deliver history number party body)
 deliveries-tell parts history number party (bodies.Call call) right = ((refl, right.agrees), tt)
 deliveries-tell parts history number party (bodies.Reply kind reply) right = replies-tell parts history number party kind reply right (row_replied parts.rows number party kind) refl
 
 -- a restart
-restarts-tell : (parts : Parts) (history : History) → Shows parts history → Tells history (starts_again parts) (restart (last_number history))
+restarts-tell : (parts : OrchestratorParts) (history : History) → Shows parts history → Tells history (starts_again parts) (restart (last_number history))
 restarts-tell parts history agrees =
     subst (λ l. Tells history (starts_again parts) (restart l)) agrees.same_last (by (nat_lt (parts.last.session + 1) (2 ^ 64)))
   where
     next : ℕ
     next = parts.last.session + 1
 
-    by : (b : Bool) → Tells history (cond b (moved_rows (in_session next parts) Restarted) (Err faults.NumbersSpent)) (cond b (Ok (let m : Moved = record { answer = Restarted; items = Started next ∷ [] } in m)) (Err faults.NumbersSpent))
-    by true = ((refl, session-agrees parts (with_items history (Started next ∷ [])) next (started-follows (view_of parts) history next agrees)), tt)
+    by : (b : Bool) → Tells history (cond b (moved_rows (parts_in_session next parts) Restarted) (Err faults.NumbersSpent)) (cond b (Ok (let m : Moved = record { answer = Restarted; items = Started next ∷ [] } in m)) (Err faults.NumbersSpent))
+    by true = ((refl, session-agrees parts (with_items history (Started next ∷ [])) next (started-follows (orchestrator_view parts) history next agrees)), tt)
     by false = (refl, tt)
 
 -- each input
-by-input : (parts : Parts) (history : History) (input : Input) → AreRight parts history → Tells history (row_moves parts input) (moves parts.nodes history input)
+by-input : (parts : OrchestratorParts) (history : History) (input : Input) → AreRight parts history → Tells history (row_moves parts input) (moves parts.nodes history input)
 by-input parts history (ToCreate name arguments) right = creates-tell parts history name arguments right (row_of parts.rows name) refl
 by-input parts history (ToUse name usage) right = uses-tell parts history name usage right (row_of parts.rows name) refl
 by-input parts history (ToStop name node target) right = stops-tell parts history name node target right (row_of parts.rows name) refl
@@ -355,7 +364,7 @@ by-input parts history (Comes frame) right = deliveries-tell parts history frame
 by-input parts history Restarts right = restarts-tell parts history right.agrees
 
 -- the same of rows that are sound and agree with a well-formed history
-pub all-tell : (parts : Parts) (history : History) (input : Input) → IsWellFormed history → IsSound parts.rows → Shows parts history → Tells history (row_moves parts input) (moves parts.nodes history input)
+pub all-tell : (parts : OrchestratorParts) (history : History) (input : Input) → IsWellFormed history → AreSoundRows parts.rows → Shows parts history → Tells history (row_moves parts input) (moves parts.nodes history input)
 all-tell parts history input form kept agrees = by-input parts history input (record { form = form; kept = kept; agrees = agrees })
 
 -- whatever comes, the rows tell what the history tells

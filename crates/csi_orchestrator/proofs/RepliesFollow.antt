@@ -8,23 +8,23 @@ use Rattle.csi_types.specs.declared.call.Call.{Call}
 use Rattle.csi_types.specs.declared.call.Call.TheVariants as calls
 use Rattle.csi_types.specs.declared.number.Number.{Number}
 use Rattle.csi_types.specs.declared.status.Status.{Status}
-use Rattle.csi_lists.specs.Members.{IsAmong}
+use Rattle.csi_lists.specs.Model.Members.{IsAmong}
 use Rattle.csi_lists.proofs.Members.{among-find, among-kept}
 use Rattle.csi_lists.proofs.Searches.{find-passes, find-filter}
 use Rattle.csi_lists.proofs.Tests.{alike, then-any, any-none}
 use Rattle.std.proofs.lemmas.Option.{same_Some, none-some}
-use Rattle.csi_types.specs.Reply.{is_ok_status}
-use Rattle.csi_types.specs.Same.{same_text, same_number}
+use Rattle.csi_types.specs.Model.Reply.{is_ok_status}
+use Rattle.csi_types.specs.Model.Same.{same_text, same_number}
 use Rattle.csi_types.proofs.Equality.{same_text-tells, same_number-tells}
 use Rattle.csi_orchestrator.specs.declared.thing.Thing.{Thing}
 use Rattle.csi_orchestrator.specs.declared.thing.Thing.TheVariants.{Attached}
 use Rattle.csi_orchestrator.specs.declared.thing.Known.TheVariants.{No, Maybe}
-use Rattle.csi_orchestrator.specs.Thing.{Issued, name_in, touches}
-use Rattle.csi_orchestrator.specs.History.{Item, Started, Sent, Accepted, Closed, Noted, History, with_items}
-use Rattle.csi_orchestrator.specs.Readings.{newest, issued_in, issued_of, has_success, known_by, known, id_in, id_by, id_of, open_in, open_call, is_number_of, calls_since}
-use Rattle.csi_orchestrator.specs.WellFormed.{AreWellFormed, IsWellFormed}
-use Rattle.csi_orchestrator.specs.Agrees.{View, Agrees}
-use Rattle.csi_orchestrator.specs.Following.{after_accepted, told, id_brought}
+use Rattle.csi_orchestrator.specs.Model.Thing.{Issued, name_in, touches}
+use Rattle.csi_orchestrator.specs.Model.History.{Item, Started, Sent, Accepted, Closed, Noted, History, with_items}
+use Rattle.csi_orchestrator.specs.Model.Readings.{newest, issued_in, issued_of, has_success, known_by, known, id_in, id_by, id_of, open_in, open_call, is_number_of, calls_since}
+use Rattle.csi_orchestrator.specs.Model.WellFormed.{AreWellFormed, IsWellFormed}
+use Rattle.csi_orchestrator.specs.Model.Agrees.{OrchestratorView, Agrees}
+use Rattle.csi_orchestrator.specs.Private.Following.{after_accepted, known_by_success, id_brought}
 use Rattle.csi_orchestrator.proofs.Numbers.{other-number, sent-before, one-call, unless-some, open-sent, open-silent}
 use Rattle.csi_orchestrator.proofs.ViewsFollow.{touches-name, known-quiet, ids-quiet, no-id, number-same, unless-follows, and-false}
 
@@ -96,7 +96,7 @@ id-brought items issued (calls.DeleteVolume volume) status id fine none = refl
 id-brought items issued call status id fine none = refl
 
 -- a reply is taken
-pub accepted-follows : (view : View) (history : History) (issued : Issued) (status : Status) (id : Option ℕ) → IsWellFormed history → Agrees view history → open_call history issued.name ≡ Some issued
+pub accepted-follows : (view : OrchestratorView) (history : History) (issued : Issued) (status : Status) (id : Option ℕ) → IsWellFormed history → Agrees view history → open_call history issued.name ≡ Some issued
     → Agrees (after_accepted issued status id view) (with_items history (Accepted issued.number status id ∷ []))
 accepted-follows view history issued status id form agrees is_open =
     record {
@@ -135,13 +135,13 @@ accepted-follows view history issued status id form agrees is_open =
         let other : (call ≡ issued) → ⊥ = λ is. false≢true (sym of ∙ ap (touches thing) (sym is) ∙ touched) in
         rw (differs call among other) refl
 
-    tells : (thing : Thing) → is_ok_status status ≡ true → touches thing issued ≡ true → known_by (Accepted issued.number status id ∷ history.items) thing (Some issued) ≡ told issued.call
+    tells : (thing : Thing) → is_ok_status status ≡ true → touches thing issued ≡ true → known_by (Accepted issued.number status id ∷ history.items) thing (Some issued) ≡ known_by_success issued.call
     tells thing fine of = rw (number-same issued.number, fine, of) refl
 
     refused : (thing : Thing) → is_ok_status status ≡ false → known (with_items history (Accepted issued.number status id ∷ [])) thing ≡ known history thing
     refused thing not_fine = known-quiet (Accepted issued.number status id) history.items thing (find (touches thing) (issued_in history.items)) (λ number. ap (λ b. same_number issued.number number && b) not_fine ∙ and-false (same_number issued.number number))
 
-    mark : (thing : Thing) (fine : Bool) → is_ok_status status ≡ fine → (of : Bool) → touches thing issued ≡ of → cond (fine && of) (told issued.call) (view.marks thing) ≡ known (with_items history (Accepted issued.number status id ∷ [])) thing
+    mark : (thing : Thing) (fine : Bool) → is_ok_status status ≡ fine → (of : Bool) → touches thing issued ≡ of → cond (fine && of) (known_by_success issued.call) (view.marks thing) ≡ known (with_items history (Accepted issued.number status id ∷ [])) thing
     mark thing true e true f =
         sym (ap (known_by (Accepted issued.number status id ∷ history.items) thing) (latest-touching history.began issued.name history.items issued thing form is_open f) ∙ tells thing e f)
     mark thing true e false f = agrees.same_marks thing ∙ sym (untold thing (find (touches thing) (issued_in history.items)) refl f)

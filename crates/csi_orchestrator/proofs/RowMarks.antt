@@ -3,8 +3,8 @@ use Rattle.std.proofs.Common.{◌≡◌, ℕ, List, Bool, true, false, cond, not
 use Rattle.std.specs.Prelude.{Option, Some, None, option_map, ◌&&◌}
 use Rattle.std.proofs.lemmas.Bool.{false≢true}
 use Rattle.std.proofs.lemmas.Option.{same_Some}
-use Rattle.csi_types.specs.Call.{kind_of}
-use Rattle.csi_types.specs.Same.{same_text}
+use Rattle.csi_types.specs.Model.Call.{kind_of}
+use Rattle.csi_types.specs.Model.Same.{same_text}
 use Rattle.csi_types.proofs.Equality.{same_text-tells}
 use Rattle.csi_orchestrator.specs.declared.marks.Marks.{Marks}
 use Rattle.csi_orchestrator.specs.declared.row.Goal.{Goal}
@@ -13,12 +13,13 @@ use Rattle.csi_orchestrator.specs.declared.row.TargetEntry.{TargetEntry}
 use Rattle.csi_orchestrator.specs.declared.thing.Thing.{Thing}
 use Rattle.csi_orchestrator.specs.declared.thing.Thing.TheVariants.{Exists, Attached, Staged, Published}
 use Rattle.csi_orchestrator.specs.declared.thing.Known.{Known}
-use Rattle.csi_orchestrator.specs.Thing.{name_in, same_thing, thing_at, is_thing, is_no}
-use Rattle.csi_orchestrator.specs.Due.{Due}
-use Rattle.csi_orchestrator.specs.Hearing.{marks_marked}
-use Rattle.csi_orchestrator.specs.Sound.{HasEntry}
-use Rattle.csi_orchestrator.specs.RowChanges.{Aspect, Existence, Attachment, Staging, Publication, aspect_of, node_marked, marked_at, at_goal, exists_marked, nodes_marked, marked}
-use Rattle.csi_orchestrator.specs.Shown.{NodeEntryShown, RowShown, node_entry_of, target_entry_of, mark_in, published_in, mark_of, held_in, held_at, others_in, marks_of_volume, marks_at, marks_for}
+use Rattle.csi_orchestrator.specs.Model.Thing.{name_in, same_thing, thing_at, is_thing, is_no}
+use Rattle.csi_orchestrator.specs.Model.Due.{Due}
+use Rattle.csi_orchestrator.specs.Private.Hearing.{marks_marked}
+use Rattle.csi_orchestrator.specs.Public.Sound.{HasEntry, MayBeWanted}
+use Rattle.csi_orchestrator.specs.Private.RowChanges.{Aspect, Existence, Attachment, Staging, Publication, aspect_of, node_marked, marked_at, at_goal, exists_marked, nodes_marked, marked_row}
+use Rattle.csi_orchestrator.specs.Model.Shown.{NodeEntryShown, RowShown, node_entry_of, target_entry_of, mark_in, publication_known, mark_of, held_on_node, held_at}
+use Rattle.csi_orchestrator.specs.Public.RowDue.{others_in, marks_of_volume, marks_at, marks_for}
 use Rattle.csi_orchestrator.proofs.TextLists.{text-same}
 use Rattle.csi_orchestrator.proofs.DueCases.{IsDueFor, ToMake, ToRemove, ToAttach, ToStage, ToPublish, ToUnpublish, ToUnstage, ToDetach}
 use Rattle.csi_orchestrator.proofs.TextLists.{same_text-flip}
@@ -67,7 +68,7 @@ unfolding with-entries
 there row node target other mark aspect = find-change (λ (p : NodeEntryShown). p.node) node (node_marked mark aspect target) row.node_entries other (node-stays mark aspect target)
 
 -- at each node the volume is held as it was, whatever is marked
-held-there : (row : RowShown) (node target : List ℕ) (mark : Known) (aspect : Aspect) (other : List ℕ) → held_in (with-entries row (marked_at mark aspect node target row.node_entries)) other ≡ held_in row other
+held-there : (row : RowShown) (node target : List ℕ) (mark : Known) (aspect : Aspect) (other : List ℕ) → held_on_node (with-entries row (marked_at mark aspect node target row.node_entries)) other ≡ held_on_node row other
 held-there row node target mark aspect other =
     ap (option_map held_at) (there row node target other mark aspect)
     ∙ unread (option_map held_at) (node_marked mark aspect target) (same_text node other) (node_entry_of row other) (λ p. ap Some (held-stays mark aspect target p))
@@ -78,13 +79,13 @@ target-change mark target_entry = record target_entry { published = mark }
 
 -- once a target that has an entry is marked, it has the mark, and the other targets of the node are as they were
 target-mark : (node_entry : NodeEntryShown) (target other : List ℕ) (mark : Known) (target_entry : TargetEntry) → target_entry_of node_entry target ≡ Some target_entry
-    → published_in other (node_marked mark Publication target node_entry) ≡ cond (same_text target other) mark (published_in other node_entry)
+    → publication_known other (node_marked mark Publication target node_entry) ≡ cond (same_text target other) mark (publication_known other node_entry)
 unfolding target-change
 target-mark node_entry target other mark target_entry found =
     ap (mark_in (λ (a : TargetEntry). a.published)) (find-change (λ (a : TargetEntry). a.target) target (target-change mark) node_entry.target_entries other (λ a. refl)) ∙ by (same_text target other) refl
   where
     by : (b : Bool) → same_text target other ≡ b
-        → mark_in (λ (a : TargetEntry). a.published) (cond b (option_map (target-change mark) (target_entry_of node_entry other)) (target_entry_of node_entry other)) ≡ cond b mark (published_in other node_entry)
+        → mark_in (λ (a : TargetEntry). a.published) (cond b (option_map (target-change mark) (target_entry_of node_entry other)) (target_entry_of node_entry other)) ≡ cond b mark (publication_known other node_entry)
     by true e = ap (λ o. mark_in (λ (a : TargetEntry). a.published) (option_map (target-change mark) o)) (ap (target_entry_of node_entry) (sym ((same_text-tells target other).0 e)) ∙ found)
     by false e = refl
 
@@ -126,28 +127,28 @@ things-marked row node target mark Existence node_entry found spot thing is = ab
 things-marked row node target mark Attachment node_entry found spot (Exists name) is = refl
 things-marked row node target mark Attachment node_entry found spot (Attached name other) is = mark-set row node target mark Attachment node_entry name other (λ p. p.attached) found is (λ p. refl)
 things-marked row node target mark Attachment node_entry found spot (Staged name other) is = mark-left row node target other mark Attachment (λ p. p.staged) (λ p. refl)
-things-marked row node target mark Attachment node_entry found spot (Published name other other_target) is = mark-left row node target other mark Attachment (published_in other_target) (λ p. refl)
+things-marked row node target mark Attachment node_entry found spot (Published name other other_target) is = mark-left row node target other mark Attachment (publication_known other_target) (λ p. refl)
 things-marked row node target mark Staging node_entry found spot (Exists name) is = refl
 things-marked row node target mark Staging node_entry found spot (Attached name other) is = mark-left row node target other mark Staging (λ p. p.attached) (λ p. refl)
 things-marked row node target mark Staging node_entry found spot (Staged name other) is = mark-set row node target mark Staging node_entry name other (λ p. p.staged) found is (λ p. refl)
-things-marked row node target mark Staging node_entry found spot (Published name other other_target) is = mark-left row node target other mark Staging (published_in other_target) (λ p. refl)
+things-marked row node target mark Staging node_entry found spot (Published name other other_target) is = mark-left row node target other mark Staging (publication_known other_target) (λ p. refl)
 things-marked row node target mark Publication node_entry found spot (Exists name) is = refl
 things-marked row node target mark Publication node_entry found spot (Attached name other) is = mark-left row node target other mark Publication (λ p. p.attached) (λ p. refl)
 things-marked row node target mark Publication node_entry found spot (Staged name other) is = mark-left row node target other mark Publication (λ p. p.staged) (λ p. refl)
 things-marked row node target mark Publication node_entry found spot (Published name other t) is =
-    ap (mark_in (published_in t)) (there row node target other mark Publication) ∙ by (same_text node other) refl
-    ∙ sym (ap (λ b. cond b mark (mark_in (published_in t) (node_entry_of row other))) (three name row.name other t is))
+    ap (mark_in (publication_known t)) (there row node target other mark Publication) ∙ by (same_text node other) refl
+    ∙ sym (ap (λ b. cond b mark (mark_in (publication_known t) (node_entry_of row other))) (three name row.name other t is))
   where
     three : (name own other t : List ℕ) → name ≡ own → (same_text name own && same_text other node && same_text t target) ≡ (same_text node other && same_text target t)
     three name own other t is =
         ap (λ b. b && same_text other node && same_text t target) ((same_text-tells name own).1 is) ∙ ap (λ b. b && same_text t target) (same_text-flip other node) ∙ ap (λ b. same_text node other && b) (same_text-flip t target)
 
     by : (b : Bool) → same_text node other ≡ b
-        → mark_in (published_in t) (cond b (option_map (node_marked mark Publication target) (node_entry_of row other)) (node_entry_of row other)) ≡ cond (b && same_text target t) mark (mark_in (published_in t) (node_entry_of row other))
+        → mark_in (publication_known t) (cond b (option_map (node_marked mark Publication target) (node_entry_of row other)) (node_entry_of row other)) ≡ cond (b && same_text target t) mark (mark_in (publication_known t) (node_entry_of row other))
     by true e =
         let here : node_entry_of row other ≡ Some node_entry = ap (node_entry_of row) (sym ((same_text-tells node other).0 e)) ∙ found in
-        ap (λ o. mark_in (published_in t) (option_map (node_marked mark Publication target) o)) here ∙ target-mark node_entry target t mark spot.0 spot.1
-        ∙ sym (ap (λ o. cond (same_text target t) mark (mark_in (published_in t) o)) here)
+        ap (λ o. mark_in (publication_known t) (option_map (node_marked mark Publication target) o)) here ∙ target-mark node_entry target t mark spot.0 spot.1
+        ∙ sym (ap (λ o. cond (same_text target t) mark (mark_in (publication_known t) o)) here)
     by false e = refl
 
 -- the row is as it was but for the marks, and of these the call's thing alone is marked
@@ -158,7 +159,7 @@ pub record IsMarked (row after : RowShown) (due : Due) (mark : Known) : Type 0 w
   pub same_goal : after.goal ≡ row.goal
   pub same_tries : after.tries ≡ row.tries
   pub marks : (thing : Thing) → name_in thing ≡ row.name → mark_of thing after ≡ cond (is_thing thing (thing_at row.name due.party due.call)) mark (mark_of thing row)
-  pub held : (node : List ℕ) → held_in after node ≡ held_in row node
+  pub held : (node : List ℕ) → held_on_node after node ≡ held_on_node row node
 
 -- where the volume's own mark is set, no other thing of its name is marked
 exists-mark : (row : RowShown) (mark : Known) (thing : Thing) → name_in thing ≡ row.name → mark_of thing (let r : RowShown = record row { exists = mark } in r) ≡ cond (same_thing thing (Exists row.name)) mark (mark_of thing row)
@@ -179,6 +180,11 @@ has-target-entry (Some target_entry) e = (target_entry, refl)
 abbrev pub GoalHasEntry : RowShown → Option Goal → Type 0
 GoalHasEntry row (Some (Use usage)) = HasEntry row usage
 GoalHasEntry row goal = Unit {0}
+
+-- so does a goal that may be wanted
+pub has-entry : (row : RowShown) (goal : Option Goal) → MayBeWanted row goal → GoalHasEntry row goal
+has-entry row (Some (Use usage)) may = may.entry
+has-entry row goal may = tt
 
 -- where a call that is due is at work: at the volume, or at the entry of its goal's node
 pub data Spot (row : RowShown) (goal : Goal) : Aspect → Option Thing → Type 0 where
@@ -207,8 +213,8 @@ at-work row _ entry (ToPublish usage id goal own a s p) =
     let e : HasEntry row usage = subst (GoalHasEntry row) goal entry in
     record { goal = Use usage; is = goal; spot = AtNode usage.node usage.target Publication e.node_entry (λ r. refl) (λ change node_entries. refl) e.at_node (e.target_entry, e.at_target) }
 at-work row _ entry (ToUnpublish node target id goal own p) =
-    let node_entry = has-node-entry (published_in target) (node_entry_of row node) p in
-    let target_entry = has-target-entry (target_entry_of node_entry.0 target) (ap is_no (sym (ap (mark_in (published_in target)) node_entry.1)) ∙ p) in
+    let node_entry = has-node-entry (publication_known target) (node_entry_of row node) p in
+    let target_entry = has-target-entry (target_entry_of node_entry.0 target) (ap is_no (sym (ap (mark_in (publication_known target)) node_entry.1)) ∙ p) in
     record { goal = Stop node target; is = goal; spot = AtNode node target Publication node_entry.0 (λ r. refl) (λ change node_entries. refl) node_entry.1 target_entry }
 at-work row _ entry (ToUnstage node target id goal own p o s) =
     let node_entry = has-node-entry (λ (q : NodeEntryShown). q.staged) (node_entry_of row node) s in
@@ -238,14 +244,14 @@ spot-marks row goal mark _ _ (AtNode node target aspect node_entry same at found
     ap (mark_of thing) (at-node row goal node target mark aspect node_entry e at spot) ∙ things-marked row node target mark aspect node_entry found spot thing is
 
 -- at each node the volume is held as it was
-spot-held : (row : RowShown) (goal : Goal) (mark : Known) (aspect : Aspect) (own : Option Thing) → Spot row goal aspect own → row.goal ≡ Some goal → (node : List ℕ) → held_in (marked-by mark aspect row) node ≡ held_in row node
+spot-held : (row : RowShown) (goal : Goal) (mark : Known) (aspect : Aspect) (own : Option Thing) → Spot row goal aspect own → row.goal ≡ Some goal → (node : List ℕ) → held_on_node (marked-by mark aspect row) node ≡ held_on_node row node
 unfolding marked-by
 spot-held row goal mark _ _ (AtVolume same) e other = refl
 spot-held row goal mark _ _ (AtNode node target aspect node_entry same at found spot) e other =
-    ap (λ r. held_in r other) (at-node row goal node target mark aspect node_entry e at spot) ∙ held-there row node target mark aspect other
+    ap (λ r. held_on_node r other) (at-node row goal node target mark aspect node_entry e at spot) ∙ held-there row node target mark aspect other
 
 -- a row in which a mark is set for its due call is marked so
-pub is-marked : (row : RowShown) (due : Due) (mark : Known) → GoalHasEntry row row.goal → IsDueFor row due → IsMarked row (marked mark (kind_of due.call) row) due mark
+pub is-marked : (row : RowShown) (due : Due) (mark : Known) → GoalHasEntry row row.goal → IsDueFor row due → IsMarked row (marked_row mark (kind_of due.call) row) due mark
 unfolding marked-by
 is-marked row due mark entry case =
     let work = at-work row due entry case in
@@ -266,7 +272,7 @@ marks-by exists target node_entry =
       exists = exists;
       attached = mark_in (λ p. p.attached) node_entry;
       staged = mark_in (λ p. p.staged) node_entry;
-      published = mark_in (published_in target) node_entry;
+      published = mark_in (publication_known target) node_entry;
       others = others_in target node_entry;
     }
 
@@ -294,7 +300,7 @@ marks-changed exists mark Attachment target node_entry spot = refl
 marks-changed exists mark Staging target node_entry spot = refl
 marks-changed exists mark Publication target node_entry spot =
     ap (λ m. published-of (marks-by exists target (Some node_entry)) m (others_in target (Some (node_marked mark Publication target node_entry))))
-    (target-mark node_entry target target mark spot.0 spot.1 ∙ ap (λ b. cond b mark (published_in target node_entry)) (text-same target))
+    (target-mark node_entry target target mark spot.0 spot.1 ∙ ap (λ b. cond b mark (publication_known target node_entry)) (text-same target))
     ∙ ap (published-of (marks-by exists target (Some node_entry)) mark) (others-same node_entry target mark)
 
 -- and in what is known of what the row's goal names
@@ -310,10 +316,10 @@ spot-known row goal mark _ _ (AtNode node target aspect node_entry same at found
 
 -- what is known of what the row's goal names, once what the due call does or undoes is marked
 pub marks-then : (row : RowShown) (due : Due) (goal : Goal) (mark : Known) → GoalHasEntry row row.goal → IsDueFor row due → row.goal ≡ Some goal
-    → marks_for (marked mark (kind_of due.call) row) goal ≡ marks_marked mark (aspect_of (kind_of due.call)) (marks_for row goal)
+    → marks_for (marked_row mark (kind_of due.call) row) goal ≡ marks_marked mark (aspect_of (kind_of due.call)) (marks_for row goal)
 unfolding marked-by
 marks-then row due goal mark entry case is =
     let work = at-work row due entry case in
     let same : work.goal ≡ goal = same_Some work.goal goal (sym work.is ∙ is) in
-    subst (λ g. marks_for (marked mark (kind_of due.call) row) g ≡ marks_marked mark (aspect_of (kind_of due.call)) (marks_for row g)) same
+    subst (λ g. marks_for (marked_row mark (kind_of due.call) row) g ≡ marks_marked mark (aspect_of (kind_of due.call)) (marks_for row g)) same
     (spot-known row work.goal mark (aspect_of (kind_of due.call)) (thing_at row.name due.party due.call) work.spot work.is)

@@ -5,10 +5,11 @@ use Rattle.std.specs.List.{AllByRecursion, list_any}
 use Rattle.csi_types.specs.declared.call.Kind.{Kind}
 use Rattle.csi_types.specs.declared.call.Kind.TheVariants as kinds
 use Rattle.csi_types.specs.declared.number.Number.{Number}
-use Rattle.csi_types.specs.Call.{kind_of}
-use Rattle.csi_types.specs.Same.{same_text}
+use Rattle.csi_types.specs.Model.Call.{kind_of}
+use Rattle.csi_types.specs.Model.Same.{same_text}
 use Rattle.csi_lists.proofs.Pairs.{two-filter}
 use Rattle.std.proofs.lemmas.Bool.{false≢true}
+use Rattle.std.proofs.lemmas.Option.{none-some}
 use Rattle.csi_lists.proofs.Each.{each-filter, each-map, each-weaker}
 use Rattle.csi_lists.proofs.Filters.{each-passes}
 use Rattle.csi_types.proofs.Equality.{same_text-tells}
@@ -18,17 +19,22 @@ use Rattle.csi_orchestrator.specs.declared.row.TargetEntry.{TargetEntry}
 use Rattle.csi_orchestrator.specs.declared.request.Usage.{Usage}
 use Rattle.csi_orchestrator.specs.declared.thing.Known.{Known}
 use Rattle.csi_orchestrator.specs.declared.thing.Known.TheVariants.{No, Maybe}
-use Rattle.csi_orchestrator.specs.Thing.{is_no}
-use Rattle.csi_orchestrator.specs.History.{Held}
-use Rattle.csi_orchestrator.specs.Commands.{is_for_one_node, is_second_writer}
-use Rattle.csi_orchestrator.specs.Due.{Due}
-use Rattle.csi_orchestrator.specs.Shown.{NodeEntryShown, RowShown, node_entry_of, target_entry_of, held_at, due_by, due_in, closed, AreTargetsApart}
-use Rattle.csi_orchestrator.specs.RowChanges.{Aspect, Existence, Publication, aspect_of, node_marked, marked_at, at_goal, exists_marked, nodes_marked, marked, sent, told_of, succeeded, wanted, is_target_kept, with_kept_targets, is_node_kept, has_targets, tidied, dropped, stopped_goal}
-use Rattle.csi_orchestrator.specs.RowRefusals.{is_so_elsewhere}
-use Rattle.csi_orchestrator.specs.Keyed.{change_by}
-use Rattle.csi_orchestrator.specs.Sound.{AreNodesApart, IsNeeded, IsUsable, MayBeWanted, IsSoundRow}
+use Rattle.csi_orchestrator.specs.Model.Thing.{is_no}
+use Rattle.csi_orchestrator.specs.Model.History.{Held}
+use Rattle.csi_orchestrator.specs.Model.Commands.{is_for_one_node, uses_as_second_writer}
+use Rattle.csi_orchestrator.specs.Model.Due.{Due}
+use Rattle.csi_orchestrator.specs.Model.Shown.{NodeEntryShown, RowShown, node_entry_of, target_entry_of, held_at}
+use Rattle.csi_orchestrator.specs.Private.Shown.{closed}
+use Rattle.csi_orchestrator.specs.Public.Shown.{AreTargetsApart}
+use Rattle.csi_orchestrator.specs.Public.RowDue.{due_by, due_in}
+use Rattle.csi_orchestrator.specs.Private.RowChanges.{Aspect, Existence, Publication, aspect_of, node_marked, marked_at, at_goal, exists_marked, nodes_marked, marked_row, row_once_sent, known_by_success_of, succeeded_row, wanted_row, is_target_kept, with_kept_targets, is_node_kept, has_targets, tidied_entries, dropped_row, stopped_goal}
+use Rattle.csi_orchestrator.specs.Public.RowRefusals.{is_so_elsewhere}
+use Rattle.csi_orchestrator.specs.Private.Keyed.{change_by}
+use Rattle.csi_orchestrator.specs.Public.Sound.{AreNodesApart, IsNeeded, IsUsable, MayBeWanted, IsSoundRow}
 use Rattle.csi_orchestrator.proofs.TextLists.{text-same}
-use Rattle.csi_orchestrator.proofs.DueCases.{IsDueFor, due-cases, ToMake, ToRemove, ToAttach, ToStage, ToPublish, ToUnpublish, ToUnstage, ToDetach}
+use Rattle.csi_orchestrator.proofs.DueCases.{IsDueFor, due-cases, spelled, ToMake, ToRemove, ToAttach, ToStage, ToPublish, ToUnpublish, ToUnstage, ToDetach}
+use Rattle.csi_orchestrator.proofs.RowMarks.{has-entry}
+use Rattle.csi_orchestrator.proofs.RowsAfterSending.{due-stays}
 use Rattle.csi_orchestrator.proofs.KeyedSearches.{find-change}
 use Rattle.csi_orchestrator.proofs.EntryRules.{each-change, apart-change, any-change, apart-map}
 
@@ -94,7 +100,7 @@ nodes-distinct mark Existence goal entries distinct = distinct
 nodes-distinct mark aspect goal entries distinct = at-goal-distinct mark aspect goal entries distinct
 
 -- a row's entries stay distinct where a call's kind marks it
-pub marked-distinct : (mark : Known) (kind : Kind) (row : RowShown) → AreDistinct row.node_entries → AreDistinct (marked mark kind row).node_entries
+pub marked-distinct : (mark : Known) (kind : Kind) (row : RowShown) → AreDistinct row.node_entries → AreDistinct (marked_row mark kind row).node_entries
 marked-distinct mark kind row distinct = nodes-distinct mark (aspect_of kind) row.goal row.node_entries distinct
 
 -- what is wanted of a row may be wanted of one with the same marks
@@ -112,7 +118,7 @@ usable-alike row other usage exists entries usable =
             same_flag = usable.entry.same_flag;
           };
       shared = ap (list_any (is_so_elsewhere (is_for_one_node usage) usage.node)) entries ∙ usable.shared;
-      one_writer = ap (list_any (is_so_elsewhere (is_second_writer usage) usage.node)) entries ∙ usable.one_writer;
+      one_writer = ap (list_any (is_so_elsewhere (uses_as_second_writer usage) usage.node)) entries ∙ usable.one_writer;
     }
 
 -- whatever goal it is
@@ -146,7 +152,7 @@ usable-change row usage change mild usable =
             same_flag = mild.same_flag usable.entry.node_entry ∙ usable.entry.same_flag;
           };
       shared = unmoved (is_for_one_node usage) ∙ usable.shared;
-      one_writer = unmoved (is_second_writer usage) ∙ usable.one_writer;
+      one_writer = unmoved (uses_as_second_writer usage) ∙ usable.one_writer;
     }
   where
     unmoved : (so : Held → Bool) → list_any (is_so_elsewhere so usage.node) (change_by (λ (entry : NodeEntryShown). entry.node) usage.node change row.node_entries) ≡ list_any (is_so_elsewhere so usage.node) row.node_entries
@@ -190,28 +196,31 @@ usable-marked mark aspect row usage e fits usable =
     subst (λ g. IsUsable (record row { node_entries = at_goal (marked_at mark aspect) g row.node_entries }) usage) (sym e) (usable-change row usage (node_marked mark aspect usage.target) (mild-marked mark aspect usage.target) usable)
 
 -- what is wanted may be wanted still, once a mark is set by a call that fits it
-wanted-marked : (mark : Known) (kind : Kind) (row : RowShown) (goal : Option Goal) → row.goal ≡ goal → FitsGoal goal kind → MayBeWanted row goal → MayBeWanted (marked mark kind row) goal
+wanted-marked : (mark : Known) (kind : Kind) (row : RowShown) (goal : Option Goal) → row.goal ≡ goal → FitsGoal goal kind → MayBeWanted row goal → MayBeWanted (marked_row mark kind row) goal
 wanted-marked mark kind row None e fits may = tt
 wanted-marked mark kind row (Some Create) e fits may = may
 wanted-marked mark kind row (Some (Use usage)) e fits may = usable-marked mark (aspect_of kind) row usage e fits may
 wanted-marked mark kind row (Some (Stop node target)) e fits may = tt
-wanted-marked mark kind row (Some Delete) e fits may = subst (λ k. AllByRecursion (λ (entry : NodeEntryShown). entry.attached ≡ No) (marked mark k row).node_entries) (sym fits) may
+wanted-marked mark kind row (Some Delete) e fits may = subst (λ k. AllByRecursion (λ (entry : NodeEntryShown). entry.attached ≡ No) (marked_row mark k row).node_entries) (sym fits) may
 
 -- the due call is sent
-pub kept-sent : (number : Number) (row : RowShown) (due : Due) → due_in row ≡ Some due → AreDistinct row.node_entries → MayBeWanted row row.goal → IsSoundRow (sent number (kind_of due.call) row)
+pub kept-sent : (number : Number) (row : RowShown) (due : Due) → due_in row ≡ Some due → AreDistinct row.node_entries → MayBeWanted row row.goal → IsSoundRow (row_once_sent number (kind_of due.call) row)
 kept-sent number row due e distinct may =
     let after = marked-distinct Maybe (kind_of due.call) row distinct in
     let still = wanted-marked Maybe (kind_of due.call) row row.goal refl (due-fits-goal row due e) may in
     record {
       nodes = after.nodes;
       targets = after.targets;
-      goal = wanted-alike (marked Maybe (kind_of due.call) row) (sent number (kind_of due.call) row) row.goal refl refl refl still;
+      goal = wanted-alike (marked_row Maybe (kind_of due.call) row) (row_once_sent number (kind_of due.call) row) row.goal refl refl refl still;
       needed = λ none. absurd (subst (λ g. FitsGoal g (kind_of due.call)) none (due-fits-goal row due e));
+      open_due = λ other is.
+          let case = due-cases row due e in
+          due-stays row due number (has-entry row row.goal may) case ∙ sym (spelled row due case) ∙ is;
     }
 
 -- the open call is given up
 pub kept-closed : (row : RowShown) → IsSoundRow row → IsSoundRow (closed row)
-kept-closed row kept = record { nodes = kept.nodes; targets = kept.targets; goal = wanted-alike row (closed row) row.goal refl refl refl kept.goal; needed = kept.needed }
+kept-closed row kept = record { nodes = kept.nodes; targets = kept.targets; goal = wanted-alike row (closed row) row.goal refl refl refl kept.goal; needed = kept.needed; open_due = λ due is. absurd (none-some due is) }
 
 -- at each target that has an entry the volume may be published
 abbrev MayBePublishedAtAll : NodeEntryShown → Type 0
@@ -233,11 +242,11 @@ node-needed entry e attached staged none =
     false≢true (sym (ap (λ k. not (is_no k && is_no entry.staged && not (has_targets entry.target_entries))) attached ∙ ap (λ k. not (is_no k && not (has_targets entry.target_entries))) staged ∙ ap (λ entries. not (not (has_targets entries))) none) ∙ e)
 
 -- entries that are tidied are needed
-tidied-needed : (entries : List NodeEntryShown) → AllByRecursion IsNeeded (tidied entries)
+tidied-needed : (entries : List NodeEntryShown) → AllByRecursion IsNeeded (tidied_entries entries)
 tidied-needed entries =
     let kept = each-passes is_node_kept (map with_kept_targets entries) in
     let targets = each-filter MayBePublishedAtAll is_node_kept (map with_kept_targets entries) (each-map (λ (entry : NodeEntryShown). Unit {0}) MayBePublishedAtAll with_kept_targets entries (λ entry all. targets-needed entry) (each-trivial entries)) in
-    both (tidied entries) kept targets
+    both (tidied_entries entries) kept targets
   where
     each-trivial : (entries : List NodeEntryShown) → AllByRecursion (λ (entry : NodeEntryShown). Unit {0}) entries
     each-trivial [] = tt
@@ -248,7 +257,7 @@ tidied-needed entries =
     both (entry ∷ entries) kept targets = (record { node = node-needed entry kept.0; targets = targets.0 }, both entries kept.1 targets.1)
 
 -- nothing is wanted now
-pub kept-dropped : (row : RowShown) → AreDistinct row.node_entries → IsSoundRow (dropped row)
+pub kept-dropped : (row : RowShown) → AreDistinct row.node_entries → IsSoundRow (dropped_row row)
 kept-dropped row distinct =
     record {
       nodes = two-filter (λ (a b : NodeEntryShown). same_text a.node b.node ≡ false) is_node_kept (map with_kept_targets row.node_entries) (apart-map (λ (entry : NodeEntryShown). entry.node) with_kept_targets row.node_entries (λ entry. refl) distinct.nodes);
@@ -257,10 +266,11 @@ kept-dropped row distinct =
           (each-map AreTargetsApart AreTargetsApart with_kept_targets row.node_entries (λ entry apart. two-filter (λ (a b : TargetEntry). same_text a.target b.target ≡ false) is_target_kept entry.target_entries apart) distinct.targets);
       goal = tt;
       needed = λ none. tidied-needed row.node_entries;
+      open_due = λ due is. absurd (none-some due is);
     }
 
 -- a use that didn't come about is stopped
-pub wanted-stopped : (row : RowShown) (goal : Goal) → MayBeWanted row (Some goal) → MayBeWanted (wanted (stopped_goal goal) row) (Some (stopped_goal goal))
+pub wanted-stopped : (row : RowShown) (goal : Goal) → MayBeWanted row (Some goal) → MayBeWanted (wanted_row (stopped_goal goal) row) (Some (stopped_goal goal))
 wanted-stopped row Create may = may
 wanted-stopped row (Use usage) may = tt
 wanted-stopped row (Stop node target) may = tt
@@ -268,14 +278,14 @@ wanted-stopped row Delete may = may
 
 -- the goal's call succeeded: where something is due still, it may be wanted still
 pub wanted-succeeded : (kind : Kind) (id : Option ℕ) (row : RowShown) (goal : Option Goal) (due : Due) → row.goal ≡ goal → FitsGoal goal kind → MayBeWanted row goal
-    → due_by (succeeded kind id row) goal ≡ Some due → MayBeWanted (succeeded kind id row) goal
+    → due_by (succeeded_row kind id row) goal ≡ Some due → MayBeWanted (succeeded_row kind id row) goal
 wanted-succeeded kind id row None due e fits may next = tt
 wanted-succeeded kind id row (Some Create) due e fits may next =
-    absurd (clash (sym (ap (λ k. due_by (succeeded k id row) (Some Create)) fits) ∙ next))
+    absurd (clash (sym (ap (λ k. due_by (succeeded_row k id row) (Some Create)) fits) ∙ next))
   where
     clash : None ≡ Some due → ⊥
     clash h = cc
 wanted-succeeded kind id row (Some (Use usage)) due e fits may next =
-    usable-alike (marked (told_of kind) kind row) (succeeded kind id row) usage refl refl (usable-marked (told_of kind) (aspect_of kind) row usage e fits may)
+    usable-alike (marked_row (known_by_success_of kind) kind row) (succeeded_row kind id row) usage refl refl (usable-marked (known_by_success_of kind) (aspect_of kind) row usage e fits may)
 wanted-succeeded kind id row (Some (Stop node target)) due e fits may next = tt
-wanted-succeeded kind id row (Some Delete) due e fits may next = wanted-marked (told_of kind) kind row (Some Delete) e fits may
+wanted-succeeded kind id row (Some Delete) due e fits may next = wanted-marked (known_by_success_of kind) kind row (Some Delete) e fits may

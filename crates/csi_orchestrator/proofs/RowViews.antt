@@ -5,31 +5,31 @@ use Rattle.csi_lists.proofs.Searches.{find-passes}
 use Rattle.csi_types.specs.declared.number.Number.{Number}
 use Rattle.csi_types.specs.declared.status.Status.{Status}
 use Rattle.std.proofs.lemmas.Bool.{false≢true, false_from_ne_true}
-use Rattle.csi_types.specs.Reply.{is_ok_status}
-use Rattle.csi_types.specs.Same.{same_text}
+use Rattle.csi_types.specs.Model.Reply.{is_ok_status}
+use Rattle.csi_types.specs.Model.Same.{same_text}
 use Rattle.csi_types.proofs.Equality.{same_text-tells}
 use Rattle.csi_orchestrator.specs.declared.thing.Thing.{Thing}
 use Rattle.csi_orchestrator.specs.declared.thing.Thing.TheVariants.{Attached}
 use Rattle.csi_orchestrator.specs.declared.thing.Known.TheVariants.{No, Maybe}
-use Rattle.csi_orchestrator.specs.Thing.{Issued, name_in, touches}
-use Rattle.csi_orchestrator.specs.History.{Arguments, Goal, History}
-use Rattle.csi_orchestrator.specs.Readings.{known, id_of, goal_of, arguments_of, held, open_call, tries, last_number, has_row}
-use Rattle.csi_orchestrator.specs.Agrees.{View, Agrees}
-use Rattle.csi_orchestrator.specs.Following.{after_sent, after_accepted, after_closed, after_noted}
-use Rattle.csi_orchestrator.specs.Shown.{RowShown, Parts, row_of, mark_in, mark_of, goal_in, held_in, open_in_row, tries_in, view_of, Shows}
-use Rattle.csi_orchestrator.specs.RowMoves.{put}
+use Rattle.csi_orchestrator.specs.Model.Thing.{Issued, name_in, touches}
+use Rattle.csi_orchestrator.specs.Model.History.{Arguments, Goal, History}
+use Rattle.csi_orchestrator.specs.Model.Readings.{known, id_of, goal_of, arguments_of, held, open_call, tries, last_number, has_row}
+use Rattle.csi_orchestrator.specs.Model.Agrees.{OrchestratorView, Agrees}
+use Rattle.csi_orchestrator.specs.Private.Following.{after_sent, after_accepted, after_closed, after_noted}
+use Rattle.csi_orchestrator.specs.Model.Shown.{RowShown, OrchestratorParts, row_of, mark_in, mark_of, goal_in, held_on_node, open_in_row, tries_in, orchestrator_view, Shows}
+use Rattle.csi_orchestrator.specs.Private.RowMoves.{put}
 use Rattle.csi_orchestrator.proofs.ViewsFollow.{touches-name, and-false}
 use Rattle.csi_orchestrator.proofs.KeyedSearches.{find-put}
 
 -- the row tells what is shown of a name
-pub record Reads (row : RowShown) (view : View) (name : List ℕ) : Type 0 where
+pub record Reads (row : RowShown) (view : OrchestratorView) (name : List ℕ) : Type 0 where
   pub own : row.name ≡ name
   pub there : view.rows name ≡ true
   pub marks : (thing : Thing) → name_in thing ≡ name → mark_of thing row ≡ view.marks thing
   pub ids : row.id ≡ view.ids name
   pub goals : goal_in row ≡ view.goals name
   pub arguments : Some row.arguments ≡ view.arguments name
-  pub holdings : (node : List ℕ) → mark_of (Attached name node) row ≢ No → held_in row node ≡ view.holdings name node
+  pub holdings : (node : List ℕ) → mark_of (Attached name node) row ≢ No → held_on_node row node ≡ view.holdings name node
   pub open_calls : open_in_row row ≡ view.open_calls name
   pub counts : row.tries ≡ view.counts name
 
@@ -42,7 +42,7 @@ pub record Here : Type 0 where
   pub counts : ℕ
 
 -- of a view
-abbrev pub here : View → List ℕ → Here
+abbrev pub here : OrchestratorView → List ℕ → Here
 here view name = record { there = view.rows name; ids = view.ids name; goals = view.goals name; arguments = view.arguments name; counts = view.counts name }
 
 -- of a row, if there is one
@@ -50,18 +50,18 @@ abbrev here_by : Option RowShown → Here
 here_by o = record { there = is_some o; ids = option_and_then (λ row. row.id) o; goals = option_and_then goal_in o; arguments = option_map (λ row. row.arguments) o; counts = tries_in o }
 
 -- two show the same of a name
-pub record SameAt (view other : View) (name : List ℕ) : Type 0 where
+pub record SameAt (view other : OrchestratorView) (name : List ℕ) : Type 0 where
   pub rest : here view name ≡ here other name
   pub marks : (thing : Thing) → name_in thing ≡ name → view.marks thing ≡ other.marks thing
   pub holdings : (node : List ℕ) → view.holdings name node ≡ other.holdings name node
   pub open_calls : view.open_calls name ≡ other.open_calls name
 
 -- so it is of a view and itself, and it goes on from one view to the next
-pub same-self : (view : View) (name : List ℕ) → SameAt view view name
+pub same-self : (view : OrchestratorView) (name : List ℕ) → SameAt view view name
 same-self view name = record { rest = refl; marks = λ thing is. refl; holdings = λ node. refl; open_calls = refl }
 
 -- where a first view shows the same of a name as a second, and that one as a third, the first and the third do
-pub same-then : (a b c : View) (name : List ℕ) → SameAt a b name → SameAt b c name → SameAt a c name
+pub same-then : (a b c : OrchestratorView) (name : List ℕ) → SameAt a b name → SameAt b c name → SameAt a c name
 same-then a b c name f g =
     record { rest = f.rest ∙ g.rest; marks = λ thing is. f.marks thing is ∙ g.marks thing is; holdings = λ node. f.holdings node ∙ g.holdings node; open_calls = f.open_calls ∙ g.open_calls }
 
@@ -70,7 +70,7 @@ untouched : (issued : Issued) (other : List ℕ) (thing : Thing) → same_text i
 untouched issued other thing differs is = false_from_ne_true _ (λ e. false≢true (sym differs ∙ subst (λ n. same_text issued.name n ≡ true) is (touches-name thing issued e)))
 
 -- each item changes what is shown of its own name alone
-pub same-sent : (issued : Issued) (view : View) (other : List ℕ) → same_text issued.name other ≡ false → SameAt (after_sent issued view) view other
+pub same-sent : (issued : Issued) (view : OrchestratorView) (other : List ℕ) → same_text issued.name other ≡ false → SameAt (after_sent issued view) view other
 same-sent issued view other differs =
     record {
       rest = rw differs refl;
@@ -80,7 +80,7 @@ same-sent issued view other differs =
     }
 
 -- a reply, a call that is given up and a goal that is noted
-pub same-accepted : (issued : Issued) (status : Status) (id : Option ℕ) (view : View) (other : List ℕ) → same_text issued.name other ≡ false → SameAt (after_accepted issued status id view) view other
+pub same-accepted : (issued : Issued) (status : Status) (id : Option ℕ) (view : OrchestratorView) (other : List ℕ) → same_text issued.name other ≡ false → SameAt (after_accepted issued status id view) view other
 same-accepted issued status id view other differs =
     record {
       rest = rw (differs, and-false (is_ok_status status)) refl;
@@ -90,16 +90,16 @@ same-accepted issued status id view other differs =
     }
 
 -- a call that is given up changes what is shown of its own name alone
-pub same-closed : (issued : Issued) (view : View) (other : List ℕ) → same_text issued.name other ≡ false → SameAt (after_closed issued view) view other
+pub same-closed : (issued : Issued) (view : OrchestratorView) (other : List ℕ) → same_text issued.name other ≡ false → SameAt (after_closed issued view) view other
 same-closed issued view other differs = record { rest = refl; marks = λ thing is. refl; holdings = λ node. refl; open_calls = rw differs refl }
 
 -- so does a goal that is noted
-pub same-noted : (name : List ℕ) (goal : Option Goal) (view : View) (other : List ℕ) → same_text name other ≡ false → SameAt (after_noted name goal view) view other
+pub same-noted : (name : List ℕ) (goal : Option Goal) (view : OrchestratorView) (other : List ℕ) → same_text name other ≡ false → SameAt (after_noted name goal view) view other
 same-noted name goal view other differs = record { rest = rw differs refl; marks = λ thing is. refl; holdings = λ node. refl; open_calls = refl }
 
 -- a row that tells what is shown of its name stands in its place: what is shown of the others is as it was
-pub put-agrees : (parts : Parts) (last : Number) (name : List ℕ) (row : RowShown) (view : View) (history : History) → Reads row view name
-    → ((other : List ℕ) → same_text name other ≡ false → SameAt view (view_of parts) other) → last ≡ view.last → Agrees view history
+pub put-agrees : (parts : OrchestratorParts) (last : Number) (name : List ℕ) (row : RowShown) (view : OrchestratorView) (history : History) → Reads row view name
+    → ((other : List ℕ) → same_text name other ≡ false → SameAt view (orchestrator_view parts) other) → last ≡ view.last → Agrees view history
     → Shows (record { nodes = parts.nodes; last = last; rows = put row parts.rows }) history
 put-agrees parts last name row view history reads others is_last agrees =
     record {
@@ -136,18 +136,18 @@ put-agrees parts last name row view history reads others is_last agrees =
     own_marks thing false e = ap (mark_in (mark_of thing)) (that (name_in thing) e) ∙ sym ((others (name_in thing) e).marks thing refl)
 
     own_holdings : (other node : List ℕ) (b : Bool) → same_text name other ≡ b → mark_in (mark_of (Attached other node)) (row_of (put row parts.rows) other) ≢ No
-        → option_and_then (λ (r : RowShown). held_in r node) (row_of (put row parts.rows) other) ≡ view.holdings other node
+        → option_and_then (λ (r : RowShown). held_on_node r node) (row_of (put row parts.rows) other) ≡ view.holdings other node
     own_holdings other node true e maybe =
-        ap (option_and_then (λ (r : RowShown). held_in r node)) (this other e)
+        ap (option_and_then (λ (r : RowShown). held_on_node r node)) (this other e)
         ∙ reads.holdings node (λ h. maybe (ap (mark_in (mark_of (Attached other node))) (this other e) ∙ h)) ∙ ap (λ n. view.holdings n node) (is other e)
-    own_holdings other node false e maybe = ap (option_and_then (λ (r : RowShown). held_in r node)) (that other e) ∙ sym ((others other e).holdings node)
+    own_holdings other node false e maybe = ap (option_and_then (λ (r : RowShown). held_on_node r node)) (that other e) ∙ sym ((others other e).holdings node)
 
     own_calls : (other : List ℕ) (b : Bool) → same_text name other ≡ b → option_and_then open_in_row (row_of (put row parts.rows) other) ≡ view.open_calls other
     own_calls other true e = ap (option_and_then open_in_row) (this other e) ∙ reads.open_calls ∙ ap view.open_calls (is other e)
     own_calls other false e = ap (option_and_then open_in_row) (that other e) ∙ sym (others other e).open_calls
 
 -- the row of a name tells what is shown of it
-pub row-reads : (parts : Parts) (name : List ℕ) (row : RowShown) → row.name ≡ name → row_of parts.rows name ≡ Some row → Reads row (view_of parts) name
+pub row-reads : (parts : OrchestratorParts) (name : List ℕ) (row : RowShown) → row.name ≡ name → row_of parts.rows name ≡ Some row → Reads row (orchestrator_view parts) name
 row-reads parts name row own found =
     record {
       own = own;
@@ -156,13 +156,13 @@ row-reads parts name row own found =
       ids = sym (ap (option_and_then (λ (r : RowShown). r.id)) found);
       goals = sym (ap (option_and_then goal_in) found);
       arguments = sym (ap (option_map (λ (r : RowShown). r.arguments)) found);
-      holdings = λ node maybe. sym (ap (option_and_then (λ (r : RowShown). held_in r node)) found);
+      holdings = λ node maybe. sym (ap (option_and_then (λ (r : RowShown). held_on_node r node)) found);
       open_calls = sym (ap (option_and_then open_in_row) found);
       counts = sym (ap tries_in found);
     }
 
 -- what a history tells, as it would be shown; and a row that tells what it tells of a name
-abbrev pub told_by : History → View
+abbrev pub told_by : History → OrchestratorView
 told_by history =
     record {
       last = last_number history;
@@ -181,7 +181,7 @@ abbrev pub IsRowOf : RowShown → History → List ℕ → Type 0
 IsRowOf row history name = Reads row (told_by history) name
 
 -- so does a row that tells what is shown, where that agrees with the history
-pub reads-history : (row : RowShown) (view : View) (history : History) (name : List ℕ) → Reads row view name → Agrees view history → IsRowOf row history name
+pub reads-history : (row : RowShown) (view : OrchestratorView) (history : History) (name : List ℕ) → Reads row view name → Agrees view history → IsRowOf row history name
 reads-history row view history name reads agrees =
     record {
       own = reads.own;
@@ -196,9 +196,9 @@ reads-history row view history name reads agrees =
     }
 
 -- the row that is found for a name is of that name, and tells what the history tells of it
-pub own-name : (parts : Parts) (name : List ℕ) (row : RowShown) → row_of parts.rows name ≡ Some row → row.name ≡ name
+pub own-name : (parts : OrchestratorParts) (name : List ℕ) (row : RowShown) → row_of parts.rows name ≡ Some row → row.name ≡ name
 own-name parts name row e = (same_text-tells row.name name).0 (find-passes (λ (r : RowShown). same_text r.name name) parts.rows row e)
 
 -- the row that is found for a name tells what the history tells of it
-pub is-row-of : (parts : Parts) (history : History) (name : List ℕ) (row : RowShown) → Shows parts history → row_of parts.rows name ≡ Some row → IsRowOf row history name
-is-row-of parts history name row agrees e = reads-history row (view_of parts) history name (row-reads parts name row (own-name parts name row e) e) agrees
+pub is-row-of : (parts : OrchestratorParts) (history : History) (name : List ℕ) (row : RowShown) → Shows parts history → row_of parts.rows name ≡ Some row → IsRowOf row history name
+is-row-of parts history name row agrees e = reads-history row (orchestrator_view parts) history name (row-reads parts name row (own-name parts name row e) e) agrees

@@ -5,41 +5,42 @@ use Rattle.std.specs.List.{AllByRecursion}
 use Rattle.std.specs.Option.{option_or}
 use Rattle.std.proofs.lemmas.Bool.{false≢true, false_from_ne_true}
 use Rattle.std.proofs.lemmas.Option.{same_Some}
-use Rattle.csi_types.specs.declared.number.Number.{Number}
-use Rattle.csi_lists.specs.Members.{IsAmong, EachTwo}
+use Rattle.csi_lists.specs.Model.Members.{IsAmong, EachTwo}
 use Rattle.csi_lists.proofs.Members.{each_of, among-find, among-kept, in_filter}
 use Rattle.csi_lists.proofs.Pairs.{two-filter}
 use Rattle.csi_lists.proofs.Searches.{find-map, find-append, find-passes, find-none, find-none_in_filter}
 use Rattle.csi_lists.proofs.Options.{option_or-some, option_or-none}
-use Rattle.std.specs.Option.{option_or}
-use Rattle.csi_types.specs.Same.{same_text}
+use Rattle.csi_types.specs.Model.Same.{same_text}
 use Rattle.csi_types.proofs.Equality.{same_text-tells}
 use Rattle.csi_orchestrator.specs.declared.row.Goal.{Goal}
 use Rattle.csi_orchestrator.specs.declared.row.Goal.TheVariants.{Create}
+use Rattle.csi_orchestrator.specs.declared.row.OpenCall.{OpenCall}
 use Rattle.csi_orchestrator.specs.declared.row.TargetEntry.{TargetEntry}
 use Rattle.csi_orchestrator.specs.declared.request.Usage.{Usage}
 use Rattle.csi_orchestrator.specs.declared.thing.Thing.{Thing}
 use Rattle.csi_orchestrator.specs.declared.thing.Thing.TheVariants.{Exists, Attached, Staged, Published}
 use Rattle.csi_orchestrator.specs.declared.thing.Known.{Known}
 use Rattle.csi_orchestrator.specs.declared.thing.Known.TheVariants.{No}
-use Rattle.csi_orchestrator.specs.Thing.{Issued, name_in, is_no}
-use Rattle.csi_orchestrator.specs.History.{Arguments}
-use Rattle.csi_orchestrator.specs.History as history
-use Rattle.csi_orchestrator.specs.Readings.{arguments_in_goal}
-use Rattle.csi_orchestrator.specs.Agrees.{View}
-use Rattle.csi_orchestrator.specs.Following.{after_accepted, after_closed, after_noted}
-use Rattle.csi_orchestrator.specs.Sound.{AreNodesApart}
-use Rattle.csi_orchestrator.specs.RowChanges.{wanted, wanted_anew, new_row, dropped, is_target_kept, is_node_kept, has_targets, with_kept_targets, with_entry, entry_for, with_target, new_target_entry, held_as}
-use Rattle.csi_orchestrator.specs.Shown.{NodeEntryShown, RowShown, Parts, row_of, node_entry_of, target_entry_of, mark_in, published_in, mark_of, held_in, held_at, goal_in, goal_shown, open_in_row, issued_as, due_by, closed, view_of, AreTargetsApart}
+use Rattle.csi_orchestrator.specs.Model.Thing.{Issued, name_in, is_no}
+use Rattle.csi_orchestrator.specs.Model.History.{Arguments}
+use Rattle.csi_orchestrator.specs.Model.History as history
+use Rattle.csi_orchestrator.specs.Model.Readings.{arguments_in_goal}
+use Rattle.csi_orchestrator.specs.Model.Agrees.{OrchestratorView}
+use Rattle.csi_orchestrator.specs.Private.Following.{after_accepted, after_closed, after_noted}
+use Rattle.csi_orchestrator.specs.Public.Sound.{AreNodesApart}
+use Rattle.csi_orchestrator.specs.Private.RowChanges.{wanted_row, row_wanted_anew, new_row, dropped_row, is_target_kept, is_node_kept, has_targets, with_kept_targets, with_entry, entry_for, with_target, new_target_entry, held_as}
+use Rattle.csi_orchestrator.specs.Model.Shown.{NodeEntryShown, RowShown, OrchestratorParts, row_of, node_entry_of, target_entry_of, mark_in, publication_known, mark_of, held_on_node, held_at, goal_shown, open_in_row, orchestrator_view}
+use Rattle.csi_orchestrator.specs.Private.Shown.{closed}
+use Rattle.csi_orchestrator.specs.Public.Shown.{AreTargetsApart}
 use Rattle.csi_orchestrator.proofs.TextLists.{text-same}
 use Rattle.csi_orchestrator.proofs.KnownTests.{no_is_no}
 use Rattle.csi_orchestrator.proofs.KeyedSearches.{find-put}
 use Rattle.csi_orchestrator.proofs.RowViews.{Reads, Here, here}
 use Rattle.csi_orchestrator.proofs.JoinedLists.{own-entry}
 use Rattle.csi_orchestrator.proofs.EntryRules.{by_if}
-use Rattle.csi_orchestrator.proofs.RowsAfterSending.{goals-same, mark-same}
+use Rattle.csi_orchestrator.proofs.RowsAfterSending.{mark-same}
 use Rattle.csi_types.specs.declared.status.Status.{Status}
-use Rattle.csi_types.specs.Reply.{is_ok_status}
+use Rattle.csi_types.specs.Model.Reply.{is_ok_status}
 
 -- of its own name
 own : {X : Type 0} (name : List ℕ) (x y : X) → cond (same_text name name) x y ≡ x
@@ -47,46 +48,41 @@ own name x y = ap (λ b. cond b x y) (text-same name)
 
 -- a row without a goal has no open call
 pub no-call : (row : RowShown) → row.goal ≡ None → open_in_row row ≡ None
-no-call row e = ap (λ g. issued_as row.name row.open_number (due_by row g)) e ∙ by row.open_number
+no-call row e = ap (λ g. open_in_row (record row { goal = g })) e ∙ by row.open_call
   where
-    by : (o : Option Number) → issued_as row.name o None ≡ None
+    by : (o : Option OpenCall) → open_in_row (record row { goal = None; open_call = o }) ≡ None
     by None = refl
     by (Some number) = refl
 
--- its goal is the one that is wanted now
-goal-wanted : (goal : Goal) (row : RowShown) → goal_in (wanted goal row) ≡ Some (goal_shown row goal)
-goal-wanted Create row = refl
-goal-wanted goal row = refl
-
 -- its arguments are still those that are told
-arguments-wanted : (goal : Goal) (row : RowShown) (o : Option Arguments) → Some row.arguments ≡ o → Some row.arguments ≡ option_or (arguments_in_goal (Some (goal_shown row goal))) o
+arguments-wanted : (goal : Goal) (row : RowShown) (o : Option Arguments) → Some row.arguments ≡ o → Some row.arguments ≡ option_or (arguments_in_goal (Some (goal_shown row.arguments goal))) o
 arguments-wanted Create row o e = refl
 arguments-wanted goal row o e = e
 
 -- it tells what is shown once its goal was noted
-pub reads-wanted : (goal : Goal) (row : RowShown) (view : View) (name : List ℕ) → Reads row view name → view.open_calls name ≡ None
-    → Reads (wanted goal row) (after_noted name (Some (goal_shown row goal)) view) name
+pub reads-wanted : (goal : Goal) (row : RowShown) (view : OrchestratorView) (name : List ℕ) → Reads row view name → view.open_calls name ≡ None
+    → Reads (wanted_row goal row) (after_noted name (Some (goal_shown row.arguments goal)) view) name
 reads-wanted goal row view name reads quiet =
     record {
       own = reads.own;
       there = own name true (view.rows name);
-      marks = λ thing is. mark-same thing (wanted goal row) row refl refl ∙ reads.marks thing is;
+      marks = λ thing is. mark-same thing (wanted_row goal row) row refl refl ∙ reads.marks thing is;
       ids = reads.ids;
-      goals = goal-wanted goal row ∙ sym (own name (Some (goal_shown row goal)) (view.goals name));
-      arguments = arguments-wanted goal row (view.arguments name) reads.arguments ∙ sym (own name (option_or (arguments_in_goal (Some (goal_shown row goal))) (view.arguments name)) (view.arguments name));
+      goals = sym (own name (Some (goal_shown row.arguments goal)) (view.goals name));
+      arguments = arguments-wanted goal row (view.arguments name) reads.arguments ∙ sym (own name (option_or (arguments_in_goal (Some (goal_shown row.arguments goal))) (view.arguments name)) (view.arguments name));
       holdings = reads.holdings;
       open_calls = sym quiet;
       counts = sym (own name 0 (view.counts name));
     }
 
 -- a row of which the creation is wanted again tells what is shown once that was noted
-pub reads-anew : (arguments : Arguments) (row : RowShown) (view : View) (name : List ℕ) → Reads row view name → view.open_calls name ≡ None
-    → Reads (wanted_anew arguments row) (after_noted name (Some (history.Create arguments)) view) name
+pub reads-anew : (arguments : Arguments) (row : RowShown) (view : OrchestratorView) (name : List ℕ) → Reads row view name → view.open_calls name ≡ None
+    → Reads (row_wanted_anew arguments row) (after_noted name (Some (history.Create arguments)) view) name
 reads-anew arguments row view name reads quiet =
     record {
       own = reads.own;
       there = own name true (view.rows name);
-      marks = λ thing is. mark-same thing (wanted_anew arguments row) row refl refl ∙ reads.marks thing is;
+      marks = λ thing is. mark-same thing (row_wanted_anew arguments row) row refl refl ∙ reads.marks thing is;
       ids = reads.ids;
       goals = sym (own name (Some (history.Create arguments)) (view.goals name));
       arguments = sym (own name (Some arguments) (view.arguments name));
@@ -101,23 +97,23 @@ mark-new name arguments (Exists other) = refl
 mark-new name arguments thing = refl
 
 -- the new row tells what is shown once its creation was noted
-pub reads-new : (arguments : Arguments) (parts : Parts) (name : List ℕ) → row_of parts.rows name ≡ None
-    → Reads (new_row name arguments) (after_noted name (Some (history.Create arguments)) (view_of parts)) name
+pub reads-new : (arguments : Arguments) (parts : OrchestratorParts) (name : List ℕ) → row_of parts.rows name ≡ None
+    → Reads (new_row name arguments) (after_noted name (Some (history.Create arguments)) (orchestrator_view parts)) name
 reads-new arguments parts name none =
     record {
       own = refl;
-      there = own name true ((view_of parts).rows name);
+      there = own name true ((orchestrator_view parts).rows name);
       marks = λ thing is. mark-new name arguments thing ∙ sym (ap (λ n. mark_in (mark_of thing) (row_of parts.rows n)) is ∙ ap (mark_in (mark_of thing)) none);
       ids = sym (ap (option_and_then (λ (r : RowShown). r.id)) none);
-      goals = sym (own name (Some (history.Create arguments)) ((view_of parts).goals name));
-      arguments = sym (own name (Some arguments) ((view_of parts).arguments name));
+      goals = sym (own name (Some (history.Create arguments)) ((orchestrator_view parts).goals name));
+      arguments = sym (own name (Some arguments) ((orchestrator_view parts).arguments name));
       holdings = λ node maybe. absurd (maybe refl);
       open_calls = sym (ap (option_and_then open_in_row) none);
-      counts = sym (own name 0 ((view_of parts).counts name));
+      counts = sym (own name 0 ((orchestrator_view parts).counts name));
     }
 
 -- its call was closed: it tells what is shown then, if nothing else changed
-pub reads-shut : (row : RowShown) (view after : View) (name : List ℕ) → Reads row view name → here view name ≡ here after name → ((thing : Thing) → name_in thing ≡ name → view.marks thing ≡ after.marks thing)
+pub reads-shut : (row : RowShown) (view after : OrchestratorView) (name : List ℕ) → Reads row view name → here view name ≡ here after name → ((thing : Thing) → name_in thing ≡ name → view.marks thing ≡ after.marks thing)
     → ((node : List ℕ) → view.holdings name node ≡ after.holdings name node) → after.open_calls name ≡ None → Reads (closed row) after name
 reads-shut row view after name reads rest marks holdings quiet =
     record {
@@ -125,7 +121,7 @@ reads-shut row view after name reads rest marks holdings quiet =
       there = sym (ap (λ (h : Here). h.there) rest) ∙ reads.there;
       marks = λ thing is. mark-same thing (closed row) row refl refl ∙ reads.marks thing is ∙ marks thing is;
       ids = reads.ids ∙ ap (λ (h : Here). h.ids) rest;
-      goals = goals-same (closed row) row refl refl ∙ reads.goals ∙ ap (λ (h : Here). h.goals) rest;
+      goals = reads.goals ∙ ap (λ (h : Here). h.goals) rest;
       arguments = reads.arguments ∙ ap (λ (h : Here). h.arguments) rest;
       holdings = λ node maybe. reads.holdings node maybe ∙ holdings node;
       open_calls = sym quiet;
@@ -133,16 +129,16 @@ reads-shut row view after name reads rest marks holdings quiet =
     }
 
 -- a call that was given up, and one that there was not
-pub reads-closed : (row : RowShown) (issued : Issued) (view : View) (name : List ℕ) → issued.name ≡ name → Reads row view name → Reads (closed row) (after_closed issued view) name
+pub reads-closed : (row : RowShown) (issued : Issued) (view : OrchestratorView) (name : List ℕ) → issued.name ≡ name → Reads row view name → Reads (closed row) (after_closed issued view) name
 reads-closed row issued view name is reads =
     reads-shut row view (after_closed issued view) name reads refl (λ thing same. refl) (λ node. refl) (ap (λ n. cond (same_text n name) None (view.open_calls name)) is ∙ own name None (view.open_calls name))
 
 -- a row whose name has no open call tells the same once it is closed
-pub reads-quiet : (row : RowShown) (view : View) (name : List ℕ) → Reads row view name → view.open_calls name ≡ None → Reads (closed row) view name
+pub reads-quiet : (row : RowShown) (view : OrchestratorView) (name : List ℕ) → Reads row view name → view.open_calls name ≡ None → Reads (closed row) view name
 reads-quiet row view name reads quiet = reads-shut row view view name reads refl (λ thing same. refl) (λ node. refl) quiet
 
 -- one that was refused
-pub reads-refused : (row : RowShown) (issued : Issued) (status : Status) (id : Option ℕ) (view : View) (name : List ℕ) → issued.name ≡ name → is_ok_status status ≡ false → Reads row view name
+pub reads-refused : (row : RowShown) (issued : Issued) (status : Status) (id : Option ℕ) (view : OrchestratorView) (name : List ℕ) → issued.name ≡ name → is_ok_status status ≡ false → Reads row view name
     → Reads (closed row) (after_accepted issued status id view) name
 reads-refused row issued status id view name is bad reads =
     reads-shut row view (after_accepted issued status id view) name reads (rw bad refl) (λ thing same. rw bad refl) (λ node. refl)
@@ -189,7 +185,7 @@ kept-mark (Some target_entry) = by (is_no target_entry.published) refl
     by false e = refl
 
 -- what is known of a target is as it was once the targets that aren't published are left out
-targets-kept : (entry : NodeEntryShown) (target : List ℕ) → AreTargetsApart entry → published_in target (with_kept_targets entry) ≡ published_in target entry
+targets-kept : (entry : NodeEntryShown) (target : List ℕ) → AreTargetsApart entry → publication_known target (with_kept_targets entry) ≡ publication_known target entry
 targets-kept entry target apart = ap (mark_in (λ (a : TargetEntry). a.published)) (find-kept (λ (a : TargetEntry). a.target) is_target_kept target entry.target_entries apart) ∙ kept-mark (target_entry_of entry target)
 
 -- a node that is left out has nothing
@@ -209,7 +205,7 @@ no-targets [] target e = refl
 no-targets (target_entry ∷ target_entries) target e = absurd (false≢true (sym e))
 
 -- the entry of a node in a dropped row: it lost the targets that are left out, and is there if it is kept
-tidied-entry : (row : RowShown) (node : List ℕ) → AreNodesApart row.node_entries → node_entry_of (dropped row) node ≡ kept-if is_node_kept (option_map with_kept_targets (node_entry_of row node))
+tidied-entry : (row : RowShown) (node : List ℕ) → AreNodesApart row.node_entries → node_entry_of (dropped_row row) node ≡ kept-if is_node_kept (option_map with_kept_targets (node_entry_of row node))
 tidied-entry row node apart =
     find-kept (λ (p : NodeEntryShown). p.node) is_node_kept node (map with_kept_targets row.node_entries) (alike row.node_entries apart)
     ∙ ap (kept-if is_node_kept) (find-map (λ (p : NodeEntryShown). same_text p.node node) with_kept_targets row.node_entries (λ p. refl))
@@ -236,7 +232,7 @@ tidy-read read (Some entry) same none = by (is_node_kept (with_kept_targets entr
     by false e = sym (none entry e) ∙ same entry refl
 
 -- a dropped row knows of each thing what it knew
-mark-dropped : (row : RowShown) (thing : Thing) → AreNodesApart row.node_entries → AllByRecursion AreTargetsApart row.node_entries → mark_of thing (dropped row) ≡ mark_of thing row
+mark-dropped : (row : RowShown) (thing : Thing) → AreNodesApart row.node_entries → AllByRecursion AreTargetsApart row.node_entries → mark_of thing (dropped_row row) ≡ mark_of thing row
 mark-dropped row (Exists name) apart targets = refl
 mark-dropped row (Attached name node) apart targets =
     ap (mark_in (λ (p : NodeEntryShown). p.attached)) (tidied-entry row node apart)
@@ -245,13 +241,13 @@ mark-dropped row (Staged name node) apart targets =
     ap (mark_in (λ (p : NodeEntryShown). p.staged)) (tidied-entry row node apart)
     ∙ tidy-read (λ (p : NodeEntryShown). p.staged) (node_entry_of row node) (λ entry e. refl) (λ entry e. (left-out (with_kept_targets entry) e).1)
 mark-dropped row (Published name node target) apart targets =
-    ap (mark_in (published_in target)) (tidied-entry row node apart)
-    ∙ tidy-read (published_in target) (node_entry_of row node)
+    ap (mark_in (publication_known target)) (tidied-entry row node apart)
+    ∙ tidy-read (publication_known target) (node_entry_of row node)
     (λ entry e. targets-kept entry target (each_of AreTargetsApart row.node_entries entry targets (among-find (λ (p : NodeEntryShown). same_text p.node node) row.node_entries entry e)))
     (λ entry e. no-targets (with_kept_targets entry).target_entries target (left-out (with_kept_targets entry) e).2)
 
 -- in a dropped row the volume is held as it was, where it may be attached
-held-dropped : (row : RowShown) (node : List ℕ) → AreNodesApart row.node_entries → mark_in (λ (p : NodeEntryShown). p.attached) (node_entry_of (dropped row) node) ≢ No → held_in (dropped row) node ≡ held_in row node
+held-dropped : (row : RowShown) (node : List ℕ) → AreNodesApart row.node_entries → mark_in (λ (p : NodeEntryShown). p.attached) (node_entry_of (dropped_row row) node) ≢ No → held_on_node (dropped_row row) node ≡ held_on_node row node
 unfolding kept-if
 held-dropped row node apart maybe = ap (option_map held_at) (tidied-entry row node apart) ∙ by (node_entry_of row node) (λ e. maybe (ap (mark_in (λ (p : NodeEntryShown). p.attached)) (tidied-entry row node apart) ∙ e))
   where
@@ -264,8 +260,8 @@ held-dropped row node apart maybe = ap (option_map held_at) (tidied-entry row no
         kept false e = absurd (there (ap (λ b. mark_in (λ (p : NodeEntryShown). p.attached) (cond b (Some (with_kept_targets entry)) None)) e))
 
 -- nothing is wanted of it
-pub reads-dropped : (row : RowShown) (view : View) (name : List ℕ) → AreNodesApart row.node_entries → AllByRecursion AreTargetsApart row.node_entries → Reads row view name → view.open_calls name ≡ None
-    → Reads (dropped row) (after_noted name None view) name
+pub reads-dropped : (row : RowShown) (view : OrchestratorView) (name : List ℕ) → AreNodesApart row.node_entries → AllByRecursion AreTargetsApart row.node_entries → Reads row view name → view.open_calls name ≡ None
+    → Reads (dropped_row row) (after_noted name None view) name
 reads-dropped row view name apart targets reads quiet =
     record {
       own = reads.own;
@@ -332,10 +328,10 @@ pub mark-with-entry : (usage : Usage) (row : RowShown) (thing : Thing) → mark_
 mark-with-entry usage row (Exists name) = refl
 mark-with-entry usage row (Attached name node) = mark-entry (λ (p : NodeEntryShown). p.attached) usage row node refl (λ entry. held-same (λ (p : NodeEntryShown). p.attached) usage entry refl)
 mark-with-entry usage row (Staged name node) = mark-entry (λ (p : NodeEntryShown). p.staged) usage row node refl (λ entry. held-same (λ (p : NodeEntryShown). p.staged) usage entry refl)
-mark-with-entry usage row (Published name node target) = mark-entry (published_in target) usage row node (new-mark usage.target target) (λ entry. mark-with-target usage.target target entry.target_entries)
+mark-with-entry usage row (Published name node target) = mark-entry (publication_known target) usage row node (new-mark usage.target target) (λ entry. mark-with-target usage.target target entry.target_entries)
 
 -- and, where the volume may be attached, keeps how it is held
-held-entry : (usage : Usage) (row : RowShown) (node : List ℕ) → mark_in (λ (p : NodeEntryShown). p.attached) (node_entry_of row node) ≢ No → held_in (with_entry usage row) node ≡ held_in row node
+held-entry : (usage : Usage) (row : RowShown) (node : List ℕ) → mark_in (λ (p : NodeEntryShown). p.attached) (node_entry_of row node) ≢ No → held_on_node (with_entry usage row) node ≡ held_on_node row node
 held-entry usage row node maybe = ap (option_map held_at) (entry-there usage row node) ∙ by (same_text usage.node node) refl
   where
     kept : (o : Option NodeEntryShown) → mark_in (λ (p : NodeEntryShown). p.attached) o ≢ No → Some (held_at (entry_for usage o)) ≡ option_map held_at o
@@ -353,14 +349,14 @@ held-entry usage row node maybe = ap (option_map held_at) (entry-there usage row
     by false e = refl
 
 -- a row without a goal tells what is shown of it, with an entry for a use too
-pub reads-with-entry : (usage : Usage) (row : RowShown) (view : View) (name : List ℕ) → row.goal ≡ None → Reads row view name → Reads (with_entry usage row) view name
+pub reads-with-entry : (usage : Usage) (row : RowShown) (view : OrchestratorView) (name : List ℕ) → row.goal ≡ None → Reads row view name → Reads (with_entry usage row) view name
 reads-with-entry usage row view name goal reads =
     record {
       own = reads.own;
       there = reads.there;
       marks = λ thing is. mark-with-entry usage row thing ∙ reads.marks thing is;
       ids = reads.ids;
-      goals = goals-same (with_entry usage row) row refl refl ∙ reads.goals;
+      goals = reads.goals;
       arguments = reads.arguments;
       holdings = λ node maybe. held-entry usage row node (λ e. maybe (mark-with-entry usage row (Attached name node) ∙ e)) ∙ reads.holdings node (λ e. maybe (mark-with-entry usage row (Attached name node) ∙ e));
       open_calls = no-call (with_entry usage row) goal ∙ sym (no-call row goal) ∙ reads.open_calls;

@@ -4,26 +4,28 @@ use Rattle.std.specs.Prelude.{Option, Some, None, position, slice_get, Result, O
 use Rattle.std.proofs.Math.Seq.{map-set_same}
 use Rattle.std.proofs.lemmas.List.Quantifiers.{position-Some}
 use Rattle.std.proofs.lemmas.Option.{none-some, same_Some}
-use Rattle.csi_lists.specs.Places.{IsAt}
+use Rattle.csi_lists.specs.Public.Places.{IsAt}
 use Rattle.csi_lists.proofs.Places.{at-index}
 use Rattle.csi_types.specs.declared.number.Number.{Number}
-use Rattle.csi_types.specs.Frame.{Frame}
-use Rattle.csi_types.specs.Same.{same_text}
+use Rattle.csi_types.specs.Model.Frame.{Frame}
+use Rattle.csi_types.specs.Model.Same.{same_text}
 use Rattle.csi_orchestrator.specs.declared.fault.OrchFault.{OrchFault}
 use Rattle.csi_orchestrator.specs.declared.state.OrchestratorCore.{OrchestratorCore}
 use Rattle.csi_orchestrator.specs.declared.row.Row.{Row}
 use Rattle.csi_orchestrator.specs.declared.sending.Outgoing.{Outgoing}
 use Rattle.csi_orchestrator.specs.declared.step.Step.{Step}
 use Rattle.csi_orchestrator.specs.declared.step.Step.TheVariants as steps
-use Rattle.csi_orchestrator.specs.Catalog.{rows_of}
-use Rattle.csi_orchestrator.specs.CoreParts.{parts_of}
-use Rattle.csi_orchestrator.specs.History.{Arguments}
-use Rattle.csi_orchestrator.specs.Moves.{Input, Answer, Sends}
-use Rattle.csi_orchestrator.specs.RowChanges.{new_row}
-use Rattle.csi_orchestrator.specs.RowRefusals.{first_fault}
-use Rattle.csi_orchestrator.specs.RowMoves.{moved_rows, put, frame_in, last_after, placed, steps_at, creates, row_moves, asked_by, IsRefusal, RowsAnswer}
-use Rattle.csi_orchestrator.specs.Shown.{RowShown, Parts, row_shown, row_of}
-use Rattle.csi_orchestrator.specs.RowSteps.{MovedRow, row_sends_due, row_unless, row_step, SendsNothing}
+use Rattle.csi_orchestrator.specs.Public.Catalog.{rows_of}
+use Rattle.csi_orchestrator.specs.Public.CoreParts.{orchestrator_parts_shown}
+use Rattle.csi_orchestrator.specs.Model.History.{Arguments}
+use Rattle.csi_orchestrator.specs.Model.Moves.{Input, Answer, Sends}
+use Rattle.csi_orchestrator.specs.Private.RowChanges.{new_row}
+use Rattle.csi_orchestrator.specs.Private.RowRefusals.{first_fault}
+use Rattle.csi_orchestrator.specs.Public.RowMoves.{moved_rows, IsRefusal}
+use Rattle.csi_orchestrator.specs.Private.RowMoves.{put, outgoing_frame, last_after, all_rows_moved, steps_at, creates, row_moves, input_asking, RowsAnswer}
+use Rattle.csi_orchestrator.specs.Model.Shown.{RowShown, OrchestratorParts, row_of}
+use Rattle.csi_orchestrator.specs.Public.Shown.{row_shown}
+use Rattle.csi_orchestrator.specs.Private.RowSteps.{MovedRow, row_sends_due, row_unless, row_step, SendsNothing}
 use Rattle.csi_orchestrator.proofs.ChangedEntries.{find-place, find-none_placed, put-place, put-none_placed}
 use Rattle.csi_orchestrator.proofs.RowsUnderNames.{catalog_with, read-at, parts-set}
 use Rattle.csi_orchestrator.proofs.OpenCalls.{GoesOn, step-goes}
@@ -47,62 +49,62 @@ shown-there rows name i r at stands = find-place row_shown (λ (row : RowShown).
 -- a step is told by the row that stands there
 stepped-there : (core : OrchestratorCore) (answer : Option Frame → Answer) (step : Step) (name : List ℕ) (i : ℕ) (r : Row) → position (λ (row : Row). same_text row.name name) (rows_of core.catalog) ≡ Some i
     → slice_get (rows_of core.catalog) i ≡ Some r
-    → steps_at (parts_of core) answer step (row_of (map row_shown (rows_of core.catalog)) name) ≡ placed (parts_of core) answer (row_step core.nodes.items core.last step (row_shown r))
-stepped-there core answer step name i r at stands = ap (steps_at (parts_of core) answer step) (shown-there (rows_of core.catalog) name i r at stands)
+    → steps_at (orchestrator_parts_shown core) answer step (row_of (map row_shown (rows_of core.catalog)) name) ≡ all_rows_moved (orchestrator_parts_shown core) answer (row_step core.nodes.items core.last step (row_shown r))
+stepped-there core answer step name i r at stands = ap (steps_at (orchestrator_parts_shown core) answer step) (shown-there (rows_of core.catalog) name i r at stands)
 
 -- where the row refuses it, it is refused
 pub step-refused : (core : OrchestratorCore) (answer : Option Frame → Answer) (step : Step) (name : List ℕ) (i : ℕ) (r : Row) (fault : OrchFault) → slice_get (rows_of core.catalog) i ≡ Some r
     → IsRefusal (row_step core.nodes.items core.last step (row_shown r)) fault → position (λ (row : Row). same_text row.name name) (rows_of core.catalog) ≡ Some i
-    → IsRefusal (steps_at (parts_of core) answer step (row_of (map row_shown (rows_of core.catalog)) name)) fault
+    → IsRefusal (steps_at (orchestrator_parts_shown core) answer step (row_of (map row_shown (rows_of core.catalog)) name)) fault
 step-refused core answer step name i r fault stands refused at =
     subst (λ t. IsRefusal t fault) (sym (stepped-there core answer step name i r at stands)) (by (row_step core.nodes.items core.last step (row_shown r)) refused)
   where
-    by : (t : Result MovedRow OrchFault) → IsRefusal t fault → IsRefusal (placed (parts_of core) answer t) fault
+    by : (t : Result MovedRow OrchFault) → IsRefusal t fault → IsRefusal (all_rows_moved (orchestrator_parts_shown core) answer t) fault
     by (Ok moved_rows) is = is
     by (Err other) is = is
 
 -- where it is told that nothing is sent, the row sends nothing
 pub step-quiet : (core : OrchestratorCore) (answer : Option Frame → Answer) (step : Step) (name : List ℕ) (i : ℕ) (r : Row) → slice_get (rows_of core.catalog) i ≡ Some r
     → position (λ (row : Row). same_text row.name name) (rows_of core.catalog) ≡ Some i
-    → ((frame : Frame) → answer (Some frame) ≡ answer None → ⊥) → RowsAnswer (answer None) (steps_at (parts_of core) answer step (row_of (map row_shown (rows_of core.catalog)) name))
+    → ((frame : Frame) → answer (Some frame) ≡ answer None → ⊥) → RowsAnswer (answer None) (steps_at (orchestrator_parts_shown core) answer step (row_of (map row_shown (rows_of core.catalog)) name))
     → SendsNothing (row_step core.nodes.items core.last step (row_shown r))
 step-quiet core answer step name i r stands at apart told =
     by (row_step core.nodes.items core.last step (row_shown r)) (subst (RowsAnswer (answer None)) (stepped-there core answer step name i r at stands) told)
   where
-    none : (next : Option Outgoing) → answer (frame_in next) ≡ answer None → next ≡ None
+    none : (next : Option Outgoing) → answer (outgoing_frame next) ≡ answer None → next ≡ None
     none None e = refl
     none (Some next) e = absurd (apart next.frame e)
 
-    by : (t : Result MovedRow OrchFault) → RowsAnswer (answer None) (placed (parts_of core) answer t) → SendsNothing t
+    by : (t : Result MovedRow OrchFault) → RowsAnswer (answer None) (all_rows_moved (orchestrator_parts_shown core) answer t) → SendsNothing t
     by (Ok moved_row) is = none moved_row.outgoing is
     by (Err fault) is = is
 
 -- where the row takes it, its frame is answered, and the row is shown in its place
-pub step-told : (core : OrchestratorCore) (answer : Option Frame → Answer) (step : Step) (name : List ℕ) (i : ℕ) (r s : Row) (next : Option Outgoing) (sends : Option Frame) (after : Parts)
+pub step-told : (core : OrchestratorCore) (answer : Option Frame → Answer) (step : Step) (name : List ℕ) (i : ℕ) (r s : Row) (next : Option Outgoing) (sends : Option Frame) (after : OrchestratorParts)
     → slice_get (rows_of core.catalog) i ≡ Some r
-    → row_step core.nodes.items core.last step (row_shown r) ≡ Ok (record { outgoing = next; row = row_shown s }) → sends ≡ frame_in next
+    → row_step core.nodes.items core.last step (row_shown r) ≡ Ok (record { outgoing = next; row = row_shown s }) → sends ≡ outgoing_frame next
     → after ≡ record { nodes = core.nodes.items; last = last_after core.last next; rows = map row_shown (rows_of (catalog_with core.catalog i s)) }
     → position (λ (row : Row). same_text row.name name) (rows_of core.catalog) ≡ Some i
-    → steps_at (parts_of core) answer step (row_of (map row_shown (rows_of core.catalog)) name) ≡ Ok (record { answer = answer sends; parts = after })
+    → steps_at (orchestrator_parts_shown core) answer step (row_of (map row_shown (rows_of core.catalog)) name) ≡ Ok (record { answer = answer sends; parts = after })
 step-told core answer step name i r s next sends after stands is frame then at =
     let rows = rows_of core.catalog in
     let on = subst (GoesOn core.last (row_shown r)) is (step-goes core.nodes.items core.last step (row_shown r)) in
-    let own : s.name ≡ name = on.name ∙ own-name (parts_of core) name (row_shown r) (shown-there rows name i r at stands) in
+    let own : s.name ≡ name = on.name ∙ own-name (orchestrator_parts_shown core) name (row_shown r) (shown-there rows name i r at stands) in
     let put_there : map row_shown (set rows i s) ≡ put (row_shown s) (map row_shown rows) = put-place row_shown (λ (row : RowShown). row.name) (row_shown s) name rows i r s own at refl in
-    stepped-there core answer step name i r at stands ∙ ap (placed (parts_of core) answer) is
-    ∙ ap (λ shown. moved_rows (record { nodes = core.nodes.items; last = last_after core.last next; rows = shown }) (answer (frame_in next))) (sym put_there)
-    ∙ ap (λ p. moved_rows p (answer (frame_in next))) (sym (then ∙ parts-set core.nodes.items (last_after core.last next) core.catalog i s)) ∙ ap (λ f. moved_rows after (answer f)) (sym frame)
+    stepped-there core answer step name i r at stands ∙ ap (all_rows_moved (orchestrator_parts_shown core) answer) is
+    ∙ ap (λ shown. moved_rows (record { nodes = core.nodes.items; last = last_after core.last next; rows = shown }) (answer (outgoing_frame next))) (sym put_there)
+    ∙ ap (λ p. moved_rows p (answer (outgoing_frame next))) (sym (then ∙ parts-set core.nodes.items (last_after core.last next) core.catalog i s)) ∙ ap (λ f. moved_rows after (answer f)) (sym frame)
 
 -- a refusal leaves what is shown
 pub rows-stay : (core : OrchestratorCore) (i : ℕ) (r s : Row) → slice_get (rows_of core.catalog) i ≡ Some r → row_shown s ≡ row_shown r
-    → (let then : Parts = record { nodes = core.nodes.items; last = core.last; rows = map row_shown (rows_of (catalog_with core.catalog i s)) } in then) ≡ parts_of core
+    → (let then : OrchestratorParts = record { nodes = core.nodes.items; last = core.last; rows = map row_shown (rows_of (catalog_with core.catalog i s)) } in then) ≡ orchestrator_parts_shown core
 rows-stay core i r s stands same =
     parts-set core.nodes.items core.last core.catalog i s
-    ∙ ap (λ shown. let then : Parts = record { nodes = core.nodes.items; last = core.last; rows = shown } in then)
+    ∙ ap (λ shown. let then : OrchestratorParts = record { nodes = core.nodes.items; last = core.last; rows = shown } in then)
     (map-set_same row_shown (rows_of core.catalog) i s r (same ∙ ap row_shown (read-at (rows_of core.catalog) i r stands)))
 
 -- what is asked of a name is told by a step
-pub asked : (parts : Parts) (name : List ℕ) (step : Step) (input : Input) → asked_by name step ≡ Some input → steps_at parts Sends step (row_of parts.rows name) ≡ row_moves parts input
+pub asked : (parts : OrchestratorParts) (name : List ℕ) (step : Step) (input : Input) → input_asking name step ≡ Some input → steps_at parts Sends step (row_of parts.rows name) ≡ row_moves parts input
 asked parts name (steps.Create arguments) input is = absurd (none-some input is)
 asked parts name (steps.Use usage) input is = ap (row_moves parts) (same_Some _ input is)
 asked parts name (steps.Stop node target) input is = ap (row_moves parts) (same_Some _ input is)
@@ -113,23 +115,23 @@ asked parts name steps.Fail input is = absurd (none-some input is)
 
 -- what another create of a name is told by
 pub create-asked : (core : OrchestratorCore) (name : List ℕ) (arguments : Arguments) (i : ℕ) → position (λ (row : Row). same_text row.name name) (rows_of core.catalog) ≡ Some i
-    → steps_at (parts_of core) Sends (steps.Create arguments) (row_of (map row_shown (rows_of core.catalog)) name) ≡ creates (parts_of core) name arguments
+    → steps_at (orchestrator_parts_shown core) Sends (steps.Create arguments) (row_of (map row_shown (rows_of core.catalog)) name) ≡ creates (orchestrator_parts_shown core) name arguments
     (row_of (map row_shown (rows_of core.catalog)) name)
 create-asked core name arguments i at =
     let there = row-at (λ (row : Row). same_text row.name name) (rows_of core.catalog) i at in
     let found = shown-there (rows_of core.catalog) name i there.0 at (get-of_at (rows_of core.catalog) i there.0 there.1.0) in
-    ap (steps_at (parts_of core) Sends (steps.Create arguments)) found ∙ sym (ap (creates (parts_of core) name arguments) found)
+    ap (steps_at (orchestrator_parts_shown core) Sends (steps.Create arguments)) found ∙ sym (ap (creates (orchestrator_parts_shown core) name arguments) found)
 
 -- the first create of a name
-pub first-told : (nodes : List (List ℕ)) (last : Number) (rows : List Row) (name : List ℕ) (arguments : Arguments) (s : Row) (next : Option Outgoing) (sends : Option Frame) (after : Parts)
+pub first-told : (nodes : List (List ℕ)) (last : Number) (rows : List Row) (name : List ℕ) (arguments : Arguments) (s : Row) (next : Option Outgoing) (sends : Option Frame) (after : OrchestratorParts)
     → position (λ (row : Row). same_text row.name name) rows ≡ None
     → first_fault last (map row_shown rows) ≡ None → row_sends_due last (new_row name arguments) ≡ Ok (record { outgoing = next; row = row_shown s })
-    → s.name ≡ name → sends ≡ frame_in next
+    → s.name ≡ name → sends ≡ outgoing_frame next
     → after ≡ record { nodes = nodes; last = last_after last next; rows = map row_shown (rows ++ s ∷ []) }
     → creates (record { nodes = nodes; last = last; rows = map row_shown rows }) name arguments None ≡ Ok (record { answer = Sends sends; parts = after })
 first-told nodes last rows name arguments s next sends after none fits is own frame then =
-    let parts : Parts = record { nodes = nodes; last = last; rows = map row_shown rows } in
+    let parts : OrchestratorParts = record { nodes = nodes; last = last; rows = map row_shown rows } in
     let stands : map row_shown (rows ++ s ∷ []) ≡ put (row_shown s) (map row_shown rows) = put-none_placed row_shown (λ (row : RowShown). row.name) (row_shown s) name rows s own none refl in
-    ap (λ fault. placed parts Sends (row_unless fault (row_sends_due last (new_row name arguments)))) fits ∙ ap (placed parts Sends) is
-    ∙ ap (λ shown. moved_rows (record { nodes = nodes; last = last_after last next; rows = shown }) (Sends (frame_in next))) (sym stands)
-    ∙ ap (λ p. moved_rows p (Sends (frame_in next))) (sym then) ∙ ap (λ f. moved_rows after (Sends f)) (sym frame)
+    ap (λ fault. all_rows_moved parts Sends (row_unless fault (row_sends_due last (new_row name arguments)))) fits ∙ ap (all_rows_moved parts Sends) is
+    ∙ ap (λ shown. moved_rows (record { nodes = nodes; last = last_after last next; rows = shown }) (Sends (outgoing_frame next))) (sym stands)
+    ∙ ap (λ p. moved_rows p (Sends (outgoing_frame next))) (sym then) ∙ ap (λ f. moved_rows after (Sends f)) (sym frame)

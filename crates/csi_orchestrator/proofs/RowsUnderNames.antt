@@ -10,15 +10,19 @@ use Rattle.csi_lists.proofs.Searches.{find-no_place}
 use Rattle.indexmap.proofs.CallerLemmas.{insert_entry-new, index_map_len-with_value_at}
 use Rattle.indexmap.specs.IndexMap.{IndexMap, values, get, spare, index_map_len, with_value_at, insert_entry}
 use Rattle.indexmap.specs.Layout.{set_value_at}
-use Rattle.csi_lists.specs.Places.{IsAt}
+use Rattle.csi_lists.specs.Public.Places.{IsAt}
 use Rattle.csi_lists.proofs.Places.{same-at}
-use Rattle.csi_types.specs.Same.{same_text}
+use Rattle.csi_types.specs.Model.Same.{same_text}
 use Rattle.csi_types.specs.declared.number.Number.{Number}
+use Rattle.csi_orchestrator.specs.declared.row.OpenCall.{OpenCall}
 use Rattle.csi_orchestrator.specs.declared.sending.Outgoing.{Outgoing}
 use Rattle.csi_orchestrator.specs.declared.row.Row.{Row}
 use Rattle.csi_orchestrator.specs.declared.catalog.Catalog.{Catalog}
-use Rattle.csi_orchestrator.specs.Catalog.{rows_of, by_name, place_noted, HasRoom, HasFewNotes, IsIndexed, IsReady, IsNextFor, IsClosedAt, AreUpTo, AreNotedBefore, call_in, IsAfter}
-use Rattle.csi_orchestrator.specs.Shown.{RowShown, Parts, row_shown, without_call}
+use Rattle.csi_orchestrator.specs.Public.Catalog.{rows_of, by_name, place_noted, HasRoomForCalls, HasFewNotes, IsIndexed, AreUpTo}
+use Rattle.csi_orchestrator.specs.Private.Catalog.{IsReady, IsNextFor, IsClosedAt, AreNotedBefore, outgoing_call_number, IsNumberedAfter}
+use Rattle.csi_orchestrator.specs.Model.Shown.{RowShown, OrchestratorParts}
+use Rattle.csi_orchestrator.specs.Public.Shown.{row_shown}
+use Rattle.csi_orchestrator.specs.Private.Shown.{without_call}
 use Rattle.csi_orchestrator.proofs.ListPlaces.{at-of_get, at-within, at-set, at-set_same, at-set_other, at-push}
 use Rattle.csi_orchestrator.proofs.TextLists.{same_text-flip}
 
@@ -97,7 +101,7 @@ pub names-set : (catalog : Catalog) (place : ℕ) (row new : Row) → catalog.ro
 names-set catalog place row new names at name = entries-set catalog.rows.entries (rows_of catalog) place row new names at name ∙ ap (map by_name) (sym (rows-set catalog place new))
 
 -- there is room still
-room-set : (catalog : Catalog) (place : ℕ) (new : Row) → HasRoom catalog → HasRoom (catalog_with catalog place new)
+room-set : (catalog : Catalog) (place : ℕ) (new : Row) → HasRoomForCalls catalog → HasRoomForCalls (catalog_with catalog place new)
 room-set catalog place new room =
     let long : length (rows_of (catalog_with catalog place new)) ≡ length (rows_of catalog) = ap length (rows-set catalog place new) ∙ length-set (rows_of catalog) place new in
     λ some. let least = room (omega (arith, long, some)) in omega (arith, long, least)
@@ -109,8 +113,8 @@ few-set catalog place new few =
     omega (arith, long, few)
 
 -- the row's open call, if it has one, is the one that was open or the next one
-abbrev pub IsOpened : Option Number → Option Outgoing → Option Number → Type 0
-IsOpened old next new = (number : Number) → new ≡ Some number → (old ≡ Some number) ⊎ (call_in next ≡ Some number.call)
+abbrev pub IsOpened : Option OpenCall → Option Outgoing → Option OpenCall → Type 0
+IsOpened old next new = (kept : OpenCall) → new ≡ Some kept → (old ≡ Some kept) ⊎ (outgoing_call_number next ≡ Some kept.number.call)
 
 -- the next call isn't noted yet
 pub next-unnoted : (catalog : Catalog) (last call : ℕ) → AreUpTo last catalog → call ≡ last + 1 → place_noted catalog call ≡ None
@@ -122,35 +126,35 @@ next-unnoted catalog last call known is = by (place_noted catalog call) refl
 
 -- once a row went on, only the call that is sent for it isn't noted yet
 pub ready-set : (catalog : Catalog) (last place : ℕ) (row new : Row) (next : Option Outgoing) → IsIndexed catalog → AreUpTo last catalog → slice_get (rows_of catalog) place ≡ Some row → new.name ≡ row.name
-    → IsOpened row.open_number next new.open_number → IsAfter last next → IsReady (catalog_with catalog place new) place (call_in next)
+    → IsOpened row.open_call next new.open_call → IsNumberedAfter last next → IsReady (catalog_with catalog place new) place (outgoing_call_number next)
 ready-set catalog last place row new next indexed known at name opened after =
     let inside = at-within (rows_of catalog) place row (at-of_get (rows_of catalog) place row at) in
     record {
       rows = names-set catalog place row new indexed.rows at name;
-      found = λ other r number there is_open. by other r number is_open (at-set (rows_of catalog) place other new r (subst (λ (rs : List Row). IsAt rs other r) (rows-set catalog place new) there));
+      found = λ other r kept there is_open. by other r kept is_open (at-set (rows_of catalog) place other new r (subst (λ (rs : List Row). IsAt rs other r) (rows-set catalog place new) there));
       new = λ call is. next-unnoted catalog last call known (after call is);
       room = room-set catalog place new indexed.noted.room;
       free = indexed.free (omega (arith, inside));
       few = few-set catalog place new indexed.few;
     }
   where
-    own : (number : Number) → (row.open_number ≡ Some number) ⊎ (call_in next ≡ Some number.call) → (place_noted catalog number.call ≡ Some place) ⊎ ((place ≡ place) × (call_in next ≡ Some number.call))
-    own number (inl was) = inl (indexed.noted.found place row number (at-of_get (rows_of catalog) place row at) was)
-    own number (inr is) = inr (refl, is)
+    own : (kept : OpenCall) → (row.open_call ≡ Some kept) ⊎ (outgoing_call_number next ≡ Some kept.number.call) → (place_noted catalog kept.number.call ≡ Some place) ⊎ ((place ≡ place) × (outgoing_call_number next ≡ Some kept.number.call))
+    own kept (inl was) = inl (indexed.noted.found place row kept (at-of_get (rows_of catalog) place row at) was)
+    own kept (inr is) = inr (refl, is)
 
-    by : (other : ℕ) (r : Row) (number : Number) → r.open_number ≡ Some number → ((other ≡ place) × (new ≡ r)) ⊎ IsAt (rows_of catalog) other r
-        → (place_noted catalog number.call ≡ Some other) ⊎ ((other ≡ place) × (call_in next ≡ Some number.call))
-    by other r number is_open (inl here) =
-        subst (λ (n : ℕ). (place_noted catalog number.call ≡ Some n) ⊎ ((n ≡ place) × (call_in next ≡ Some number.call))) (sym here.0)
-        (own number (opened number (ap (λ (x : Row). x.open_number) here.1 ∙ is_open)))
-    by other r number is_open (inr there) = inl (indexed.noted.found other r number there is_open)
+    by : (other : ℕ) (r : Row) (kept : OpenCall) → r.open_call ≡ Some kept → ((other ≡ place) × (new ≡ r)) ⊎ IsAt (rows_of catalog) other r
+        → (place_noted catalog kept.number.call ≡ Some other) ⊎ ((other ≡ place) × (outgoing_call_number next ≡ Some kept.number.call))
+    by other r kept is_open (inl here) =
+        subst (λ (n : ℕ). (place_noted catalog kept.number.call ≡ Some n) ⊎ ((n ≡ place) × (outgoing_call_number next ≡ Some kept.number.call))) (sym here.0)
+        (own kept (opened kept (ap (λ (x : Row). x.open_call) here.1 ∙ is_open)))
+    by other r kept is_open (inr there) = inl (indexed.noted.found other r kept there is_open)
 
 -- where nothing is to be noted, all is
 pub ready-none : (catalog : Catalog) (place : ℕ) → IsReady catalog place None → IsIndexed catalog
 ready-none catalog place ready =
     record {
       rows = ready.rows;
-      noted = record { found = λ other row number at is_open. by other number (ready.found other row number at is_open); room = ready.room };
+      noted = record { found = λ other row kept at is_open. by other kept (ready.found other row kept at is_open); room = ready.room };
       free = λ some. ready.free;
       few = ready.few;
     }
@@ -158,9 +162,9 @@ ready-none catalog place ready =
     none_is : (call : ℕ) → ◌≡◌ {A = Option ℕ} None (Some call) → ⊥
     none_is call h = cc
 
-    by : (other : ℕ) (number : Number) → (place_noted catalog number.call ≡ Some other) ⊎ ((other ≡ place) × (◌≡◌ {A = Option ℕ} None (Some number.call))) → place_noted catalog number.call ≡ Some other
-    by other number (inl noted) = noted
-    by other number (inr own) = absurd (none_is number.call own.1)
+    by : (other : ℕ) (kept : OpenCall) → (place_noted catalog kept.number.call ≡ Some other) ⊎ ((other ≡ place) × (◌≡◌ {A = Option ℕ} None (Some kept.number.call))) → place_noted catalog kept.number.call ≡ Some other
+    by other kept (inl noted) = noted
+    by other kept (inr own) = absurd (none_is kept.number.call own.1)
 
 -- as many rows stand there
 pub rows-within : (catalog : Catalog) (i : ℕ) → i < length catalog.rows.entries → i < length (rows_of catalog)
@@ -193,14 +197,14 @@ rows-added old new row rows = ap values_of rows ∙ map_push (λ (e : List ℕ �
 
 -- once a row was added, only its own call isn't noted yet
 pub ready-added : (old made new : Catalog) (row : Row) (next : Option ℕ) → IsIndexed made → made.rows ≡ old.rows → AreNotedBefore old made → length (rows_of old) + 2 ≤ spare made.calls
-    → new.rows.entries ≡ made.rows.entries ++ by_name row ∷ [] → new.calls ≡ made.calls → IsNextFor old row.open_number next → IsReady new (length (rows_of old)) next
+    → new.rows.entries ≡ made.rows.entries ++ by_name row ∷ [] → new.calls ≡ made.calls → IsNextFor old row.open_call next → IsReady new (length (rows_of old)) next
 ready-added old made new row next indexed same kept roomy rows calls is =
     let all : rows_of new ≡ rows_of made ++ row ∷ [] = rows-added made new row rows in
     let long : length (rows_of new) ≡ length (rows_of made) + 1 = ap length all ∙ length_push (rows_of made) row in
     let before : length (rows_of made) ≡ length (rows_of old) = ap (λ (m : IndexMap (List ℕ) Row _). length (values m)) same in
     record {
       rows = rows ∙ ap (λ l. l ++ by_name row ∷ []) indexed.rows ∙ sym (map_push by_name (rows_of made) row) ∙ ap (map by_name) (sym all);
-      found = λ other r number there is_open. by before other r number is_open (at-push (rows_of made) other row r (subst (λ (rs : List Row). IsAt rs other r) all there));
+      found = λ other r kept there is_open. by before other r kept is_open (at-push (rows_of made) other row r (subst (λ (rs : List Row). IsAt rs other r) all there));
       new = λ call next_is. ap (λ (m : IndexMap ℕ ℕ _). get nat_eq m call) calls ∙ unnoted call (is.new call next_is) (place_noted made call) refl;
       room = subst (λ (m : IndexMap ℕ ℕ _). 0 < length (rows_of new) → length (rows_of new) < index_map_len m + spare m) (sym calls) (λ some. omega (arith, long, before, roomy));
       free = subst (λ (m : IndexMap ℕ ℕ _). 0 < spare m) (sym calls) (omega (arith, roomy));
@@ -211,10 +215,10 @@ ready-added old made new row next indexed same kept roomy rows calls is =
     unnoted call none None e = refl
     unnoted call none (Some place) e = sym (kept call place e) ∙ none
 
-    by : length (rows_of made) ≡ length (rows_of old) → (other : ℕ) (r : Row) (number : Number) → r.open_number ≡ Some number → ((other ≡ length (rows_of made)) × (row ≡ r)) ⊎ IsAt (rows_of made) other r
-        → (place_noted new number.call ≡ Some other) ⊎ ((other ≡ length (rows_of old)) × (next ≡ Some number.call))
-    by before other r number is_open (inl here) = inr (here.0 ∙ before, is.is number (ap (λ (x : Row). x.open_number) here.1 ∙ is_open))
-    by before other r number is_open (inr there) = inl (ap (λ (m : IndexMap ℕ ℕ _). get nat_eq m number.call) calls ∙ indexed.noted.found other r number there is_open)
+    by : length (rows_of made) ≡ length (rows_of old) → (other : ℕ) (r : Row) (kept : OpenCall) → r.open_call ≡ Some kept → ((other ≡ length (rows_of made)) × (row ≡ r)) ⊎ IsAt (rows_of made) other r
+        → (place_noted new kept.number.call ≡ Some other) ⊎ ((other ≡ length (rows_of old)) × (next ≡ Some kept.number.call))
+    by before other r kept is_open (inl here) = inr (here.0 ∙ before, is.is kept (ap (λ (x : Row). x.open_call) here.1 ∙ is_open))
+    by before other r kept is_open (inr there) = inl (ap (λ (m : IndexMap ℕ ℕ _). get nat_eq m kept.number.call) calls ∙ indexed.noted.found other r kept there is_open)
 
 -- a row was closed at its place
 pub closed-at : (catalog : Catalog) (place : ℕ) (row : Row) → slice_get (rows_of catalog) place ≡ Some row → IsClosedAt place (rows_of catalog) (rows_of (catalog_with catalog place (without_call row)))
@@ -238,8 +242,8 @@ closed-nowhere rows place over =
 
 -- what is shown once a row was put in the place of another
 pub parts-set : (nodes : List (List ℕ)) (last : Number) (catalog : Catalog) (place : ℕ) (new : Row)
-    → (let parts : Parts = record { nodes = nodes; last = last; rows = map row_shown (rows_of (catalog_with catalog place new)) } in parts) ≡ record { nodes = nodes; last = last; rows = map row_shown (set (rows_of catalog) place new) }
-parts-set nodes last catalog place new = ap (λ rows. let parts : Parts = record { nodes = nodes; last = last; rows = map row_shown rows } in parts) (rows-set catalog place new)
+    → (let parts : OrchestratorParts = record { nodes = nodes; last = last; rows = map row_shown (rows_of (catalog_with catalog place new)) } in parts) ≡ record { nodes = nodes; last = last; rows = map row_shown (set (rows_of catalog) place new) }
+parts-set nodes last catalog place new = ap (λ rows. let parts : OrchestratorParts = record { nodes = nodes; last = last; rows = map row_shown rows } in parts) (rows-set catalog place new)
 
 -- a place of it is one still
 pub within-set : (catalog : Catalog) (place other : ℕ) (new : Row) → other < length catalog.rows.entries → other < length (catalog_with catalog place new).rows.entries
@@ -249,4 +253,4 @@ within-set catalog place other new inside = let long = index_map_len-with_value_
 pub indexed-refused : (catalog : Catalog) (last place : ℕ) (row new : Row) → IsIndexed catalog → AreUpTo last catalog → slice_get (rows_of catalog) place ≡ Some row → row_shown new ≡ row_shown row → IsIndexed (catalog_with catalog place new)
 indexed-refused catalog last place row new indexed known at same =
     ready-none (catalog_with catalog place new) place
-    (ready-set catalog last place row new None indexed known at (ap (λ (r : RowShown). r.name) same) (λ number is_open. inl (sym (ap (λ (r : RowShown). r.open_number) same) ∙ is_open)) (λ call is. absurd (none-some call is)))
+    (ready-set catalog last place row new None indexed known at (ap (λ (r : RowShown). r.name) same) (λ kept is_open. inl (sym (ap (λ (r : RowShown). r.open_call) same) ∙ is_open)) (λ call is. absurd (none-some call is)))

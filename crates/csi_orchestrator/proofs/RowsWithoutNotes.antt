@@ -5,9 +5,9 @@ use Rattle.csi_lists.proofs.Members.{empty-where}
 use Rattle.csi_orchestrator.specs.declared.thing.Known.TheVariants.{No}
 use Rattle.csi_orchestrator.specs.declared.thing.Thing.{Thing}
 use Rattle.csi_orchestrator.specs.declared.thing.Known.{Known}
-use Rattle.csi_orchestrator.specs.Sound.{IsSound}
-use Rattle.csi_orchestrator.specs.Listing.{known_by_rows, noted_in}
-use Rattle.csi_orchestrator.specs.Shown.{RowShown}
+use Rattle.csi_orchestrator.specs.Public.Sound.{AreSoundRows}
+use Rattle.csi_orchestrator.specs.Private.Listing.{known_by_rows, noted_in}
+use Rattle.csi_orchestrator.specs.Model.Shown.{RowShown}
 use Rattle.csi_orchestrator.proofs.ThingsNoted.{rows-list}
 
 -- where lists that are joined have nothing, neither has
@@ -33,5 +33,5 @@ no-flat_shown f view (w ∷ ws) zero d e inside = no-left (f (view w)) (flat_map
 no-flat_shown f view (w ∷ ws) (suc i) d e inside = no-flat_shown f view ws i d (no-right (f (view w)) (flat_map f (map view ws)) e) (omega arith)
 
 -- where each thing is known as No, nothing is noted
-pub nothing-noted : (rows : List RowShown) → IsSound rows → ((thing : Thing) → known_by_rows rows thing ≡ No) → noted_in rows ≡ []
+pub nothing-noted : (rows : List RowShown) → AreSoundRows rows → ((thing : Thing) → known_by_rows rows thing ≡ No) → noted_in rows ≡ []
 nothing-noted rows kept unknown = empty-where (noted_in rows) (λ (entry : Thing × Known) among. let told = (rows-list rows kept).told entry among in told.2 (sym told.1 ∙ unknown entry.0))

@@ -7,8 +7,8 @@ use Rattle.csi_types.specs.declared.frame.Body.{Body}
 use Rattle.csi_types.specs.declared.frame.Body.TheVariants as bodies
 use Rattle.csi_types.specs.declared.number.Number.{Number}
 use Rattle.csi_types.specs.declared.reply.Reply.{Reply}
-use Rattle.csi_types.specs.Frame.{Frame}
-use Rattle.csi_types.specs.Same.{same_text}
+use Rattle.csi_types.specs.Model.Frame.{Frame}
+use Rattle.csi_types.specs.Model.Same.{same_text}
 use Rattle.csi_lists.proofs.Members.{each_of, among-find}
 use Rattle.csi_lists.proofs.Searches.{find-passes}
 use Rattle.csi_lists.proofs.Each.{each-map}
@@ -16,26 +16,29 @@ use Rattle.csi_orchestrator.specs.declared.fault.OrchFault.{OrchFault}
 use Rattle.csi_orchestrator.specs.declared.fault.OrchFault.TheVariants as faults
 use Rattle.csi_orchestrator.specs.declared.step.Step.{Step}
 use Rattle.csi_orchestrator.specs.declared.step.Step.TheVariants as steps
-use Rattle.csi_orchestrator.specs.History.{Arguments}
-use Rattle.csi_orchestrator.specs.Hearing.{Fits}
-use Rattle.csi_orchestrator.specs.Moves.{Input, ToCreate, ToUse, ToStop, ToDelete, TimesOut, Comes, Restarts, Answer, Sends, Restarted, hears}
-use Rattle.csi_orchestrator.specs.Shown.{RowShown, Parts, row_of, open_in_row, closed, in_session}
-use Rattle.csi_orchestrator.specs.RowChanges.{new_row}
-use Rattle.csi_orchestrator.specs.RowRefusals.{first_fault}
-use Rattle.csi_orchestrator.specs.RowSteps.{MovedRow, row_step}
-use Rattle.csi_orchestrator.specs.RowMoves.{MovedRows, moved_rows, placed, steps_at, creates, is_issued_as, row_replied, step_heard, hears_reply, receives, starts_again, row_moves}
-use Rattle.csi_orchestrator.specs.Sound.{IsSoundRow, IsSound, RowsStaySound}
+use Rattle.csi_orchestrator.specs.Model.History.{Arguments}
+use Rattle.csi_orchestrator.specs.Private.Hearing.{IsDueSuccess}
+use Rattle.csi_orchestrator.specs.Model.Moves.{Input, ToCreate, ToUse, ToStop, ToDelete, TimesOut, Comes, Restarts, Answer, Sends, Restarted, hears}
+use Rattle.csi_orchestrator.specs.Model.Shown.{RowShown, OrchestratorParts, row_of, open_in_row}
+use Rattle.csi_orchestrator.specs.Private.Shown.{closed, parts_in_session}
+use Rattle.csi_orchestrator.specs.Private.RowChanges.{new_row}
+use Rattle.csi_orchestrator.specs.Private.RowRefusals.{first_fault}
+use Rattle.csi_orchestrator.specs.Private.RowSteps.{MovedRow, row_step}
+use Rattle.csi_orchestrator.specs.Public.RowMoves.{MovedRows, moved_rows}
+use Rattle.csi_orchestrator.specs.Private.RowMoves.{all_rows_moved, steps_at, creates, is_issued_as, row_replied, step_heard, hears_reply, receives, starts_again, row_moves}
+use Rattle.csi_orchestrator.specs.Public.Sound.{IsSoundRow, AreSoundRows}
+use Rattle.csi_orchestrator.specs.Private.Sound.{RowsStaySound}
 use Rattle.csi_orchestrator.proofs.EntryRules.{by_if, each-put, apart-put, apart-map}
 use Rattle.csi_orchestrator.proofs.RowRules.{kept-closed}
 use Rattle.csi_orchestrator.proofs.StepsSound.{SoundRowAfter, sends-due-kept, unless-kept, step-kept, new-may, heard-fits}
 
 -- what is told, if anything, is kept so
-abbrev pub SoundAfter : Parts → Result MovedRows OrchFault → Type 0
-SoundAfter parts (Ok moved_rows) = IsSound moved_rows.parts.rows × (moved_rows.parts.nodes ≡ parts.nodes)
+abbrev pub SoundAfter : OrchestratorParts → Result MovedRows OrchFault → Type 0
+SoundAfter parts (Ok moved_rows) = AreSoundRows moved_rows.parts.rows × (moved_rows.parts.nodes ≡ parts.nodes)
 SoundAfter parts (Err fault) = Unit {0}
 
 -- kept rows stay so where a kept row is put in
-put-kept : (parts : Parts) (answer : Option Frame → Answer) (result : Result MovedRow OrchFault) → IsSound parts.rows → SoundRowAfter result → SoundAfter parts (placed parts answer result)
+put-kept : (parts : OrchestratorParts) (answer : Option Frame → Answer) (result : Result MovedRow OrchFault) → AreSoundRows parts.rows → SoundRowAfter result → SoundAfter parts (all_rows_moved parts answer result)
 put-kept parts answer (Err fault) kept own = tt
 put-kept parts answer (Ok moved_row) kept own = (
   record {
@@ -46,29 +49,29 @@ put-kept parts answer (Ok moved_row) kept own = (
 )
 
 -- the row that is found is kept so
-pub found-kept : (p : RowShown → Bool) (rows : List RowShown) (row : RowShown) → IsSound rows → find p rows ≡ Some row → IsSoundRow row
+pub found-kept : (p : RowShown → Bool) (rows : List RowShown) (row : RowShown) → AreSoundRows rows → find p rows ≡ Some row → IsSoundRow row
 found-kept p rows row kept e = each_of IsSoundRow rows row kept.each (among-find p rows row e)
 
 -- it takes a step
-found-steps : (parts : Parts) (answer : Option Frame → Answer) (step : Step) (p : RowShown → Bool) (row : RowShown) → IsSound parts.rows → find p parts.rows ≡ Some row → (IsSoundRow row → Fits step row)
+found-steps : (parts : OrchestratorParts) (answer : Option Frame → Answer) (step : Step) (p : RowShown → Bool) (row : RowShown) → AreSoundRows parts.rows → find p parts.rows ≡ Some row → (IsSoundRow row → IsDueSuccess step row)
     → SoundAfter parts (steps_at parts answer step (Some row))
 found-steps parts answer step p row kept e fits =
     let own = found-kept p parts.rows row kept e in
     put-kept parts answer (row_step parts.nodes parts.last step row) kept (step-kept parts.nodes parts.last step row own (fits own))
 
 -- what is asked of a name, whether it has a row or not
-asked-kept : (parts : Parts) (step : Step) (name : List ℕ) → IsSound parts.rows → ((row : RowShown) → Fits step row) → (o : Option RowShown) → row_of parts.rows name ≡ o → SoundAfter parts (steps_at parts Sends step o)
+asked-kept : (parts : OrchestratorParts) (step : Step) (name : List ℕ) → AreSoundRows parts.rows → ((row : RowShown) → IsDueSuccess step row) → (o : Option RowShown) → row_of parts.rows name ≡ o → SoundAfter parts (steps_at parts Sends step o)
 asked-kept parts step name kept fits None e = tt
 asked-kept parts step name kept fits (Some row) e = found-steps parts Sends step (λ (r : RowShown). same_text r.name name) row kept e (λ own. fits row)
 
 -- rows stay sound where a volume of the name is asked for
-creates-kept : (parts : Parts) (name : List ℕ) (arguments : Arguments) → IsSound parts.rows → (o : Option RowShown) → row_of parts.rows name ≡ o → SoundAfter parts (creates parts name arguments o)
+creates-kept : (parts : OrchestratorParts) (name : List ℕ) (arguments : Arguments) → AreSoundRows parts.rows → (o : Option RowShown) → row_of parts.rows name ≡ o → SoundAfter parts (creates parts name arguments o)
 creates-kept parts name arguments kept None e =
     put-kept parts Sends _ kept (unless-kept (first_fault parts.last parts.rows) _ (λ free. sends-due-kept parts.last (new_row name arguments) (new-may name arguments)))
 creates-kept parts name arguments kept (Some row) e = asked-kept parts (steps.Create arguments) name kept (λ row. tt) (Some row) e
 
 -- a reply is heard
-reply-kept : (parts : Parts) (number : Number) (party : Party) (kind : Kind) (reply : Reply) → IsSound parts.rows → (o : Option RowShown) → row_replied parts.rows number party kind ≡ o
+reply-kept : (parts : OrchestratorParts) (number : Number) (party : Party) (kind : Kind) (reply : Reply) → AreSoundRows parts.rows → (o : Option RowShown) → row_replied parts.rows number party kind ≡ o
     → SoundAfter parts (hears_reply parts kind reply o)
 reply-kept parts number party kind reply kept None e = (kept, refl)
 reply-kept parts number party kind reply kept (Some row) e =
@@ -76,14 +79,14 @@ reply-kept parts number party kind reply kept (Some row) e =
     found-steps parts hears (step_heard kind reply) heard row kept e (heard-fits row number party kind reply (find-passes heard parts.rows row e))
 
 -- a frame that comes
-receives-kept : (parts : Parts) (number : Number) (party : Party) (body : Body) → IsSound parts.rows → SoundAfter parts (receives parts number party body)
+receives-kept : (parts : OrchestratorParts) (number : Number) (party : Party) (body : Body) → AreSoundRows parts.rows → SoundAfter parts (receives parts number party body)
 receives-kept parts number party (bodies.Call call) kept = (kept, refl)
 receives-kept parts number party (bodies.Reply kind reply) kept = reply-kept parts number party kind reply kept (row_replied parts.rows number party kind) refl
 
 -- a restart
-restart-kept : (parts : Parts) → IsSound parts.rows → SoundAfter parts (starts_again parts)
+restart-kept : (parts : OrchestratorParts) → AreSoundRows parts.rows → SoundAfter parts (starts_again parts)
 restart-kept parts kept =
-    by_if (SoundAfter parts) (nat_lt (parts.last.session + 1) (2 ^ 64)) (moved_rows (in_session (parts.last.session + 1) parts) Restarted) (Err faults.NumbersSpent)
+    by_if (SoundAfter parts) (nat_lt (parts.last.session + 1) (2 ^ 64)) (moved_rows (parts_in_session (parts.last.session + 1) parts) Restarted) (Err faults.NumbersSpent)
     (λ free. (
       record {
         names = apart-map (λ (r : RowShown). r.name) closed parts.rows (λ row. refl) kept.names;
@@ -94,7 +97,7 @@ restart-kept parts kept =
     (λ spent. tt)
 
 -- whatever comes
-moves-kept : (parts : Parts) (input : Input) → IsSound parts.rows → SoundAfter parts (row_moves parts input)
+moves-kept : (parts : OrchestratorParts) (input : Input) → AreSoundRows parts.rows → SoundAfter parts (row_moves parts input)
 moves-kept parts (ToCreate name arguments) kept = creates-kept parts name arguments kept (row_of parts.rows name) refl
 moves-kept parts (ToUse name usage) kept = asked-kept parts (steps.Use usage) name kept (λ row. tt) (row_of parts.rows name) refl
 moves-kept parts (ToStop name node target) kept = asked-kept parts (steps.Stop node target) name kept (λ row. tt) (row_of parts.rows name) refl

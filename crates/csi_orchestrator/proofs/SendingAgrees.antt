@@ -3,36 +3,37 @@ use Rattle.std.proofs.Common.{◌≡◌, ℕ, List, ◌∷◌, true, false, refl
 use Rattle.std.specs.Prelude.{Option, Some, None, Result, Ok, Err}
 use Rattle.std.proofs.lemmas.Bool.{false≢true, and_parts}
 use Rattle.csi_types.specs.declared.number.Number.{Number}
-use Rattle.csi_types.specs.Call.{kind_of}
-use Rattle.csi_types.specs.Frame.{Frame}
-use Rattle.csi_types.specs.Same.{same_text}
+use Rattle.csi_types.specs.Model.Call.{kind_of}
+use Rattle.csi_types.specs.Model.Frame.{Frame}
+use Rattle.csi_types.specs.Model.Same.{same_text}
 use Rattle.csi_types.proofs.Equality.{same_text-tells}
 use Rattle.csi_orchestrator.specs.declared.fault.OrchFault.{OrchFault}
-use Rattle.csi_orchestrator.specs.declared.row.Goal.{Goal}
-use Rattle.csi_orchestrator.specs.declared.row.Goal.TheVariants.{Use}
 use Rattle.csi_orchestrator.specs.declared.thing.Thing.TheVariants.{Attached}
-use Rattle.csi_orchestrator.specs.Thing.{Issued, touches, is_no, is_doing}
-use Rattle.csi_orchestrator.specs.History.{Item, Sent, Noted, History, with_items}
-use Rattle.csi_orchestrator.specs.Readings.{open_call, last_number}
-use Rattle.csi_orchestrator.specs.WellFormed.{IsNext, IsWellFormed}
-use Rattle.csi_orchestrator.specs.Commands.{next_number}
-use Rattle.csi_orchestrator.specs.Due.{Due, due_call}
-use Rattle.csi_orchestrator.specs.Guards.{MayIssue}
-use Rattle.csi_orchestrator.specs.Moves.{Answer, Moved, sent_as, send_due}
-use Rattle.csi_orchestrator.specs.Agrees.{View, Agrees}
-use Rattle.csi_orchestrator.specs.Following.{after_sent, after_noted, DetachesSomething}
-use Rattle.csi_orchestrator.specs.Shown.{RowShown, Parts, node_entry_of, mark_in, due_in, view_of, Shows}
-use Rattle.csi_orchestrator.specs.RowChanges.{sent, dropped}
-use Rattle.csi_orchestrator.specs.RowSteps.{outgoing_by, row_after, row_sends_due}
-use Rattle.csi_orchestrator.specs.RowMoves.{MovedRows, put, placed}
-use Rattle.csi_orchestrator.specs.Sound.{MayBeWanted, AreGuarded, Fits}
+use Rattle.csi_orchestrator.specs.Model.Thing.{Issued, touches, is_no, is_doing}
+use Rattle.csi_orchestrator.specs.Model.History.{Item, Sent, Noted, History, with_items}
+use Rattle.csi_orchestrator.specs.Model.Readings.{open_call, last_number}
+use Rattle.csi_orchestrator.specs.Model.WellFormed.{IsNextNumber, IsWellFormed}
+use Rattle.csi_orchestrator.specs.Model.Commands.{next_number}
+use Rattle.csi_orchestrator.specs.Model.Due.{Due, due_call}
+use Rattle.csi_orchestrator.specs.Public.Guards.{MayIssue}
+use Rattle.csi_orchestrator.specs.Model.Moves.{Answer, Moved, sent_as, send_due}
+use Rattle.csi_orchestrator.specs.Model.Agrees.{OrchestratorView, Agrees}
+use Rattle.csi_orchestrator.specs.Private.Following.{after_sent, after_noted, DetachesSomething}
+use Rattle.csi_orchestrator.specs.Model.Shown.{RowShown, OrchestratorParts, node_entry_of, mark_in, orchestrator_view, Shows}
+use Rattle.csi_orchestrator.specs.Public.RowDue.{due_in}
+use Rattle.csi_orchestrator.specs.Private.RowChanges.{row_once_sent, dropped_row}
+use Rattle.csi_orchestrator.specs.Private.RowSteps.{outgoing_by, row_moved, row_sends_due}
+use Rattle.csi_orchestrator.specs.Public.RowMoves.{MovedRows}
+use Rattle.csi_orchestrator.specs.Private.RowMoves.{put, all_rows_moved}
+use Rattle.csi_orchestrator.specs.Public.Sound.{AreGuarded}
+use Rattle.csi_orchestrator.specs.Private.Sound.{MovesAgree}
 use Rattle.csi_orchestrator.proofs.DueCalls.{due-of-row}
 use Rattle.csi_orchestrator.proofs.DueCases.{IsDueFor, due-cases, ToAttach, ToDetach}
 use Rattle.csi_orchestrator.proofs.ViewsFollow.{sent-follows, noted-follows}
 use Rattle.csi_orchestrator.proofs.AddedItems.{IsNextIfSome, is_next}
 use Rattle.csi_orchestrator.proofs.DueCallsGuarded.{due-guarded}
 use Rattle.csi_orchestrator.proofs.StepsSound.{MaySendDue}
-use Rattle.csi_orchestrator.proofs.RowMarks.{GoalHasEntry}
+use Rattle.csi_orchestrator.proofs.RowMarks.{has-entry}
 use Rattle.csi_orchestrator.proofs.RowsAfterNotes.{reads-dropped}
 use Rattle.csi_orchestrator.proofs.RowViews.{Reads, SameAt, same-then, same-sent, same-noted, put-agrees, IsRowOf, reads-history}
 use Rattle.csi_orchestrator.proofs.RowsAfterSending.{issued-by, reads-sent}
@@ -45,24 +46,19 @@ Guards history (Err fault) = Unit {0}
 
 -- the two answers are one, what is shown agrees, and what is sent may be sent
 abbrev pub Tells : History → Result MovedRows OrchFault → Result Moved OrchFault → Type 0
-Tells history moved_rows moved = Fits history moved_rows moved × Guards history moved
+Tells history moved_rows moved = MovesAgree history moved_rows moved × Guards history moved
 
 -- after these items a row of a name is as it should be, but that its due call isn't sent yet
-pub record IsReady (parts : Parts) (history : History) (name : List ℕ) (row : RowShown) (view : View) (items : List Item) : Type 0 where
+pub record IsReady (parts : OrchestratorParts) (history : History) (name : List ℕ) (row : RowShown) (view : OrchestratorView) (items : List Item) : Type 0 where
   pub form : IsWellFormed (with_items history items)
   pub agrees : Agrees view (with_items history items)
   pub reads : Reads row view name
-  pub others : (other : List ℕ) → same_text name other ≡ false → SameAt view (view_of parts) other
+  pub others : (other : List ℕ) → same_text name other ≡ false → SameAt view (orchestrator_view parts) other
   pub same_last : parts.last ≡ view.last
   pub old_last : last_number history ≡ parts.last
   pub quiet : view.open_calls name ≡ None
   pub may_send : MaySendDue row
   pub guarded : AreGuarded history items
-
--- the entries of a goal that may be wanted
-pub has-entry : (row : RowShown) (goal : Option Goal) → MayBeWanted row goal → GoalHasEntry row goal
-has-entry row (Some (Use usage)) may = may.entry
-has-entry row goal may = tt
 
 -- the one call that detaches is due where the volume may be attached
 detaching-something : (row : RowShown) (due : Due) (name node : List ℕ) (number : Number) → IsDueFor row due → touches (Attached name node) (issued-by name number due) ≡ true → is_doing due.call ≡ false
@@ -73,12 +69,12 @@ detaching-something row _ name node number (ToDetach here target id goal own p o
 detaching-something row _ name node number other of undoes = absurd (false≢true of)
 
 -- its due call is the one that is due by that history
-due-there : (parts : Parts) (history : History) (name : List ℕ) (row : RowShown) (view : View) (items : List Item) → IsReady parts history name row view items → due_call (with_items history items) name ≡ due_in row
+due-there : (parts : OrchestratorParts) (history : History) (name : List ℕ) (row : RowShown) (view : OrchestratorView) (items : List Item) → IsReady parts history name row view items → due_call (with_items history items) name ≡ due_in row
 due-there parts history name row view items ready =
     due-of-row row (with_items history items) name (reads-history row view (with_items history items) name ready.reads ready.agrees) ((ready.may_send).distinct).targets
 
 -- the due call may be sent
-may-issue : (parts : Parts) (history : History) (name : List ℕ) (row : RowShown) (view : View) (items : List Item) (due : Due) → IsReady parts history name row view items → due_in row ≡ Some due
+may-issue : (parts : OrchestratorParts) (history : History) (name : List ℕ) (row : RowShown) (view : OrchestratorView) (items : List Item) (due : Due) → IsReady parts history name row view items → due_in row ≡ Some due
     → MayIssue (with_items history items) name due.party due.call
 may-issue parts history name row view items due ready e =
     let own = (ready.reads).own in
@@ -88,13 +84,13 @@ may-issue parts history name row view items due ready e =
     (ap (open_call (with_items history items)) own ∙ sym ((ready.agrees).same_open_calls name) ∙ ready.quiet) e)
 
 -- it was sent
-then-sent : (parts : Parts) (history : History) (name : List ℕ) (row : RowShown) (view : View) (items : List Item) (due : Due) (number : Number) → IsReady parts history name row view items
+then-sent : (parts : OrchestratorParts) (history : History) (name : List ℕ) (row : RowShown) (view : OrchestratorView) (items : List Item) (due : Due) (number : Number) → IsReady parts history name row view items
     → due_in row ≡ Some due → next_number parts.last ≡ Some number
-    → Shows (record { nodes = parts.nodes; last = number; rows = put (sent number (kind_of due.call) row) parts.rows }) (with_items history (Sent (issued-by name number due) ∷ items))
+    → Shows (record { nodes = parts.nodes; last = number; rows = put (row_once_sent number (kind_of due.call) row) parts.rows }) (with_items history (Sent (issued-by name number due) ∷ items))
 then-sent parts history name row view items due number ready e n =
-    put-agrees parts number name (sent number (kind_of due.call) row) (after_sent issued view) (with_items history (Sent issued ∷ items))
+    put-agrees parts number name (row_once_sent number (kind_of due.call) row) (after_sent issued view) (with_items history (Sent issued ∷ items))
     (reads-sent row view name due number ready.reads (has-entry row row.goal ((ready.may_send).may due e)) case)
-    (λ other differs. same-then (after_sent issued view) view (view_of parts) other (same-sent issued view other differs) (ready.others other differs)) refl
+    (λ other differs. same-then (after_sent issued view) view (orchestrator_view parts) other (same-sent issued view other differs) (ready.others other differs)) refl
     (sent-follows view (with_items history items) issued ready.form ready.agrees next detaches)
   where
     issued : Issued
@@ -106,8 +102,8 @@ then-sent parts history name row view items due number ready e n =
     is_last : last_number (with_items history items) ≡ parts.last
     is_last = sym ((ready.agrees).same_last) ∙ sym ready.same_last
 
-    next : IsNext (last_number (with_items history items)) number
-    next = subst (λ l. IsNext l number) (sym is_last) (subst (IsNextIfSome parts.last) n (is_next parts.last))
+    next : IsNextNumber (last_number (with_items history items)) number
+    next = subst (λ l. IsNextNumber l number) (sym is_last) (subst (IsNextIfSome parts.last) n (is_next parts.last))
 
     detaches : DetachesSomething (with_items history items) issued
     detaches node of undoes is =
@@ -115,23 +111,23 @@ then-sent parts history name row view items due number ready e n =
         ((ready.reads).marks (Attached name node) refl ∙ (ready.agrees).same_marks (Attached name node) ∙ is)
 
 -- none was due, and the goal was dropped
-pub then-dropped : (parts : Parts) (history : History) (name : List ℕ) (row : RowShown) (view : View) (items : List Item) → IsReady parts history name row view items
-    → Shows (record { nodes = parts.nodes; last = parts.last; rows = put (dropped row) parts.rows }) (with_items history (Noted name None ∷ items))
+pub then-dropped : (parts : OrchestratorParts) (history : History) (name : List ℕ) (row : RowShown) (view : OrchestratorView) (items : List Item) → IsReady parts history name row view items
+    → Shows (record { nodes = parts.nodes; last = parts.last; rows = put (dropped_row row) parts.rows }) (with_items history (Noted name None ∷ items))
 then-dropped parts history name row view items ready =
-    put-agrees parts parts.last name (dropped row) (after_noted name None view) (with_items history (Noted name None ∷ items))
+    put-agrees parts parts.last name (dropped_row row) (after_noted name None view) (with_items history (Noted name None ∷ items))
     (reads-dropped row view name ((ready.may_send).distinct).nodes ((ready.may_send).distinct).targets ready.reads ready.quiet)
-    (λ other differs. same-then (after_noted name None view) view (view_of parts) other (same-noted name None view other differs) (ready.others other differs)) ready.same_last
+    (λ other differs. same-then (after_noted name None view) view (orchestrator_view parts) other (same-noted name None view other differs) (ready.others other differs)) ready.same_last
     (noted-follows view (with_items history items) name None ready.agrees)
 
 -- the due call of a row that is ready is sent as the history tells it
-pub sends-due-tells : (parts : Parts) (history : History) (name : List ℕ) (row : RowShown) (view : View) (items : List Item) → IsReady parts history name row view items → (answer : Option Frame → Answer)
-    → Tells history (placed parts answer (row_sends_due parts.last row)) (send_due history name answer items)
+pub sends-due-tells : (parts : OrchestratorParts) (history : History) (name : List ℕ) (row : RowShown) (view : OrchestratorView) (items : List Item) → IsReady parts history name row view items → (answer : Option Frame → Answer)
+    → Tells history (all_rows_moved parts answer (row_sends_due parts.last row)) (send_due history name answer items)
 sends-due-tells parts history name row view items ready answer =
-    subst (λ d. Tells history (placed parts answer (row_sends_due parts.last row)) (sent_as name answer items d (next_number (last_number history)))) (sym (due-there parts history name row view items ready))
-    (subst (λ l. Tells history (placed parts answer (row_sends_due parts.last row)) (sent_as name answer items (due_in row) (next_number l))) (sym ready.old_last)
+    subst (λ d. Tells history (all_rows_moved parts answer (row_sends_due parts.last row)) (sent_as name answer items d (next_number (last_number history)))) (sym (due-there parts history name row view items ready))
+    (subst (λ l. Tells history (all_rows_moved parts answer (row_sends_due parts.last row)) (sent_as name answer items (due_in row) (next_number l))) (sym ready.old_last)
     (by (due_in row) refl (next_number parts.last) refl))
   where
-    by : (d : Option Due) → due_in row ≡ d → (n : Option Number) → next_number parts.last ≡ n → Tells history (placed parts answer (row_after row (outgoing_by d n))) (sent_as name answer items d n)
+    by : (d : Option Due) → due_in row ≡ d → (n : Option Number) → next_number parts.last ≡ n → Tells history (all_rows_moved parts answer (row_moved row (outgoing_by d n))) (sent_as name answer items d n)
     by None e n f = ((refl, then-dropped parts history name row view items ready), ready.guarded)
     by (Some due) e None f = (refl, tt)
     by (Some due) e (Some number) f = ((refl, then-sent parts history name row view items due number ready e f), (may-issue parts history name row view items due ready e, ready.guarded))

@@ -3,13 +3,15 @@ use Rattle.std.proofs.Common.{◌≡◌, ℕ, List, [], ◌∷◌, ◌++◌, ref
 use Rattle.std.specs.Prelude.{Result, Ok, Err}
 use Rattle.csi_types.specs.declared.number.Number.{Number}
 use Rattle.csi_orchestrator.specs.declared.fault.OrchFault.{OrchFault}
-use Rattle.csi_orchestrator.specs.History.{Item, Started, Sent, Accepted, Closed, Noted, History}
-use Rattle.csi_orchestrator.specs.WellFormed.{AreWellFormed, IsWellFormed}
-use Rattle.csi_orchestrator.specs.Moves.{Input, Moved, moves, moved_to}
-use Rattle.csi_orchestrator.specs.Shown.{Parts, Shows}
-use Rattle.csi_orchestrator.specs.Sound.{IsSound, AreGuarded}
-use Rattle.csi_orchestrator.specs.RowMoves.{MovedRows, row_moves}
-use Rattle.csi_orchestrator.specs.Steps.{IsReached, Begins, GoesOn, MayDoAll, AreStepwise, MovesLaw}
+use Rattle.csi_orchestrator.specs.Model.History.{Item, Started, Sent, Accepted, Closed, Noted, History}
+use Rattle.csi_orchestrator.specs.Model.WellFormed.{AreWellFormed, IsWellFormed}
+use Rattle.csi_orchestrator.specs.Model.Moves.{Input, Moved, moves}
+use Rattle.csi_orchestrator.specs.Public.Moves.{moved_to}
+use Rattle.csi_orchestrator.specs.Model.Shown.{OrchestratorParts, Shows}
+use Rattle.csi_orchestrator.specs.Public.Sound.{AreSoundRows, AreGuarded}
+use Rattle.csi_orchestrator.specs.Public.RowMoves.{MovedRows}
+use Rattle.csi_orchestrator.specs.Private.RowMoves.{row_moves}
+use Rattle.csi_orchestrator.specs.Public.Steps.{IsReached, Begins, GoesOn, MayDoAll, AreStepwise, MovesLaw}
 use Rattle.csi_orchestrator.proofs.AddedItems.{TakesReplies, AreAdded, moves-add, stays-formed}
 use Rattle.csi_orchestrator.proofs.SendingAgrees.{Guards, Tells}
 use Rattle.csi_orchestrator.proofs.RulesStay.{rows-stay-sound}
@@ -26,14 +28,14 @@ may-do history input (Noted name goal ∷ older) form guarded replies = (tt, may
 
 -- an orchestrator that comes to a history has rows that agree with it
 record IsShownBy (nodes : List (List ℕ)) (history : History) : Type 0 where
-  parts : Parts
+  parts : OrchestratorParts
   own_nodes : parts.nodes ≡ nodes
-  rows : IsSound parts.rows
+  rows : AreSoundRows parts.rows
   agrees : Shows parts history
   form : IsWellFormed history
 
 -- the parts of an orchestrator that did nothing
-new-parts : List (List ℕ) → Number → Parts
+new-parts : List (List ℕ) → Number → OrchestratorParts
 new-parts nodes last = record { nodes = nodes; last = last; rows = [] }
 
 -- where rows agree with a history, there are rows that agree with it after an input

@@ -7,9 +7,9 @@ use Rattle.csi_types.specs.declared.call.Kind.{Kind}
 use Rattle.csi_types.specs.declared.call.Party.{Party}
 use Rattle.csi_types.specs.declared.number.Number.{Number}
 use Rattle.csi_types.specs.declared.reply.Reply.{Reply}
-use Rattle.csi_types.specs.Call.{kind_of}
-use Rattle.csi_types.specs.Reply.{is_ok_status}
-use Rattle.csi_types.specs.Same.{same_text, has_capability}
+use Rattle.csi_types.specs.Model.Call.{kind_of}
+use Rattle.csi_types.specs.Model.Reply.{is_ok_status}
+use Rattle.csi_types.specs.Model.Same.{same_text, has_capability}
 use Rattle.csi_lists.proofs.Options.{none-from_is_some}
 use Rattle.csi_orchestrator.specs.declared.fault.OrchFault.{OrchFault}
 use Rattle.csi_orchestrator.specs.declared.fault.OrchFault.TheVariants as faults
@@ -19,18 +19,21 @@ use Rattle.csi_orchestrator.specs.declared.step.Step.{Step}
 use Rattle.csi_orchestrator.specs.declared.step.Step.TheVariants as steps
 use Rattle.csi_orchestrator.specs.declared.thing.Known.{Known}
 use Rattle.csi_orchestrator.specs.declared.thing.Known.TheVariants.{Yes, No, Maybe}
-use Rattle.csi_orchestrator.specs.Thing.{is_yes, is_no}
-use Rattle.csi_orchestrator.specs.History.{Arguments, Usage}
-use Rattle.csi_orchestrator.specs.Commands.{next_number, is_for_one_node, is_second_writer}
-use Rattle.csi_orchestrator.specs.Due.{Due}
-use Rattle.csi_orchestrator.specs.Found.{kind_due}
-use Rattle.csi_orchestrator.specs.Hearing.{Fits}
-use Rattle.csi_orchestrator.specs.Shown.{NodeEntryShown, RowShown, node_entry_of, due_in, open_in_row, closed}
-use Rattle.csi_orchestrator.specs.RowChanges.{told_of, wanted, stopped_goal, new_row}
-use Rattle.csi_orchestrator.specs.RowRefusals.{has_elsewhere, is_entry_otherwise, use_refusal, is_attached_somewhere, step_refusal, late_refusal}
-use Rattle.csi_orchestrator.specs.RowSteps.{MovedRow, outgoing_by, row_after, row_sends_due, row_rests, row_unless, is_met, waits, is_given_up, timed_out, failed, changed, row_step}
-use Rattle.csi_orchestrator.specs.RowMoves.{is_issued_as, step_heard}
-use Rattle.csi_orchestrator.specs.Sound.{MayBeWanted, IsSoundRow}
+use Rattle.csi_orchestrator.specs.Model.Thing.{is_yes, is_no}
+use Rattle.csi_orchestrator.specs.Model.History.{Arguments, Usage}
+use Rattle.csi_orchestrator.specs.Model.Commands.{next_number, is_for_one_node, uses_as_second_writer}
+use Rattle.csi_orchestrator.specs.Model.Due.{Due}
+use Rattle.csi_orchestrator.specs.Private.Found.{kind_due}
+use Rattle.csi_orchestrator.specs.Private.Hearing.{IsDueSuccess}
+use Rattle.csi_orchestrator.specs.Model.Shown.{NodeEntryShown, RowShown, node_entry_of, open_in_row}
+use Rattle.csi_orchestrator.specs.Private.Shown.{closed}
+use Rattle.csi_orchestrator.specs.Public.RowDue.{due_in}
+use Rattle.csi_orchestrator.specs.Private.RowChanges.{known_by_success_of, wanted_row, stopped_goal, new_row}
+use Rattle.csi_orchestrator.specs.Public.RowRefusals.{has_elsewhere}
+use Rattle.csi_orchestrator.specs.Private.RowRefusals.{is_entry_otherwise, use_refusal, is_attached_somewhere, step_refusal, late_refusal}
+use Rattle.csi_orchestrator.specs.Private.RowSteps.{MovedRow, outgoing_by, row_moved, row_sends_due, row_rests, row_unless, is_step_met, waits, is_given_up, timed_out, failed, row_before_call, row_step}
+use Rattle.csi_orchestrator.specs.Private.RowMoves.{is_issued_as, step_heard}
+use Rattle.csi_orchestrator.specs.Public.Sound.{MayBeWanted, IsSoundRow}
 use Rattle.csi_orchestrator.proofs.EntryRules.{by_if}
 use Rattle.csi_orchestrator.proofs.RowRules.{AreDistinct, kept-distinct, FitsGoal, due-fits-goal, marked-distinct, kept-sent, kept-closed, kept-dropped, wanted-stopped, wanted-succeeded}
 use Rattle.csi_orchestrator.proofs.UseRules.{distinct-entry, usable-entry}
@@ -60,7 +63,7 @@ pub record IsFree (usage : Usage) (row : RowShown) : Type 0 where
   pub made : row.exists ≡ Yes
   pub idle : row.goal ≡ None
   pub one_node : has_elsewhere (is_for_one_node usage) usage.node row ≡ false
-  pub one_writer : has_elsewhere (is_second_writer usage) usage.node row ≡ false
+  pub one_writer : has_elsewhere (uses_as_second_writer usage) usage.node row ≡ false
   pub alike : is_entry_otherwise usage (node_entry_of row usage.node) ≡ false
 
 -- where nothing refuses a use, it is free in this sense
@@ -71,7 +74,7 @@ use-free nodes usage row free =
     let known = first-held (not (list_any (same_text usage.node) nodes)) faults.NoSuchNode _ busy.1 in
     let capable = first-held (not (has_capability row.arguments.capabilities usage.capability)) faults.NotCapable _ known.1 in
     let one_node = first-held (has_elsewhere (is_for_one_node usage) usage.node row) faults.HeldElsewhere _ capable.1 in
-    let one_writer = first-held (has_elsewhere (is_second_writer usage) usage.node row) faults.WriterElsewhere _ one_node.1 in
+    let one_writer = first-held (has_elsewhere (uses_as_second_writer usage) usage.node row) faults.WriterElsewhere _ one_node.1 in
     let alike = first-held (is_entry_otherwise usage (node_entry_of row usage.node)) faults.HeldOtherwise _ one_writer.1 in
     record { made = is-made row.exists made.0; idle = none-from_is_some row.goal busy.0; one_node = one_node.0; one_writer = one_writer.0; alike = alike.0 }
 
@@ -90,7 +93,7 @@ pub closed-may : (row : RowShown) → IsSoundRow row → MaySendDue (closed row)
 closed-may row own = record { distinct = kept-distinct row own; may = λ due f. (kept-closed row own).goal }
 
 -- a row whose goal becomes its stop
-pub stopped-may : (row : RowShown) (goal : Goal) → row.goal ≡ Some goal → IsSoundRow row → MaySendDue (wanted (stopped_goal goal) row)
+pub stopped-may : (row : RowShown) (goal : Goal) → row.goal ≡ Some goal → IsSoundRow row → MaySendDue (wanted_row (stopped_goal goal) row)
 stopped-may row goal e own = record { distinct = kept-distinct row own; may = λ due f. wanted-stopped row goal (subst (MayBeWanted row) e own.goal) }
 
 -- a row whose call timed out
@@ -115,7 +118,7 @@ kind-fits row kind is = by (due_in row) refl is
         subst (FitsGoal row.goal) own (due-fits-goal row due e)
 
 -- so it is of each row that took a step which isn't refused at once
-pub changed-may : (nodes : List (List ℕ)) (last : Number) (step : Step) (row : RowShown) → IsSoundRow row → Fits step row → step_refusal nodes last step row ≡ None → MaySendDue (changed step row)
+pub changed-may : (nodes : List (List ℕ)) (last : Number) (step : Step) (row : RowShown) → IsSoundRow row → IsDueSuccess step row → step_refusal nodes last step row ≡ None → MaySendDue (row_before_call step row)
 changed-may nodes last (steps.Create arguments) row own fits free =
     let unused = or_parts (is_some row.id) (is_some row.goal) (first-held _ _ _ free).0 in
     record { distinct = kept-distinct row own; may = λ due f. none-from_is_some row.id unused.0 }
@@ -128,7 +131,7 @@ changed-may nodes last steps.Delete row own fits free =
     record { distinct = kept-distinct row own; may = λ due f. all-detached row.node_entries unused.0 }
 changed-may nodes last steps.TimeOut row own fits free = timed-out-may row row.goal refl own
 changed-may nodes last (steps.Succeed kind id) row own fits free =
-    record { distinct = marked-distinct (told_of kind) kind row (kept-distinct row own); may = λ due f. wanted-succeeded kind id row row.goal due refl (kind-fits row kind fits.1) own.goal f }
+    record { distinct = marked-distinct (known_by_success_of kind) kind row (kept-distinct row own); may = λ due f. wanted-succeeded kind id row row.goal due refl (kind-fits row kind fits.1) own.goal f }
 changed-may nodes last steps.Fail row own fits free = failed-may row row.goal refl own
 
 -- and of a new row
@@ -144,7 +147,7 @@ SoundRowAfter (Err fault) = Unit {0}
 pub sends-due-kept : (last : Number) (row : RowShown) → MaySendDue row → SoundRowAfter (row_sends_due last row)
 sends-due-kept last row may_send = by (due_in row) refl (next_number last)
   where
-    by : (o : Option Due) → due_in row ≡ o → (n : Option Number) → SoundRowAfter (row_after row (outgoing_by o n))
+    by : (o : Option Due) → due_in row ≡ o → (n : Option Number) → SoundRowAfter (row_moved row (outgoing_by o n))
     by None e number = kept-dropped row may_send.distinct
     by (Some due) e None = tt
     by (Some due) e (Some number) = kept-sent number row due e may_send.distinct (may_send.may due e)
@@ -155,17 +158,17 @@ unless-kept None result f = f refl
 unless-kept (Some fault) result f = tt
 
 -- whatever the step
-pub step-kept : (nodes : List (List ℕ)) (last : Number) (step : Step) (row : RowShown) → IsSoundRow row → Fits step row → SoundRowAfter (row_step nodes last step row)
+pub step-kept : (nodes : List (List ℕ)) (last : Number) (step : Step) (row : RowShown) → IsSoundRow row → IsDueSuccess step row → SoundRowAfter (row_step nodes last step row)
 step-kept nodes last step row own fits =
     unless-kept (step_refusal nodes last step row) _
-    (λ free. by_if SoundRowAfter (is_met step row) (row_rests row) _ (λ met. own)
+    (λ free. by_if SoundRowAfter (is_step_met step row) (row_rests row) _ (λ met. own)
     (λ unmet. by_if SoundRowAfter (waits step row) (row_rests (closed row)) _ (λ left. kept-closed row own)
-    (λ on. unless-kept (late_refusal last step row) _ (λ room. sends-due-kept last (changed step row) (changed-may nodes last step row own fits free)))))
+    (λ on. unless-kept (late_refusal last step row) _ (λ room. sends-due-kept last (row_before_call step row) (changed-may nodes last step row own fits free)))))
 
 -- what a reply brings fits the row that it is to
-pub heard-fits : (row : RowShown) (number : Number) (party : Party) (kind : Kind) (reply : Reply) → is_issued_as number party kind (open_in_row row) ≡ true → IsSoundRow row → Fits (step_heard kind reply) row
+pub heard-fits : (row : RowShown) (number : Number) (party : Party) (kind : Kind) (reply : Reply) → is_issued_as number party kind (open_in_row row) ≡ true → IsSoundRow row → IsDueSuccess (step_heard kind reply) row
 heard-fits row number party kind reply e own = by (is_ok_status reply.status)
   where
-    by : (b : Bool) → Fits (cond b (steps.Succeed kind reply.id) steps.Fail) row
-    by true = let it = hears-it row number party kind e in (own, ap kind_due it.is_due ∙ ap Some it.has_kind)
+    by : (b : Bool) → IsDueSuccess (cond b (steps.Succeed kind reply.id) steps.Fail) row
+    by true = let it = hears-it row number party kind e in (own, ap kind_due (own.open_due it.due it.is_open) ∙ ap Some it.has_kind)
     by false = tt

@@ -4,14 +4,14 @@ use Rattle.std.specs.Prelude.{filter, ◌||◌}
 use Rattle.std.specs.List.{list_any}
 use Rattle.std.proofs.lemmas.Bool.{false≢true, false_from_ne_true}
 use Rattle.std.proofs.lemmas.List.{length-map}
-use Rattle.csi_lists.specs.Members.{IsAmong, EachTwo}
+use Rattle.csi_lists.specs.Model.Members.{IsAmong, EachTwo}
 use Rattle.csi_lists.proofs.Members.{each_of, all_of, in_filter, among-kept, in-map, among-map, empty-where}
 use Rattle.csi_lists.proofs.Pairs.{two-filter, two-map}
 use Rattle.csi_lists.proofs.Tests.{alike, any-then, then-any, none-among}
 use Rattle.csi_lists.proofs.Filters.{filter-each}
-use Rattle.csi_types.specs.Same.{same_text}
+use Rattle.csi_types.specs.Model.Same.{same_text}
 use Rattle.csi_types.proofs.Equality.{same_text-tells}
-use Rattle.csi_orchestrator.specs.Readings.{distinct}
+use Rattle.csi_orchestrator.specs.Model.Readings.{distinct}
 
 -- a text is the same as itself, two are compared alike from both sides, and those that aren't equal differ
 pub text-same : (text : List ℕ) → same_text text text ≡ true

@@ -14,9 +14,9 @@ use Rattle.std.specs.declared.cmp.Ordering.TheVariants.{Less, Equal, Greater}
 use Rattle.csi_orchestrator.specs.declared.thing.Thing.{Thing}
 use Rattle.csi_orchestrator.specs.declared.thing.Thing.TheVariants.{Exists, Attached, Staged, Published}
 use Rattle.csi_orchestrator.specs.declared.thing.Known.{Known}
-use Rattle.csi_lists.specs.Members.{EachTwo}
+use Rattle.csi_lists.specs.Model.Members.{EachTwo}
 use Rattle.csi_lists.proofs.Pairs.{two-by_places, two-more}
-use Rattle.csi_orchestrator.specs.Listing.{text_order, thing_order, IsInOrder}
+use Rattle.csi_orchestrator.specs.Public.Listing.{text_order, thing_order, IsInOrder}
 use Rattle.csi_orchestrator.proofs.ThingsNoted.{AreTwoThings}
 
 -- what tells things apart: one text for each of the name, the node, being more than attached, and the target

@@ -4,23 +4,25 @@ use Rattle.std.specs.Prelude.{Option, Some, None, find}
 use Rattle.std.specs.List.{flat_map}
 use Rattle.std.proofs.lemmas.Bool.{false≢true}
 use Rattle.std.proofs.lemmas.Option.{same_Some}
-use Rattle.csi_lists.specs.Members.{IsAmong, EachTwo}
+use Rattle.csi_lists.specs.Model.Members.{IsAmong, EachTwo}
 use Rattle.csi_lists.proofs.Members.{each_of, all_of, among-append, among-find, among-right, among-joined, among-flat, in-flat}
 use Rattle.csi_lists.proofs.Searches.{find-passes}
 use Rattle.csi_lists.proofs.Pairs.{two-joined, two-flat}
-use Rattle.csi_types.specs.Same.{same_text}
+use Rattle.csi_types.specs.Model.Same.{same_text}
 use Rattle.csi_types.proofs.Equality.{same_text-tells}
 use Rattle.csi_orchestrator.specs.declared.row.TargetEntry.{TargetEntry}
 use Rattle.csi_orchestrator.specs.declared.thing.Thing.{Thing}
 use Rattle.csi_orchestrator.specs.declared.thing.Thing.TheVariants.{Exists, Attached, Staged, Published}
 use Rattle.csi_orchestrator.specs.declared.thing.Known.{Known}
 use Rattle.csi_orchestrator.specs.declared.thing.Known.TheVariants.{Yes, No, Maybe}
-use Rattle.csi_orchestrator.specs.Thing.{name_in}
-use Rattle.csi_orchestrator.specs.Shown.{NodeEntryShown, RowShown, Parts, row_of, node_entry_of, mark_in, mark_of, published_in, AreTargetsApart, Shows}
-use Rattle.csi_orchestrator.specs.Sound.{IsSoundRow, IsSound}
-use Rattle.csi_orchestrator.specs.History.{History}
-use Rattle.csi_orchestrator.specs.Readings.{known}
-use Rattle.csi_orchestrator.specs.Listing.{known_by_rows, ListsKnown, node_in, target_in, noted, noted_of_target, noted_of_node, noted_of_row, noted_in}
+use Rattle.csi_orchestrator.specs.Model.Thing.{name_in}
+use Rattle.csi_orchestrator.specs.Model.Shown.{NodeEntryShown, RowShown, OrchestratorParts, row_of, node_entry_of, mark_in, mark_of, publication_known, Shows}
+use Rattle.csi_orchestrator.specs.Public.Shown.{AreTargetsApart}
+use Rattle.csi_orchestrator.specs.Public.Sound.{IsSoundRow, AreSoundRows}
+use Rattle.csi_orchestrator.specs.Model.History.{History}
+use Rattle.csi_orchestrator.specs.Model.Readings.{known}
+use Rattle.csi_orchestrator.specs.Private.Listing.{known_by_rows, noted, noted_of_target, noted_of_node, noted_of_row, noted_in}
+use Rattle.csi_orchestrator.specs.Public.Listing.{ListsKnown, node_of_thing, target_of_thing}
 use Rattle.csi_orchestrator.proofs.JoinedLists.{own-entry}
 
 -- the entries are of two things
@@ -122,10 +124,10 @@ abbrev pub OfRows : List RowShown → Thing → Type 0
 OfRows rows thing = (row : RowShown) × IsAmong row rows × OfRow row thing
 
 -- a thing of a node's entry is at that node
-node-of : (row : RowShown) (node_entry : NodeEntryShown) (thing : Thing) → OfNode row node_entry thing → node_in thing ≡ Some node_entry.node
-node-of row node_entry thing (inl (inl is)) = ap node_in is
-node-of row node_entry thing (inl (inr is)) = ap node_in is
-node-of row node_entry thing (inr target_entry) = ap node_in target_entry.2
+node-of : (row : RowShown) (node_entry : NodeEntryShown) (thing : Thing) → OfNode row node_entry thing → node_of_thing thing ≡ Some node_entry.node
+node-of row node_entry thing (inl (inl is)) = ap node_of_thing is
+node-of row node_entry thing (inl (inr is)) = ap node_of_thing is
+node-of row node_entry thing (inr target_entry) = ap node_of_thing target_entry.2
 
 -- a thing of a row is of its name
 name-of : (row : RowShown) (thing : Thing) → OfRow row thing → Some (name_in thing) ≡ Some row.name
@@ -142,10 +144,10 @@ node-lists rows row node_entry in_rows in_row apart =
     (joined (λ t. t ≡ Attached row.name node_entry.node) (λ t. t ≡ Staged row.name node_entry.node) (known_by_rows rows) attached staged
     (one (known_by_rows rows) (Attached row.name node_entry.node) node_entry.attached (here (Attached row.name node_entry.node) refl ∙ ap (mark_in (λ (p : NodeEntryShown). p.attached)) in_row))
     (one (known_by_rows rows) (Staged row.name node_entry.node) node_entry.staged (here (Staged row.name node_entry.node) refl ∙ ap (mark_in (λ (p : NodeEntryShown). p.staged)) in_row)) (λ t is other. cc))
-    (each target_in (λ (a : TargetEntry). a.target) (λ (a : TargetEntry) t. t ≡ Published row.name node_entry.node a.target) (known_by_rows rows) (noted_of_target row.name node_entry.node) node_entry.target_entries apart (λ a t is. ap target_in is)
+    (each target_of_thing (λ (a : TargetEntry). a.target) (λ (a : TargetEntry) t. t ≡ Published row.name node_entry.node a.target) (known_by_rows rows) (noted_of_target row.name node_entry.node) node_entry.target_entries apart (λ a t is. ap target_of_thing is)
     (λ a among.
     one (known_by_rows rows) (Published row.name node_entry.node a.target) a.published
-    (here (Published row.name node_entry.node a.target) refl ∙ ap (mark_in (published_in a.target)) in_row ∙ ap (mark_in (λ (a : TargetEntry). a.published)) (own-entry (λ (a : TargetEntry). a.target) node_entry.target_entries a apart among))))
+    (here (Published row.name node_entry.node a.target) refl ∙ ap (mark_in (publication_known a.target)) in_row ∙ ap (mark_in (λ (a : TargetEntry). a.published)) (own-entry (λ (a : TargetEntry). a.target) node_entry.target_entries a apart among))))
     disjoint
   where
     attached : List (Thing × Known)
@@ -166,12 +168,12 @@ row-lists : (rows : List RowShown) (row : RowShown) → row_of rows row.name ≡
 row-lists rows row in_rows kept =
     joined (λ t. t ≡ Exists row.name) _ (known_by_rows rows) (noted (Exists row.name) row.exists) (flat_map (noted_of_node row.name) row.node_entries)
     (one (known_by_rows rows) (Exists row.name) row.exists (ap (mark_in (mark_of (Exists row.name))) in_rows))
-    (each node_in (λ (p : NodeEntryShown). p.node) (OfNode row) (known_by_rows rows) (noted_of_node row.name) row.node_entries kept.nodes (node-of row)
+    (each node_of_thing (λ (p : NodeEntryShown). p.node) (OfNode row) (known_by_rows rows) (noted_of_node row.name) row.node_entries kept.nodes (node-of row)
     (λ node_entry among. node-lists rows row node_entry in_rows (own-entry (λ (p : NodeEntryShown). p.node) row.node_entries node_entry kept.nodes among) (each_of AreTargetsApart row.node_entries node_entry kept.targets among)))
-    (λ t is other. let node = sym (ap node_in is) ∙ node-of row other.0 t other.2 in cc)
+    (λ t is other. let node = sym (ap node_of_thing is) ∙ node-of row other.0 t other.2 in cc)
 
 -- what kept rows note is what they know, each thing once
-pub rows-list : (rows : List RowShown) → IsSound rows → Lists (OfRows rows) (known_by_rows rows) (noted_in rows)
+pub rows-list : (rows : List RowShown) → AreSoundRows rows → Lists (OfRows rows) (known_by_rows rows) (noted_in rows)
 rows-list rows kept =
     each (λ t. Some (name_in t)) (λ (r : RowShown). r.name) OfRow (known_by_rows rows) noted_of_row rows kept.names name-of
     (λ row among. row-lists rows row (own-entry (λ (r : RowShown). r.name) rows row kept.names among) (each_of IsSoundRow rows row kept.each among))
@@ -200,12 +202,12 @@ known-of rows thing other = let row = entry-of (λ (r : RowShown). r.name) (mark
         let node_entry = entry-of (λ (p : NodeEntryShown). p.node) (λ p. p.staged) node row.node_entries f in
         inr (node_entry.0, node_entry.1, inl (inr (λ i. Staged (same i) (node_entry.2 i))))
     by row (Published name node target) same f =
-        let node_entry = entry-of (λ (p : NodeEntryShown). p.node) (published_in target) node row.node_entries f in
+        let node_entry = entry-of (λ (p : NodeEntryShown). p.node) (publication_known target) node row.node_entries f in
         let target_entry = entry-of (λ (a : TargetEntry). a.target) (λ a. a.published) target node_entry.0.target_entries node_entry.3 in
         inr (node_entry.0, node_entry.1, inr (target_entry.0, target_entry.1, λ i. Published (same i) (node_entry.2 i) (target_entry.2 i)))
 
 -- a list of what rows know, by a history that they agree with
-pub lists-told : (parts : Parts) (history : History) (things : List (Thing × Known)) → Shows parts history → ListsKnown (known_by_rows parts.rows) things → ListsKnown (known history) things
+pub lists-told : (parts : OrchestratorParts) (history : History) (things : List (Thing × Known)) → Shows parts history → ListsKnown (known_by_rows parts.rows) things → ListsKnown (known history) things
 lists-told parts history things agrees lists thing mark = (
   λ among. let is = (lists thing mark).0 among in (sym (agrees.same_marks thing) ∙ is.0, is.1),
   λ is. (lists thing mark).1 (agrees.same_marks thing ∙ is.0, is.1),

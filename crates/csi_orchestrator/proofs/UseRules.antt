@@ -3,7 +3,7 @@ use Rattle.std.proofs.Common.{◌≡◌, ℕ, List, [], ◌∷◌, ◌++◌, Boo
 use Rattle.std.specs.Prelude.{Option, Some, None, find, is_some, ◌&&◌}
 use Rattle.std.specs.List.{AllByRecursion, list_any}
 use Rattle.std.proofs.lemmas.Bool.{false≢true, and_parts, not-false}
-use Rattle.csi_types.specs.Same.{same_text, same_flag, same_capability}
+use Rattle.csi_types.specs.Model.Same.{same_text, same_flag, same_capability}
 use Rattle.csi_lists.proofs.Members.{each_of, among-find, none_passes}
 use Rattle.csi_lists.proofs.Pairs.{two-append}
 use Rattle.csi_lists.proofs.Searches.{find-append_one, find-passes}
@@ -11,14 +11,16 @@ use Rattle.csi_types.proofs.Equality.{same_text-tells, same_capability-tells}
 use Rattle.csi_orchestrator.specs.declared.row.Goal.TheVariants.{Use}
 use Rattle.csi_orchestrator.specs.declared.row.TargetEntry.{TargetEntry}
 use Rattle.csi_orchestrator.specs.declared.thing.Known.TheVariants.{Yes}
-use Rattle.csi_orchestrator.specs.Thing.{is_no}
-use Rattle.csi_orchestrator.specs.History.{Usage, Held}
-use Rattle.csi_orchestrator.specs.Commands.{is_for_one_node, is_second_writer}
-use Rattle.csi_orchestrator.specs.Shown.{NodeEntryShown, RowShown, node_entry_of, target_entry_of, AreTargetsApart}
-use Rattle.csi_orchestrator.specs.RowChanges.{wanted, new_target_entry, with_target, held_as, entry_for, with_entry}
-use Rattle.csi_orchestrator.specs.RowRefusals.{is_so_elsewhere, has_elsewhere, is_entry_otherwise}
-use Rattle.csi_orchestrator.specs.Keyed.{put_by}
-use Rattle.csi_orchestrator.specs.Sound.{IsUsable}
+use Rattle.csi_orchestrator.specs.Model.Thing.{is_no}
+use Rattle.csi_orchestrator.specs.Model.History.{Usage, Held}
+use Rattle.csi_orchestrator.specs.Model.Commands.{is_for_one_node, uses_as_second_writer}
+use Rattle.csi_orchestrator.specs.Model.Shown.{NodeEntryShown, RowShown, node_entry_of, target_entry_of}
+use Rattle.csi_orchestrator.specs.Public.Shown.{AreTargetsApart}
+use Rattle.csi_orchestrator.specs.Private.RowChanges.{wanted_row, new_target_entry, with_target, held_as, entry_for, with_entry}
+use Rattle.csi_orchestrator.specs.Public.RowRefusals.{is_so_elsewhere, has_elsewhere}
+use Rattle.csi_orchestrator.specs.Private.RowRefusals.{is_entry_otherwise}
+use Rattle.csi_orchestrator.specs.Private.Keyed.{put_by}
+use Rattle.csi_orchestrator.specs.Public.Sound.{IsUsable}
 use Rattle.csi_orchestrator.proofs.TextLists.{text-same}
 use Rattle.csi_orchestrator.proofs.KeyedSearches.{find-put}
 use Rattle.csi_orchestrator.proofs.EntryRules.{each-put, apart-put, any-put}
@@ -116,8 +118,8 @@ distinct-entry usage row distinct fits =
 
 -- a use that isn't refused may be brought about once its entry is there
 pub usable-entry : (usage : Usage) (row : RowShown) → AllByRecursion AreTargetsApart row.node_entries → row.exists ≡ Yes
-    → has_elsewhere (is_for_one_node usage) usage.node row ≡ false → has_elsewhere (is_second_writer usage) usage.node row ≡ false
-    → is_entry_otherwise usage (node_entry_of row usage.node) ≡ false → IsUsable (wanted (Use usage) (with_entry usage row)) usage
+    → has_elsewhere (is_for_one_node usage) usage.node row ≡ false → has_elsewhere (uses_as_second_writer usage) usage.node row ≡ false
+    → is_entry_otherwise usage (node_entry_of row usage.node) ≡ false → IsUsable (wanted_row (Use usage) (with_entry usage row)) usage
 usable-entry usage row apart exists one_node second fits =
     record {
       made = exists;
@@ -133,7 +135,7 @@ usable-entry usage row apart exists one_node second fits =
             same_flag = serves.as_flagged;
           };
       shared = unmoved (is_for_one_node usage) ∙ one_node;
-      one_writer = unmoved (is_second_writer usage) ∙ second;
+      one_writer = unmoved (uses_as_second_writer usage) ∙ second;
     }
   where
     entry : NodeEntryShown

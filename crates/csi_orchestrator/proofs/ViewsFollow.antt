@@ -10,18 +10,18 @@ use Rattle.csi_types.specs.declared.call.Call.TheVariants as calls
 use Rattle.csi_types.specs.declared.call.Party.{Party}
 use Rattle.csi_types.specs.declared.call.Party.TheVariants.{Controller, Node}
 use Rattle.csi_types.specs.declared.number.Number.{Number}
-use Rattle.csi_lists.specs.Members.{IsAmong}
-use Rattle.csi_types.specs.Same.{same_text, same_number}
+use Rattle.csi_lists.specs.Model.Members.{IsAmong}
+use Rattle.csi_types.specs.Model.Same.{same_text, same_number}
 use Rattle.csi_types.proofs.Equality.{same_text-tells, same_number-tells}
 use Rattle.csi_orchestrator.specs.declared.thing.Thing.{Thing}
 use Rattle.csi_orchestrator.specs.declared.thing.Thing.TheVariants.{Exists, Attached, Staged, Published}
 use Rattle.csi_orchestrator.specs.declared.thing.Known.TheVariants.{No, Maybe}
-use Rattle.csi_orchestrator.specs.Thing.{Issued, name_in, same_thing, thing_at, is_thing, is_doing, touches}
-use Rattle.csi_orchestrator.specs.History.{Goal, Item, Started, Sent, Closed, Noted, Held, Arguments, History, with_items}
-use Rattle.csi_orchestrator.specs.Readings.{newest, issued_in, issued_of, is_success_of, has_success, known_by, known, id_in, id_by, id_of, held_by, noted_for, arguments_in_goal, open_call, unless, calls_since, last_number, distinct, name_noted}
-use Rattle.csi_orchestrator.specs.WellFormed.{IsNext, IsWellFormed}
-use Rattle.csi_orchestrator.specs.Agrees.{View, Agrees}
-use Rattle.csi_orchestrator.specs.Following.{after_started, after_sent, after_closed, after_noted, DetachesSomething}
+use Rattle.csi_orchestrator.specs.Model.Thing.{Issued, name_in, same_thing, thing_at, is_thing, is_doing, touches}
+use Rattle.csi_orchestrator.specs.Model.History.{Goal, Item, Started, Sent, Closed, Noted, Held, Arguments, History, with_items}
+use Rattle.csi_orchestrator.specs.Model.Readings.{newest, issued_in, issued_of, is_success_of, has_success, known_by, known, id_in, id_by, id_of, held_by_call, noted_for, arguments_in_goal, open_call, unless, calls_since, last_number, distinct, name_noted}
+use Rattle.csi_orchestrator.specs.Model.WellFormed.{IsNextNumber, IsWellFormed}
+use Rattle.csi_orchestrator.specs.Model.Agrees.{OrchestratorView, Agrees}
+use Rattle.csi_orchestrator.specs.Private.Following.{after_started, after_sent, after_closed, after_noted, DetachesSomething}
 use Rattle.csi_orchestrator.proofs.Numbers.{one-call, open-sent, fresh-silent}
 use Rattle.csi_orchestrator.proofs.TextLists.{same_text-flip, any-distinct}
 
@@ -83,7 +83,7 @@ no-id items issued (calls.CreateVolume name required limit capabilities) none = 
 no-id items issued call none = refl
 
 -- a session starts
-pub started-follows : (view : View) (history : History) (session : ℕ) → Agrees view history → Agrees (after_started session view) (with_items history (Started session ∷ []))
+pub started-follows : (view : OrchestratorView) (history : History) (session : ℕ) → Agrees view history → Agrees (after_started session view) (with_items history (Started session ∷ []))
 started-follows view history session agrees =
     record {
       same_last = refl;
@@ -101,7 +101,7 @@ started-follows view history session agrees =
     quiet thing = known-quiet (Started session) history.items thing (find (touches thing) (issued_in history.items)) (λ number. refl)
 
 -- a call that publishes nothing at the node, and yet is of its attachment, detaches
-attach-held : (name node : List ℕ) (own : List ℕ) (party : Party) (call : Call) → is_thing (Attached name node) (thing_at own party call) ≡ true → held_by node call ≡ None → is_doing call ≡ false
+attach-held : (name node : List ℕ) (own : List ℕ) (party : Party) (call : Call) → is_thing (Attached name node) (thing_at own party call) ≡ true → held_by_call node call ≡ None → is_doing call ≡ false
 attach-held name node own party (calls.CreateVolume create required limit capabilities) of none = absurd (false≢true of)
 attach-held name node own party (calls.ControllerPublishVolume id other capability readonly) of none =
     let there : same_text other node ≡ true = same_text-flip other node ∙ right (same_text name own) (same_text node other) of in
@@ -120,7 +120,7 @@ attach-held name node own Controller (calls.NodePublishVolume id target capabili
 attach-held name node own party call of none = refl
 
 -- a call is sent
-pub sent-follows : (view : View) (history : History) (issued : Issued) → IsWellFormed history → Agrees view history → IsNext (last_number history) issued.number
+pub sent-follows : (view : OrchestratorView) (history : History) (issued : Issued) → IsWellFormed history → Agrees view history → IsNextNumber (last_number history) issued.number
     → DetachesSomething history issued → Agrees (after_sent issued view) (with_items history (Sent issued ∷ []))
 sent-follows view history issued form agrees next detaches =
     record {
@@ -158,7 +158,7 @@ sent-follows view history issued form agrees next detaches =
         ∙ known-quiet (Sent issued) history.items (Attached name node) (find (touches (Attached name node)) (issued_in history.items)) (λ number. refl)
 
     -- where it may be attached still, it may have been before
-    was_there : (name node : List ℕ) → same_text issued.name name ≡ true → held_by node issued.call ≡ None → known (with_items history (Sent issued ∷ [])) (Attached name node) ≢ No
+    was_there : (name node : List ℕ) → same_text issued.name name ≡ true → held_by_call node issued.call ≡ None → known (with_items history (Sent issued ∷ [])) (Attached name node) ≢ No
         → (b : Bool) → touches (Attached name node) issued ≡ b → known history (Attached name node) ≢ No
     was_there name node own none there true of =
         let same : issued.name ≡ name = (same_text-tells issued.name name).0 own in
@@ -167,10 +167,10 @@ sent-follows view history issued form agrees next detaches =
     was_there name node own none there false of = λ e. there (unmarked name node of ∙ e)
 
     holding : (name node : List ℕ) (b : Bool) → same_text issued.name name ≡ b → known (with_items history (Sent issued ∷ [])) (Attached name node) ≢ No
-        → cond b (option_or (held_by node issued.call) (view.holdings name node)) (view.holdings name node) ≡ newest (filter_map (λ (i : Issued). held_by node i.call) (cond b (issued ∷ issued_of history name) (issued_of history name)))
-    holding name node true own there = by (held_by node issued.call) refl
+        → cond b (option_or (held_by_call node issued.call) (view.holdings name node)) (view.holdings name node) ≡ newest (filter_map (λ (i : Issued). held_by_call node i.call) (cond b (issued ∷ issued_of history name) (issued_of history name)))
+    holding name node true own there = by (held_by_call node issued.call) refl
       where
-        by : (o : Option Held) → held_by node issued.call ≡ o → option_or o (view.holdings name node) ≡ newest (cons_option o (filter_map (λ (i : Issued). held_by node i.call) (issued_of history name)))
+        by : (o : Option Held) → held_by_call node issued.call ≡ o → option_or o (view.holdings name node) ≡ newest (cons_option o (filter_map (λ (i : Issued). held_by_call node i.call) (issued_of history name)))
         by (Some here) e = refl
         by None e = agrees.same_holdings name node (was_there name node own e there (touches (Attached name node) issued) refl)
     holding name node false own there = agrees.same_holdings name node (other (touches (Attached name node) issued) refl)
@@ -213,7 +213,7 @@ unless-follows history issued name form is_open = by (same_text issued.name name
     by false e = other e (open_call history name) refl
 
 -- a call is given up
-pub closed-follows : (view : View) (history : History) (issued : Issued) → IsWellFormed history → Agrees view history → open_call history issued.name ≡ Some issued
+pub closed-follows : (view : OrchestratorView) (history : History) (issued : Issued) → IsWellFormed history → Agrees view history → open_call history issued.name ≡ Some issued
     → Agrees (after_closed issued view) (with_items history (Closed issued.number ∷ []))
 closed-follows view history issued form agrees is_open =
     record {
@@ -232,7 +232,7 @@ closed-follows view history issued form agrees is_open =
     quiet thing = known-quiet (Closed issued.number) history.items thing (find (touches thing) (issued_in history.items)) (λ number. refl)
 
 -- something is noted
-pub noted-follows : (view : View) (history : History) (name : List ℕ) (goal : Option Goal) → Agrees view history → Agrees (after_noted name goal view) (with_items history (Noted name goal ∷ []))
+pub noted-follows : (view : OrchestratorView) (history : History) (name : List ℕ) (goal : Option Goal) → Agrees view history → Agrees (after_noted name goal view) (with_items history (Noted name goal ∷ []))
 noted-follows view history name goal agrees =
     record {
       same_last = agrees.same_last;

@@ -2,10 +2,10 @@
 ghost use Rattle.std.specs.Prelude.{◌≡◌, IfOk, IfErr, IsOk};
 ghost use Rattle.csi_types.specs.declared.call.Call.TheVariants as calls;
 ghost use Rattle.csi_types.specs.declared.call.Kind.TheVariants as kinds;
-ghost use Rattle.csi_types.specs.Call.{kind_of};
-ghost use Rattle.csi_types.specs.Replies.{call_frame};
+ghost use Rattle.csi_types.specs.Model.Call.{kind_of};
+ghost use Rattle.csi_types.specs.Model.Replies.{call_frame};
 ghost use Rattle.csi_orchestrator.specs.declared.fault.OrchFault.{OrchFault as Fault};
-ghost use Rattle.csi_orchestrator.specs.Found.{node_due, party_at, call_due};
+ghost use Rattle.csi_orchestrator.specs.Private.Found.{node_due, party_of_node, call_due};
 
 use crate::due::Due;
 use crate::fault::OrchFault;
@@ -98,7 +98,7 @@ fn call_of(due: &Due<'_>) -> Result<Call, AllocError>
 
 /// The frame of the call under this number. For a delete it takes no memory.
 pub(crate) fn frame_of(number: Number, due: &Due<'_>) -> Result<Frame, OrchFault>
-    ensures ok { IfOk result (λ frame. frame ≡ call_frame number (party_at (node_due due.now)) (call_due due.now)) }
+    ensures ok { IfOk result (λ frame. frame ≡ call_frame number (party_of_node (node_due due.now)) (call_due due.now)) }
     ensures err { IfErr result (λ fault. fault ≡ Fault.NoMemory) }
     ensures delete { kind_of (call_due due.now) ≡ kinds.DeleteVolume → IsOk result }
 {

@@ -1,10 +1,11 @@
 //! An orchestrator's rows by name, and by the numbers of their open calls. No look-up walks them.
 ghost use Rattle.std.specs.Prelude.{◌≡◌, ℕ, ◌+◌, ◌++◌, ◌∷◌, ◌<◌, ◌≤◌, [], Option, Some, None, length, map, false, slice_get, position, OnOk, OnErr, IfOk, IfErr, IfSome};
 ghost use Rattle.indexmap.specs.IndexMap.{values, spare, index_map_len};
-ghost use Rattle.csi_lists.specs.Places.{IsAt};
-ghost use Rattle.csi_types.specs.Same.{same_text};
-ghost use Rattle.csi_orchestrator.specs.Catalog.{rows_of, by_name, place_noted, IsNoted, IsNotedWith, IsIndexed, IsNextFor, IsReady, IsClosedAt, AreUpTo, AreNotedBefore, HasFewNotes};
-ghost use Rattle.csi_orchestrator.specs.Shown.{without_call};
+ghost use Rattle.csi_lists.specs.Public.Places.{IsAt};
+ghost use Rattle.csi_types.specs.Model.Same.{same_text};
+ghost use Rattle.csi_orchestrator.specs.Public.Catalog.{rows_of, by_name, place_noted, IsNoted, IsIndexed, AreUpTo, HasFewNotes};
+ghost use Rattle.csi_orchestrator.specs.Private.Catalog.{IsNotedWith, IsNextFor, IsReady, IsClosedAt, AreNotedBefore};
+ghost use Rattle.csi_orchestrator.specs.Private.Shown.{without_call};
 
 use crate::fault::OrchFault;
 use crate::row::Row;
@@ -67,10 +68,10 @@ impl Catalog {
         requires within { index < index_map_len self.old.rows }
         requires spare { 0 < spare self.old.calls }
         ensures rows { self.new.rows ≡ self.old.rows }
-        ensures noted { (row : Row) → IsAt (rows_of self.old) index row → IsNotedWith index row.open_number self.old self.new }
+        ensures noted { (row : Row) → IsAt (rows_of self.old) index row → IsNotedWith index row.open_call self.old self.new }
     {
-        if let Some(number) = self.rows[index].open_number {
-            self.calls.insert(number.call, index).unwrap();
+        if let Some(open_call) = self.rows[index].open_call {
+            self.calls.insert(open_call.number.call, index).unwrap();
         }
     }
 
@@ -133,7 +134,7 @@ impl Catalog {
         ensures err { OnErr result (rows_of self.new ≡ rows_of self.old) }
         ensures memory { IfErr result (λ fault. fault ≡ OrchFault.NoMemory) }
         ensures indexed { OnErr result (IsIndexed self.new) }
-        ensures ready { OnOk result ((next : Option ℕ) → IsNextFor self.old row.open_number next → IsReady self.new (length (rows_of self.old)) next) }
+        ensures ready { OnOk result ((next : Option ℕ) → IsNextFor self.old row.open_call next → IsReady self.new (length (rows_of self.old)) next) }
         ensures kept { AreNotedBefore self.old self.new }
     {
         let name = match self.prepare(&row.name) {
@@ -156,7 +157,7 @@ impl Catalog {
     {
         let index = self.calls[turn];
         if index < self.rows.len() {
-            self.rows[index].open_number = None;
+            self.rows[index].open_call = None;
         }
     }
 

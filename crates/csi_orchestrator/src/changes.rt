@@ -1,7 +1,7 @@
 //! What becomes of a row.
 ghost use Rattle.std.specs.Prelude.{◌≡◌, Some, None};
-ghost use Rattle.csi_orchestrator.specs.Shown.{row_shown};
-ghost use Rattle.csi_orchestrator.specs.RowChanges.{marked, told_of, id_told as id_by_kind, succeeded, wanted, stopped_goal, dropped, new_row as new_row_shown};
+ghost use Rattle.csi_orchestrator.specs.Public.Shown.{row_shown};
+ghost use Rattle.csi_orchestrator.specs.Private.RowChanges.{marked_row, known_by_success_of, id_told as id_by_kind, succeeded_row, wanted_row, stopped_goal, dropped_row, new_row as new_row_shown};
 
 use crate::entries::{mark_at, tidy};
 use crate::request::{Arguments, Usage};
@@ -12,7 +12,7 @@ use std::alloc::Global;
 
 /// Marks what a call of this kind for the row's goal does or undoes.
 pub(crate) fn mark(row: &mut Row, kind: Kind, known: Known)
-    ensures { row_shown row.new ≡ marked known kind (row_shown row.old) }
+    ensures { row_shown row.new ≡ marked_row known kind (row_shown row.old) }
 {
     match kind {
         Kind::CreateVolume | Kind::DeleteVolume => row.exists = known,
@@ -41,7 +41,7 @@ pub(crate) fn mark(row: &mut Row, kind: Kind, known: Known)
 
 /// What a success of a call of this kind tells.
 pub(crate) fn told(kind: Kind) -> Known
-    ensures { result ≡ told_of kind }
+    ensures { result ≡ known_by_success_of kind }
 {
     match kind {
         Kind::CreateVolume
@@ -67,26 +67,26 @@ pub(crate) fn id_told(kind: Kind, id: Option<VolumeId>) -> Option<VolumeId>
 
 /// Keeps that a call of this kind succeeded, with this id.
 pub(crate) fn succeed(row: &mut Row, kind: Kind, id: Option<VolumeId>)
-    ensures { row_shown row.new ≡ succeeded kind id (row_shown row.old) }
+    ensures { row_shown row.new ≡ succeeded_row kind id (row_shown row.old) }
 {
     mark(row, kind, told(kind));
     row.id = id_told(kind, id).or(row.id);
-    row.open_number = None;
+    row.open_call = None;
     row.tries = 0;
 }
 
 /// Sets the goal. No call is open.
 pub(crate) fn want(row: &mut Row, goal: Goal)
-    ensures { row_shown row.new ≡ wanted goal (row_shown row.old) }
+    ensures { row_shown row.new ≡ wanted_row goal (row_shown row.old) }
 {
     drop(row.goal.replace(goal));
-    row.open_number = None;
+    row.open_call = None;
     row.tries = 0;
 }
 
 /// Gives the goal up: a use is stopped. Without a goal nothing changes.
 pub(crate) fn stop_use(row: &mut Row)
-    ensures goal { (goal : Goal) → row.old.goal ≡ Some goal → row_shown row.new ≡ wanted (stopped_goal goal) (row_shown row.old) }
+    ensures goal { (goal : Goal) → row.old.goal ≡ Some goal → row_shown row.new ≡ wanted_row (stopped_goal goal) (row_shown row.old) }
     ensures none { row.old.goal ≡ None → row_shown row.new ≡ row_shown row.old }
 {
     match row.goal.take() {
@@ -101,10 +101,10 @@ pub(crate) fn stop_use(row: &mut Row)
 
 /// Drops the goal. No call is open, and only entries of which something may be so are kept.
 pub(crate) fn drop_goal(row: &mut Row)
-    ensures { row_shown row.new ≡ dropped (row_shown row.old) }
+    ensures { row_shown row.new ≡ dropped_row (row_shown row.old) }
 {
     drop(row.goal.take());
-    row.open_number = None;
+    row.open_call = None;
     row.tries = 0;
     tidy(&mut row.node_entries);
 }
@@ -119,7 +119,7 @@ pub(crate) fn new_row(alloc: Global, name: Name, arguments: Arguments) -> Row
         id: None,
         exists: Known::No,
         goal: Some(Goal::Create),
-        open_number: None,
+        open_call: None,
         tries: 0,
         node_entries: Vec::new(alloc),
     }

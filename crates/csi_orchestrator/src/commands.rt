@@ -1,17 +1,21 @@
 //! What is asked of a volume, and what comes for it, is done at the row of its name.
 ghost use Rattle.std.specs.Prelude.{◌≡◌, ◌<◌, ℕ, List, map, position, slice_get, Option, Some, None, Ok, IfOk, IfErr, IsOk, OnOk, OnErr};
 ghost use Rattle.indexmap.specs.IndexMap.{index_map_len};
-ghost use Rattle.csi_types.specs.Frame.{Frame as FrameShown};
-ghost use Rattle.csi_types.specs.Same.{same_text};
-ghost use Rattle.csi_orchestrator.specs.Catalog.{rows_of, IsReady, AreUpTo, call_in, IsAfter};
-ghost use Rattle.csi_orchestrator.specs.Commands.{next_number};
-ghost use Rattle.csi_orchestrator.specs.CoreParts.{parts_of, IsFiled};
-ghost use Rattle.csi_orchestrator.specs.Hearing.{Fits};
-ghost use Rattle.csi_orchestrator.specs.Moves.{Input, ToCreate, Answer, Sends};
-ghost use Rattle.csi_orchestrator.specs.RowMoves.{frame_in, last_after, steps_at, creates, row_moves, asked_by, IsRefusal, RowsAnswer, IsMoveOf};
-ghost use Rattle.csi_orchestrator.specs.RowRefusals.{first_fault as first_refusal};
-ghost use Rattle.csi_orchestrator.specs.RowSteps.{outgoing_by, row_sends_due, row_unless};
-ghost use Rattle.csi_orchestrator.specs.Shown.{RowShown, due_in, row_shown, row_of};
+ghost use Rattle.csi_types.specs.Model.Frame.{Frame as FrameShown};
+ghost use Rattle.csi_types.specs.Model.Same.{same_text};
+ghost use Rattle.csi_orchestrator.specs.Public.Catalog.{rows_of, AreUpTo};
+ghost use Rattle.csi_orchestrator.specs.Private.Catalog.{IsReady, outgoing_call_number, IsNumberedAfter};
+ghost use Rattle.csi_orchestrator.specs.Model.Commands.{next_number};
+ghost use Rattle.csi_orchestrator.specs.Public.CoreParts.{orchestrator_parts_shown, IsFiled};
+ghost use Rattle.csi_orchestrator.specs.Private.Hearing.{IsDueSuccess};
+ghost use Rattle.csi_orchestrator.specs.Model.Moves.{Input, ToCreate, Answer, Sends};
+ghost use Rattle.csi_orchestrator.specs.Private.RowMoves.{outgoing_frame, last_after, steps_at, creates, row_moves, input_asking, RowsAnswer, IsMoveOf};
+ghost use Rattle.csi_orchestrator.specs.Public.RowMoves.{IsRefusal};
+ghost use Rattle.csi_orchestrator.specs.Private.RowRefusals.{first_fault as first_refusal};
+ghost use Rattle.csi_orchestrator.specs.Private.RowSteps.{outgoing_by, row_sends_due, row_unless};
+ghost use Rattle.csi_orchestrator.specs.Model.Shown.{RowShown, row_of};
+ghost use Rattle.csi_orchestrator.specs.Public.Shown.{row_shown};
+ghost use Rattle.csi_orchestrator.specs.Public.RowDue.{due_in};
 
 use crate::changes::new_row;
 use crate::decision::first_fault;
@@ -27,12 +31,16 @@ use csi_types::{Frame, Name};
 impl OrchestratorCore {
     // Makes the number of the call that is sent the last one, notes it for the row at this index, and gives its frame.
     fn issue(&mut self, index: usize, next: Option<Outgoing>) -> Option<Frame>
-        requires ready { IsReady self.old.catalog index (call_in next) }
+        requires ready { IsReady self.old.catalog index (outgoing_call_number next) }
         requires known { AreUpTo self.old.last.call self.old.catalog }
-        requires after { IsAfter self.old.last.call next }
+        requires after { IsNumberedAfter self.old.last.call next }
         requires within { index < index_map_len self.old.catalog.rows }
-        ensures frame { result ≡ frame_in next }
-        ensures parts { parts_of self.new ≡ record { nodes = self.old.nodes.items; last = last_after self.old.last next; rows = map row_shown (rows_of self.old.catalog) } }
+        ensures frame { result ≡ outgoing_frame next }
+        ensures parts { orchestrator_parts_shown self.new ≡ record {
+          nodes = self.old.nodes.items;
+          last = last_after self.old.last next;
+          rows = map row_shown (rows_of self.old.catalog);
+        } }
         ensures filed { IsFiled self.new }
     {
         match next {
@@ -50,15 +58,16 @@ impl OrchestratorCore {
     pub fn step(&mut self, index: usize, step: Step) -> Result<Option<Frame>, OrchFault>
         requires filed { IsFiled self.old }
         requires within { index < index_map_len self.old.catalog.rows }
-        requires fits { (row : Row) → slice_get (rows_of self.old.catalog) index ≡ Some row → Fits step (row_shown row) }
+        requires fits { (row : Row) → slice_get (rows_of self.old.catalog) index ≡ Some row → IsDueSuccess step (row_shown row) }
         ensures ok { (name : List ℕ) (answer : Option FrameShown → Answer) → position (λ row. same_text row.name name) (rows_of self.old.catalog) ≡ Some index
-            → IfOk result (λ sent. steps_at (parts_of self.old) answer step (row_of (map row_shown (rows_of self.old.catalog)) name) ≡ Ok (record { answer = answer sent; parts = parts_of self.new })) }
+            → IfOk result (λ sent. steps_at (orchestrator_parts_shown self.old) answer step (row_of (map row_shown (rows_of self.old.catalog)) name) ≡ Ok (record { answer = answer sent; parts = orchestrator_parts_shown self.new })) }
         ensures err { (name : List ℕ) (answer : Option FrameShown → Answer) → position (λ row. same_text row.name name) (rows_of self.old.catalog) ≡ Some index
-            → IfErr result (IsRefusal (steps_at (parts_of self.old) answer step (row_of (map row_shown (rows_of self.old.catalog)) name))) }
-        ensures stays { OnErr result (parts_of self.new ≡ parts_of self.old) }
+            → IfErr result (IsRefusal (steps_at (orchestrator_parts_shown self.old) answer step (row_of (map row_shown (rows_of self.old.catalog)) name))) }
+        ensures stays { OnErr result (orchestrator_parts_shown self.new ≡ orchestrator_parts_shown self.old) }
         ensures filed { IsFiled self.new }
-        ensures quiet { (name : List ℕ) (answer : Option FrameShown → Answer) → ((frame : FrameShown) → answer (Some frame) ≡ answer None → ⊥) → position (λ row. same_text row.name name) (rows_of self.old.catalog) ≡ Some index
-            → RowsAnswer (answer None) (steps_at (parts_of self.old) answer step (row_of (map row_shown (rows_of self.old.catalog)) name)) → IsOk result }
+        ensures quiet { (name : List ℕ) (answer : Option FrameShown → Answer) → ((frame : FrameShown) → answer (Some frame) ≡ answer None → ⊥) →
+            position (λ row. same_text row.name name) (rows_of self.old.catalog) ≡ Some index
+            → RowsAnswer (answer None) (steps_at (orchestrator_parts_shown self.old) answer step (row_of (map row_shown (rows_of self.old.catalog)) name)) → IsOk result }
         ensures delete { step ≡ Step.Delete → IfErr result (λ fault. fault ≡ OrchFault.NoMemory → ⊥) }
     {
         let row = &mut self.catalog.rows[index];
@@ -69,11 +78,13 @@ impl OrchestratorCore {
     /// What is asked of the volume of this name, or its timeout: the frame to send, if there is one.
     pub fn ask(&mut self, name: &Name, step: Step) -> Result<Option<Frame>, OrchFault>
         requires filed { IsFiled self.old }
-        requires fits { (row : RowShown) → Fits step row }
-        ensures told { (input : Input) → asked_by name.now step ≡ Some input → IsMoveOf (parts_of self.old) (parts_of self.new) input Sends result }
-        ensures stays { OnErr result (parts_of self.new ≡ parts_of self.old) }
+        requires fits { (row : RowShown) → IsDueSuccess step row }
+        ensures told { (input : Input) → input_asking name.now step ≡ Some input →
+            IsMoveOf (orchestrator_parts_shown self.old) (orchestrator_parts_shown self.new) input Sends result }
+        ensures stays { OnErr result (orchestrator_parts_shown self.new ≡ orchestrator_parts_shown self.old) }
         ensures filed { IsFiled self.new }
-        ensures quiet { (input : Input) → asked_by name.now step ≡ Some input → RowsAnswer (Sends None) (row_moves (parts_of self.old) input) → IsOk result }
+        ensures quiet { (input : Input) → input_asking name.now step ≡ Some input →
+            RowsAnswer (Sends None) (row_moves (orchestrator_parts_shown self.old) input) → IsOk result }
         ensures delete { step ≡ Step.Delete → IfErr result (λ fault. fault ≡ OrchFault.NoMemory → ⊥) }
     {
         match self.catalog.index_of(name) {
@@ -89,7 +100,8 @@ impl OrchestratorCore {
     fn first_outgoing(&self, row: &Row) -> Result<Option<Outgoing>, OrchFault>
         ensures fits { OnOk result (first_refusal self.now.last (map row_shown (rows_of self.now.catalog)) ≡ None) }
         ensures ok { IfOk result (λ next. outgoing_by (due_in (row_shown row.now)) (next_number self.now.last) ≡ Ok next) }
-        ensures err { IfErr result (IsRefusal (row_unless (first_refusal self.now.last (map row_shown (rows_of self.now.catalog))) (row_sends_due self.now.last (row_shown row.now)))) }
+        ensures err { IfErr result (IsRefusal (row_unless (first_refusal self.now.last (map row_shown (rows_of self.now.catalog)))
+            (row_sends_due self.now.last (row_shown row.now)))) }
     {
         match first_fault(self.catalog.rows(), self.last) {
             Some(fault) => Err(fault),
@@ -101,9 +113,12 @@ impl OrchestratorCore {
     fn create_first(&mut self, name: Name, arguments: Arguments) -> Result<Option<Frame>, OrchFault>
         requires new_name { position (λ row. same_text row.name name) (rows_of self.old.catalog) ≡ None }
         requires filed { IsFiled self.old }
-        ensures ok { IfOk result (λ sent. creates (parts_of self.old) name arguments None ≡ Ok (record { answer = Sends sent; parts = parts_of self.new })) }
-        ensures err { IfErr result (IsRefusal (creates (parts_of self.old) name arguments None)) }
-        ensures stays { OnErr result (parts_of self.new ≡ parts_of self.old) }
+        ensures ok { IfOk result (λ sent. creates (orchestrator_parts_shown self.old) name arguments None ≡ Ok (record {
+          answer = Sends sent;
+          parts = orchestrator_parts_shown self.new;
+        })) }
+        ensures err { IfErr result (IsRefusal (creates (orchestrator_parts_shown self.old) name arguments None)) }
+        ensures stays { OnErr result (orchestrator_parts_shown self.new ≡ orchestrator_parts_shown self.old) }
         ensures filed { IsFiled self.new }
     {
         let mut row = new_row(self.alloc, name, arguments);
@@ -128,8 +143,8 @@ impl OrchestratorCore {
     /// Requests creation of a volume of this name.
     pub fn create(&mut self, name: Name, arguments: Arguments) -> Result<Option<Frame>, OrchFault>
         requires { IsFiled self.old }
-        ensures told { IsMoveOf (parts_of self.old) (parts_of self.new) (ToCreate name arguments) Sends result }
-        ensures stays { OnErr result (parts_of self.new ≡ parts_of self.old) }
+        ensures told { IsMoveOf (orchestrator_parts_shown self.old) (orchestrator_parts_shown self.new) (ToCreate name arguments) Sends result }
+        ensures stays { OnErr result (orchestrator_parts_shown self.new ≡ orchestrator_parts_shown self.old) }
         ensures filed { IsFiled self.new }
     {
         match self.catalog.index_of(&name) {

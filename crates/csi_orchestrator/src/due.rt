@@ -1,12 +1,12 @@
 //! The call that is due.
 ghost use Rattle.std.specs.Prelude.{◌≡◌, option_map};
 ghost use Rattle.std.specs.Option.{option_copied};
-ghost use Rattle.csi_types.specs.Call.{kind_of};
-ghost use Rattle.csi_types.specs.Same.{same_party};
-ghost use Rattle.csi_orchestrator.specs.Commands.{next_number as number_after};
-ghost use Rattle.csi_orchestrator.specs.Moves.{is_forward as leads_on};
-ghost use Rattle.csi_orchestrator.specs.Shown.{create_due as create_told, use_due as use_told, stop_due as stop_told, delete_due as delete_told, due_with};
-ghost use Rattle.csi_orchestrator.specs.Found.{due_shown, node_due, call_due};
+ghost use Rattle.csi_types.specs.Model.Call.{kind_of};
+ghost use Rattle.csi_types.specs.Model.Same.{same_party};
+ghost use Rattle.csi_orchestrator.specs.Model.Commands.{next_number as number_after};
+ghost use Rattle.csi_orchestrator.specs.Model.Moves.{is_forward as leads_on};
+ghost use Rattle.csi_orchestrator.specs.Public.RowDue.{create_due as create_told, use_due as use_told, stop_due as stop_told, delete_due as delete_told, due_with};
+ghost use Rattle.csi_orchestrator.specs.Private.Found.{due_shown, node_due, call_due};
 
 use crate::marks::Marks;
 use crate::request::{Arguments, Usage};

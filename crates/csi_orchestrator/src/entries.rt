@@ -1,9 +1,9 @@
 //! The entries of a row: where they stand, and how they are marked, tidied and added.
 ghost use Rattle.std.specs.Prelude.{◌≡◌, map, find, position, Some, None, IfOk, OnOk, OnErr};
-ghost use Rattle.csi_types.specs.Same.{same_text};
-ghost use Rattle.csi_orchestrator.specs.Shown.{node_entry_shown};
-ghost use Rattle.csi_orchestrator.specs.RowChanges.{aspect_of, node_marked, marked_at, target_marked, is_target_kept as is_kept_target, is_node_kept as is_kept_shown, with_kept_targets, tidied, with_target, entry_for};
-ghost use Rattle.csi_orchestrator.specs.Keyed.{put_by};
+ghost use Rattle.csi_types.specs.Model.Same.{same_text};
+ghost use Rattle.csi_orchestrator.specs.Public.Shown.{node_entry_shown};
+ghost use Rattle.csi_orchestrator.specs.Private.RowChanges.{aspect_of, node_marked, marked_at, target_marked, is_target_kept as is_kept_target, is_node_kept as is_kept_shown, with_kept_targets, tidied_entries, with_target, entry_for};
+ghost use Rattle.csi_orchestrator.specs.Private.Keyed.{put_by};
 
 use crate::request::Usage;
 use crate::row::{NodeEntry, TargetEntry};
@@ -98,7 +98,7 @@ fn keep_targets(entries: &mut Vec<NodeEntry>)
 
 /// Keeps the entries of which something may be so.
 pub(crate) fn tidy(entries: &mut Vec<NodeEntry>)
-    ensures { map node_entry_shown entries.new.items ≡ tidied (map node_entry_shown entries.old.items) }
+    ensures { map node_entry_shown entries.new.items ≡ tidied_entries (map node_entry_shown entries.old.items) }
 {
     keep_targets(entries);
     entries.retain(is_node_kept);

@@ -1,11 +1,12 @@
 //! Laws of what an orchestrator does. Each function proves a statement, and does nothing.
-ghost use Rattle.csi_orchestrator.specs.Laws.{MovesKeepForm};
-ghost use Rattle.csi_orchestrator.specs.Following.{ViewFollows};
-ghost use Rattle.csi_orchestrator.specs.Shown.{DueIsTold};
-ghost use Rattle.csi_orchestrator.specs.Steps.{MovesLaw};
+ghost use Rattle.csi_orchestrator.specs.Public.Laws.{MovesKeepForm};
+ghost use Rattle.csi_orchestrator.specs.Private.Following.{ViewFollows};
+ghost use Rattle.csi_orchestrator.specs.Private.RowDue.{DueIsTold};
+ghost use Rattle.csi_orchestrator.specs.Public.Steps.{MovesLaw};
 ghost use Rattle.std.specs.List.{AllByRecursion};
-ghost use Rattle.csi_orchestrator.specs.Bounds.{IsBounded};
-ghost use Rattle.csi_orchestrator.specs.Sound.{RowsTell, RowsStaySound, MovesAreGuarded, HasHistory, KeepsWhatIsNeeded};
+ghost use Rattle.csi_orchestrator.specs.Public.Bounds.{IsBounded};
+ghost use Rattle.csi_orchestrator.specs.Private.Sound.{RowsTell, RowsStaySound, MovesAreGuarded};
+ghost use Rattle.csi_orchestrator.specs.Public.Sound.{HasHistory, KeepsWhatIsNeeded};
 
 use crate::orchestrator::Orchestrator;
 

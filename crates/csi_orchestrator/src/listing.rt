@@ -1,9 +1,10 @@
 //! What an orchestrator knows, as a list of things.
 ghost use Rattle.std.specs.Prelude.{◌≡◌, ◌++◌, [], map, IfOk, IsOk, OnOk, IfErr};
 ghost use Rattle.csi_orchestrator.specs.declared.fault.OrchFault.{OrchFault as Fault};
-ghost use Rattle.csi_orchestrator.specs.Shown.{node_entry_shown, row_shown};
-ghost use Rattle.csi_orchestrator.specs.Sound.{IsSound};
-ghost use Rattle.csi_orchestrator.specs.Listing.{known_by_rows, ListsKnown, IsInOrder, lent_thing, noted, noted_of_node, noted_of_row, noted_in};
+ghost use Rattle.csi_orchestrator.specs.Public.Shown.{node_entry_shown, row_shown};
+ghost use Rattle.csi_orchestrator.specs.Public.Sound.{AreSoundRows};
+ghost use Rattle.csi_orchestrator.specs.Private.Listing.{known_by_rows, lent_thing, noted, noted_of_node, noted_of_row, noted_in};
+ghost use Rattle.csi_orchestrator.specs.Public.Listing.{ListsKnown, IsInOrder};
 
 use crate::fault::OrchFault;
 use crate::row::{NodeEntry, Row};
@@ -80,8 +81,8 @@ fn things_by_rows(alloc: Global, rows: &[Row]) -> Result<Vec<(Thing, Known)>, Or
 /// node by node `Attached`, `Staged` and `Published` by target; texts by their bytes. An `Err` is an allocation that
 /// was refused; where there is nothing to list none is asked for.
 pub(crate) fn things_in(alloc: Global, rows: &[Row]) -> Result<Vec<(Thing, Known)>, OrchFault>
-    ensures known { IsSound (map row_shown rows.now) → IfOk result (λ things. ListsKnown (known_by_rows (map row_shown rows.now)) things.items) }
-    ensures order { IsSound (map row_shown rows.now) → IfOk result (λ things. IsInOrder things.items) }
+    ensures known { AreSoundRows (map row_shown rows.now) → IfOk result (λ things. ListsKnown (known_by_rows (map row_shown rows.now)) things.items) }
+    ensures order { AreSoundRows (map row_shown rows.now) → IfOk result (λ things. IsInOrder things.items) }
     ensures err { IfErr result (λ fault. fault ≡ Fault.NoMemory) }
     ensures empty { noted_in (map row_shown rows.now) ≡ [] → IsOk result }
 {

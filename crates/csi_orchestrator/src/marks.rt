@@ -1,8 +1,9 @@
 //! What is known of what a goal names.
 ghost use Rattle.std.specs.Prelude.{◌≡◌, count_by, not, ◌&&◌};
-ghost use Rattle.csi_types.specs.Same.{same_text};
-ghost use Rattle.csi_orchestrator.specs.Thing.{is_no};
-ghost use Rattle.csi_orchestrator.specs.Shown.{row_shown, marks_of_volume, marks_at, marks_for};
+ghost use Rattle.csi_types.specs.Model.Same.{same_text};
+ghost use Rattle.csi_orchestrator.specs.Model.Thing.{is_no};
+ghost use Rattle.csi_orchestrator.specs.Public.Shown.{row_shown};
+ghost use Rattle.csi_orchestrator.specs.Public.RowDue.{marks_of_volume, marks_at, marks_for};
 
 use crate::row::{Goal, Row, TargetEntry};
 use crate::state::{node_entry_at, published_at};

@@ -1,11 +1,12 @@
-//! Which call is due for a row, now and once it took a step.
+//! Which call of a row is open, and which is due, now and once it took a step.
 ghost use Rattle.std.specs.Prelude.{◌≡◌, Some, option_map};
-ghost use Rattle.csi_orchestrator.specs.Shown.{row_shown, due_by, due_in};
-ghost use Rattle.csi_orchestrator.specs.RowChanges.{succeeded};
-ghost use Rattle.csi_orchestrator.specs.RowSteps.{is_given_up as gives_up, timed_out, failed, changed};
-ghost use Rattle.csi_orchestrator.specs.Found.{due_shown, kind_due};
-ghost use Rattle.csi_orchestrator.specs.Hearing.{marks_heard, Fits};
-ghost use Rattle.csi_orchestrator.specs.Sound.{IsSoundRow};
+ghost use Rattle.csi_orchestrator.specs.Public.Shown.{row_shown};
+ghost use Rattle.csi_orchestrator.specs.Public.RowDue.{due_by, due_in, due_open};
+ghost use Rattle.csi_orchestrator.specs.Private.RowChanges.{succeeded_row};
+ghost use Rattle.csi_orchestrator.specs.Private.RowSteps.{is_given_up as gives_up, timed_out, failed, row_before_call};
+ghost use Rattle.csi_orchestrator.specs.Private.Found.{due_shown, kind_due};
+ghost use Rattle.csi_orchestrator.specs.Private.Hearing.{marks_heard, IsDueSuccess};
+ghost use Rattle.csi_orchestrator.specs.Public.Sound.{IsSoundRow};
 
 use crate::changes::{id_told, told};
 use crate::due::{Due, create_due, delete_due, due_for, stop_due, use_due};
@@ -21,6 +22,36 @@ pub(crate) fn due_now(row: &Row) -> Option<Due<'_>>
 {
     let goal = row.goal.as_ref()?;
     due_for(row, goal, row.id, known_for(row, goal))
+}
+
+/// The row's open call, if it has one.
+pub(crate) fn open_due(row: &Row) -> Option<Due<'_>>
+    ensures { option_map due_shown result ≡ due_open (row_shown row.now) }
+{
+    match (row.open_call?.kind, &row.goal, row.id) {
+        (Kind::CreateVolume, Some(Goal::Create), _) => Some(Due::Create {
+            name: &row.name,
+            arguments: &row.arguments,
+        }),
+        (Kind::ControllerPublishVolume, Some(Goal::Use(usage)), Some(id)) => {
+            Some(Due::Attach { id, usage })
+        }
+        (Kind::NodeStageVolume, Some(Goal::Use(usage)), Some(id)) => Some(Due::Stage { id, usage }),
+        (Kind::NodePublishVolume, Some(Goal::Use(usage)), Some(id)) => {
+            Some(Due::Publish { id, usage })
+        }
+        (Kind::NodeUnpublishVolume, Some(Goal::Stop { node, target }), Some(id)) => {
+            Some(Due::Unpublish { id, node, target })
+        }
+        (Kind::NodeUnstageVolume, Some(Goal::Stop { node, .. }), Some(id)) => {
+            Some(Due::Unstage { id, node })
+        }
+        (Kind::ControllerUnpublishVolume, Some(Goal::Stop { node, .. }), Some(id)) => {
+            Some(Due::Detach { id, node })
+        }
+        (Kind::DeleteVolume, Some(Goal::Delete), Some(id)) => Some(Due::Delete { id }),
+        _ => None,
+    }
 }
 
 // The call that is due for a stop of the row's use at this node and target.
@@ -91,7 +122,7 @@ fn marks_after(marks: Marks, kind: Kind) -> Marks
 fn due_after(row: &Row, kind: Kind, id: Option<VolumeId>) -> Option<Due<'_>>
     requires sound { IsSoundRow (row_shown row.now) }
     requires due { kind_due (due_in (row_shown row.now)) ≡ Some kind }
-    ensures { option_map due_shown result ≡ due_in (succeeded kind id (row_shown row.now)) }
+    ensures { option_map due_shown result ≡ due_in (succeeded_row kind id (row_shown row.now)) }
 {
     match &row.goal {
         Some(goal) => {
@@ -105,8 +136,8 @@ fn due_after(row: &Row, kind: Kind, id: Option<VolumeId>) -> Option<Due<'_>>
 
 /// The call that is due once the row took this step.
 pub(crate) fn due_then<'a>(row: &'a Row, step: &'a Step) -> Option<Due<'a>>
-    requires { Fits step.now (row_shown row.now) }
-    ensures { option_map due_shown result ≡ due_in (changed step.now (row_shown row.now)) }
+    requires { IsDueSuccess step.now (row_shown row.now) }
+    ensures { option_map due_shown result ≡ due_in (row_before_call step.now (row_shown row.now)) }
 {
     match step {
         Step::Create(arguments) => create_due(&row.name, arguments, of_volume(row)),

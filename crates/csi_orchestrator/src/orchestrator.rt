@@ -25,32 +25,32 @@ pub struct Orchestrator {
 }
 
 impl Model for Orchestrator {
-    ghost use Rattle.csi_orchestrator.specs.Shown.{Parts};
-    ghost use Rattle.csi_orchestrator.specs.CoreParts.{parts_of, IsFiled};
-    ghost use Rattle.csi_orchestrator.specs.Sound.{IsKept};
+    ghost use Rattle.csi_orchestrator.specs.Model.Shown.{OrchestratorParts};
+    ghost use Rattle.csi_orchestrator.specs.Public.CoreParts.{orchestrator_parts_shown, IsFiled};
+    ghost use Rattle.csi_orchestrator.specs.Public.Sound.{AreSoundParts};
 
-    ghost Value = { Parts };
+    ghost Value = { OrchestratorParts };
 
-    ghost view = { λ orchestrator. parts_of orchestrator.core };
+    ghost view = { λ orchestrator. orchestrator_parts_shown orchestrator.core };
 
-    ghost invariant = { λ orchestrator. IsKept (parts_of orchestrator.core) × IsFiled orchestrator.core };
+    ghost invariant = { λ orchestrator. AreSoundParts (orchestrator_parts_shown orchestrator.core) × IsFiled orchestrator.core };
 }
 
 impl Orchestrator {
-    ghost use Rattle.csi_orchestrator.specs.History.{History, new_history, history_after};
-    ghost use Rattle.csi_orchestrator.specs.WellFormed.{IsWellFormed};
-    ghost use Rattle.csi_orchestrator.specs.Moves.{ToCreate, ToUse, ToStop, ToDelete, TimesOut, Comes, Restarts, Sends, Hears, Restarted, moves};
-    ghost use Rattle.csi_orchestrator.specs.Readings.{known, last_number};
-    ghost use Rattle.csi_orchestrator.specs.Shown.{Shows, view_of};
-    ghost use Rattle.csi_orchestrator.specs.RowMoves.{IsRefusal};
-    ghost use Rattle.csi_orchestrator.specs.Promises.{IsDone, IsAnsweredAs, IsHeardAs};
-    ghost use Rattle.csi_orchestrator.specs.Listing.{ListsKnown, IsInOrder};
-    ghost use Rattle.csi_orchestrator.specs.Sound.{IsKept};
-    ghost use Rattle.csi_orchestrator.specs.Bounds.{AreFew};
+    ghost use Rattle.csi_orchestrator.specs.Model.History.{History, new_history, history_after};
+    ghost use Rattle.csi_orchestrator.specs.Model.WellFormed.{IsWellFormed};
+    ghost use Rattle.csi_orchestrator.specs.Model.Moves.{ToCreate, ToUse, ToStop, ToDelete, TimesOut, Comes, Restarts, Sends, Hears, Restarted, moves};
+    ghost use Rattle.csi_orchestrator.specs.Model.Readings.{known, last_number};
+    ghost use Rattle.csi_orchestrator.specs.Model.Shown.{Shows, orchestrator_view};
+    ghost use Rattle.csi_orchestrator.specs.Public.RowMoves.{IsRefusal};
+    ghost use Rattle.csi_orchestrator.specs.Public.Promises.{FollowsUnrefused, IsAnsweredAs, IsHeardAs};
+    ghost use Rattle.csi_orchestrator.specs.Public.Listing.{ListsKnown, IsInOrder};
+    ghost use Rattle.csi_orchestrator.specs.Public.Sound.{AreSoundParts};
+    ghost use Rattle.csi_orchestrator.specs.Public.Bounds.{AreFew};
 
     // What its type keeps of what it shows. It does nothing.
     pub(crate) fn assert_kept(&self)
-        ensures { IsKept self.now }
+        ensures { AreSoundParts self.now }
     {
         let _core = &self.core;
     }
@@ -96,7 +96,7 @@ impl Orchestrator {
     /// What it knows of a thing. It takes no memory.
     pub fn known(&self, thing: &Thing) -> Known
         ensures agrees { (history : History) → Shows self.now history → result ≡ known history thing.now }
-        ensures marks { result ≡ (view_of self.now).marks thing.now }
+        ensures marks { result ≡ (orchestrator_view self.now).marks thing.now }
     {
         known_in(&self.core.catalog, thing)
     }
@@ -120,8 +120,18 @@ impl Orchestrator {
         limit: u64,
         capabilities: CapabilityList,
     ) -> Result<Option<Frame>, OrchFault>
-        ensures ok { (history : History) → IsWellFormed history → Shows self.old history → IfOk result (λ sent. IsDone history (moves self.old.nodes history (ToCreate name (record { required = required; limit = limit; capabilities = capabilities }))) (Sends sent) self.new) }
-        ensures err { (history : History) → IsWellFormed history → Shows self.old history → IfErr result (IsRefusal (moves self.old.nodes history (ToCreate name (record { required = required; limit = limit; capabilities = capabilities })))) }
+        ensures ok { (history : History) → IsWellFormed history → Shows self.old history →
+            IfOk result (λ sent. FollowsUnrefused history (moves self.old.nodes history (ToCreate name (record {
+              required = required;
+              limit = limit;
+              capabilities = capabilities;
+            }))) (Sends sent) self.new) }
+        ensures err { (history : History) → IsWellFormed history → Shows self.old history →
+            IfErr result (IsRefusal (moves self.old.nodes history (ToCreate name (record {
+              required = required;
+              limit = limit;
+              capabilities = capabilities;
+            })))) }
         ensures stays { OnErr result (self.new ≡ self.old) }
         ensures nodes { self.new.nodes ≡ self.old.nodes }
     {
@@ -146,9 +156,27 @@ impl Orchestrator {
         capability: Capability,
         readonly: bool,
     ) -> Result<Option<Frame>, OrchFault>
-        ensures ok { (history : History) → IsWellFormed history → Shows self.old history → IfOk result (λ sent. IsDone history (moves self.old.nodes history (ToUse name.now (record { node = node; target = target; capability = capability; readonly = readonly }))) (Sends sent) self.new) }
-        ensures err { (history : History) → IsWellFormed history → Shows self.old history → IfErr result (IsRefusal (moves self.old.nodes history (ToUse name.now (record { node = node; target = target; capability = capability; readonly = readonly })))) }
-        ensures met { (history : History) → IsWellFormed history → Shows self.old history → IsAnsweredAs (Sends None) (moves self.old.nodes history (ToUse name.now (record { node = node; target = target; capability = capability; readonly = readonly }))) → IsOk result }
+        ensures ok { (history : History) → IsWellFormed history → Shows self.old history →
+            IfOk result (λ sent. FollowsUnrefused history (moves self.old.nodes history (ToUse name.now (record {
+              node = node;
+              target = target;
+              capability = capability;
+              readonly = readonly;
+            }))) (Sends sent) self.new) }
+        ensures err { (history : History) → IsWellFormed history → Shows self.old history →
+            IfErr result (IsRefusal (moves self.old.nodes history (ToUse name.now (record {
+              node = node;
+              target = target;
+              capability = capability;
+              readonly = readonly;
+            })))) }
+        ensures met { (history : History) → IsWellFormed history → Shows self.old history →
+            IsAnsweredAs (Sends None) (moves self.old.nodes history (ToUse name.now (record {
+              node = node;
+              target = target;
+              capability = capability;
+              readonly = readonly;
+            }))) → IsOk result }
         ensures stays { OnErr result (self.new ≡ self.old) }
         ensures nodes { self.new.nodes ≡ self.old.nodes }
     {
@@ -171,8 +199,10 @@ impl Orchestrator {
         node: NodeId,
         target: Target,
     ) -> Result<Option<Frame>, OrchFault>
-        ensures ok { (history : History) → IsWellFormed history → Shows self.old history → IfOk result (λ sent. IsDone history (moves self.old.nodes history (ToStop name.now node target)) (Sends sent) self.new) }
-        ensures err { (history : History) → IsWellFormed history → Shows self.old history → IfErr result (IsRefusal (moves self.old.nodes history (ToStop name.now node target))) }
+        ensures ok { (history : History) → IsWellFormed history → Shows self.old history →
+            IfOk result (λ sent. FollowsUnrefused history (moves self.old.nodes history (ToStop name.now node target)) (Sends sent) self.new) }
+        ensures err { (history : History) → IsWellFormed history → Shows self.old history →
+            IfErr result (IsRefusal (moves self.old.nodes history (ToStop name.now node target))) }
         ensures stays { OnErr result (self.new ≡ self.old) }
         ensures nodes { self.new.nodes ≡ self.old.nodes }
     {
@@ -183,8 +213,10 @@ impl Orchestrator {
     /// Refused with the first that holds of `NoSuchVolume`, `NotCreated` (no id was heard) and `InUse`, and, where it may be
     /// there, of `Busy` and `NumbersSpent`. A refusal changes nothing. It takes no memory.
     pub fn delete(&mut self, name: &Name) -> Result<Option<Frame>, OrchFault>
-        ensures ok { (history : History) → IsWellFormed history → Shows self.old history → IfOk result (λ sent. IsDone history (moves self.old.nodes history (ToDelete name.now)) (Sends sent) self.new) }
-        ensures err { (history : History) → IsWellFormed history → Shows self.old history → IfErr result (IsRefusal (moves self.old.nodes history (ToDelete name.now))) }
+        ensures ok { (history : History) → IsWellFormed history → Shows self.old history →
+            IfOk result (λ sent. FollowsUnrefused history (moves self.old.nodes history (ToDelete name.now)) (Sends sent) self.new) }
+        ensures err { (history : History) → IsWellFormed history → Shows self.old history →
+            IfErr result (IsRefusal (moves self.old.nodes history (ToDelete name.now))) }
         ensures memory { IfErr result (λ fault. fault ≡ Fault.NoMemory → ⊥) }
         ensures stays { OnErr result (self.new ≡ self.old) }
         ensures nodes { self.new.nodes ≡ self.old.nodes }
@@ -197,8 +229,10 @@ impl Orchestrator {
     /// what it was for is undone. Refused with the first that holds of `NoSuchVolume`, `Idle`, `NumbersSpent` and
     /// `NoMemory`. A refusal changes nothing, the open call included.
     pub fn timeout(&mut self, name: &Name) -> Result<Option<Frame>, OrchFault>
-        ensures ok { (history : History) → IsWellFormed history → Shows self.old history → IfOk result (λ sent. IsDone history (moves self.old.nodes history (TimesOut name.now)) (Sends sent) self.new) }
-        ensures err { (history : History) → IsWellFormed history → Shows self.old history → IfErr result (IsRefusal (moves self.old.nodes history (TimesOut name.now))) }
+        ensures ok { (history : History) → IsWellFormed history → Shows self.old history →
+            IfOk result (λ sent. FollowsUnrefused history (moves self.old.nodes history (TimesOut name.now)) (Sends sent) self.new) }
+        ensures err { (history : History) → IsWellFormed history → Shows self.old history →
+            IfErr result (IsRefusal (moves self.old.nodes history (TimesOut name.now))) }
         ensures stays { OnErr result (self.new ≡ self.old) }
         ensures nodes { self.new.nodes ≡ self.old.nodes }
     {
@@ -211,10 +245,14 @@ impl Orchestrator {
     /// changes nothing and takes no memory; nor does a reply after which nothing is sent. Refused with `NumbersSpent`, where there
     /// is a next call and no number for it, and then `NoMemory`. A refusal changes nothing.
     pub fn deliver(&mut self, frame: &Frame) -> Result<Heard, OrchFault>
-        ensures ok { (history : History) → IsWellFormed history → Shows self.old history → IfOk result (λ heard. IsDone history (moves self.old.nodes history (Comes frame.now)) (Hears heard) self.new) }
-        ensures err { (history : History) → IsWellFormed history → Shows self.old history → IfErr result (IsRefusal (moves self.old.nodes history (Comes frame.now))) }
-        ensures ignored { (history : History) → IsWellFormed history → Shows self.old history → IsHeardAs HeardShown.Ignored (moves self.old.nodes history (Comes frame.now)) → IsOk result }
-        ensures quiet { (history : History) → IsWellFormed history → Shows self.old history → IsHeardAs (HeardShown.Taken None) (moves self.old.nodes history (Comes frame.now)) → IsOk result }
+        ensures ok { (history : History) → IsWellFormed history → Shows self.old history →
+            IfOk result (λ heard. FollowsUnrefused history (moves self.old.nodes history (Comes frame.now)) (Hears heard) self.new) }
+        ensures err { (history : History) → IsWellFormed history → Shows self.old history →
+            IfErr result (IsRefusal (moves self.old.nodes history (Comes frame.now))) }
+        ensures ignored { (history : History) → IsWellFormed history → Shows self.old history →
+            IsHeardAs HeardShown.Ignored (moves self.old.nodes history (Comes frame.now)) → IsOk result }
+        ensures quiet { (history : History) → IsWellFormed history → Shows self.old history →
+            IsHeardAs (HeardShown.Taken None) (moves self.old.nodes history (Comes frame.now)) → IsOk result }
         ensures stays { OnErr result (self.new ≡ self.old) }
         ensures nodes { self.new.nodes ≡ self.old.nodes }
     {
@@ -226,10 +264,10 @@ impl Orchestrator {
     /// an allocation that was refused; where each thing is known as `No` none is asked for.
     pub fn things(&self) -> Result<Vec<(Thing, Known)>, OrchFault>
         ensures agrees { (history : History) → Shows self.now history → IfOk result (λ things. ListsKnown (known history) things.items) }
-        ensures marks { IfOk result (λ things. ListsKnown (view_of self.now).marks things.items) }
+        ensures marks { IfOk result (λ things. ListsKnown (orchestrator_view self.now).marks things.items) }
         ensures order { IfOk result (λ things. IsInOrder things.items) }
         ensures err { IfErr result (λ fault. fault ≡ Fault.NoMemory) }
-        ensures empty { ((thing : ThingShown) → (view_of self.now).marks thing ≡ No) → IsOk result }
+        ensures empty { ((thing : ThingShown) → (orchestrator_view self.now).marks thing ≡ No) → IsOk result }
     {
         things_in(self.core.alloc, self.core.catalog.rows())
     }
@@ -237,7 +275,8 @@ impl Orchestrator {
     /// Starts the next session: every open call is given up, and nothing is sent. Refused with `NumbersSpent` in the
     /// last session, which changes nothing. It takes no memory.
     pub fn restart(&mut self) -> Result<(), OrchFault>
-        ensures ok { (history : History) → IsWellFormed history → Shows self.old history → IfOk result (λ done. IsDone history (moves self.old.nodes history Restarts) Restarted self.new) }
+        ensures ok { (history : History) → IsWellFormed history → Shows self.old history →
+            IfOk result (λ done. FollowsUnrefused history (moves self.old.nodes history Restarts) Restarted self.new) }
         ensures err { (history : History) → IsWellFormed history → Shows self.old history → IfErr result (IsRefusal (moves self.old.nodes history Restarts)) }
         ensures spent { IfErr result (λ fault. fault ≡ Fault.NumbersSpent) }
         ensures stays { OnErr result (self.new ≡ self.old) }

@@ -1,19 +1,20 @@
 //! What becomes of a frame that came: a reply to an open call is taken, and all else is ignored.
 ghost use Rattle.std.specs.Prelude.{◌≡◌, ◌&&◌, Option, Ok, Err, Some, None, IfSome, OnErr, IsOk, map, position, ◌<◌};
 ghost use Rattle.indexmap.specs.IndexMap.{index_map_len};
-ghost use Rattle.csi_types.specs.Same.{same_number as is_same_number, same_kind as is_same_kind};
+ghost use Rattle.csi_types.specs.Model.Same.{same_number as is_same_number, same_kind as is_same_kind};
 ghost use Rattle.csi_orchestrator.specs.declared.fault.Heard.TheVariants.{Ignored as IsIgnored};
-ghost use Rattle.csi_orchestrator.specs.Moves.{Comes, Hears, hears};
-ghost use Rattle.csi_orchestrator.specs.Shown.{row_shown, open_in_row};
-ghost use Rattle.csi_orchestrator.specs.RowMoves.{is_issued_as, row_moves, step_heard, RowsAnswer, IsMoveOf};
-ghost use Rattle.csi_orchestrator.specs.Sound.{IsSound};
-ghost use Rattle.csi_orchestrator.specs.Catalog.{rows_of, IsIndexed};
-ghost use Rattle.csi_orchestrator.specs.CoreParts.{parts_of, IsFiled};
+ghost use Rattle.csi_orchestrator.specs.Model.Moves.{Comes, Hears, hears};
+ghost use Rattle.csi_orchestrator.specs.Public.Shown.{row_shown};
+ghost use Rattle.csi_orchestrator.specs.Model.Shown.{open_in_row};
+ghost use Rattle.csi_orchestrator.specs.Private.RowMoves.{is_issued_as, row_moves, step_heard, RowsAnswer, IsMoveOf};
+ghost use Rattle.csi_orchestrator.specs.Public.Sound.{AreSoundRows};
+ghost use Rattle.csi_orchestrator.specs.Public.Catalog.{rows_of, IsIndexed};
+ghost use Rattle.csi_orchestrator.specs.Public.CoreParts.{orchestrator_parts_shown, IsFiled};
 
 use crate::catalog::Catalog;
 use crate::fault::{Heard, OrchFault};
-use crate::next_call::due_now;
-use crate::row::Row;
+use crate::next_call::open_due;
+use crate::row::{OpenCall, Row};
 use crate::state::OrchestratorCore;
 use crate::step::Step;
 use csi_types::{Body, Frame, Kind, Number, Party, Reply, Status};
@@ -36,8 +37,8 @@ fn same_kind(a: Kind, b: Kind) -> bool
 fn is_replied(row: &Row, number: Number, party: &Party, kind: Kind) -> bool
     ensures { result ≡ is_issued_as number party.now kind (open_in_row (row_shown row.now)) }
 {
-    match (row.open_number, due_now(row)) {
-        (Some(open), Some(due)) => {
+    match (row.open_call, open_due(row)) {
+        (Some(OpenCall { number: open, .. }), Some(due)) => {
             same_number(open, number) && due.is_for(party) && same_kind(due.kind(), kind)
         }
         _ => false,
@@ -80,13 +81,13 @@ impl OrchestratorCore {
     /// sent; where none is sent it takes no memory. Whatever else comes is ignored, which takes none. An
     /// `Err` changes nothing, so that the frame can be delivered again.
     pub fn deliver(&mut self, frame: &Frame) -> Result<Heard, OrchFault>
-        requires sound { IsSound (map row_shown (rows_of self.old.catalog)) }
+        requires sound { AreSoundRows (map row_shown (rows_of self.old.catalog)) }
         requires filed { IsFiled self.old }
-        ensures told { IsMoveOf (parts_of self.old) (parts_of self.new) (Comes frame.now) Hears result }
-        ensures stays { OnErr result (parts_of self.new ≡ parts_of self.old) }
+        ensures told { IsMoveOf (orchestrator_parts_shown self.old) (orchestrator_parts_shown self.new) (Comes frame.now) Hears result }
+        ensures stays { OnErr result (orchestrator_parts_shown self.new ≡ orchestrator_parts_shown self.old) }
         ensures filed { IsFiled self.new }
-        ensures ignored { RowsAnswer (Hears IsIgnored) (row_moves (parts_of self.old) (Comes frame.now)) → IsOk result }
-        ensures quiet { RowsAnswer (hears None) (row_moves (parts_of self.old) (Comes frame.now)) → IsOk result }
+        ensures ignored { RowsAnswer (Hears IsIgnored) (row_moves (orchestrator_parts_shown self.old) (Comes frame.now)) → IsOk result }
+        ensures quiet { RowsAnswer (hears None) (row_moves (orchestrator_parts_shown self.old) (Comes frame.now)) → IsOk result }
     {
         let Body::Reply(kind, reply) = frame.body() else {
             return Ok(Heard::Ignored);

@@ -1,7 +1,7 @@
 //! What an orchestrator keeps of a volume.
 use crate::request::{Arguments, Usage};
 use crate::thing::Known;
-use csi_types::{Capability, Name, NodeId, Number, Target, VolumeId};
+use csi_types::{Capability, Kind, Name, NodeId, Number, Target, VolumeId};
 
 /// What is requested of a volume.
 #[derive(Drop)]
@@ -34,6 +34,13 @@ pub(crate) struct NodeEntry {
     pub target_entries: Vec<TargetEntry>,
 }
 
+/// What a row keeps of its open call, which is the one of this kind for the goal.
+#[derive(Clone, Copy)]
+pub(crate) struct OpenCall {
+    pub number: Number,
+    pub kind: Kind,
+}
+
 /// A volume's row.
 #[derive(Drop)]
 pub(crate) struct Row {
@@ -43,8 +50,7 @@ pub(crate) struct Row {
     pub id: Option<VolumeId>,
     pub exists: Known,
     pub goal: Option<Goal>,
-    /// The number of the open call, which is the one that is due for the goal.
-    pub open_number: Option<Number>,
+    pub open_call: Option<OpenCall>,
     /// How often a call was sent since the goal was set or a success was heard, counted up to 3.
     pub tries: u64,
     pub node_entries: Vec<NodeEntry>,

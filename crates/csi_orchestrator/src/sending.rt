@@ -1,16 +1,16 @@
 //! A call to send, and what its row keeps of it.
 ghost use Rattle.std.specs.Prelude.{◌≡◌, None, Ok, option_map, IfOk, IfErr, IsOk};
-ghost use Rattle.csi_orchestrator.specs.Commands.{next_number as number_after};
-ghost use Rattle.csi_orchestrator.specs.Shown.{row_shown};
-ghost use Rattle.csi_orchestrator.specs.Found.{due_shown, IsQuiet};
-ghost use Rattle.csi_orchestrator.specs.RowMoves.{IsRefusal};
-ghost use Rattle.csi_orchestrator.specs.RowSteps.{outgoing_by, sent_or_dropped};
+ghost use Rattle.csi_orchestrator.specs.Model.Commands.{next_number as number_after};
+ghost use Rattle.csi_orchestrator.specs.Public.Shown.{row_shown};
+ghost use Rattle.csi_orchestrator.specs.Private.Found.{due_shown, IsQuiet};
+ghost use Rattle.csi_orchestrator.specs.Public.RowMoves.{IsRefusal};
+ghost use Rattle.csi_orchestrator.specs.Private.RowSteps.{outgoing_by, sent_or_dropped};
 
 use crate::calls::frame_of;
 use crate::changes::{drop_goal, mark};
 use crate::due::{Due, next_number};
 use crate::fault::OrchFault;
-use crate::row::Row;
+use crate::row::{OpenCall, Row};
 use crate::thing::Known;
 use csi_types::{Frame, Kind, Number};
 
@@ -56,7 +56,10 @@ pub(crate) fn note_sent_or_drop(row: &mut Row, next: &Option<Outgoing>)
     match next {
         Some(next) => {
             mark(row, next.kind, Known::Maybe);
-            row.open_number = Some(next.number);
+            row.open_call = Some(OpenCall {
+                number: next.number,
+                kind: next.kind,
+            });
             row.tries = row.tries.saturating_add(1).min(3);
         }
         None => drop_goal(row),

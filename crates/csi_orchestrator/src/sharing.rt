@@ -1,11 +1,12 @@
 //! Whether a use can be beside what a volume is used for already.
 ghost use Rattle.std.specs.Prelude.{◌≡◌, Some, map, not, ◌&&◌};
 ghost use Rattle.std.specs.List.{list_any};
-ghost use Rattle.csi_types.specs.Same.{same_text};
-ghost use Rattle.csi_orchestrator.specs.Thing.{is_no};
-ghost use Rattle.csi_orchestrator.specs.Commands.{is_for_one_node as is_one_node, is_second_writer as is_second};
-ghost use Rattle.csi_orchestrator.specs.Shown.{node_entry_shown};
-ghost use Rattle.csi_orchestrator.specs.RowRefusals.{is_so_elsewhere, is_entry_otherwise};
+ghost use Rattle.csi_types.specs.Model.Same.{same_text};
+ghost use Rattle.csi_orchestrator.specs.Model.Thing.{is_no};
+ghost use Rattle.csi_orchestrator.specs.Model.Commands.{is_for_one_node as is_one_node, uses_as_second_writer};
+ghost use Rattle.csi_orchestrator.specs.Public.Shown.{node_entry_shown};
+ghost use Rattle.csi_orchestrator.specs.Public.RowRefusals.{is_so_elsewhere};
+ghost use Rattle.csi_orchestrator.specs.Private.RowRefusals.{is_entry_otherwise};
 
 use crate::request::Usage;
 use crate::row::NodeEntry;
@@ -53,7 +54,7 @@ pub(crate) fn is_held_elsewhere(entries: &[NodeEntry], usage: &Usage) -> bool
 
 // Whether it may be attached at this other node, and the use would be a second writer.
 fn writes_beside(usage: &Usage, entry: &NodeEntry) -> bool
-    ensures { result ≡ is_so_elsewhere (is_second usage.now) usage.now.node (node_entry_shown entry.now) }
+    ensures { result ≡ is_so_elsewhere (uses_as_second_writer usage.now) usage.now.node (node_entry_shown entry.now) }
 {
     is_elsewhere(&usage.node, entry)
         && two_writers(
@@ -67,7 +68,7 @@ fn writes_beside(usage: &Usage, entry: &NodeEntry) -> bool
 /// Whether one of these entries is of another node, at which the volume may be attached, both write, and one of the two modes
 /// has a single writer.
 pub(crate) fn is_written_elsewhere(entries: &[NodeEntry], usage: &Usage) -> bool
-    ensures { result ≡ list_any (is_so_elsewhere (is_second usage.now) usage.now.node) (map node_entry_shown entries.now) }
+    ensures { result ≡ list_any (is_so_elsewhere (uses_as_second_writer usage.now) usage.now.node) (map node_entry_shown entries.now) }
 {
     for entry in entries {
         if writes_beside(usage, entry) {

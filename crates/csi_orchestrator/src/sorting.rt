@@ -1,7 +1,7 @@
 //! The order in which things are listed.
 ghost use Rattle.std.specs.Prelude.{◌≡◌};
 ghost use Rattle.std.specs.Option.{option_copied};
-ghost use Rattle.csi_orchestrator.specs.Listing.{node_in, target_in, kind_place, thing_order};
+ghost use Rattle.csi_orchestrator.specs.Public.Listing.{node_of_thing, target_of_thing, kind_place, thing_order};
 
 use crate::thing::{Known, Thing};
 use std::cmp::Ordering;
@@ -17,9 +17,9 @@ struct Place<'a> {
 
 // A thing's place among those of its name.
 fn place_of(thing: &Thing) -> Place<'_>
-    ensures node { option_copied result.node ≡ node_in thing.now }
+    ensures node { option_copied result.node ≡ node_of_thing thing.now }
     ensures kind { result.kind ≡ kind_place thing.now }
-    ensures target { option_copied result.target ≡ target_in thing.now }
+    ensures target { option_copied result.target ≡ target_of_thing thing.now }
 {
     let (node, kind, target) = match thing {
         Thing::Exists { .. } => (None, 0, None),

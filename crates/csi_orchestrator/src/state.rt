@@ -2,10 +2,12 @@
 ghost use Rattle.std.specs.Prelude.{◌≡◌, ◌+◌, ◌<◌, ◌^◌, IfErr, OnErr, OnOk, None, IsTrue, not, nat_lt, map, option_map};
 ghost use Rattle.std.specs.Option.{option_copied};
 ghost use Rattle.csi_orchestrator.specs.declared.fault.OrchFault.{OrchFault as Fault};
-ghost use Rattle.csi_orchestrator.specs.Thing.{name_in};
-ghost use Rattle.csi_orchestrator.specs.Shown.{row_shown, node_entry_shown, row_of, node_entry_of, mark_in, mark_of, published_in, without_call};
-ghost use Rattle.csi_orchestrator.specs.Catalog.{rows_of, IsIndexed};
-ghost use Rattle.csi_orchestrator.specs.CoreParts.{parts_of, IsFiled};
+ghost use Rattle.csi_orchestrator.specs.Model.Thing.{name_in};
+ghost use Rattle.csi_orchestrator.specs.Public.Shown.{row_shown, node_entry_shown};
+ghost use Rattle.csi_orchestrator.specs.Model.Shown.{row_of, node_entry_of, mark_in, mark_of, publication_known};
+ghost use Rattle.csi_orchestrator.specs.Private.Shown.{without_call};
+ghost use Rattle.csi_orchestrator.specs.Public.Catalog.{rows_of, IsIndexed};
+ghost use Rattle.csi_orchestrator.specs.Public.CoreParts.{orchestrator_parts_shown, IsFiled};
 
 use crate::catalog::Catalog;
 use crate::entries::{node_index, target_index};
@@ -37,7 +39,7 @@ pub(crate) fn node_entry_at<'a>(row: &'a Row, node: &NodeId) -> Option<&'a NodeE
 
 // What is known of the volume's publication at the target.
 pub(crate) fn published_at(entry: &NodeEntry, target: &Target) -> Known
-    ensures { result ≡ published_in target.now (node_entry_shown entry.now) }
+    ensures { result ≡ publication_known target.now (node_entry_shown entry.now) }
 {
     match target_index(&entry.target_entries, target) {
         Some(index) => entry.target_entries[index].published,
@@ -84,7 +86,7 @@ impl OrchestratorCore {
         ensures ok { OnOk result (IsTrue (nat_lt (self.old.last.session + 1) (2 ^ 64))
             × (self.new.last ≡ record { session = self.old.last.session + 1; call = 0 }) × (rows_of self.new.catalog ≡ map without_call (rows_of self.old.catalog)) × (self.new.nodes.items ≡ self.old.nodes.items)) }
         ensures err { IfErr result (λ fault. (fault ≡ Fault.NumbersSpent) × IsTrue (not (nat_lt (self.old.last.session + 1) (2 ^ 64)))) }
-        ensures stays { OnErr result (parts_of self.new ≡ parts_of self.old) }
+        ensures stays { OnErr result (orchestrator_parts_shown self.new ≡ orchestrator_parts_shown self.old) }
         ensures filed { IsFiled self.new }
     {
         match self.last.session.checked_add(1) {

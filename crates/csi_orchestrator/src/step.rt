@@ -1,9 +1,9 @@
 //! What is asked of a volume or comes for it, and what becomes of its row.
 ghost use Rattle.std.specs.Prelude.{◌≡◌, false, Ok, Some, IfOk, IfErr, IsOk, OnOk, OnErr};
-ghost use Rattle.csi_orchestrator.specs.RowMoves.{IsRefusal};
-ghost use Rattle.csi_orchestrator.specs.RowSteps.{timed_out, failed, changed, needs_entry, row_sends_due, row_step, SendsNothing};
-ghost use Rattle.csi_orchestrator.specs.Hearing.{Fits};
-ghost use Rattle.csi_orchestrator.specs.Shown.{row_shown};
+ghost use Rattle.csi_orchestrator.specs.Public.RowMoves.{IsRefusal};
+ghost use Rattle.csi_orchestrator.specs.Private.RowSteps.{timed_out, failed, row_before_call, needs_entry, row_sends_due, row_step, SendsNothing};
+ghost use Rattle.csi_orchestrator.specs.Private.Hearing.{IsDueSuccess};
+ghost use Rattle.csi_orchestrator.specs.Public.Shown.{row_shown};
 
 use crate::changes::{stop_use, succeed, want};
 use crate::decision::{Decision, decide};
@@ -42,7 +42,7 @@ fn time_out(row: &mut Row)
     if is_given_up(row) {
         stop_use(row);
     } else {
-        row.open_number = None;
+        row.open_call = None;
     }
 }
 
@@ -54,15 +54,15 @@ fn fail(row: &mut Row)
         Some(goal) => match goal {
             Goal::Create => drop(row.goal.take()),
             Goal::Use(_) => stop_use(row),
-            Goal::Stop { .. } | Goal::Delete => row.open_number = None,
+            Goal::Stop { .. } | Goal::Delete => row.open_call = None,
         },
-        None => row.open_number = None,
+        None => row.open_call = None,
     }
 }
 
 // The row takes the step. A refusal changes nothing; only a use takes memory.
 fn change(alloc: Global, row: &mut Row, step: Step) -> Result<(), OrchFault>
-    ensures ok { OnOk result (row_shown row.new ≡ changed step (row_shown row.old)) }
+    ensures ok { OnOk result (row_shown row.new ≡ row_before_call step (row_shown row.old)) }
     ensures stays { OnErr result (row_shown row.new ≡ row_shown row.old) }
     ensures memory { IfErr result (λ fault. fault ≡ OrchFault.NoMemory) }
     ensures sure { needs_entry step ≡ false → IsOk result }
@@ -92,11 +92,14 @@ fn send_due(
     last: Number,
     step: Step,
 ) -> Result<Option<Outgoing>, OrchFault>
-    requires { Fits step (row_shown row.old) }
-    ensures ok { IfOk result (λ next. row_sends_due last (changed step (row_shown row.old)) ≡ Ok (record { outgoing = next; row = row_shown row.new })) }
-    ensures err { IfErr result (IsRefusal (row_sends_due last (changed step (row_shown row.old)))) }
+    requires { IsDueSuccess step (row_shown row.old) }
+    ensures ok { IfOk result (λ next. row_sends_due last (row_before_call step (row_shown row.old)) ≡ Ok (record {
+      outgoing = next;
+      row = row_shown row.new;
+    })) }
+    ensures err { IfErr result (IsRefusal (row_sends_due last (row_before_call step (row_shown row.old)))) }
     ensures stays { OnErr result (row_shown row.new ≡ row_shown row.old) }
-    ensures quiet { needs_entry step ≡ false → SendsNothing (row_sends_due last (changed step (row_shown row.old))) → IsOk result }
+    ensures quiet { needs_entry step ≡ false → SendsNothing (row_sends_due last (row_before_call step (row_shown row.old))) → IsOk result }
     ensures delete { step ≡ Step.Delete → IfErr result (λ fault. fault ≡ OrchFault.NoMemory → ⊥) }
 {
     let next = match outgoing_for(last, &due_then(row, &step)) {
@@ -123,7 +126,7 @@ pub(crate) fn take(
     last: Number,
     step: Step,
 ) -> Result<Option<Outgoing>, OrchFault>
-    requires { Fits step (row_shown row.old) }
+    requires { IsDueSuccess step (row_shown row.old) }
     ensures ok { IfOk result (λ next. row_step nodes.now last step (row_shown row.old) ≡ Ok (record { outgoing = next; row = row_shown row.new })) }
     ensures err { IfErr result (IsRefusal (row_step nodes.now last step (row_shown row.old))) }
     ensures stays { OnErr result (row_shown row.new ≡ row_shown row.old) }
@@ -141,7 +144,7 @@ pub(crate) fn take(
         }
         Decision::Wait => {
             drop(step);
-            row.open_number = None;
+            row.open_call = None;
             Ok(None)
         }
         Decision::Send => send_due(alloc, row, last, step),

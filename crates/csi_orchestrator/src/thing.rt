@@ -1,8 +1,8 @@
 //! What an orchestrator does and undoes.
 ghost use Rattle.std.specs.Prelude.{◌≡◌, IfOk};
 ghost use Rattle.csi_orchestrator.specs.declared.thing.Thing.TheVariants as things;
-ghost use Rattle.csi_orchestrator.specs.Listing.{lent_thing};
-ghost use Rattle.csi_orchestrator.specs.Thing.{name_in, is_yes, is_no};
+ghost use Rattle.csi_orchestrator.specs.Private.Listing.{lent_thing};
+ghost use Rattle.csi_orchestrator.specs.Model.Thing.{name_in, is_yes, is_no};
 
 use csi_types::{Name, NodeId, Target};
 use std::alloc::AllocError;

@@ -1,5 +1,5 @@
 //! Worked examples of what an orchestrator does.
-ghost use Rattle.csi_orchestrator.specs.Worked.{PublishedRow, OneNodeRow, SingleWriterRow, LateReplyRow, RestartRow, UndoneRow, SpentRow, RefusedCreateRow, RefusedPublishRow, TwoTargetsRow, RefusedUnstageRow, MetRow, DeletedRow, NewAgrees};
+ghost use Rattle.csi_orchestrator.specs.Private.Worked.{PublishedRow, OneNodeRow, SingleWriterRow, LateReplyRow, RestartRow, UndoneRow, SpentRow, RefusedCreateRow, RefusedPublishRow, TwoTargetsRow, RefusedUnstageRow, MetRow, DeletedRow, NewAgrees};
 
 // Proves each worked example, and does nothing.
 fn worked_rows()

@@ -7,52 +7,52 @@ use Rattle.csi_types.specs.declared.call.Call.{Call}
 use Rattle.csi_types.specs.declared.call.Call.TheVariants as calls
 use Rattle.csi_types.specs.declared.frame.Body.{Body}
 use Rattle.csi_types.specs.declared.frame.Body.TheVariants as bodies
-use Rattle.csi_types.specs.Frame.{Frame}
-use Rattle.csi_types.specs.Same.{same_text}
+use Rattle.csi_types.specs.Model.Frame.{Frame}
+use Rattle.csi_types.specs.Model.Same.{same_text}
 use Rattle.csi_types.specs.declared.event.Event.{Event}
 use Rattle.csi_world.specs.declared.outcomes.Outcome.{Outcome}
-use Rattle.csi_world.specs.Simulated.{WorldParts}
-use Rattle.csi_pictures.specs.Scene.{lane_of, delivered, succeeded}
-use Rattle.csi_pictures.specs.Bars.{detaches, unstages, unpublishes, undoes, undoes_at, undone_by, ends, end_row, attaches, stages, publishes, is_same_thing}
-use Rattle.csi_pictures.specs.Begun.{asks_at, asked_by, asks_again}
-use Rattle.csi_pictures.specs.Links.{volume_of, chain_in, chain_by, chain_of, is_other, next_of}
+use Rattle.csi_world.specs.Model.Simulated.{WorldParts}
+use Rattle.csi_pictures.specs.Public.Scene.{lane_of, frame_delivered, was_answered_ok}
+use Rattle.csi_pictures.specs.Public.Bars.{detaches, unstages, unpublishes, undoes_call, undoes_at, undone_by, ends, end_row, attaches, stages, publishes, is_same_thing}
+use Rattle.csi_pictures.specs.Private.Begun.{asks_at, asks_by_frame, asks_again}
+use Rattle.csi_pictures.specs.Private.Links.{volume_number, chain_in, chain_by, chain_of, is_other, next_of}
 
 -- ---- the volume of what undoes a call, or asks for the same thing
 
 same-id : (id volume : ℕ) (b : Bool) → ((id == volume) && b) ≡ true → id ≡ volume
 same-id id volume b h = let test : (id == volume) ≡ true = (and_parts (id == volume) b h).0 in grind (arith, nat_tests, test)
 
-detaches-volume : (volume : ℕ) (from : List ℕ) (call : Call) → detaches volume from call ≡ true → volume_of call ≡ volume
+detaches-volume : (volume : ℕ) (from : List ℕ) (call : Call) → detaches volume from call ≡ true → volume_number call ≡ volume
 detaches-volume volume from (calls.ControllerUnpublishVolume id node) h = same-id id volume (same_text node from) h
 detaches-volume volume from _ h = absurd (false≢true h)
 
-unstages-volume : (volume : ℕ) (call : Call) → unstages volume call ≡ true → volume_of call ≡ volume
+unstages-volume : (volume : ℕ) (call : Call) → unstages volume call ≡ true → volume_number call ≡ volume
 unstages-volume volume (calls.NodeUnstageVolume id) h = grind (arith, nat_tests, h)
 unstages-volume volume _ h = absurd (false≢true h)
 
-unpublishes-volume : (volume : ℕ) (at : List ℕ) (call : Call) → unpublishes volume at call ≡ true → volume_of call ≡ volume
+unpublishes-volume : (volume : ℕ) (at : List ℕ) (call : Call) → unpublishes volume at call ≡ true → volume_number call ≡ volume
 unpublishes-volume volume at (calls.NodeUnpublishVolume id target) h = same-id id volume (same_text target at) h
 unpublishes-volume volume at _ h = absurd (false≢true h)
 
-undoes-volume : (begun call : Call) → undoes begun call ≡ true → volume_of call ≡ volume_of begun
+undoes-volume : (begun call : Call) → undoes_call begun call ≡ true → volume_number call ≡ volume_number begun
 undoes-volume (calls.ControllerPublishVolume id node capability readonly) call h = detaches-volume id node call h
 undoes-volume (calls.NodeStageVolume id capability) call h = unstages-volume id call h
 undoes-volume (calls.NodePublishVolume id target capability readonly) call h = unpublishes-volume id target call h
 undoes-volume _ call h = absurd (false≢true h)
 
-attaches-volume : (volume : ℕ) (at : List ℕ) (call : Call) → attaches volume at call ≡ true → volume_of call ≡ volume
+attaches-volume : (volume : ℕ) (at : List ℕ) (call : Call) → attaches volume at call ≡ true → volume_number call ≡ volume
 attaches-volume volume at (calls.ControllerPublishVolume id node capability readonly) h = same-id id volume (same_text node at) h
 attaches-volume volume at _ h = absurd (false≢true h)
 
-stages-volume : (volume : ℕ) (call : Call) → stages volume call ≡ true → volume_of call ≡ volume
+stages-volume : (volume : ℕ) (call : Call) → stages volume call ≡ true → volume_number call ≡ volume
 stages-volume volume (calls.NodeStageVolume id capability) h = grind (arith, nat_tests, h)
 stages-volume volume _ h = absurd (false≢true h)
 
-publishes-volume : (volume : ℕ) (at : List ℕ) (call : Call) → publishes volume at call ≡ true → volume_of call ≡ volume
+publishes-volume : (volume : ℕ) (at : List ℕ) (call : Call) → publishes volume at call ≡ true → volume_number call ≡ volume
 publishes-volume volume at (calls.NodePublishVolume id target capability readonly) h = same-id id volume (same_text target at) h
 publishes-volume volume at _ h = absurd (false≢true h)
 
-same-volume : (begun call : Call) → is_same_thing begun call ≡ true → volume_of call ≡ volume_of begun
+same-volume : (begun call : Call) → is_same_thing begun call ≡ true → volume_number call ≡ volume_number begun
 same-volume (calls.ControllerPublishVolume id node capability readonly) call h = attaches-volume id node call h
 same-volume (calls.NodeStageVolume id capability) call h = stages-volume id call h
 same-volume (calls.NodePublishVolume id target capability readonly) call h = publishes-volume id target call h
@@ -65,27 +65,27 @@ and-no true = refl
 and-no false = refl
 
 module _ (world : WorldParts) (lane : ℕ) (begun : Call) (last : ℕ) where
-  undone-chain : (to : ℕ) (body : Body) → undoes_at to lane begun body ≡ true → chain_in last body ≡ min (volume_of begun) last
-  undone-chain to (bodies.Call call) h = ap (λ (v : ℕ). min v last) (undoes-volume begun call (and_parts (to == lane) (undoes begun call) h).1)
+  undone-chain : (to : ℕ) (body : Body) → undoes_at to lane begun body ≡ true → chain_in last body ≡ min (volume_number begun) last
+  undone-chain to (bodies.Call call) h = ap (λ (v : ℕ). min v last) (undoes-volume begun call (and_parts (to == lane) (undoes_call begun call) h).1)
   undone-chain to (bodies.Reply kind reply) h = absurd (false≢true h)
 
-  undone-frame : (frame : Option Frame) → undone_by world lane begun frame ≡ true → chain_by last frame ≡ min (volume_of begun) last
+  undone-frame : (frame : Option Frame) → undone_by world lane begun frame ≡ true → chain_by last frame ≡ min (volume_number begun) last
   undone-frame None h = absurd (false≢true h)
   undone-frame (Some frame) h = undone-chain (lane_of world.nodes frame.party) frame.body h
 
-  ends-chain : (event : Event) (came : Option Outcome) → ends world lane begun event came ≡ true → chain_of world.frames last event ≡ min (volume_of begun) last
+  ends-chain : (event : Event) (came : Option Outcome) → ends world lane begun event came ≡ true → chain_of world.frames last event ≡ min (volume_number begun) last
   ends-chain event None h = absurd (false≢true h)
-  ends-chain event (Some outcome) h = by (succeeded world.frames outcome) h
+  ends-chain event (Some outcome) h = by (was_answered_ok world.frames outcome) h
     where
-      by : (b : Bool) → (if b then undone_by world lane begun (delivered world.frames event) else false) ≡ true → chain_of world.frames last event ≡ min (volume_of begun) last
-      by true e = undone-frame (delivered world.frames event) e
+      by : (b : Bool) → (if b then undone_by world lane begun (frame_delivered world.frames event) else false) ≡ true → chain_of world.frames last event ≡ min (volume_number begun) last
+      by true e = undone-frame (frame_delivered world.frames event) e
       by false e = absurd (false≢true e)
 
-  asked-chain : (to : ℕ) (body : Body) → asks_at to lane begun body ≡ true → chain_in last body ≡ min (volume_of begun) last
+  asked-chain : (to : ℕ) (body : Body) → asks_at to lane begun body ≡ true → chain_in last body ≡ min (volume_number begun) last
   asked-chain to (bodies.Call call) h = ap (λ (v : ℕ). min v last) (same-volume begun call (and_parts (lane == to) (is_same_thing begun call) h).1)
   asked-chain to (bodies.Reply kind reply) h = absurd (false≢true h)
 
-  asked-frame : (frame : Option Frame) → asked_by world lane begun frame ≡ true → chain_by last frame ≡ min (volume_of begun) last
+  asked-frame : (frame : Option Frame) → asks_by_frame world lane begun frame ≡ true → chain_by last frame ≡ min (volume_number begun) last
   asked-frame None h = absurd (false≢true h)
   asked-frame (Some frame) h = asked-chain (lane_of world.nodes frame.party) frame.body h
 
@@ -93,19 +93,19 @@ module _ (world : WorldParts) (lane : ℕ) (begun : Call) (last : ℕ) where
   not-both a b same other = let test : (a == b) ≡ true = grind (arith, nat_tests, same) in false≢true (sym (ap (λ (t : Bool). not t) test) ∙ other)
 
   -- an event of another chain doesn't end the bar
-  pub ends-not : (event : Event) (came : Option Outcome) → is_other world.frames last (min (volume_of begun) last) event ≡ true → ends world lane begun event came ≡ false
-  ends-not event came other = false_from_ne_true (ends world lane begun event came) (λ h. not-both (chain_of world.frames last event) (min (volume_of begun) last) (ends-chain event came h) other)
+  pub ends-not : (event : Event) (came : Option Outcome) → is_other world.frames last (min (volume_number begun) last) event ≡ true → ends world lane begun event came ≡ false
+  ends-not event came other = false_from_ne_true (ends world lane begun event came) (λ h. not-both (chain_of world.frames last event) (min (volume_number begun) last) (ends-chain event came h) other)
 
   -- and doesn't ask for the same thing
-  pub asks-not : (event : Event) → is_other world.frames last (min (volume_of begun) last) event ≡ true → asks_again world lane begun event ≡ false
-  asks-not event other = false_from_ne_true (asks_again world lane begun event) (λ h. not-both (chain_of world.frames last event) (min (volume_of begun) last) (asked-frame (delivered world.frames event) h) other)
+  pub asks-not : (event : Event) → is_other world.frames last (min (volume_number begun) last) event ≡ true → asks_again world lane begun event ≡ false
+  asks-not event other = false_from_ne_true (asks_again world lane begun event) (λ h. not-both (chain_of world.frames last event) (min (volume_number begun) last) (asked-frame (frame_delivered world.frames event) h) other)
 
 -- ---- the end of the bar
 
 module _ (world : WorldParts) (events : List Event) (lane : ℕ) (begun : Call) (row : ℕ) where
   -- the event is of another chain than the call
   abbrev others : Event → Bool
-  others event = is_other world.frames (length events) (min (volume_of begun) (length events)) event
+  others event = is_other world.frames (length events) (min (volume_number begun) (length events)) event
 
   one-on : (place : ℕ) (event : Event) (es : List Event) → ends world lane begun event (slice_get world.outcomes place) ≡ false → end_row world lane begun row place (event ∷ es) ≡ end_row world lane begun row (suc place) es
   one-on place event es goes =
@@ -129,7 +129,7 @@ module _ (world : WorldParts) (events : List Event) (lane : ℕ) (begun : Call) 
 
   -- from any place the search goes on at the next event of the chain
   pub goes-on : (place : ℕ) → end_row world lane begun row place (drop place events)
-      ≡ end_row world lane begun row (next_of world.frames events (min (volume_of begun) (length events)) place) (drop (next_of world.frames events (min (volume_of begun) (length events)) place) events)
+      ≡ end_row world lane begun row (next_of world.frames events (min (volume_number begun) (length events)) place) (drop (next_of world.frames events (min (volume_number begun) (length events)) place) events)
   goes-on place =
       skip (drop place events) place
       ∙ ap (λ (es : List Event). end_row world lane begun row (place + prefix_len others (drop place events)) es) (drop-drop (prefix_len others (drop place events)) place events)

@@ -9,21 +9,21 @@ use Rattle.csi_types.specs.declared.call.Party.{Party}
 use Rattle.csi_types.specs.declared.call.Party.TheVariants as parties
 use Rattle.csi_types.specs.declared.frame.Body.{Body}
 use Rattle.csi_types.specs.declared.frame.Body.TheVariants as bodies
-use Rattle.csi_types.specs.Frame.{Frame}
-use Rattle.csi_types.specs.Same.{same_text}
+use Rattle.csi_types.specs.Model.Frame.{Frame}
+use Rattle.csi_types.specs.Model.Same.{same_text}
 use Rattle.csi_types.specs.declared.event.Event.{Event}
 use Rattle.csi_types.specs.declared.event.Event.TheVariants as happens
-use Rattle.csi_node.specs.Record.{NodeParts}
-use Rattle.csi_world.specs.Simulated.{WorldParts}
-use Rattle.csi_world.specs.Simulating.{numbered}
+use Rattle.csi_node.specs.Model.Record.{NodeParts}
+use Rattle.csi_world.specs.Model.Simulated.{WorldParts}
+use Rattle.csi_world.specs.Public.Simulating.{numbered}
 use Rattle.csi_pictures.specs.declared.bars.Bar.{Bar}
 use Rattle.csi_pictures.specs.declared.columns.Columns.{Columns}
 use Rattle.csi_pictures.specs.declared.bars.Lasting.{Lasting}
-use Rattle.csi_pictures.specs.Scene.{lane_of, node_lane, delivered}
-use Rattle.csi_pictures.specs.Bars.{is_same_thing, asks_in, asks_for, is_shown, is_shown_by, is_taken, is_taken_by, free_among, end_row, bar_of, lasting_of, with_lasting}
-use Rattle.csi_pictures.specs.Columns.{first_free, with_row, rows_at, AreBlank}
-use Rattle.csi_pictures.specs.Links.{chain_by, chain_in, chain_of}
-use Rattle.csi_pictures.specs.Begun.{asks_again, asked_by, asks_at, IsOfChain, AreMarked, IsDelivery, shown_in, shown_by, shown_at, AreKept}
+use Rattle.csi_pictures.specs.Public.Scene.{lane_of, node_lane, frame_delivered}
+use Rattle.csi_pictures.specs.Public.Bars.{is_same_thing, asks_in, asks_for, is_shown, is_shown_by, is_taken, is_taken_by, free_among, end_row, bar_of, lasting_of, with_lasting}
+use Rattle.csi_pictures.specs.Private.Columns.{first_free, with_row, rows_at, AreBlank}
+use Rattle.csi_pictures.specs.Private.Links.{chain_by, chain_in, chain_of}
+use Rattle.csi_pictures.specs.Private.Begun.{asks_again, asks_by_frame, asks_at, IsOfChain, AreMarked, IsDelivery, shown_in, shown_by, shown_at, AreKept}
 use Rattle.csi_pictures.proofs.WaysNoted.{written}
 
 -- ---- the first free column
@@ -230,7 +230,7 @@ module _ (world : WorldParts) (events : List Event) (place number lane : ℕ) (c
       none true = refl
       none false = refl
 
-  shown-more-by : (bars : List Bar) (row : ℕ) (frame : Option Frame) → shown_by world (bars ++ bar ∷ []) row frame ≡ (shown_by world bars row frame || (nat_lt row bar.to && asked_by world lane call frame))
+  shown-more-by : (bars : List Bar) (row : ℕ) (frame : Option Frame) → shown_by world (bars ++ bar ∷ []) row frame ≡ (shown_by world bars row frame || (nat_lt row bar.to && asks_by_frame world lane call frame))
   shown-more-by bars row None = none (nat_lt row bar.to)
     where
       none : (b : Bool) → false ≡ (false || (b && false))
@@ -240,7 +240,7 @@ module _ (world : WorldParts) (events : List Event) (place number lane : ℕ) (c
 
   -- what the new bar shows beside what the others do
   shown-more : (bars : List Bar) (at : ℕ) (event : Event) → shown_at world (bars ++ bar ∷ []) at event ≡ (shown_at world bars at event || (nat_lt (at + 1) bar.to && asks_again world lane call event))
-  shown-more bars at event = shown-more-by bars (at + 1) (delivered world.frames event)
+  shown-more bars at event = shown-more-by bars (at + 1) (frame_delivered world.frames event)
 
 -- ---- and the columns
 
@@ -372,7 +372,7 @@ nothing-shown world row (Some frame) = nothing-in world row (lane_of world.nodes
 kept-none : (world : WorldParts) (events : List Event) (lanes : List Columns) → AreBlank (length world.nodes + 4) lanes → AreKept world events 0 [] (replicate (length events) false) lanes
 kept-none world events lanes none = record {
   size = length-replicate (length events) false;
-  marked = λ at event above within is. unmarked (length events) at ∙ sym (nothing-shown world (at + 1) (delivered world.frames event));
+  marked = λ at event above within is. unmarked (length events) at ∙ sym (nothing-shown world (at + 1) (frame_delivered world.frames event));
   count = none.count;
   taken = λ lane column row above.
       (let low : nat_le row 0 ≡ false = grind (arith, nat_tests, above) in sym (ap (λ (rows : List ℕ). nat_le row (get_or rows column 0)) (none.blank lane) ∙ low));

@@ -4,9 +4,9 @@ use Rattle.std.specs.List.{prefix_len}
 use Rattle.std.proofs.lemmas.List.Sums.{prefix_len-drop_yes, prefix_len-drop_no, prefix_len-drop_all, prefix_len-le-length, prefix_len_passes, prefix_len_stops}
 use Rattle.std.proofs.lemmas.List.{get_or_default, get_or-drop, length-drop}
 use Rattle.std.proofs.lemmas.Bool.Decides.{nat_tests}
-use Rattle.csi_types.specs.Frame.{Frame}
+use Rattle.csi_types.specs.Model.Frame.{Frame}
 use Rattle.csi_types.specs.declared.event.Event.{Event}
-use Rattle.csi_pictures.specs.Links.{chain_of, is_other, next_of}
+use Rattle.csi_pictures.specs.Private.Links.{chain_of, is_other, next_of}
 use Rattle.csi_pictures.proofs.WaysNoted.{written}
 
 module _ (frames : List Frame) (events : List Event) where

@@ -4,7 +4,7 @@ use Rattle.std.proofs.lemmas.List.{get_or-set_same, get_or-set_other, take-appen
 use Rattle.std.proofs.lemmas.Bool.Decides.{nat_tests}
 use Rattle.csi_types.specs.declared.event.Event.{Event}
 use Rattle.csi_world.specs.declared.outcomes.Outcome.{Outcome}
-use Rattle.csi_pictures.specs.Scene.{comes_by, delivered_from}
+use Rattle.csi_pictures.specs.Public.Scene.{comes_by, delivered_from}
 
 -- what is written at a place is read there, and what was there before at every other one
 pub written : {X : Type 0} (xs : List X) (at number : ℕ) (y d : X) → at < length xs → get_or (set xs at y) number d ≡ (if at == number then y else get_or xs number d)

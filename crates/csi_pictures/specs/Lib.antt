@@ -1,13 +1,2 @@
-pub mod Pieces
-pub mod Escaping
-pub mod Elements
-pub mod Scene
-pub mod Rows
-pub mod Front
-pub mod Lanes
-pub mod Picture
-pub mod Bars
-pub mod Ways
-pub mod Links
-pub mod Columns
-pub mod Begun
+pub mod Public
+pub mod Private

@@ -2,10 +2,10 @@
 //! that undid it.
 ghost use Rattle.std.specs.Prelude.{◌≡◌, ◌+◌, ◌++◌, ◌<◌, ◌==◌, ◌&&◌, ◌||◌, ℕ, [], false, IfOk, OnOk, length, get_or, slice_get, string_bytes};
 ghost use Rattle.std.specs.List.{flat_map};
-ghost use Rattle.csi_types.specs.Same.{same_text};
-ghost use Rattle.csi_pictures.specs.Bars.{undoes as undoes_by, ends as ends_by, end_row as end_by, is_same_thing as same_thing, lasting_of as lasting_by, with_lasting, with_both, bars_to, class_of as class_by, bar as bar_drawn};
-ghost use Rattle.csi_pictures.specs.Begun.{asks_again as asks_again_by, IsOfChain, AreMarked, IsDelivery, IsKept};
-ghost use Rattle.csi_pictures.specs.Links.{AreLinks};
+ghost use Rattle.csi_types.specs.Model.Same.{same_text};
+ghost use Rattle.csi_pictures.specs.Public.Bars.{undoes_call, ends as ends_by, end_row as end_by, is_same_thing as same_thing, lasting_of as lasting_by, with_lasting, with_both, bars_to, bar_class, bar as bar_drawn};
+ghost use Rattle.csi_pictures.specs.Private.Begun.{asks_again as asks_again_by, IsOfChain, AreMarked, IsDelivery, IsBegunKept};
+ghost use Rattle.csi_pictures.specs.Private.Links.{AreLinks};
 
 use crate::columns::{Columns, blank_columns, take_column};
 use crate::links::{link_at, links_of};
@@ -28,7 +28,7 @@ fn is_same_target(a: &Target, b: &Target) -> bool
 
 // Whether a call to the same plugin undoes what the first one does.
 fn undoes(begun: &Call, call: &Call) -> bool
-    ensures { result ≡ undoes_by begun.now call.now }
+    ensures { result ≡ undoes_call begun.now call.now }
 {
     match begun {
         Call::ControllerPublishVolume { id, node, .. } => match call {
@@ -216,11 +216,12 @@ fn add_call(
     lane: usize,
     call: &Call,
 ) -> Result<(), AllocError>
-    requires kept { IsKept world.now events.now place begun.old }
+    requires kept { IsBegunKept world.now events.now place begun.old }
     requires links { AreLinks (world.now).frames events.now links.now }
     requires event { IsDelivery world.now events.now place number lane call.now }
-    ensures bars { OnOk result (begun.new.bars.items ≡ with_lasting world.now events.now begun.old.bars.items (place + 1) number lane call.now (lasting_by call.now)) }
-    ensures kept { OnOk result (IsKept world.now events.now (place + 1) begun.new) }
+    ensures bars { OnOk result (begun.new.bars.items ≡ with_lasting world.now events.now begun.old.bars.items (place + 1) number lane call.now
+        (lasting_by call.now)) }
+    ensures kept { OnOk result (IsBegunKept world.now events.now (place + 1) begun.new) }
 {
     let Some(what) = lasting_of(call) else {
         return Ok(());
@@ -251,10 +252,11 @@ fn add_at(
     links: &[usize],
     place: usize,
 ) -> Result<(), AllocError>
-    requires kept { IsKept world.now events.now place begun.old }
+    requires kept { IsBegunKept world.now events.now place begun.old }
     requires links { AreLinks (world.now).frames events.now links.now }
-    ensures bars { OnOk result (begun.new.bars.items ≡ with_both world.now events.now begun.old.bars.items (place + 1) (slice_get events.now place) (slice_get (world.now).outcomes place)) }
-    ensures kept { OnOk result (IsKept world.now events.now (place + 1) begun.new) }
+    ensures bars { OnOk result (begun.new.bars.items ≡ with_both world.now events.now begun.old.bars.items (place + 1) (slice_get events.now place)
+        (slice_get (world.now).outcomes place)) }
+    ensures kept { OnOk result (IsBegunKept world.now events.now (place + 1) begun.new) }
 {
     let Some(event) = events.get(place) else {
         return Ok(());
@@ -283,7 +285,7 @@ fn add_at(
 // Nothing is begun yet.
 fn none_begun(alloc: Global, world: &World, events: &[Event]) -> Result<Begun, AllocError>
     ensures bars { IfOk result (λ begun. begun.bars.items ≡ []) }
-    ensures kept { IfOk result (IsKept world.now events.now 0) }
+    ensures kept { IfOk result (IsBegunKept world.now events.now 0) }
 {
     let marks = vec![in alloc; false; events.len()]?;
     let lanes = blank_columns(alloc, world.nodes().len() + 4)?;
@@ -317,7 +319,7 @@ pub(crate) fn bars_of(
 
 // How a bar is drawn.
 fn class_of(what: Lasting) -> &'static str
-    ensures { result.now ≡ class_by what }
+    ensures { result.now ≡ bar_class what }
 {
     match what {
         Lasting::Attached => "attached",

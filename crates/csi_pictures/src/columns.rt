@@ -1,6 +1,6 @@
 //! The columns of the lanes.
 ghost use Rattle.std.specs.Prelude.{◌≡◌, ◌≤◌, IfOk, OnOk, length};
-ghost use Rattle.csi_pictures.specs.Columns.{first_free as first_by, with_row, AreBlank};
+ghost use Rattle.csi_pictures.specs.Private.Columns.{first_free as first_by, with_row, AreBlank};
 
 use std::alloc::{AllocError, Global};
 

@@ -1,7 +1,7 @@
 //! The elements of a picture. A row is 100 units high and a lane 1,000 wide, of which its band has 90, so that a place is the
 //! number of a row or a lane and a few digits behind it.
 ghost use Rattle.std.specs.Prelude.{◌≡◌, ◌++◌, OnOk, string_bytes};
-ghost use Rattle.csi_pictures.specs.Elements.{arrow};
+ghost use Rattle.csi_pictures.specs.Public.Elements.{arrow};
 
 use std::alloc::AllocError;
 

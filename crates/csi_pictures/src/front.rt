@@ -1,11 +1,11 @@
 //! What stands at the front of a picture.
 ghost use Rattle.std.specs.Prelude.{◌≡◌, ◌++◌, OnOk, string_bytes};
-ghost use Rattle.csi_pictures.specs.Front.{found, front, style as style_drawn, shapes as shapes_drawn, legend as legend_drawn};
+ghost use Rattle.csi_pictures.specs.Public.Front.{found, picture_front, style as style_drawn, shapes as shapes_drawn, legend as legend_drawn};
 
 use std::alloc::AllocError;
 
 // How each class of lines and texts is drawn. No two ways differ in colour alone.
-#[tactic(auto, unfolding(crate::specs::Front::style))]
+#[tactic(auto, unfolding(crate::specs::Public::Front::style))]
 fn style() -> &'static str
     ensures { result.now ≡ style_drawn }
 {
@@ -13,7 +13,7 @@ fn style() -> &'static str
 }
 
 // The shapes that are drawn again and again.
-#[tactic(auto, unfolding(crate::specs::Front::shapes))]
+#[tactic(auto, unfolding(crate::specs::Public::Front::shapes))]
 fn shapes() -> &'static str
     ensures { result.now ≡ shapes_drawn }
 {
@@ -21,7 +21,7 @@ fn shapes() -> &'static str
 }
 
 // What the colours and shapes mean.
-#[tactic(auto, unfolding(crate::specs::Front::legend))]
+#[tactic(auto, unfolding(crate::specs::Public::Front::legend))]
 fn legend() -> &'static str
     ensures { result.now ≡ legend_drawn }
 {
@@ -44,7 +44,7 @@ pub fn put_front(
     frames: u64,
     is_safe: bool,
 ) -> Result<(), AllocError>
-    ensures { OnOk result (string_bytes out.new ≡ string_bytes out.old ++ front last lowest events frames is_safe) }
+    ensures { OnOk result (string_bytes out.new ≡ string_bytes out.old ++ picture_front last lowest events frames is_safe) }
 {
     let style = style();
     let shapes = shapes();

@@ -1,7 +1,7 @@
 //! The lanes, and their names.
 ghost use Rattle.std.specs.Prelude.{◌≡◌, ◌++◌, OnOk, length, string_bytes};
-ghost use Rattle.csi_pictures.specs.Lanes.{part_of, node_part, all_parts};
-ghost use Rattle.csi_pictures.specs.Pieces.{each};
+ghost use Rattle.csi_pictures.specs.Public.Lanes.{part_of, node_part, all_parts};
+ghost use Rattle.csi_pictures.specs.Public.Pieces.{each};
 
 use crate::escaping::Escaped;
 use csi_node::Node;
@@ -17,7 +17,7 @@ pub enum Part {
 }
 
 // Appends this part of a lane.
-#[tactic(auto, unfolding(crate::specs::Lanes::name_again))]
+#[tactic(auto, unfolding(crate::specs::Public::Lanes::name_again))]
 fn put_part(
     out: &mut String,
     part: Part,

@@ -1,6 +1,6 @@
 //! Which events deliver calls about the same volume: from each a link leads to the next one.
 ghost use Rattle.std.specs.Prelude.{◌≡◌, ◌≤◌, length, get_or, IfOk};
-ghost use Rattle.csi_pictures.specs.Links.{volume_of as volume_by, chain_of as chain_by, AreLinks};
+ghost use Rattle.csi_pictures.specs.Private.Links.{volume_number, chain_of as chain_by, AreLinks};
 
 use csi_types::{Body, Call};
 use csi_world::{Event, World};
@@ -8,7 +8,7 @@ use std::alloc::{AllocError, Global};
 
 // The number of the volume that a call is about; 0 where it has none yet.
 fn volume_of(call: &Call) -> u64
-    ensures { result ≡ volume_by call.now }
+    ensures { result ≡ volume_number call.now }
 {
     match call {
         Call::CreateVolume { .. } => 0,

@@ -2,12 +2,12 @@
 ghost use Rattle.std.specs.Prelude.{◌≡◌, ◌++◌, ◌+◌, List, IfOk, OnOk, length, string_bytes};
 ghost use Rattle.std.specs.List.{flat_map};
 ghost use Rattle.csi_types.specs.declared.event.Event.{Event as Happening};
-ghost use Rattle.csi_pictures.specs.Bars.{bar, bars_to};
-ghost use Rattle.csi_pictures.specs.Lanes.{names_at};
-ghost use Rattle.csi_pictures.specs.Pieces.{each};
-ghost use Rattle.csi_pictures.specs.Picture.{passage, sent_frame, event_over, layer_at, picture, IsPicture};
-ghost use Rattle.csi_pictures.specs.Scene.{sent_number as sent_by};
-ghost use Rattle.csi_pictures.specs.Ways.{AreSentRows, AreDelivered, AreWays};
+ghost use Rattle.csi_pictures.specs.Public.Bars.{bar, bars_to};
+ghost use Rattle.csi_pictures.specs.Public.Lanes.{names_at};
+ghost use Rattle.csi_pictures.specs.Public.Pieces.{each};
+ghost use Rattle.csi_pictures.specs.Public.Picture.{passage, sent_frame_text, event_over, layer_at, picture, IsPicture};
+ghost use Rattle.csi_pictures.specs.Public.Scene.{sent_number as sent_by};
+ghost use Rattle.csi_pictures.specs.Private.Ways.{AreSentRows, AreDelivered, AreWays};
 
 use crate::bars::{bars_of, put_bars};
 use crate::elements::put_arrow;
@@ -83,7 +83,8 @@ fn put_sent(
     row: usize,
     outcome: Outcome,
 ) -> Result<(), AllocError>
-    ensures { (events : List Happening) → AreDelivered (world.now).outcomes events (world.now).frames marks.now → OnOk result (string_bytes out.new ≡ string_bytes out.old ++ sent_frame world.now events row (sent_by outcome)) }
+    ensures { (events : List Happening) → AreDelivered (world.now).outcomes events (world.now).frames marks.now →
+        OnOk result (string_bytes out.new ≡ string_bytes out.old ++ sent_frame_text world.now events row (sent_by outcome)) }
 {
     let Some(number) = sent_number(outcome) else {
         return Ok(());
@@ -108,7 +109,8 @@ fn put_event(
     event: &Event,
     outcome: Outcome,
 ) -> Result<(), AllocError>
-    ensures { (events : List Happening) → AreDelivered (world.now).outcomes events (world.now).frames marks.now → OnOk result (string_bytes out.new ≡ string_bytes out.old ++ event_over world.now events row event.now outcome) }
+    ensures { (events : List Happening) → AreDelivered (world.now).outcomes events (world.now).frames marks.now →
+        OnOk result (string_bytes out.new ≡ string_bytes out.old ++ event_over world.now events row event.now outcome) }
 {
     put_row_text(alloc, out, row, event, outcome)?;
     put_mark(out, world.nodes(), row, event, outcome)?;
@@ -185,7 +187,7 @@ fn put_picture(
         nodes.len() + 2,
         count + 4,
         count,
-        world.frames(),
+        world.frame_count(),
         is_safe,
     )?;
     put_lanes(out, Part::Band, nodes, count + 1)?;

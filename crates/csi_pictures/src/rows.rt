@@ -1,7 +1,7 @@
 //! What is written of an event in its row: its words and what came of it, a mark at the lane where it happened, and the frame
 //! that it sent.
 ghost use Rattle.std.specs.Prelude.{◌≡◌, ◌++◌, OnOk, Some, string_bytes};
-ghost use Rattle.csi_pictures.specs.Rows.{words, is_wrong as is_wrong_by, class_of as class_by, mark_of as mark_by, mark_lane as mark_lane_by, row_text, is_delivery as is_delivery_by, mark, call_label, reply_class as reply_class_by, reply_label, label, lost_of};
+ghost use Rattle.csi_pictures.specs.Public.Rows.{words, is_wrong as is_wrong_by, outcome_class, mark_shape, mark_lane as mark_lane_by, row_text, is_delivery as is_delivery_by, mark, call_label, reply_class as reply_class_by, reply_label, label, lost_of};
 
 use crate::escaping::Escaped;
 use crate::scene::{is_ok, lane_of, node_lane};
@@ -62,7 +62,7 @@ fn is_wrong(outcome: Outcome) -> bool
 
 // How the words are drawn.
 fn class_of(outcome: Outcome) -> &'static str
-    ensures { result.now ≡ class_by outcome }
+    ensures { result.now ≡ outcome_class outcome }
 {
     match outcome {
         Outcome::Refused(_) | Outcome::NoSuchFrame | Outcome::NoSuchNode => "wrong",
@@ -92,7 +92,7 @@ pub fn put_row_text(
 
 // The shape of an event's mark.
 fn mark_of(event: &Event, outcome: Outcome) -> &'static str
-    ensures { result.now ≡ mark_by event.now outcome }
+    ensures { result.now ≡ mark_shape event.now outcome }
 {
     if is_wrong(outcome) {
         return "cross";
@@ -123,7 +123,7 @@ fn is_delivery(event: &Event) -> bool
 }
 
 /// Appends an event's mark; a delivery has none but its arrow.
-#[tactic(auto, unfolding(crate::specs::Rows::mark_at))]
+#[tactic(auto, unfolding(crate::specs::Public::Rows::mark_at))]
 pub fn put_mark(
     out: &mut String,
     nodes: &[Node],
@@ -142,7 +142,7 @@ pub fn put_mark(
 }
 
 // Appends what is written of a call: to the right of the orchestrator's lane.
-#[tactic(auto, unfolding(crate::specs::Rows::call_label))]
+#[tactic(auto, unfolding(crate::specs::Public::Rows::call_label))]
 fn put_call_label(
     out: &mut String,
     row: usize,

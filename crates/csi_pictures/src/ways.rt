@@ -1,8 +1,8 @@
 //! Of each frame of a run, by its number: the row where it was sent, and whether it is delivered.
 ghost use Rattle.std.specs.Prelude.{◌≡◌, ◌<◌, ℕ, length, get_or, slice_get, false, true, IfOk, if◌then◌else◌};
-ghost use Rattle.csi_types.specs.Frame.{Frame as FrameParts};
-ghost use Rattle.csi_pictures.specs.Scene.{sends as sends_it, comes_by as it_comes_by};
-ghost use Rattle.csi_pictures.specs.Ways.{AreSentRows, AreDelivered, AreWays, came_at};
+ghost use Rattle.csi_types.specs.Model.Frame.{Frame as FrameParts};
+ghost use Rattle.csi_pictures.specs.Public.Scene.{sends_frame, comes_by as it_comes_by};
+ghost use Rattle.csi_pictures.specs.Private.Ways.{AreSentRows, AreDelivered, AreWays, came_at};
 
 use crate::scene::{came, sent_number};
 use csi_types::Frame;
@@ -19,7 +19,8 @@ pub struct Ways {
 // Notes the row of an event at the frame that it sent, if it sent one.
 fn note_sent(rows: &mut [usize], outcome: Outcome, row: usize)
     ensures size { length rows.new ≡ length rows.old }
-    ensures noted { (number : ℕ) → number < length rows.old → get_or rows.new number 0 ≡ (if sends_it number outcome then row else get_or rows.old number 0) }
+    ensures noted { (number : ℕ) → number < length rows.old →
+        get_or rows.new number 0 ≡ (if sends_frame number outcome then row else get_or rows.old number 0) }
 {
     let Some(number) = sent_number(outcome) else {
         return;
@@ -71,7 +72,8 @@ fn has_come(outcomes: &[Outcome], place: usize) -> bool
 // Marks the frame that an event delivers, if it delivers one that was sent before.
 fn mark_delivered(marks: &mut [bool], outcomes: &[Outcome], event: &Event, place: usize)
     ensures size { length marks.new ≡ length marks.old }
-    ensures marked { (number : ℕ) → number < length marks.old → get_or marks.new number false ≡ (if it_comes_by number event.now (slice_get outcomes.now place) then true else get_or marks.old number false) }
+    ensures marked { (number : ℕ) → number < length marks.old →
+        get_or marks.new number false ≡ (if it_comes_by number event.now (slice_get outcomes.now place) then true else get_or marks.old number false) }
 {
     let Event::Deliver(number) = event else {
         return;

@@ -3,25 +3,25 @@ use Rattle.std.proofs.Common.{◌≡◌, ◌∙◌, ◌⊎◌, sym, ap, refl, su
 use Rattle.std.specs.Prelude.{Option}
 use Rattle.std.proofs.lemmas.List.{append-nil}
 use Rattle.std.proofs.lemmas.Option.{same_Some}
-use Rattle.csi_types.specs.Frame.{Frame}
+use Rattle.csi_types.specs.Model.Frame.{Frame}
 use Rattle.csi_stores.specs.declared.keep.KeepFault.{KeepFault}
 use Rattle.csi_stores.specs.declared.keep.KeepFault.TheVariants as faults
-use Rattle.csi_stores.specs.Part.{StoredPart}
-use Rattle.csi_stores.specs.Stores.{Store, Found, Parts, Has, IsOnly}
+use Rattle.csi_stores.specs.Public.Part.{StoredPart}
+use Rattle.csi_stores.specs.Public.Stores.{Store, Found, Parts, Has, IsOnly}
 use Rattle.csi_records.specs.declared.version.RecordVersion.{RecordVersion}
-use Rattle.csi_records.specs.Records.{IsRefusedAt, IsInSome}
-use Rattle.csi_records.specs.Spelling.{present}
-use Rattle.csi_serving.specs.declared.serving.fault.Served.{Served}
-use Rattle.csi_serving.specs.declared.serving.fault.ServeFault.{ServeFault}
-use Rattle.csi_serving.specs.declared.serving.fault.ServeFaultKind.{ServeFaultKind}
-use Rattle.csi_serving.specs.declared.serving.fault.ServeFaultKind.TheVariants as kinds
-use Rattle.csi_serving.specs.Serving.{AnswersEach, Serves, StopsBy, frames_counted}
-use Rattle.csi_serving.proofs.GrowingAnswers.{answers-push}
-use Rattle.csi_service.specs.Opening.{Records, Becomes, OpensTo, IsOpenFault}
+use Rattle.csi_records.specs.Public.Records.{IsRefusedAt, IsInSome}
+use Rattle.csi_records.specs.Public.Spelling.{present}
+use Rattle.csi_service.specs.declared.serving.fault.Served.{Served}
+use Rattle.csi_service.specs.declared.serving.fault.ServeFault.{ServeFault}
+use Rattle.csi_service.specs.declared.serving.fault.ServeFaultKind.{ServeFaultKind}
+use Rattle.csi_service.specs.declared.serving.fault.ServeFaultKind.TheVariants as kinds
+use Rattle.csi_service.specs.Public.Serving.{AnswersEach, Serves, StopsBy, frames_counted}
+use Rattle.csi_service.proofs.GrowingAnswers.{answers-push}
+use Rattle.csi_service.specs.Public.Opening.{Records, IsOpeningCommit, OpensTo, IsOpenFault}
 use Rattle.csi_endings.specs.declared.ending.Ending.{Ending}
-use Rattle.csi_plugins.specs.Service.{Streams, IsServed, setting_of}
-use Rattle.csi_plugins.specs.Running.{IsRefused, IsOpened, Runs}
-use Rattle.csi_plugins.specs.Joined.{Reopens, AreMadeBy, AreMade, RunsAgain, IsHindrance, IsHindered, AreOneRun, Joins}
+use Rattle.csi_plugins.specs.Public.Service.{Streams, IsServed, setting_of}
+use Rattle.csi_plugins.specs.Public.Running.{IsOpeningRefused, IsOpened, Runs}
+use Rattle.csi_plugins.specs.Public.Joined.{Reopens, AreMadeBy, AreMade, RunsAgain, IsHindrance, IsHindered, AreOneRun, Joins}
 
 -- ---- runs in which the plugin is opened again
 
@@ -126,7 +126,7 @@ module _ {X C K : Type 0} (seen : K → Store) (records : Records X) (IsAsked : 
   along core (f ∷ fs) (r ∷ rs) now is asked here = let next = keeps core is.0 f r is.1 asked in along is.0 fs rs now is.2 next.0 next.1
 
   -- opening commits nothing over such a record
-  no-becomes : (parts new : List StoredPart) → records.are present parts → Becomes records head parts new → ⊥
+  no-becomes : (parts new : List StoredPart) → records.are present parts → IsOpeningCommit records head parts new → ⊥
   no-becomes parts new is (inl none) = some parts is none.0
   no-becomes parts new is (inr renewed) = renewed.earlier (told parts renewed.version is renewed.stored)
 
@@ -144,7 +144,7 @@ module _ {X C K : Type 0} (seen : K → Store) (records : Records X) (IsAsked : 
     hindrance faults.Full cause = let full = cause honest parts holds in no-becomes parts full.0 is full.1
 
     -- where a plugin isn't opened again, it was hindered
-    hindered : IsRefused records before after head io ending → IsHindered before after io ending
+    hindered : IsOpeningRefused records before after head io ending → IsHindered before after io ending
     hindered refused = record {
       fault = refused.fault;
       cause = hindrance refused.fault refused.cause;

@@ -1,14 +1,15 @@
 -- Parts that are the record of neither plugin: a controller's head is no node's.
 use Rattle.std.proofs.Common.{◌≡◌, ◌∙◌, refl, sym, ap, subst, inl, inr, ◌⊎◌, ℕ, ◌<◌, List, [], ◌∷◌, ◌++◌, length, take, None, Err, arith}
 use Rattle.std.proofs.lemmas.List.{length-append}
-use Rattle.csi_stores.specs.Part.{StoredPart}
+use Rattle.csi_stores.specs.Public.Part.{StoredPart}
 use Rattle.csi_records.specs.declared.fault.RecordStop.{RecordStop}
 use Rattle.csi_records.specs.declared.fault.RecordStop.TheVariants.{BadRecord}
-use Rattle.csi_records.specs.Places.{ReadsStored}
-use Rattle.csi_records.specs.Records.{controller_layout, IsRecordOf, IsControllerOf, IsControllerRecord, IsNodeRecord, IsRefusedAt, Begins}
+use Rattle.csi_records.specs.Public.Places.{ReadsStored}
+use Rattle.csi_records.specs.Public.Records.{controller_layout, IsRecordOf, IsControllerOf, IsControllerRecord, IsNodeRecord, IsRefusedAt, Begins}
 use Rattle.csi_endings.specs.declared.ending.Ending.{Ending}
 use Rattle.csi_endings.specs.declared.ending.Ending.TheVariants as endings
-use Rattle.csi_plugins.specs.Recording.{IsRecordOfEither, IsNoRecordAt, HasNoLine, HasNoNodeLine}
+use Rattle.csi_plugins.specs.Public.Recording.{IsRecordOfEither, IsNoRecordAt}
+use Rattle.csi_plugins.specs.Private.Recording.{HasNoLine, HasNoNodeLine}
 
 -- the second byte of the first part, which says whose record it is
 second : List ℕ → ℕ

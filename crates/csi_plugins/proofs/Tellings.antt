@@ -2,13 +2,14 @@
 use Rattle.std.proofs.Common.{◌≡◌, inl, refl, ℕ, List, subst}
 use Rattle.csi_stores.specs.declared.keep.KeepFault.{KeepFault}
 use Rattle.csi_stores.specs.declared.keep.KeepFault.TheVariants.{Device, NoMemory, BadRecord, Full}
-use Rattle.csi_stores.specs.Keeping.{IsForeignFault}
-use Rattle.csi_stores.specs.Part.{StoredPart}
-use Rattle.csi_stores.specs.Stores.{Store, IsLoadFault}
+use Rattle.csi_stores.specs.Public.Keeping.{IsForeignFault}
+use Rattle.csi_stores.specs.Public.Part.{StoredPart}
+use Rattle.csi_stores.specs.Public.Stores.{Store, IsLoadFault}
 use Rattle.csi_endings.specs.declared.ending.Ending.{Ending}
 use Rattle.csi_endings.specs.declared.ending.Ending.TheVariants as endings
-use Rattle.csi_plugins.specs.Ending.{ending_of_store, EndsAt}
-use Rattle.csi_plugins.specs.Recording.{IsLineOf, IsNoRecordAt, HasNoLine, IsNotTold, IsTold, Records, Writer}
+use Rattle.csi_plugins.specs.Public.Ending.{ending_of_store, EndsAt}
+use Rattle.csi_plugins.specs.Public.Recording.{IsLineOf, IsNoRecordAt, IsNotTold, IsRecordTold, WritesRecordLine, Writer}
+use Rattle.csi_plugins.specs.Private.Recording.{HasNoLine}
 
 -- why the parts that a store gave have no line is why it isn't told
 pub not_told : (before after : Store) (parts : List StoredPart) → (after.honest → (content : List StoredPart) → before.holds content → parts ≡ content) → (ending : Ending) → HasNoLine parts ending → IsNotTold before after ending
@@ -39,11 +40,11 @@ refuses_at place (BadRecord here) at = at
 refuses_at place Full at = tt
 
 -- the line of the parts that a store gave is its own
-pub is_told : (before after : Store) (parts : List StoredPart) → (after.honest → (content : List StoredPart) → before.holds content → parts ≡ content) → (line : List ℕ) → IsLineOf parts line → IsTold before after line
+pub is_told : (before after : Store) (parts : List StoredPart) → (after.honest → (content : List StoredPart) → before.holds content → parts ≡ content) → (line : List ℕ) → IsLineOf parts line → IsRecordTold before after line
 is_told before after parts are line is = λ honest content holds. subst (λ (p : List StoredPart). IsLineOf p line) (are honest content holds) is
 
 -- where there is no line nothing is written
-pub records_refused : (before after : Store) (had : Writer) (ending : Ending) → IsNotTold before after ending → Records before after had had ending
+pub records_refused : (before after : Store) (had : Writer) (ending : Ending) → IsNotTold before after ending → WritesRecordLine before after had had ending
 records_refused before after had endings.Device why = inl (refl, why)
 records_refused before after had (endings.RecordFault place) why = (refl, why)
 records_refused before after had endings.Memory why = (refl, why)

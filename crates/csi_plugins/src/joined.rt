@@ -1,6 +1,6 @@
 //! Two runs over one store.
-ghost use Rattle.csi_stores.specs.Memory.{memory_store};
-ghost use Rattle.csi_plugins.specs.Joined.{RunsLaw};
+ghost use Rattle.csi_stores.specs.Public.Memory.{memory_store};
+ghost use Rattle.csi_plugins.specs.Public.Joined.{RunsLaw};
 
 use csi_records::record_laws;
 use csi_service::{Keep, MemoryKeep};

@@ -1,7 +1,7 @@
 //! Which plugin a process is.
 ghost use Rattle.std.specs.Prelude.{◌≡◌, IfOk, IfErr};
-ghost use Rattle.csi_plugins.specs.Asked.{IsOfConfig, IsNoConfig, IsOfId, IsNoId};
-ghost use Rattle.csi_plugins.specs.Ending.{ending_unopened as by_opening};
+ghost use Rattle.csi_plugins.specs.Public.Asked.{IsOfConfig, IsNoConfig, IsOfId, IsNoId};
+ghost use Rattle.csi_plugins.specs.Public.Ending.{ending_unopened as by_opening};
 
 use crate::ending::ending_unopened;
 use csi_endings::Ending;

@@ -1,19 +1,20 @@
 //! What a plugin's store has, as a line.
 ghost use Rattle.std.specs.Prelude.{◌≡◌, ◌++◌, ℕ, List, codes, map, IfOk, IfErr, OnOk, string_bytes};
 ghost use Rattle.serde_json.specs.Written.{compact_text};
-ghost use Rattle.csi_stores.specs.Part.{StoredPart, all_stored_in};
-ghost use Rattle.csi_listings.specs.Records.{controller_entry, node_entry};
-ghost use Rattle.csi_plugins.specs.Ending.{EndsAt};
-ghost use Rattle.csi_plugins.specs.Recording.{IsLineOf, HasNoLine, HasNoNodeLine, IsTold, IsNotTold, IsNotGivenAt, Records, written_by};
+ghost use Rattle.csi_stores.specs.Public.Part.{StoredPart, all_stored_in};
+ghost use Rattle.csi_reports.specs.Public.Records.{controller_entry, node_entry};
+ghost use Rattle.csi_plugins.specs.Public.Ending.{EndsAt};
+ghost use Rattle.csi_plugins.specs.Public.Recording.{IsLineOf, IsRecordTold, IsNotTold, WritesRecordLine, written_by};
+ghost use Rattle.csi_plugins.specs.Private.Recording.{HasNoLine, HasNoNodeLine, IsNotGivenAt};
 
 use crate::ending::ending_of_store;
 use csi_controller::ControllerRecord;
-use csi_counted::{Counted, write_out};
 use csi_endings::Ending;
-use csi_listings::{controller_line, node_line};
 use csi_node::NodeRecord;
 use csi_records::{Record, RecordStop, Stored};
+use csi_reports::{controller_line, node_line};
 use csi_service::{Keep, Part};
+use csi_stores::{Counted, write_out};
 use std::alloc::Global;
 use std::io::Write;
 
@@ -68,7 +69,7 @@ fn line_of(alloc: Global, parts: &[Part]) -> Result<String, Ending>
 
 // The line of what the store has.
 fn recorded<K: Keep>(alloc: Global, keep: &mut K) -> Result<String, Ending>
-    ensures line { IfOk result (λ text. IsTold (K.store keep.old) (K.store keep.new) (string_bytes text)) }
+    ensures line { IfOk result (λ text. IsRecordTold (K.store keep.old) (K.store keep.new) (string_bytes text)) }
     ensures refused { IfErr result (IsNotTold (K.store keep.old) (K.store keep.new)) }
     ensures foreign { (K.store keep.new).honest → (place : ℕ) → (K.store keep.old).foreign place → IsNotGivenAt place result }
 {
@@ -83,7 +84,7 @@ fn recorded<K: Keep>(alloc: Global, keep: &mut K) -> Result<String, Ending>
 /// and 0 where there are none; `Device` that the store's device or the writer failed, which is counted, and then a front of the line
 /// is written; `Memory` that an allocation was refused. This profile's own.
 pub fn record<K: Keep, W: Write>(alloc: Global, keep: &mut K, out: &mut Counted<W>) -> Ending
-    ensures records { Records (K.store keep.old) (K.store keep.new) (written_by W.contents out.old) (written_by W.contents out.new) result }
+    ensures records { WritesRecordLine (K.store keep.old) (K.store keep.new) (written_by W.contents out.old) (written_by W.contents out.new) result }
     ensures foreign { (K.store keep.new).honest → (place : ℕ) → (K.store keep.old).foreign place → EndsAt place result }
 {
     let line = match recorded(alloc, keep) {

@@ -1,8 +1,8 @@
 //! A plugin's process, but for what it asks of the system.
 ghost use Rattle.std.specs.Prelude.{ℕ};
-ghost use Rattle.csi_plugins.specs.Service.{streams};
-ghost use Rattle.csi_plugins.specs.Ending.{EndsAt};
-ghost use Rattle.csi_plugins.specs.Running.{ControllerRuns, NodeRuns, PluginRuns};
+ghost use Rattle.csi_plugins.specs.Public.Service.{streams};
+ghost use Rattle.csi_plugins.specs.Public.Ending.{EndsAt};
+ghost use Rattle.csi_plugins.specs.Public.Running.{ControllerRuns, NodeRuns, PluginRuns};
 
 use crate::ending::ending_of_store;
 use crate::kind::Plugin;

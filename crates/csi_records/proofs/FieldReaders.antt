@@ -7,29 +7,30 @@ use Rattle.std.proofs.lemmas.Option.{same_Some}
 use Rattle.csi_types.specs.declared.call.Kind.{Kind}
 use Rattle.csi_types.specs.declared.call.Kind.TheVariants as kinds
 use Rattle.csi_types.specs.declared.number.Number.{Number}
-use Rattle.csi_types.specs.Status.{status_code}
-use Rattle.csi_types.specs.Same.{kind_number}
-use Rattle.csi_types.specs.Text.{IsText}
-use Rattle.csi_types.specs.Limits.{IsWord, IsNumber}
+use Rattle.csi_types.specs.Public.Status.{status_code}
+use Rattle.csi_types.specs.Model.Same.{kind_number}
+use Rattle.csi_types.specs.Public.Text.{IsText}
+use Rattle.csi_types.specs.Public.Limits.{IsWord, IsNumber}
 use Rattle.csi_records.specs.declared.version.RecordVersion.{RecordVersion}
 use Rattle.csi_records.specs.declared.version.RecordVersion.TheVariants.{One, Two, Three}
-use Rattle.csi_records.specs.Version.{version_number, version_from_number, modes_of}
+use Rattle.csi_records.specs.Public.Version.{record_version_number, modes_of}
+use Rattle.csi_records.specs.Private.Version.{record_version_from_number}
 use Rattle.csi_frames.specs.declared.fault.FaultKind.TheVariants.{LengthDiffers, BadCount}
 use Rattle.csi_frames.specs.declared.fields.Stop.{Stop}
-use Rattle.csi_frames.specs.Grammar.{Grammar, End, any, at_most}
-use Rattle.csi_frames.specs.Kinds.{kind_from_number, reply_kind_from}
-use Rattle.csi_frames.specs.Reading as frames
-use Rattle.csi_frames.specs.Reading.{byte_at}
-use Rattle.csi_frames.specs.Spelling as spelling
+use Rattle.csi_frames.specs.Public.Grammar.{Grammar, End, any, at_most}
+use Rattle.csi_frames.specs.Public.Kinds.{kind_from_number, reply_kind_from}
+use Rattle.csi_frames.specs.Public.Reading as frames
+use Rattle.csi_frames.specs.Public.Reading.{byte_at}
+use Rattle.csi_frames.specs.Public.Spelling as spelling
 use Rattle.csi_frames.proofs.Readers.{Agrees, done, ok_is}
 use Rattle.csi_frames.proofs.FieldReaders.{byte_agrees}
 use Rattle.csi_frames.proofs.Codes.{kind-back}
 use Rattle.csi_frames.proofs.CapabilityReaders.{any_word_agrees, any_text_agrees, flag_agrees, capability_agrees}
 use Rattle.csi_frames.proofs.ReplyReaders.{status_agrees}
 use Rattle.csi_frames.proofs.BodyReaders.{number_agrees}
-use Rattle.csi_records.specs.Reading.{Reader, give, nothing, taken, as_in_frames, byte_in, code_in, count_in, word_in, text_in, flag_in, capability_in, status_in, number_in, tag_in, live_from, or_none}
-use Rattle.csi_records.specs.Spelling.{state_byte}
-use Rattle.csi_records.specs.Records.{IsCapabilityIn}
+use Rattle.csi_records.specs.Private.Reading.{Reader, give, nothing, taken, as_in_frames, read_byte, read_code, read_count, read_word, read_text, read_flag, read_capability, read_status, read_number, read_tag, live_from, or_none}
+use Rattle.csi_records.specs.Public.Spelling.{state_byte}
+use Rattle.csi_records.specs.Public.Records.{IsCapabilityIn}
 use Rattle.csi_records.proofs.Readers.{Took, Reads, some_is, Spelled, Always, in_words, then}
 
 -- ---- fields, as in frames
@@ -51,8 +52,8 @@ abbrev pub one_byte : ℕ → List ℕ
 one_byte b = b ∷ []
 
 -- the reader of each field reads what spells one: any byte, and down to the number of a call
-pub byte_reads : Reads byte_in (Spelled Always one_byte)
-unfolding byte_in
+pub byte_reads : Reads read_byte (Spelled Always one_byte)
+unfolding read_byte
 byte_reads =
     in_words (Spelled Always one_byte) (λ n bytes s. record { fits = tt; are = s.one }) (λ n bytes s. record { is_allowed = refl; one = s.are }) (reads_of (byte_agrees any LengthDiffers (λ _. End)))
 
@@ -61,8 +62,8 @@ pub record IsCount (most n : ℕ) : Type 0 where
   pub within : n ≤ most
 
 -- the reader of a count reads what spells one
-pub count_reads : (most : ℕ) → Reads (count_in most) (Spelled (IsCount most) one_byte)
-unfolding count_in
+pub count_reads : (most : ℕ) → Reads (read_count most) (Spelled (IsCount most) one_byte)
+unfolding read_count
 count_reads most =
     in_words (Spelled (IsCount most) one_byte)
     (λ n bytes s. record { fits = record { within = leb-true n most s.is_allowed }; are = s.one })
@@ -70,7 +71,7 @@ count_reads most =
     (reads_of (byte_agrees (at_most most) BadCount (λ _. End)))
 
 -- a count that was read is at most so much; by whether the byte is
-within-by : (most b n : ℕ) (bytes left : List ℕ) (t : Bool) → leb b most ≡ t → cond t (done b bytes) (frames.stopped BadCount (b ∷ bytes)) ≡ Ok (n, left) → n ≤ most
+within-by : (most b n : ℕ) (bytes left : List ℕ) (t : Bool) → leb b most ≡ t → cond t (done b bytes) (frames.stopped_at_field BadCount (b ∷ bytes)) ≡ Ok (n, left) → n ≤ most
 within-by most b n bytes left true is e = subst (λ (k : ℕ). k ≤ most) (ap (λ (x : ℕ × List ℕ). x.0) (ok_is b bytes (n, left) e)) (leb-true b most is)
 within-by most b n bytes left false is e = absurd cc
 
@@ -81,28 +82,28 @@ count-within most n [] left e = absurd cc
 count-within most n (b ∷ bytes) left e = within-by most b n bytes left (leb b most) refl e
 
 -- the reader of a number reads what spells one
-pub word_reads : Reads word_in (Spelled IsWord spelling.word)
-unfolding word_in
+pub word_reads : Reads read_word (Spelled IsWord spelling.word)
+unfolding read_word
 word_reads = reads_of (any_word_agrees (λ _. End))
 
 -- the reader of a text reads what spells one
-pub text_reads : (least most : ℕ) → Reads (text_in least most) (Spelled (IsText least most) spelling.text)
-unfolding text_in
+pub text_reads : (least most : ℕ) → Reads (read_text least most) (Spelled (IsText least most) spelling.text)
+unfolding read_text
 text_reads least most = reads_of (any_text_agrees least most (λ _. End))
 
 -- the reader of a flag reads what spells one
-pub flag_reads : Reads flag_in (Spelled Always spelling.flag)
-unfolding flag_in
+pub flag_reads : Reads read_flag (Spelled Always spelling.flag)
+unfolding read_flag
 flag_reads = reads_of (flag_agrees (λ _. End))
 
 -- the reader of a status reads what spells one
-pub status_reads : Reads status_in (Spelled Always (λ status. status_code status ∷ []))
-unfolding status_in
+pub status_reads : Reads read_status (Spelled Always (λ status. status_code status ∷ []))
+unfolding read_status
 status_reads = reads_of (status_agrees (λ _. End))
 
 -- the reader of a capability of a version reads what spells one
-pub capability_reads : (version : RecordVersion) → Reads (capability_in version) (Spelled (IsCapabilityIn version) spelling.capability)
-unfolding capability_in
+pub capability_reads : (version : RecordVersion) → Reads (read_capability version) (Spelled (IsCapabilityIn version) spelling.capability)
+unfolding read_capability
 capability_reads version =
     in_words (Spelled (IsCapabilityIn version) spelling.capability)
     (λ c bytes s. record { fits = record { fits = s.fits.fits; in_mode = s.fits.in_mode }; are = s.are })
@@ -114,8 +115,8 @@ abbrev pub number_bytes : Number → List ℕ
 number_bytes number = spelling.word number.session ++ spelling.word number.call
 
 -- the reader of a call's number reads what spells one
-pub number_reads : Reads number_in (Spelled IsNumber number_bytes)
-unfolding number_in
+pub number_reads : Reads read_number (Spelled IsNumber number_bytes)
+unfolding read_number
 number_reads = reads_of (number_agrees End)
 
 -- ---- a byte that stands for a value
@@ -143,8 +144,8 @@ code-last value_of b = record {
 }
 
 -- where values and bytes stand for one another, the reader of a code reads a value's byte and no other
-pub code_reads : {A : Type 0} (value_of : ℕ → Option A) (number : A → ℕ) → IsCode value_of number → Reads (code_in value_of) (Spelled Always (λ a. number a ∷ []))
-unfolding code_in
+pub code_reads : {A : Type 0} (value_of : ℕ → Option A) (number : A → ℕ) → IsCode value_of number → Reads (read_code value_of) (Spelled Always (λ a. number a ∷ []))
+unfolding read_code
 code_reads {A} value_of number code =
     in_words (Spelled Always (λ (a : A). number a ∷ []))
     (λ value bytes s. record {
@@ -169,7 +170,7 @@ live-again true = refl
 live-again false = refl
 
 -- the reader of whether a volume is live reads what spells it
-pub live_reads : Reads (code_in live_from) (Spelled Always (λ a. state_byte a ∷ []))
+pub live_reads : Reads (read_code live_from) (Spelled Always (λ a. state_byte a ∷ []))
 live_reads = code_reads live_from state_byte (record { back = live-back; again = live-again })
 
 -- a byte that stands for a reply's kind is that kind's number and 128
@@ -189,11 +190,11 @@ kind-again kinds.NodePublishVolume = refl
 kind-again kinds.NodeUnpublishVolume = refl
 
 -- the reader of a reply's kind byte reads what spells one
-pub kind_reads : Reads (code_in reply_kind_from) (Spelled Always (λ kind. (128 + kind_number kind) ∷ []))
+pub kind_reads : Reads (read_code reply_kind_from) (Spelled Always (λ kind. (128 + kind_number kind) ∷ []))
 kind_reads = code_reads reply_kind_from (λ kind. 128 + kind_number kind) (record { back = λ b a e. kind-back-by b (ltb b 128) a refl e; again = kind-again })
 
 -- a byte that stands for a version is its number, and each version is found at its number
-version-back : (b : ℕ) (version : RecordVersion) → version_from_number b ≡ Some version → version_number version ≡ b
+version-back : (b : ℕ) (version : RecordVersion) → record_version_from_number b ≡ Some version → record_version_number version ≡ b
 version-back zero version e = absurd cc
 version-back (suc zero) One e = refl
 version-back (suc zero) Two e = absurd cc
@@ -207,14 +208,14 @@ version-back (suc (suc (suc zero))) Three e = refl
 version-back (suc (suc (suc (suc n)))) version e = absurd cc
 
 -- each version is found at its number
-pub version-found : (version : RecordVersion) → version_from_number (version_number version) ≡ Some version
+pub version-found : (version : RecordVersion) → record_version_from_number (record_version_number version) ≡ Some version
 version-found One = refl
 version-found Two = refl
 version-found Three = refl
 
 -- the reader of a version reads the byte that spells one
-pub version_reads : Reads (code_in version_from_number) (Spelled Always (λ version. version_number version ∷ []))
-version_reads = code_reads version_from_number version_number (record { back = version-back; again = version-found })
+pub version_reads : Reads (read_code record_version_from_number) (Spelled Always (λ version. record_version_number version ∷ []))
+version_reads = code_reads record_version_from_number record_version_number (record { back = version-back; again = version-found })
 
 -- ---- a byte of this number
 
@@ -233,16 +234,16 @@ tag-takes n b bytes true x is e =
 tag-takes n b bytes false x is e = absurd cc
 
 -- where a given byte is read, it stands first
-tag_in-takes : (n : ℕ) (bytes : List ℕ) (x : Unit {0} × List ℕ) → tag_in n bytes ≡ Some x → Took (IsTag n) bytes x
-unfolding tag_in byte_in byte_at
+tag_in-takes : (n : ℕ) (bytes : List ℕ) (x : Unit {0} × List ℕ) → read_tag n bytes ≡ Some x → Took (IsTag n) bytes x
+unfolding read_tag read_byte byte_at
 tag_in-takes n [] x e = absurd cc
 tag_in-takes n (b ∷ bytes) x e = tag-takes n b bytes (eqb b n) x refl e
 
 -- a given byte that stands first is read
-tag_in-again : (n : ℕ) (value : Unit {0}) (front rest : List ℕ) → IsTag n value front → tag_in n (front ++ rest) ≡ Some (value, rest)
-unfolding tag_in byte_in byte_at
-tag_in-again n value front rest s = let same : eqb n n ≡ true = eq-eqb n n refl in ap (λ (t : List ℕ). tag_in n (t ++ rest)) s.one ∙ rw same refl
+tag_in-again : (n : ℕ) (value : Unit {0}) (front rest : List ℕ) → IsTag n value front → read_tag n (front ++ rest) ≡ Some (value, rest)
+unfolding read_tag read_byte byte_at
+tag_in-again n value front rest s = let same : eqb n n ≡ true = eq-eqb n n refl in ap (λ (t : List ℕ). read_tag n (t ++ rest)) s.one ∙ rw same refl
 
 -- the reader of a given byte takes that byte and no other
-pub tag_reads : (n : ℕ) → Reads (tag_in n) (IsTag n)
+pub tag_reads : (n : ℕ) → Reads (read_tag n) (IsTag n)
 tag_reads n = record { takes = λ bytes fits x e. tag_in-takes n bytes x e; again = tag_in-again n }

@@ -1,19 +1,19 @@
 -- The readers of heads read what is spelled.
 use Rattle.std.proofs.Common.{ℕ, Bool, true, false, List, [], ◌∷◌, ◌++◌, Some, None, refl, sym, ap, subst, ◌∙◌}
 use Rattle.std.specs.Prelude.{Option}
-use Rattle.csi_types.specs.Text.{IsNodeId}
-use Rattle.csi_types.specs.Limits.{IsWord}
+use Rattle.csi_types.specs.Public.Text.{IsNodeId}
+use Rattle.csi_types.specs.Public.Limits.{IsWord}
 use Rattle.csi_records.specs.declared.version.RecordVersion.{RecordVersion}
-use Rattle.csi_records.specs.Version.{has_session}
-use Rattle.csi_frames.specs.Spelling as spelling
-use Rattle.csi_records.specs.Reading.{Reader, go_on, ◌>>=◌, give, tag_in, session_in, controller_head_in, node_head_in}
-use Rattle.csi_records.specs.Spelling.{session_bytes}
-use Rattle.csi_records.specs.Records.{Head, IsSessionIf, IsHead}
+use Rattle.csi_records.specs.Public.Version.{has_session}
+use Rattle.csi_frames.specs.Public.Spelling as spelling
+use Rattle.csi_records.specs.Private.Reading.{Reader, go_on, ◌>>=◌, give, read_tag, read_session, read_controller_head, read_node_head}
+use Rattle.csi_records.specs.Public.Spelling.{session_bytes}
+use Rattle.csi_records.specs.Public.Records.{Head, IsSessionIf, IsHead}
 use Rattle.csi_records.proofs.Readers.{Reads, then, Given, gives, in_words, Either, either, Spelled, After, Made, after, makes}
 use Rattle.csi_records.proofs.FieldReaders.{word_reads, text_reads, tag_reads}
 
 -- a reader behind a given byte reads that byte and what it reads itself
-pub tagged : {A : Type 0} {read : Reader A} (n : ℕ) (Fits : A → Type 0) (spell : A → List ℕ) → Reads read (Spelled Fits spell) → Reads (λ bytes. go_on (tag_in n bytes) (λ _. read)) (Spelled Fits (λ value. n ∷ spell value))
+pub tagged : {A : Type 0} {read : Reader A} (n : ℕ) (Fits : A → Type 0) (spell : A → List ℕ) → Reads read (Spelled Fits spell) → Reads (λ bytes. go_on (read_tag n bytes) (λ _. read)) (Spelled Fits (λ value. n ∷ spell value))
 tagged {A} {read} n Fits spell one =
     in_words (Spelled Fits (λ (value : A). n ∷ spell value))
     (λ value bytes s. record { fits = s.second.fits; are = s.parts ∙ ap (λ (t : List ℕ). t ++ s.back) s.first.one ∙ ap (λ (t : List ℕ). n ∷ t) s.second.are })
@@ -37,8 +37,8 @@ session-back false None bytes s = record { same = refl; none = s.are }
 session-back false (Some session) bytes s = absurd s.fits
 
 -- the reader of the session reads what spells it, where the version has it, and nothing else
-session_reads : (version : RecordVersion) → Reads (session_in version) (Spelled (IsSessionIf (has_session version)) session_bytes)
-unfolding session_in
+session_reads : (version : RecordVersion) → Reads (read_session version) (Spelled (IsSessionIf (has_session version)) session_bytes)
+unfolding read_session
 session_reads version =
     in_words (Spelled (IsSessionIf (has_session version)) session_bytes) (session-there (has_session version)) (session-back (has_session version))
     (either (has_session version) (makes (λ session. Some session) word_reads) (gives None))
@@ -68,17 +68,17 @@ head-back version Fits spell value bytes s =
 
 -- a reader of the plugin's own field, and of the session behind it, reads a head's fields
 fields_read : {X : Type 0} {read : Reader X} (version : RecordVersion) (Fits : X → Type 0) (spell : X → List ℕ) → Reads read (Spelled Fits spell)
-    → Reads (read >>= λ own. session_in version >>= λ session. give (make_head own session)) (Spelled (IsHead Fits version) (head_fields spell))
+    → Reads (read >>= λ own. read_session version >>= λ session. give (make_head own session)) (Spelled (IsHead Fits version) (head_fields spell))
 fields_read version Fits spell one =
     in_words (Spelled (IsHead Fits version) (head_fields spell)) (head-there version Fits spell) (head-back version Fits spell)
     (after one (λ own. makes (λ session. make_head own session) (session_reads version)))
 
 -- the reader of a controller's head reads what spells one behind the version
-pub controller_head_reads : (version : RecordVersion) → Reads (controller_head_in version) (Spelled (IsHead IsWord version) (λ head. 0 ∷ head_fields spelling.word head))
-unfolding controller_head_in
+pub controller_head_reads : (version : RecordVersion) → Reads (read_controller_head version) (Spelled (IsHead IsWord version) (λ head. 0 ∷ head_fields spelling.word head))
+unfolding read_controller_head
 controller_head_reads version = tagged 0 (IsHead IsWord version) (head_fields spelling.word) (fields_read version IsWord spelling.word word_reads)
 
 -- the reader of a node's head reads what spells one behind the version
-pub node_head_reads : (version : RecordVersion) → Reads (node_head_in version) (Spelled (IsHead IsNodeId version) (λ head. 1 ∷ head_fields spelling.text head))
-unfolding node_head_in
+pub node_head_reads : (version : RecordVersion) → Reads (read_node_head version) (Spelled (IsHead IsNodeId version) (λ head. 1 ∷ head_fields spelling.text head))
+unfolding read_node_head
 node_head_reads version = tagged 1 (IsHead IsNodeId version) (head_fields spelling.text) (fields_read version IsNodeId spelling.text (text_reads 1 255))

@@ -6,12 +6,12 @@ use Rattle.std.proofs.lemmas.Bool.{cases_order}
 use Rattle.std.proofs.lemmas.List.{append-nil, append_cancel_left, length-append, length-map, take-map, take_at}
 use Rattle.csi_lists.proofs.Each.{each-map}
 use Rattle.csi_records.specs.declared.version.RecordVersion.{RecordVersion}
-use Rattle.csi_stores.specs.Part.{StoredPart, IsPart}
-use Rattle.csi_records.specs.Spelling.{part_bytes, record_head, record_bytes}
-use Rattle.csi_records.specs.Records.{Layout, IsRecordOf, IsInSome, Begins, IsRefusedAt}
-use Rattle.csi_records.specs.Places.{IsBadAt, no_head, bad_part, more_bytes}
-use Rattle.csi_records.specs.Laws.{HasOneReading, HasOneRefusal}
-use Rattle.csi_records.specs.Stopping.{HasNoHead}
+use Rattle.csi_stores.specs.Public.Part.{StoredPart, IsPart}
+use Rattle.csi_records.specs.Public.Spelling.{part_bytes, record_head, record_bytes}
+use Rattle.csi_records.specs.Public.Records.{Layout, IsRecordOf, IsInSome, Begins, IsRefusedAt}
+use Rattle.csi_records.specs.Public.Places.{IsBadAt, no_head, bad_part, more_bytes}
+use Rattle.csi_records.specs.Public.Laws.{HasOneReading, HasOneRefusal}
+use Rattle.csi_records.specs.Private.Stopping.{HasNoHead}
 use Rattle.csi_records.proofs.Readers.{spelled-same}
 use Rattle.csi_records.proofs.Layouts.{IsOneToOne, each-take}
 use Rattle.csi_records.proofs.SplittingBytes.{part_reads, record_head_reads, make_head, part-inside}

@@ -3,9 +3,9 @@ use Rattle.std.proofs.Common.{◌≡◌, ℕ, zero, suc, ◌+◌, ◌-◌, ◌�
 use Rattle.std.specs.Prelude.{Bool, true, false}
 use Rattle.std.specs.List.{AllByRecursion}
 use Rattle.std.proofs.lemmas.List.{append-nil, length-map, length-take, take-append-drop, take-map, drop_more, map-append}
-use Rattle.csi_stores.specs.Part.{StoredPart}
-use Rattle.csi_records.specs.Records.{Layout, AreParts, IsRecordOf, IsRefusedAt}
-use Rattle.csi_records.specs.Stopping.{AreRead}
+use Rattle.csi_stores.specs.Public.Part.{StoredPart}
+use Rattle.csi_records.specs.Public.Records.{Layout, AreParts, IsRecordOf, IsRefusedAt}
+use Rattle.csi_records.specs.Private.Stopping.{AreRead}
 
 -- parts are spelled by one value each, and a front of a record is one
 pub record IsOneToOne {H R : Type 0} (layout : Layout H R) : Type 0 where

@@ -5,25 +5,26 @@ use Rattle.std.specs.List.{AllByRecursion}
 use Rattle.std.proofs.lemmas.List.{take_rest, take-map, length-append, length-take, length-map, get_or-take}
 use Rattle.std.proofs.lemmas.List.Elements.{All-take, recursion_from_All}
 use Rattle.csi_controller.specs.declared.row.ControllerRow.{ControllerRow}
-use Rattle.csi_controller.specs.State.{Volume}
-use Rattle.csi_controller.specs.Core.{IsSound, IsCurrentRow, IsCurrent}
-use Rattle.csi_controller.specs.Views.{AreSameRows}
+use Rattle.csi_controller.specs.Model.State.{Volume}
+use Rattle.csi_controller.specs.Public.Core.{AreSoundRows as AreSoundControllerRows, IsCurrentRow, IsCurrent}
+use Rattle.csi_controller.specs.Public.Views.{AreSameRows}
 use Rattle.csi_controller.proofs.Copies.{sound-copies}
 use Rattle.csi_controller.proofs.FirstRefused.{sound-take}
-use Rattle.csi_controller.specs.Judging.{AreRecorded}
-use Rattle.csi_types.specs.Limits.{IsWord}
-use Rattle.csi_types.specs.Text.{IsNodeId}
-use Rattle.csi_frames.specs.Spelling as spelling
+use Rattle.csi_controller.specs.Public.Judging.{AreRecorded}
+use Rattle.csi_types.specs.Public.Limits.{IsWord}
+use Rattle.csi_types.specs.Public.Text.{IsNodeId}
+use Rattle.csi_frames.specs.Public.Spelling as spelling
 use Rattle.csi_records.specs.declared.version.RecordVersion.{RecordVersion}
 use Rattle.csi_node.specs.declared.row.NodeRow.{NodeRow}
-use Rattle.csi_node.specs.OneRow.{RowShown, shown, IsSoundRow}
-use Rattle.csi_node.specs.Judging.{KeepRules as KeepNodeRules}
-use Rattle.csi_node.specs.Record.{IsSound as IsNodeSound, IsCurrentRow as IsCurrentNodeRow, ids, id_at}
+use Rattle.csi_node.specs.Model.OneRow.{NodeRowShown, node_row_shown}
+use Rattle.csi_node.specs.Public.OneRow.{IsSoundRow}
+use Rattle.csi_node.specs.Public.Judging.{KeepRules as KeepNodeRules}
+use Rattle.csi_node.specs.Public.Record.{AreSoundRows as AreSoundNodeRows, IsCurrentRow as IsCurrentNodeRow, ids, row_id_at}
 use Rattle.csi_stores.specs.declared.part.Part.{Part}
-use Rattle.csi_stores.specs.Part.{StoredPart, stored_in, all_stored_in}
-use Rattle.csi_records.specs.Writing.{ArePublishedFew, CanBeWritten}
-use Rattle.csi_records.specs.Spelling.{VolumeRow, present, session_bytes, volume_row, node_head, controller_parts, node_parts}
-use Rattle.csi_records.specs.Records.{Layout, Head, IsHead, IsAskedNode, IsVolumeRow, IsAnsweredRow, controller_layout, node_layout, AreControllerRows, AreVolumeRows, IsRecordOf, IsRefusedAt}
+use Rattle.csi_stores.specs.Public.Part.{StoredPart, stored_in, all_stored_in}
+use Rattle.csi_records.specs.Public.Writing.{ArePublishedFew, CanBeWritten}
+use Rattle.csi_records.specs.Public.Spelling.{VolumeRow, present, session_bytes, volume_row, node_head, controller_parts, node_parts}
+use Rattle.csi_records.specs.Public.Records.{Layout, Head, IsHead, IsAskedNode, IsVolumeRow, IsAnsweredRow, controller_layout, node_layout, AreControllerRows, AreVolumeRows, IsRecordOf, IsRefusedAt}
 use Rattle.csi_records.proofs.PartReaders.{volume_read, answered_read, controller_head_read, node_head_read, same_part}
 use Rattle.csi_records.proofs.ValueSizes.{volume_size, answered_size}
 use Rattle.csi_records.proofs.FieldReaders.{version-found}
@@ -68,7 +69,7 @@ controller-take next_id None rows k are = sound-take next_id rows k are
 controller-take next_id (Some session) rows k are = (sound-take next_id rows k are.0, each-take (IsCurrentRow session) rows k are.1)
 
 -- a controller's rows are sound, by a session or without one
-controller-sound : (next_id : ℕ) (session : Option ℕ) (rows : List ControllerRow) → AreControllerRows next_id session rows → IsSound next_id rows
+controller-sound : (next_id : ℕ) (session : Option ℕ) (rows : List ControllerRow) → AreControllerRows next_id session rows → AreSoundControllerRows next_id rows
 controller-sound next_id None rows are = are
 controller-sound next_id (Some session) rows are = are.0
 
@@ -89,27 +90,27 @@ stored-split (p ∷ ps) head some is =
 -- ---- a node's
 
 -- a front of a node's record keeps a record's rules
-record-take : (rows : List RowShown) (k : ℕ) → IsNodeSound rows → IsNodeSound (take k rows)
+record-take : (rows : List NodeRowShown) (k : ℕ) → AreSoundNodeRows rows → AreSoundNodeRows (take k rows)
 record-take rows k is = record {
   rising = λ i j below inside.
       let j_below : j < k = omega (arith, inside, length-take k rows) in
       let j_there : j < length rows = omega (arith, inside, length-take k rows) in
       let i_below : i < k = omega (arith, below, j_below) in
-      subst (λ (n : ℕ). n < id_at (take k rows) j) (sym (at i i_below)) (subst (λ (n : ℕ). id_at rows i < n) (sym (at j j_below)) (is.rising i j below j_there));
+      subst (λ (n : ℕ). n < row_id_at (take k rows) j) (sym (at i i_below)) (subst (λ (n : ℕ). row_id_at rows i < n) (sym (at j j_below)) (is.rising i j below j_there));
   limit = omega (arith, is.limit, length-take k rows);
   each = All-take IsSoundRow k rows is.each;
 }
   where
-    at : (i : ℕ) → i < k → id_at (take k rows) i ≡ id_at rows i
-    at i below = ap (λ (ns : List ℕ). get_or ns i 0) (sym (take-map (λ (row : RowShown). row.id) k rows)) ∙ get_or-take k (ids rows) i 0 below
+    at : (i : ℕ) → i < k → row_id_at (take k rows) i ≡ row_id_at rows i
+    at i below = ap (λ (ns : List ℕ). get_or ns i 0) (sym (take-map (λ (row : NodeRowShown). row.id) k rows)) ∙ get_or-take k (ids rows) i 0 below
 
 -- the same with the rules of its session
-node-take : (session : Option ℕ) (rows : List RowShown) (k : ℕ) → KeepNodeRules session rows → KeepNodeRules session (take k rows)
+node-take : (session : Option ℕ) (rows : List NodeRowShown) (k : ℕ) → KeepNodeRules session rows → KeepNodeRules session (take k rows)
 node-take None rows k are = record-take rows k are
 node-take (Some greatest) rows k are = (record-take rows k are.0, All-take (IsCurrentNodeRow greatest) k rows are.1)
 
 -- a node's rows are sound, by a session or without one
-node-sound : (session : Option ℕ) (rows : List RowShown) → KeepNodeRules session rows → IsNodeSound rows
+node-sound : (session : Option ℕ) (rows : List NodeRowShown) → KeepNodeRules session rows → AreSoundNodeRows rows
 node-sound None rows are = are
 node-sound (Some greatest) rows are = are.0
 
@@ -135,13 +136,13 @@ node-unasked version wanted head parts fits other =
     other (subst (λ (h : Head (List ℕ)). IfSome wanted (λ id. h.own ≡ id)) is fit.own.1))
 
 -- what keeps the rules can be written
-few-each : (rows : List NodeRow) → AllByRecursion IsSoundRow (map shown rows) → AllByRecursion ArePublishedFew rows
+few-each : (rows : List NodeRow) → AllByRecursion IsSoundRow (map node_row_shown rows) → AllByRecursion ArePublishedFew rows
 few-each [] each = tt
 few-each (r ∷ rs) each = ((each.0).targets.limit, few-each rs each.1)
 
 -- the rows of a node's record have at most 16 targets each
-pub few-targets : (rows : List NodeRow) → IsNodeSound (map shown rows) → AllByRecursion ArePublishedFew rows
-few-targets rows is = few-each rows (recursion_from_All IsSoundRow (map shown rows) is.each)
+pub few-targets : (rows : List NodeRow) → AreSoundNodeRows (map node_row_shown rows) → AllByRecursion ArePublishedFew rows
+few-targets rows is = few-each rows (recursion_from_All IsSoundRow (map node_row_shown rows) is.each)
 
 -- ---- what their parts are
 
@@ -196,15 +197,15 @@ controller_is next_id session rs rows same next_fits session_fits rules each =
     }
 
 -- a node's
-pub node_is : (id : List ℕ) (session : ℕ) (rs rows : List NodeRow) → rs ≡ rows → IsNodeId id → IsWord session → KeepNodeRules (Some session) (map shown rows) → AllByRecursion (IsAnsweredRow present) (map shown rs)
-    → IsRecordOf (node_layout present None) (node_parts present id (Some session) (map shown rows))
+pub node_is : (id : List ℕ) (session : ℕ) (rs rows : List NodeRow) → rs ≡ rows → IsNodeId id → IsWord session → KeepNodeRules (Some session) (map node_row_shown rows) → AllByRecursion (IsAnsweredRow present) (map node_row_shown rs)
+    → IsRecordOf (node_layout present None) (node_parts present id (Some session) (map node_row_shown rows))
 node_is id session rs rows same id_fits session_fits rules each =
     record {
       first = record { own = id; session = Some session };
-      rows = map shown rows;
+      rows = map node_row_shown rows;
       spelled = record {
         head_fits = record { own = (id_fits, tt); session = session_fits };
-        rows_fit = subst (λ (xs : List NodeRow). AllByRecursion (IsAnsweredRow present) (map shown xs)) same each;
+        rows_fit = subst (λ (xs : List NodeRow). AllByRecursion (IsAnsweredRow present) (map node_row_shown xs)) same each;
         rules = rules;
         are = refl;
       };

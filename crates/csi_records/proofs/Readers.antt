@@ -3,11 +3,11 @@ use Rattle.std.proofs.Common.{◌≡◌, ℕ, Bool, true, false, cond, List, [],
 use Rattle.std.specs.Prelude.{Option}
 use Rattle.std.proofs.lemmas.List.{append-nil}
 use Rattle.csi_lists.proofs.Options.{some_is_not_none}
-use Rattle.csi_frames.specs.Bytes.{AreBytes}
+use Rattle.csi_frames.specs.Public.Bytes.{AreBytes}
 use Rattle.csi_frames.proofs.Bytes.{AreBytes-back}
 pub use Rattle.csi_frames.proofs.Readers.{Then, Given, Either}
 pub use Rattle.csi_frames.proofs.Says.{Spelled, After, Made, Always}
-use Rattle.csi_records.specs.Reading.{Reader, go_on, ◌>>=◌, give}
+use Rattle.csi_records.specs.Private.Reading.{Reader, go_on, ◌>>=◌, give}
 
 -- a value, with what spells it
 pub record Took {A : Type 0} (Says : A → List ℕ → Type 0) (bytes : List ℕ) (x : A × List ℕ) : Type 0 where

@@ -7,21 +7,21 @@ use Rattle.std.proofs.lemmas.List.{append-nil, length-append, length-take, take_
 use Rattle.std.proofs.lemmas.List.Concat.{flat_map-append}
 use Rattle.byteorder.specs.Endian.{big_bytes, big_number}
 use Rattle.byteorder.specs.Numbers.{big_from-lt}
-use Rattle.csi_types.specs.Limits.{IsWord}
+use Rattle.csi_types.specs.Public.Limits.{IsWord}
 use Rattle.csi_records.specs.declared.version.RecordVersion.{RecordVersion}
-use Rattle.csi_records.specs.Version.{version_number}
-use Rattle.csi_frames.specs.Bytes.{AreBytes}
-use Rattle.csi_frames.specs.Spelling as spelling
+use Rattle.csi_records.specs.Public.Version.{record_version_number}
+use Rattle.csi_frames.specs.Public.Bytes.{AreBytes}
+use Rattle.csi_frames.specs.Public.Spelling as spelling
 use Rattle.csi_frames.proofs.Bytes.{AreBytes-take, AreBytes-back, four-back, four-again, four-front}
 use Rattle.csi_lists.proofs.Each.{each-append_one}
-use Rattle.csi_stores.specs.Part.{StoredPart, IsPart}
-use Rattle.csi_records.specs.Spelling.{part_bytes, record_head, record_bytes}
-use Rattle.csi_records.specs.Records.{Begins, IsRefusedAt}
+use Rattle.csi_stores.specs.Public.Part.{StoredPart, IsPart}
+use Rattle.csi_records.specs.Public.Spelling.{part_bytes, record_head, record_bytes}
+use Rattle.csi_records.specs.Public.Records.{Begins, IsRefusedAt}
 use Rattle.csi_records.specs.declared.fault.RecordStop.{RecordStop}
 use Rattle.csi_records.specs.declared.fault.RecordStop.TheVariants.{BadRecord, NoMemory}
-use Rattle.csi_records.specs.Places.{IsBadAt, bad_part, more_bytes, ReadsParts, ReadsBytes}
-use Rattle.csi_records.specs.Stopping.{AreSplit, SplitStops, HasNoHead}
-use Rattle.csi_records.specs.Reading.{long_in, bytes_in, part_in, record_head_in}
+use Rattle.csi_records.specs.Public.Places.{IsBadAt, bad_part, more_bytes, ReadsParts, ReadsBytes}
+use Rattle.csi_records.specs.Private.Stopping.{AreSplit, SplitStops, HasNoHead}
+use Rattle.csi_records.specs.Private.Reading.{read_long, read_bytes, read_part, read_record_head}
 use Rattle.csi_records.proofs.Readers.{Took, Reads, in_words, done, some_is, Spelled, spelled-same, spelled-none, After, Made, after, makes, Always}
 use Rattle.csi_records.proofs.FieldReaders.{word_reads, version_reads}
 use Rattle.csi_records.proofs.ValueReaders.{join3}
@@ -50,20 +50,20 @@ long-takes bytes false x fits is e =
     (record { front = take 4 bytes; parts = sym (take-append-drop 4 bytes); says = record { fits = record { fits = small }; are = back } })
 
 -- where a number of 32 bits is read, the four bytes that spell it stand first
-long_in-takes : (bytes : List ℕ) → AreBytes bytes → (x : ℕ × List ℕ) → long_in bytes ≡ Some x → Took (Spelled IsLong long) bytes x
-unfolding long_in
+long_in-takes : (bytes : List ℕ) → AreBytes bytes → (x : ℕ × List ℕ) → read_long bytes ≡ Some x → Took (Spelled IsLong long) bytes x
+unfolding read_long
 long_in-takes bytes fits x e = long-takes bytes (ltb (length bytes) 4) x fits refl e
 
 -- the four bytes of a number are read as it
-long_in-four : (n : ℕ) (rest : List ℕ) → n < 2 ^ 32 → long_in (big_bytes 4 n ++ rest) ≡ Some (n, rest)
-unfolding long_in
+long_in-four : (n : ℕ) (rest : List ℕ) → n < 2 ^ 32 → read_long (big_bytes 4 n ++ rest) ≡ Some (n, rest)
+unfolding read_long
 long_in-four n rest fits =
     let enough : ltb (length (big_bytes 4 n ++ rest)) 4 ≡ false = le-ltb _ _ (omega (arith, length-append (big_bytes 4 n) rest)) in
     rw (enough, four-again n rest fits, drop_at (big_bytes 4 n) rest 4 refl) refl
 
 -- the reader of a number of 32 bits reads what spells one
-long_reads : Reads long_in (Spelled IsLong long)
-long_reads = record { takes = long_in-takes; again = λ n front rest s. ap (λ (t : List ℕ). long_in (t ++ rest)) s.are ∙ long_in-four n rest s.fits.fits }
+long_reads : Reads read_long (Spelled IsLong long)
+long_reads = record { takes = long_in-takes; again = λ n front rest s. ap (λ (t : List ℕ). read_long (t ++ rest)) s.are ∙ long_in-four n rest s.fits.fits }
 
 -- ---- so many bytes
 
@@ -85,22 +85,22 @@ piece-takes n bytes false x is e =
     (record { front = take n bytes; parts = sym (take-append-drop n bytes); says = record { fits = record { counted = counted }; are = refl } })
 
 -- so many bytes that are read stand first
-bytes_in-takes : (n : ℕ) (bytes : List ℕ) (x : List ℕ × List ℕ) → bytes_in n bytes ≡ Some x → Took (Spelled (IsOfLength n) itself) bytes x
-unfolding bytes_in
+bytes_in-takes : (n : ℕ) (bytes : List ℕ) (x : List ℕ × List ℕ) → read_bytes n bytes ≡ Some x → Took (Spelled (IsOfLength n) itself) bytes x
+unfolding read_bytes
 bytes_in-takes n bytes x e = piece-takes n bytes (ltb (length bytes) n) x refl e
 
 -- so many bytes that stand first are read
-bytes_in-again : (n : ℕ) (value rest : List ℕ) → length value ≡ n → bytes_in n (value ++ rest) ≡ Some (value, rest)
-unfolding bytes_in
+bytes_in-again : (n : ℕ) (value rest : List ℕ) → length value ≡ n → read_bytes n (value ++ rest) ≡ Some (value, rest)
+unfolding read_bytes
 bytes_in-again n value rest counted =
     let enough : ltb (length (value ++ rest)) n ≡ false = le-ltb _ _ (omega (arith, length-append value rest, counted)) in
     rw (enough, take_at value rest n counted, drop_at value rest n counted) refl
 
 -- the reader of so many bytes takes them as they are
-bytes_read : (n : ℕ) → Reads (bytes_in n) (Spelled (IsOfLength n) itself)
+bytes_read : (n : ℕ) → Reads (read_bytes n) (Spelled (IsOfLength n) itself)
 bytes_read n = record {
   takes = λ bytes fits x e. bytes_in-takes n bytes x e;
-  again = λ value front rest s. ap (λ (t : List ℕ). bytes_in n (t ++ rest)) s.are ∙ bytes_in-again n value rest s.fits.counted;
+  again = λ value front rest s. ap (λ (t : List ℕ). read_bytes n (t ++ rest)) s.are ∙ bytes_in-again n value rest s.fits.counted;
 }
 
 -- ---- a part
@@ -142,8 +142,8 @@ part-back value bytes s =
     }
 
 -- the reader of a part reads what spells one
-pub part_reads : Reads part_in (Spelled IsPart part_bytes)
-unfolding part_in
+pub part_reads : Reads read_part (Spelled IsPart part_bytes)
+unfolding read_part
 part_reads =
     in_words (Spelled IsPart part_bytes) part-there part-back
     (after word_reads (λ key. after long_reads (λ n. makes (λ value. make_part key value) (bytes_read n))))
@@ -168,13 +168,13 @@ make_head version count = (version, count)
 
 -- these bytes spell it
 abbrev SaysHead : Head → List ℕ → Type 0
-SaysHead = After Always (λ version. version_number version ∷ []) (λ version. Made IsLong long (λ count. make_head version count))
+SaysHead = After Always (λ version. record_version_number version ∷ []) (λ version. Made IsLong long (λ count. make_head version count))
 
 -- a version's byte and four of a number are the spelling of both
 head-there : (value : Head) (bytes : List ℕ) → SaysHead value bytes → Spelled IsHead head_bytes value bytes
 head-there value bytes s =
     subst (λ (v : Head). Spelled IsHead head_bytes v bytes) (sym s.second.same)
-    (record { fits = s.second.fits; are = s.parts ∙ ap (λ (t : List ℕ). version_number s.before ∷ t) s.second.are })
+    (record { fits = s.second.fits; are = s.parts ∙ ap (λ (t : List ℕ). record_version_number s.before ∷ t) s.second.are })
 
 -- the spelling of a version and a number is the version's byte and four of the number
 head-back : (value : Head) (bytes : List ℕ) → Spelled IsHead head_bytes value bytes → SaysHead value bytes
@@ -182,18 +182,18 @@ head-back value bytes s =
     record { before = value.0; fits = tt; back = long value.1; parts = s.are; second = record { before = value.1; fits = s.fits; same = refl; are = refl } }
 
 -- the reader of a record's version and number of parts reads what spells them
-pub record_head_reads : Reads record_head_in (Spelled IsHead head_bytes)
-unfolding record_head_in
+pub record_head_reads : Reads read_record_head (Spelled IsHead head_bytes)
+unfolding read_record_head
 record_head_reads = in_words (Spelled IsHead head_bytes) head-there head-back (after version_reads (λ version. makes (λ count. make_head version count) long_reads))
 
 -- where no version and number of parts are read, none stand in front
-pub no-head : (bytes : List ℕ) → record_head_in bytes ≡ None → HasNoHead bytes
+pub no-head : (bytes : List ℕ) → read_record_head bytes ≡ None → HasNoHead bytes
 no-head bytes none = λ version count rest from to are. spelled-none record_head_reads bytes none (make_head version count) rest (record { fits = to }) are
 
 -- where the number of parts that is read is 0, no number from 1 on stands in front
-pub zero-head : (bytes rest : List ℕ) (head : Head) → head.1 ≡ 0 → record_head_in bytes ≡ Some (head, rest) → HasNoHead bytes
+pub zero-head : (bytes rest : List ℕ) (head : Head) → head.1 ≡ 0 → read_record_head bytes ≡ Some (head, rest) → HasNoHead bytes
 zero-head bytes rest head is read = λ version other more from to are.
-    let e = sym (record_head_reads.again (make_head version other) (record_head version other) more (record { fits = record { fits = to }; are = refl })) ∙ ap record_head_in (sym are) ∙ read in
+    let e = sym (record_head_reads.again (make_head version other) (record_head version other) more (record { fits = record { fits = to }; are = refl })) ∙ ap read_record_head (sym are) ∙ read in
     let same : other ≡ head.1 = ap (λ p. p.0.1) (some_is (make_head version other) more (head, rest) e) in
     absurd (omega (arith, same, is, from))
 
@@ -205,7 +205,7 @@ pub record IsSoFar (bytes : List ℕ) (parts : List StoredPart) (rest : List ℕ
   pub are : bytes ≡ flat_map part_bytes parts ++ rest
 
 -- where parts were read and one more is, the parts with it were read
-pub one-more : (bytes : List ℕ) (parts : List StoredPart) (rest after : List ℕ) (part : StoredPart) → AreBytes bytes → IsSoFar bytes parts rest → part_in rest ≡ Some (part, after) → IsSoFar bytes (parts ++ part ∷ []) after
+pub one-more : (bytes : List ℕ) (parts : List StoredPart) (rest after : List ℕ) (part : StoredPart) → AreBytes bytes → IsSoFar bytes parts rest → read_part rest ≡ Some (part, after) → IsSoFar bytes (parts ++ part ∷ []) after
 one-more bytes parts rest after part fits so_far read =
     let took = part_reads.takes rest (AreBytes-back (flat_map part_bytes parts) rest (subst AreBytes so_far.are fits)) (part, after) read in
     record {
@@ -268,25 +268,25 @@ whole-split version bytes parts split =
 -- ---- how splitting ends
 
 -- a number of parts that is read is of 32 bits, and stands in front behind the version
-head-found : (bytes rest : List ℕ) (head : Head) → AreBytes bytes → record_head_in bytes ≡ Some (head, rest) → (head.1 < 2 ^ 32) × (bytes ≡ head_bytes head ++ rest)
+head-found : (bytes rest : List ℕ) (head : Head) → AreBytes bytes → read_record_head bytes ≡ Some (head, rest) → (head.1 < 2 ^ 32) × (bytes ≡ head_bytes head ++ rest)
 head-found bytes rest head fits read =
     let took = record_head_reads.takes bytes fits (head, rest) read in
     (took.says.fits.fits, took.parts ∙ ap (λ (t : List ℕ). t ++ rest) took.says.are)
 
 -- bytes of which the head and parts were read are split so far, where the splitting may stop there
-split-here : (bytes rest after : List ℕ) (head : Head) (parts : List StoredPart) (all : Bool) → AreBytes bytes → record_head_in bytes ≡ Some (head, rest) → 1 ≤ head.1 → IsSoFar rest parts after → SplitStops head.1 parts after all
+split-here : (bytes rest after : List ℕ) (head : Head) (parts : List StoredPart) (all : Bool) → AreBytes bytes → read_record_head bytes ≡ Some (head, rest) → 1 ≤ head.1 → IsSoFar rest parts after → SplitStops head.1 parts after all
     → AreSplit head.0 bytes parts all
 split-here bytes rest after head parts all fits read from so_far stops =
     let found = head-found bytes rest head fits read in
     record { count = head.1; rest = after; from = from; to = found.0; fit = so_far.fit; are = found.1 ∙ ap (λ (t : List ℕ). head_bytes head ++ t) so_far.are; stops = stops }
 
 -- where no part is read and fewer were than the head says, splitting stops there
-pub split-stopped : (bytes rest after : List ℕ) (head : Head) (parts : List StoredPart) → AreBytes bytes → record_head_in bytes ≡ Some (head, rest) → 1 ≤ head.1 → IsSoFar rest parts after → length parts < head.1 → part_in after ≡ None
+pub split-stopped : (bytes rest after : List ℕ) (head : Head) (parts : List StoredPart) → AreBytes bytes → read_record_head bytes ≡ Some (head, rest) → 1 ≤ head.1 → IsSoFar rest parts after → length parts < head.1 → read_part after ≡ None
     → AreSplit head.0 bytes parts false
 split-stopped bytes rest after head parts fits read from so_far fewer none = split-here bytes rest after head parts false fits read from so_far (inr (fewer, spelled-none part_reads after none))
 
 -- where as many parts were read as the head says, splitting took all if no byte is left, and else not all
-pub split-ended : (bytes rest after : List ℕ) (head : Head) (parts : List StoredPart) (empty : Bool) → AreBytes bytes → record_head_in bytes ≡ Some (head, rest) → 1 ≤ head.1 → IsSoFar rest parts after → length parts ≡ head.1 → empty ≡ eqb (length after) 0
+pub split-ended : (bytes rest after : List ℕ) (head : Head) (parts : List StoredPart) (empty : Bool) → AreBytes bytes → read_record_head bytes ≡ Some (head, rest) → 1 ≤ head.1 → IsSoFar rest parts after → length parts ≡ head.1 → empty ≡ eqb (length after) 0
     → AreSplit head.0 bytes parts empty
 split-ended bytes rest [] head parts true fits read from so_far all is = split-here bytes rest [] head parts true fits read from so_far (all, refl)
 split-ended bytes rest [] head parts false fits read from so_far all is = absurd cc
@@ -294,7 +294,7 @@ split-ended bytes rest (b ∷ after) head parts true fits read from so_far all i
 split-ended bytes rest (b ∷ after) head parts false fits read from so_far all is = split-here bytes rest (b ∷ after) head parts false fits read from so_far (inl (all, λ e. cc))
 
 -- what stands behind a record's head are bytes
-pub bytes-after : (bytes rest : List ℕ) (head : Head) → AreBytes bytes → record_head_in bytes ≡ Some (head, rest) → AreBytes rest
+pub bytes-after : (bytes rest : List ℕ) (head : Head) → AreBytes bytes → read_record_head bytes ≡ Some (head, rest) → AreBytes rest
 bytes-after bytes rest head fits read = AreBytes-back (head_bytes head) rest (subst AreBytes (head-found bytes rest head fits read).1 fits)
 
 -- ---- what reading bytes answers

@@ -5,19 +5,19 @@ use Rattle.std.specs.List.{flat_map, AllByRecursion}
 use Rattle.std.proofs.lemmas.List.Concat.{flat_map-cons}
 use Rattle.csi_types.specs.declared.capability.Capability.{Capability}
 use Rattle.csi_types.specs.declared.reply.Reply.{Reply}
-use Rattle.csi_fence.specs.Fence.{Kept}
-use Rattle.csi_types.specs.Status.{status_code}
-use Rattle.csi_types.specs.Same.{kind_number}
-use Rattle.csi_types.specs.Text.{IsText, IsNodeId, IsTarget}
-use Rattle.csi_types.specs.VolumeId.{IsVolumeId}
-use Rattle.csi_types.specs.Limits.{IsWord, IsNumber, IsReply}
+use Rattle.csi_fence.specs.Model.Fence.{Kept}
+use Rattle.csi_types.specs.Public.Status.{status_code}
+use Rattle.csi_types.specs.Model.Same.{kind_number}
+use Rattle.csi_types.specs.Public.Text.{IsText, IsNodeId, IsTarget}
+use Rattle.csi_types.specs.Public.VolumeId.{IsVolumeId}
+use Rattle.csi_types.specs.Public.Limits.{IsWord, IsNumber, IsReply}
 use Rattle.csi_records.specs.declared.version.RecordVersion.{RecordVersion}
-use Rattle.csi_frames.specs.Spelling as spelling
+use Rattle.csi_frames.specs.Public.Spelling as spelling
 use Rattle.csi_controller.specs.declared.row.NodeHolding.{NodeHolding}
 use Rattle.csi_node.specs.declared.row.NodeTarget.{NodeTarget}
-use Rattle.csi_records.specs.Reading.{Reader, items_in, counted_in, holding_in, target_in, reply_id_in, reply_in, kept_in, staged_in, id_from}
-use Rattle.csi_records.specs.Spelling.{counted, holding_bytes, target_bytes, kept_bytes, staged_bytes}
-use Rattle.csi_records.specs.Records.{IsCapabilityIn, IsKept, IsHolding, IsTargetRow, IsStagedSo}
+use Rattle.csi_records.specs.Private.Reading.{Reader, read_items, read_counted, read_holding, read_target, read_reply_id, read_reply, read_kept, read_staged, id_from}
+use Rattle.csi_records.specs.Public.Spelling.{list_spelling, holding_bytes, target_bytes, kept_bytes, staged_bytes}
+use Rattle.csi_records.specs.Public.Records.{IsCapabilityIn, IsKeptCall, IsHolding, IsTargetRow, IsStagedSo}
 use Rattle.csi_records.proofs.Readers.{Reads, Given, gives, in_words, Either, either, Spelled, After, Made, after, makes, Always}
 use Rattle.csi_records.proofs.FieldReaders.{flag_reads, capability_reads, number_bytes, number_reads, status_reads, kind_reads, count_reads, word_reads, text_reads, IsCount, one_byte}
 
@@ -73,8 +73,8 @@ nil-back Fits spell [] bytes s = record { same = refl; none = s.are }
 nil-back Fits spell (first ∷ others) bytes s = absurd (cc s.fits.counted)
 
 -- a reader of single values that is asked so many times reads so many
-pub items_read : {A : Type 0} {read : Reader A} (Fits : A → Type 0) (spell : A → List ℕ) (n : ℕ) → Reads read (Spelled Fits spell) → Reads (items_in read n) (SaysItems Fits spell n)
-unfolding items_in
+pub items_read : {A : Type 0} {read : Reader A} (Fits : A → Type 0) (spell : A → List ℕ) (n : ℕ) → Reads read (Spelled Fits spell) → Reads (read_items read n) (SaysItems Fits spell n)
+unfolding read_items
 items_read Fits spell zero one = in_words (SaysItems Fits spell 0) (nil-there Fits spell) (nil-back Fits spell) (gives [])
 items_read Fits spell (suc n) one =
     in_words (SaysItems Fits spell (suc n)) (more-there Fits spell n) (more-back Fits spell n)
@@ -90,7 +90,7 @@ abbrev SaysCounted : {A : Type 0} → (A → Type 0) → (A → List ℕ) → �
 SaysCounted Fits spell most = After (IsCount most) one_byte (λ count. SaysItems Fits spell count)
 
 -- a count and so many values are the spelling of a counted list
-counted-there : {A : Type 0} (Fits : A → Type 0) (spell : A → List ℕ) (most : ℕ) (value : List A) (bytes : List ℕ) → SaysCounted Fits spell most value bytes → Spelled (AreFew Fits most) (counted spell) value bytes
+counted-there : {A : Type 0} (Fits : A → Type 0) (spell : A → List ℕ) (most : ℕ) (value : List A) (bytes : List ℕ) → SaysCounted Fits spell most value bytes → Spelled (AreFew Fits most) (list_spelling spell) value bytes
 counted-there Fits spell most value bytes s =
     record {
       fits = record { few = omega (arith, s.second.fits.counted, s.fits.within); each = s.second.fits.each };
@@ -98,7 +98,7 @@ counted-there Fits spell most value bytes s =
     }
 
 -- the spelling of a counted list is its count and its values
-counted-back : {A : Type 0} (Fits : A → Type 0) (spell : A → List ℕ) (most : ℕ) (value : List A) (bytes : List ℕ) → Spelled (AreFew Fits most) (counted spell) value bytes → SaysCounted Fits spell most value bytes
+counted-back : {A : Type 0} (Fits : A → Type 0) (spell : A → List ℕ) (most : ℕ) (value : List A) (bytes : List ℕ) → Spelled (AreFew Fits most) (list_spelling spell) value bytes → SaysCounted Fits spell most value bytes
 counted-back Fits spell most value bytes s =
     record {
       before = length value;
@@ -109,10 +109,10 @@ counted-back Fits spell most value bytes s =
     }
 
 -- the reader of a counted list reads what spells one of at most so many values
-pub counted_reads : {A : Type 0} {read : Reader A} (Fits : A → Type 0) (spell : A → List ℕ) (most : ℕ) → Reads read (Spelled Fits spell) → Reads (counted_in most read) (Spelled (AreFew Fits most) (counted spell))
-unfolding counted_in
+pub counted_reads : {A : Type 0} {read : Reader A} (Fits : A → Type 0) (spell : A → List ℕ) (most : ℕ) → Reads read (Spelled Fits spell) → Reads (read_counted most read) (Spelled (AreFew Fits most) (list_spelling spell))
+unfolding read_counted
 counted_reads Fits spell most one =
-    in_words (Spelled (AreFew Fits most) (counted spell)) (counted-there Fits spell most) (counted-back Fits spell most)
+    in_words (Spelled (AreFew Fits most) (list_spelling spell)) (counted-there Fits spell most) (counted-back Fits spell most)
     (after (count_reads most) (λ count. items_read Fits spell count one))
 
 -- ---- holdings and targets
@@ -150,8 +150,8 @@ holding-back version value bytes s =
     }
 
 -- the reader of a holding reads what spells one
-pub holding_reads : (version : RecordVersion) → Reads (holding_in version) (Spelled (IsHolding version) holding_bytes)
-unfolding holding_in
+pub holding_reads : (version : RecordVersion) → Reads (read_holding version) (Spelled (IsHolding version) holding_bytes)
+unfolding read_holding
 holding_reads version =
     in_words (Spelled (IsHolding version) holding_bytes) (holding-there version) (holding-back version)
     (after (text_reads 1 255) (λ node. after (capability_reads version) (λ capability. makes (λ readonly. record { node = node; capability = capability; readonly = readonly }) flag_reads)))
@@ -172,8 +172,8 @@ target-back value bytes s =
     record { before = value.target; fits = s.fits; back = spelling.flag value.readonly; parts = s.are; second = record { before = value.readonly; fits = tt; same = refl; are = refl } }
 
 -- the reader of a target reads what spells one
-pub target_reads : Reads target_in (Spelled IsTargetRow target_bytes)
-unfolding target_in
+pub target_reads : Reads read_target (Spelled IsTargetRow target_bytes)
+unfolding read_target
 target_reads =
     in_words (Spelled IsTargetRow target_bytes) target-there target-back
     (after (text_reads 1 255) (λ target. makes (λ readonly. record { target = target; readonly = readonly }) flag_reads))
@@ -196,8 +196,8 @@ id-back (Some zero) fits = absurd (omega (arith, fits.from_one))
 id-back (Some (suc n)) fits = (suc n, fits.in_range, refl, refl)
 
 -- the reader of a reply's id reads what spells one, or none
-reply_id_reads : Reads reply_id_in (Spelled IsReplyId spelling.reply_id)
-unfolding reply_id_in
+reply_id_reads : Reads read_reply_id (Spelled IsReplyId spelling.reply_id)
+unfolding read_reply_id
 reply_id_reads =
     in_words (Spelled IsReplyId spelling.reply_id)
     (λ value bytes s.
@@ -240,8 +240,8 @@ reply-back value bytes s =
     }
 
 -- the reader of a reply reads what spells one
-reply_reads : Reads reply_in (Spelled IsReply spelling.reply_fields)
-unfolding reply_in
+reply_reads : Reads read_reply (Spelled IsReply spelling.reply_fields)
+unfolding read_reply
 reply_reads =
     in_words (Spelled IsReply spelling.reply_fields) reply-there reply-back
     (after status_reads (λ status. after reply_id_reads (λ id. makes (λ detail. record { status = status; id = id; detail = detail }) (text_reads 0 255))))
@@ -252,18 +252,18 @@ SaysKept =
     After IsNumber number_bytes (λ number. After Always (λ kind. (128 + kind_number kind) ∷ []) (λ kind. Made IsReply spelling.reply_fields (λ reply. record { number = number; kind = kind; reply = reply })))
 
 -- a call's number, a kind byte and a reply are the spelling of what is kept
-kept-there : (value : Kept) (bytes : List ℕ) → SaysKept value bytes → Spelled IsKept kept_bytes value bytes
+kept-there : (value : Kept) (bytes : List ℕ) → SaysKept value bytes → Spelled IsKeptCall kept_bytes value bytes
 kept-there value bytes s =
     let s1 = s.second in
     let s2 = s1.second in
-    subst (λ (v : Kept). Spelled IsKept kept_bytes v bytes) (sym s2.same)
+    subst (λ (v : Kept). Spelled IsKeptCall kept_bytes v bytes) (sym s2.same)
     (record {
       fits = record { number = s.fits; reply = s2.fits };
       are = s.parts ∙ ap (λ (t : List ℕ). number_bytes s.before ++ t) (s1.parts ∙ ap (λ (t : List ℕ). (128 + kind_number s1.before) ∷ t) s2.are);
     })
 
 -- the spelling of what is kept is a call's number, a kind byte and a reply
-kept-back : (value : Kept) (bytes : List ℕ) → Spelled IsKept kept_bytes value bytes → SaysKept value bytes
+kept-back : (value : Kept) (bytes : List ℕ) → Spelled IsKeptCall kept_bytes value bytes → SaysKept value bytes
 kept-back value bytes s =
     record {
       before = value.number;
@@ -280,10 +280,10 @@ kept-back value bytes s =
     }
 
 -- the reader of what is kept reads what spells it
-pub kept_reads : Reads kept_in (Spelled IsKept kept_bytes)
-unfolding kept_in
+pub kept_reads : Reads read_kept (Spelled IsKeptCall kept_bytes)
+unfolding read_kept
 kept_reads =
-    in_words (Spelled IsKept kept_bytes) kept-there kept-back
+    in_words (Spelled IsKeptCall kept_bytes) kept-there kept-back
     (after number_reads (λ number. after kind_reads (λ kind. makes (λ reply. record { number = number; kind = kind; reply = reply }) reply_reads)))
 
 -- ---- how a volume is staged
@@ -305,8 +305,8 @@ staged-back version None bytes s = record { before = false; fits = tt; back = []
 staged-back version (Some c) bytes s = record { before = true; fits = tt; back = spelling.capability c; parts = s.are; second = record { before = c; fits = s.fits; same = refl; are = refl } }
 
 -- the reader of how a volume is staged reads what spells it
-pub staged_reads : (version : RecordVersion) → Reads (staged_in version) (Spelled (IsStagedSo version) staged_bytes)
-unfolding staged_in
+pub staged_reads : (version : RecordVersion) → Reads (read_staged version) (Spelled (IsStagedSo version) staged_bytes)
+unfolding read_staged
 staged_reads version =
     in_words (Spelled (IsStagedSo version) staged_bytes) (λ value bytes s. staged-by version s.before value bytes s.back s.parts s.second) (staged-back version)
     (after flag_reads (λ b. either b (makes (λ c. Some c) (capability_reads version)) (gives None)))

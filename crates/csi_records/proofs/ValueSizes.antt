@@ -7,18 +7,18 @@ use Rattle.csi_types.specs.declared.capability.Access.{Access}
 use Rattle.csi_types.specs.declared.capability.Access.TheVariants.{Block, Mount}
 use Rattle.csi_types.specs.declared.capability.Capability.{Capability}
 use Rattle.csi_types.specs.declared.reply.Reply.{Reply}
-use Rattle.csi_fence.specs.Fence.{Kept}
-use Rattle.csi_types.specs.Mode.{mode_number}
-use Rattle.csi_types.specs.Same.{kind_number}
-use Rattle.csi_types.specs.Limits.{IsAccess, IsReply}
-use Rattle.csi_frames.specs.Spelling as spelling
+use Rattle.csi_fence.specs.Model.Fence.{Kept}
+use Rattle.csi_types.specs.Model.Mode.{mode_number}
+use Rattle.csi_types.specs.Model.Same.{kind_number}
+use Rattle.csi_types.specs.Public.Limits.{IsAccess, IsReply}
+use Rattle.csi_frames.specs.Public.Spelling as spelling
 use Rattle.csi_records.specs.declared.version.RecordVersion.{RecordVersion}
-use Rattle.csi_records.specs.Version.{version_number}
+use Rattle.csi_records.specs.Public.Version.{record_version_number}
 use Rattle.csi_controller.specs.declared.row.NodeHolding.{NodeHolding}
 use Rattle.csi_node.specs.declared.row.NodeTarget.{NodeTarget}
-use Rattle.csi_node.specs.OneRow.{RowShown}
-use Rattle.csi_records.specs.Spelling.{VolumeRow, state_byte, counted, holding_bytes, target_bytes, kept_bytes, staged_bytes, volume_bytes, answered_bytes}
-use Rattle.csi_records.specs.Records.{IsCapabilityIn, IsHolding, IsTargetRow, IsStagedSo, IsKept, IsVolumeRow, IsAnsweredRow}
+use Rattle.csi_node.specs.Model.OneRow.{NodeRowShown}
+use Rattle.csi_records.specs.Public.Spelling.{VolumeRow, state_byte, list_spelling, holding_bytes, target_bytes, kept_bytes, staged_bytes, volume_bytes, answered_bytes}
+use Rattle.csi_records.specs.Public.Records.{IsCapabilityIn, IsHolding, IsTargetRow, IsStagedSo, IsKeptCall, IsVolumeRow, IsAnsweredRow}
 
 -- how long the spelling of each value is at most
 access-size : (a : Access) → IsAccess a → length (spelling.access a) ≤ 130
@@ -63,7 +63,7 @@ reply-size : (r : Reply) → IsReply r → length (spelling.reply_fields r) ≤ 
 reply-size r fits = omega (arith, fits.detail_fits.no_longer, id-size r.id, length-append (spelling.reply_id r.id) (spelling.text r.detail))
 
 -- a kept reply, with its number and its kind, has at most 282 bytes
-kept-size : (k : Kept) → IsKept k → length (kept_bytes k) ≤ 282
+kept-size : (k : Kept) → IsKeptCall k → length (kept_bytes k) ≤ 282
 kept-size k fits =
     let words : List ℕ = spelling.word k.number.session ++ spelling.word k.number.call in
     omega (arith, reply-size k.reply fits.reply, length-append words ((128 + kind_number k.kind) ∷ spelling.reply_fields k.reply), length-append (spelling.word k.number.session) (spelling.word k.number.call))
@@ -88,11 +88,11 @@ small n a b c d e f is ha hb hc hd he hf = omega arith
 -- the value of a volume's part, and below of a node's row, is shorter than 2^32 bytes
 pub volume_size : (version : RecordVersion) (row : VolumeRow) → IsVolumeRow version row → length (volume_bytes version row) < 2 ^ 32
 volume_size version row fits =
-    let a : List ℕ = version_number version ∷ state_byte row.volume.is_live ∷ [] in
+    let a : List ℕ = record_version_number version ∷ state_byte row.volume.is_live ∷ [] in
     let b : List ℕ = spelling.text row.volume.name in
     let c : List ℕ = spelling.word row.volume.capacity in
-    let d : List ℕ = counted spelling.capability row.volume.capabilities in
-    let e : List ℕ = counted holding_bytes row.holdings in
+    let d : List ℕ = list_spelling spelling.capability row.volume.capabilities in
+    let e : List ℕ = list_spelling holding_bytes row.holdings in
     small (length (volume_bytes version row)) (length a) (length b) (length c) (length d) (length e) (length (kept_bytes row.volume.kept)) (length6 a b c d e (kept_bytes row.volume.kept))
     (omega arith) (omega (arith, fits.name.no_longer)) (omega arith) (omega (arith, fits.capability_count, capabilities-size version row.volume.capabilities fits.capabilities))
     (omega (arith, fits.count, holdings-size version row.holdings fits.holdings)) (fewer (length (kept_bytes row.volume.kept)) (kept-size row.volume.kept fits.kept))
@@ -101,10 +101,10 @@ volume_size version row fits =
     fewer n h = omega arith
 
 -- the value of a node's row is shorter than 2^32 bytes
-pub answered_size : (version : RecordVersion) (row : RowShown) → IsAnsweredRow version row → length (answered_bytes version row) < 2 ^ 32
+pub answered_size : (version : RecordVersion) (row : NodeRowShown) → IsAnsweredRow version row → length (answered_bytes version row) < 2 ^ 32
 answered_size version row fits =
-    let a : List ℕ = version_number version ∷ staged_bytes row.staged in
-    let b : List ℕ = counted target_bytes row.targets in
+    let a : List ℕ = record_version_number version ∷ staged_bytes row.staged in
+    let b : List ℕ = list_spelling target_bytes row.targets in
     small (length (answered_bytes version row)) (length a) 0 0 0 (length b) (length (kept_bytes row.kept)) (ordered (length a) (length b) (length (kept_bytes row.kept)) (length3 a b (kept_bytes row.kept)))
     (omega (arith, staged-size version row.staged fits.staged)) (omega arith) (omega arith) (omega arith)
     (omega (arith, fits.count, targets-size row.targets fits.targets)) (fewer (length (kept_bytes row.kept)) (kept-size row.kept fits.kept))

@@ -3,13 +3,13 @@ use Rattle.std.proofs.Common.{◌≡◌, ℕ, List, [], ◌∷◌, ◌++◌, Som
 use Rattle.std.proofs.lemmas.Option.{same_Some}
 use Rattle.csi_lists.proofs.Options.{some_is_not_none}
 use Rattle.csi_records.specs.declared.version.RecordVersion.{RecordVersion}
-use Rattle.csi_stores.specs.Part.{StoredPart}
+use Rattle.csi_stores.specs.Public.Part.{StoredPart}
 use Rattle.csi_records.specs.declared.fault.RecordStop.{RecordStop}
 use Rattle.csi_records.specs.declared.fault.RecordStop.TheVariants.{BadRecord, NoMemory}
-use Rattle.csi_records.specs.Reading.{version_in_value, version_in_parts}
-use Rattle.csi_records.specs.Records.{Layout, AreParts, IsRecordOf, IsInSome, Begins, IsRefusedAt}
-use Rattle.csi_records.specs.Places.{ReadsParts, ReadsStored}
-use Rattle.csi_records.specs.Laws.{PartsTell, LawsOf}
+use Rattle.csi_records.specs.Private.Reading.{version_in_value, version_in_parts}
+use Rattle.csi_records.specs.Public.Records.{Layout, AreParts, IsRecordOf, IsInSome, Begins, IsRefusedAt}
+use Rattle.csi_records.specs.Public.Places.{ReadsParts, ReadsStored}
+use Rattle.csi_records.specs.Public.Laws.{PartsTell, LawsOf}
 use Rattle.csi_records.proofs.Layouts.{IsOneToOne, parts-same}
 use Rattle.csi_records.proofs.LayoutLaws.{ArePlain, one-reading, one-refusal}
 

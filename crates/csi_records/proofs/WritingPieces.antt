@@ -9,8 +9,8 @@ use Rattle.std.proofs.lemmas.List.{append-nil, map-append, take_more}
 use Rattle.std.proofs.lemmas.List.Concat.{flat_map-append}
 use Rattle.csi_lists.proofs.Each.{each-append_one}
 use Rattle.csi_stores.specs.declared.part.Part.{Part}
-use Rattle.csi_stores.specs.Part.{StoredPart, IsPart, Change, put_all, take_all, change_of, stored_in, all_stored_in}
-use Rattle.csi_records.specs.Spelling.{part_bytes}
+use Rattle.csi_stores.specs.Public.Part.{StoredPart, IsPart, StoredChange, put_all, take_all, part_change, stored_in, all_stored_in}
+use Rattle.csi_records.specs.Public.Spelling.{part_bytes}
 
 -- a part, from its key and its value
 abbrev make_part : ℕ → List ℕ → StoredPart
@@ -37,23 +37,23 @@ part_at (p ∷ ps) zero part each inside is = subst (λ (q : Part). IsPart (stor
 part_at (p ∷ ps) (suc i) part each inside is = part_at ps i part each.1 (omega arith) is
 
 -- parts that are put in with their values are those values under their keys
-pub stored_put : (parts : List Part) (stored : List StoredPart) → map change_of parts ≡ put_all stored → all_stored_in parts ≡ stored
+pub stored_put : (parts : List Part) (stored : List StoredPart) → map part_change parts ≡ put_all stored → all_stored_in parts ≡ stored
 stored_put [] [] e = refl
 stored_put [] (q ∷ qs) e = absurd cc
 stored_put (p ∷ ps) [] e = absurd cc
 stored_put (p ∷ ps) (q ∷ qs) e =
-    let one : change_of p ≡ record { key = q.key; value = Some q.value } = cc in
-    let rest : map change_of ps ≡ put_all qs = cc in
+    let one : part_change p ≡ record { key = q.key; value = Some q.value } = cc in
+    let rest : map part_change ps ≡ put_all qs = cc in
     ap (λ (s : StoredPart). s ∷ all_stored_in ps) (one_stored p q one) ∙ ap (λ (ss : List StoredPart). q ∷ ss) (stored_put ps qs rest)
   where
-    by : (key : ℕ) (value : Option (Vec ℕ)) (q : StoredPart) → change_of (record { key = key; value = value }) ≡ record { key = q.key; value = Some q.value } → stored_in (record { key = key; value = value }) ≡ q
-    by key None q same = absurd (some_is_not_none q.value (sym (ap (λ (c : Change). c.value) same)))
+    by : (key : ℕ) (value : Option (Vec ℕ)) (q : StoredPart) → part_change (record { key = key; value = value }) ≡ record { key = q.key; value = Some q.value } → stored_in (record { key = key; value = value }) ≡ q
+    by key None q same = absurd (some_is_not_none q.value (sym (ap (λ (c : StoredChange). c.value) same)))
     by key (Some bytes) q same =
-        let k : key ≡ q.key = ap (λ (c : Change). c.key) same in
-        let v : bytes.items ≡ q.value = same_Some bytes.items q.value (ap (λ (c : Change). c.value) same) in
+        let k : key ≡ q.key = ap (λ (c : StoredChange). c.key) same in
+        let v : bytes.items ≡ q.value = same_Some bytes.items q.value (ap (λ (c : StoredChange). c.value) same) in
         ap (λ (n : ℕ). make_part n bytes.items) k ∙ ap (make_part q.key) v
 
-    one_stored : (p : Part) (q : StoredPart) → change_of p ≡ record { key = q.key; value = Some q.value } → stored_in p ≡ q
+    one_stored : (p : Part) (q : StoredPart) → part_change p ≡ record { key = q.key; value = Some q.value } → stored_in p ≡ q
     one_stored p q same = by p.key p.value q same
 
 -- the first items and the next one are one more of the first
@@ -74,28 +74,28 @@ one_more_part part parts i next old before after inside is so_far one =
     ∙ ap (λ (t : List ℕ). old ++ t) (sym (flat_map-push part_bytes parts_so_far (part next))) ∙ ap (λ ps. old ++ flat_map part_bytes ps) (sym more)
 
 -- where the parts of the first rows are put in and the next row's part is, those of one row more are
-pub one_more_put : {X R : Type 0} (shown : X → R) (part : R → StoredPart) (rows : List X) (i : ℕ) (row : X) (old before after : List Change) → i < length rows → row ≡ get_or rows i row
+pub one_more_put : {X R : Type 0} (shown : X → R) (part : R → StoredPart) (rows : List X) (i : ℕ) (row : X) (old before after : List StoredChange) → i < length rows → row ≡ get_or rows i row
     → before ≡ old ++ put_all (map part (map shown (take i rows))) → after ≡ before ++ put_all (part (shown row) ∷ []) → after ≡ old ++ put_all (map part (map shown (take (i + 1) rows)))
 one_more_put shown part rows i row old before after inside is so_far one =
     let rows_so_far = map part (map shown (take i rows)) in
     let last : List StoredPart = part (shown row) ∷ [] in
     let more : map part (map shown (take (i + 1) rows)) ≡ rows_so_far ++ last =
     ap (λ xs. map part (map shown xs)) (one_more rows i row inside is) ∙ ap (map part) (map-append shown (take i rows) (row ∷ [])) ∙ map-append part (map shown (take i rows)) (shown row ∷ []) in
-    one ∙ ap (λ (cs : List Change). cs ++ put_all last) so_far ∙ append_assoc old (put_all rows_so_far) (put_all last)
-    ∙ ap (λ (cs : List Change). old ++ cs) (sym (map-append (λ (p : StoredPart). put_one p) rows_so_far last)) ∙ ap (λ ps. old ++ put_all ps) (sym more)
+    one ∙ ap (λ (cs : List StoredChange). cs ++ put_all last) so_far ∙ append_assoc old (put_all rows_so_far) (put_all last)
+    ∙ ap (λ (cs : List StoredChange). old ++ cs) (sym (map-append (λ (p : StoredPart). put_one p) rows_so_far last)) ∙ ap (λ ps. old ++ put_all ps) (sym more)
   where
-    put_one : StoredPart → Change
+    put_one : StoredPart → StoredChange
     put_one p = record { key = p.key; value = Some p.value }
 
 -- where the first keys are taken out and the next one is, one key more is
-pub one_more_taken : (keys : List ℕ) (i key : ℕ) (old before after : List Change) → i < length keys → key ≡ get_or keys i key → before ≡ old ++ take_all (take i keys) → after ≡ before ++ take_all (key ∷ [])
+pub one_more_taken : (keys : List ℕ) (i key : ℕ) (old before after : List StoredChange) → i < length keys → key ≡ get_or keys i key → before ≡ old ++ take_all (take i keys) → after ≡ before ++ take_all (key ∷ [])
     → after ≡ old ++ take_all (take (i + 1) keys)
 one_more_taken keys i key old before after inside is so_far one =
     let keys_so_far = take i keys in
-    one ∙ ap (λ (cs : List Change). cs ++ take_all (key ∷ [])) so_far ∙ append_assoc old (take_all keys_so_far) (take_all (key ∷ []))
-    ∙ ap (λ (cs : List Change). old ++ cs) (sym (map-append take_one keys_so_far (key ∷ []))) ∙ ap (λ (ks : List ℕ). old ++ take_all ks) (sym (one_more keys i key inside is))
+    one ∙ ap (λ (cs : List StoredChange). cs ++ take_all (key ∷ [])) so_far ∙ append_assoc old (take_all keys_so_far) (take_all (key ∷ []))
+    ∙ ap (λ (cs : List StoredChange). old ++ cs) (sym (map-append take_one keys_so_far (key ∷ []))) ∙ ap (λ (ks : List ℕ). old ++ take_all ks) (sym (one_more keys i key inside is))
   where
-    take_one : ℕ → Change
+    take_one : ℕ → StoredChange
     take_one n = record { key = n; value = None }
 
 -- where the first rows are as they should be and the next is, one row more is so
@@ -106,7 +106,7 @@ one_more_fit shown P rows i row inside is each own =
     subst (λ rs. AllByRecursion P rs) (sym more) (each-append_one P (map shown (take i rows)) (shown row) each own)
 
 -- what a head and rows are put as is what those are that equal them
-pub put_same : {X R : Type 0} (part_of : R → StoredPart) (shown : X → R) (head value : List ℕ) (rs rows : List X) (changes : List Change) → head ≡ value → rs ≡ rows → changes ≡ put_all (record { key = 0; value = head } ∷ map part_of (map shown rs))
+pub put_same : {X R : Type 0} (part_of : R → StoredPart) (shown : X → R) (head value : List ℕ) (rs rows : List X) (changes : List StoredChange) → head ≡ value → rs ≡ rows → changes ≡ put_all (record { key = 0; value = head } ∷ map part_of (map shown rs))
     → changes ≡ put_all (record { key = 0; value = value } ∷ map part_of (map shown rows))
 put_same {X} part_of shown head value rs rows changes heads same are =
     are ∙ ap (λ (v : List ℕ). put_all (record { key = 0; value = v } ∷ map part_of (map shown rs))) heads ∙ ap (λ (xs : List X). put_all (record { key = 0; value = value } ∷ map part_of (map shown xs))) same

@@ -1,10 +1,2 @@
-pub mod Version
-pub mod Spelling
-pub mod Records
-pub mod Reading
-pub mod Stopping
-pub mod Writing
-pub mod Places
-pub mod Laws
-pub mod Worked
-pub mod Refusing
+pub mod Public
+pub mod Private

@@ -1,11 +1,11 @@
 //! The parts of a node's record: its head, read, and its rows.
 ghost use Rattle.std.specs.Prelude.{◌≡◌, ℕ, List, Some, None, IfOk, IsErrOf};
-ghost use Rattle.csi_types.specs.Text.{IsNodeId};
-ghost use Rattle.csi_frames.specs.Bytes.{AreBytes};
-ghost use Rattle.csi_stores.specs.Part.{stored_in};
-ghost use Rattle.csi_records.specs.Spelling.{node_head};
-ghost use Rattle.csi_records.specs.Records.{Head, IsHead};
-ghost use Rattle.csi_records.specs.Reading.{node_head_in, whole};
+ghost use Rattle.csi_types.specs.Public.Text.{IsNodeId};
+ghost use Rattle.csi_frames.specs.Public.Bytes.{AreBytes};
+ghost use Rattle.csi_stores.specs.Public.Part.{stored_in};
+ghost use Rattle.csi_records.specs.Public.Spelling.{node_head};
+ghost use Rattle.csi_records.specs.Public.Records.{Head, IsHead};
+ghost use Rattle.csi_records.specs.Private.Reading.{read_node_head, read_whole};
 
 use crate::fault::Stop;
 use crate::fields::{session, tag};
@@ -22,17 +22,17 @@ use csi_types::{NoMemory, NodeId, VolumeId};
 use std::alloc::Global;
 
 impl Row for NodeRow {
-    ghost use Rattle.csi_node.specs.OneRow.{RowShown, shown};
-    ghost use Rattle.csi_records.specs.Reading.{answered_in};
-    ghost use Rattle.csi_records.specs.Records.{IsAnsweredRow};
-    ghost use Rattle.csi_records.specs.Spelling.{answered_part};
-    ghost use Rattle.csi_records.specs.Writing.{ArePublishedFew};
+    ghost use Rattle.csi_node.specs.Model.OneRow.{NodeRowShown, node_row_shown};
+    ghost use Rattle.csi_records.specs.Private.Reading.{read_answered};
+    ghost use Rattle.csi_records.specs.Public.Records.{IsAnsweredRow};
+    ghost use Rattle.csi_records.specs.Public.Spelling.{answered_part};
+    ghost use Rattle.csi_records.specs.Public.Writing.{ArePublishedFew};
 
-    ghost Shown = { RowShown };
+    ghost Shown = { NodeRowShown };
 
-    ghost shown = { shown };
+    ghost shown = { node_row_shown };
 
-    ghost row_in = { answered_in };
+    ghost row_in = { read_answered };
 
     ghost row_part = { answered_part };
 
@@ -40,7 +40,7 @@ impl Row for NodeRow {
 
     ghost is_small = { ArePublishedFew };
 
-    #[tactic(auto, unfolding(crate::specs::Reading::answered_in))]
+    #[tactic(auto, unfolding(crate::specs::Private::Reading::read_answered))]
     fn read(
         fields: &mut Fields<'_>,
         alloc: Global,
@@ -81,10 +81,10 @@ pub(crate) struct NodeHead {
 }
 
 // What the head tells of which this is the whole value, in this version.
-#[tactic(auto, unfolding(crate::specs::Reading::whole, crate::specs::Reading::node_head_in, crate::specs::Reading::text_in))]
+#[tactic(auto, unfolding(crate::specs::Private::Reading::read_whole, crate::specs::Private::Reading::read_node_head, crate::specs::Private::Reading::read_text))]
 fn head_in(alloc: Global, version: RecordVersion, value: &[u8]) -> Result<NodeHead, Stop>
-    ensures read { IfOk result (λ head. whole version (node_head_in version) value.now ≡ Some (record { own = head.id; session = head.session })) }
-    ensures bad { IsErrOf result Stop.Bad → whole version (node_head_in version) value.now ≡ None }
+    ensures read { IfOk result (λ head. read_whole version (read_node_head version) value.now ≡ Some (record { own = head.id; session = head.session })) }
+    ensures bad { IsErrOf result Stop.Bad → read_whole version (read_node_head version) value.now ≡ None }
     ensures bytes { AreBytes value.now }
 {
     let mut fields = Fields { bytes: value };
@@ -103,7 +103,8 @@ fn head_in(alloc: Global, version: RecordVersion, value: &[u8]) -> Result<NodeHe
 pub(crate) fn head_of(alloc: Global, version: RecordVersion, part: &Part) -> Result<NodeHead, Stop>
     ensures head { IfOk result (λ head. node_head version head.id head.session ≡ stored_in part.now) }
     ensures fits { IfOk result (λ head. IsHead IsNodeId version (record { own = head.id; session = head.session })) }
-    ensures bad { IsErrOf result Stop.Bad → (head : Head (List ℕ)) → IsHead IsNodeId version head → node_head version head.own head.session ≡ stored_in part.now → ⊥ }
+    ensures bad { IsErrOf result Stop.Bad → (head : Head (List ℕ)) → IsHead IsNodeId version head →
+        node_head version head.own head.session ≡ stored_in part.now → ⊥ }
 {
     if part.key != 0 {
         return Err(Stop::Bad);

@@ -1,9 +1,9 @@
 //! A controller's record, read from its parts.
 ghost use Rattle.std.specs.Prelude.{◌≡◌, IfOk, IfErr, OnOk};
-ghost use Rattle.csi_controller.specs.Judging.{IsRecordRefusal};
-ghost use Rattle.csi_stores.specs.Part.{all_stored_in};
-ghost use Rattle.csi_records.specs.Records.{controller_layout, controller_of, AreControllerRows, IsControllerOf, IsRecordOf};
-ghost use Rattle.csi_records.specs.Places.{ReadsParts};
+ghost use Rattle.csi_controller.specs.Public.Judging.{IsRecordRefusal};
+ghost use Rattle.csi_stores.specs.Public.Part.{all_stored_in};
+ghost use Rattle.csi_records.specs.Public.Records.{controller_layout, controller_record_of, AreControllerRows, IsControllerOf, IsRecordOf};
+ghost use Rattle.csi_records.specs.Public.Places.{ReadsParts};
 
 use crate::fault::RecordStop;
 use crate::plugin_rows::{ReadRows, rows_of};
@@ -20,7 +20,7 @@ fn record_of(
     head: ControllerHead,
     rows: Vec<ControllerRow>,
 ) -> Result<ControllerRecord, RecordFault>
-    ensures made { IfOk result (λ made. made ≡ controller_of head.next_id head.session rows.items) }
+    ensures made { IfOk result (λ made. made ≡ controller_record_of head.next_id head.session rows.items) }
     ensures rules { OnOk result (AreControllerRows head.next_id head.session rows.items) }
     ensures refused { IfErr result (IsRecordRefusal (AreControllerRows head.next_id head.session) rows.items) }
 {

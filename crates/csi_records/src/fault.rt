@@ -28,7 +28,7 @@ impl From<NoMemory> for RecordStop {
 
 impl From<RecordStop> for KeepFault {
     ghost use Rattle.std.specs.Prelude.{◌≡◌};
-    ghost use Rattle.csi_records.specs.Refusing.{fault_of_stop};
+    ghost use Rattle.csi_records.specs.Public.Refusing.{fault_of_stop};
 
     ghost from_gives = { λ stop fault. fault ≡ fault_of_stop stop };
 

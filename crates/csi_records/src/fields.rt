@@ -1,26 +1,26 @@
 //! The fields of a value that frames don't have, read one after another from its bytes.
 ghost use Rattle.std.specs.Prelude.{◌≡◌, Some, None, IfOk, OnErr};
-ghost use Rattle.csi_records.specs.Reading.{session_in, tag_in, live_from};
+ghost use Rattle.csi_records.specs.Private.Reading.{read_session, read_tag, live_from};
 
 use crate::fault::Stop;
 use crate::version::RecordVersion;
 use csi_frames::Fields;
 
 /// The byte `n`.
-#[tactic(auto, unfolding(crate::specs::Reading::tag_in, crate::specs::Reading::byte_in))]
+#[tactic(auto, unfolding(crate::specs::Private::Reading::read_tag, crate::specs::Private::Reading::read_byte))]
 pub(crate) fn tag(fields: &mut Fields<'_>, n: u8) -> Result<(), Stop>
-    ensures read { IfOk result (λ u. tag_in n fields.old.bytes.now ≡ Some (tt, fields.new.bytes.now)) }
-    ensures bad { OnErr result (tag_in n fields.old.bytes.now ≡ None) }
+    ensures read { IfOk result (λ u. read_tag n fields.old.bytes.now ≡ Some (tt, fields.new.bytes.now)) }
+    ensures bad { OnErr result (read_tag n fields.old.bytes.now ≡ None) }
 {
     let byte = fields.any_byte()?;
     if byte == n { Ok(()) } else { Err(Stop::Bad) }
 }
 
 /// The greatest session that came, where the version has it.
-#[tactic(auto, unfolding(crate::specs::Reading::session_in, crate::specs::Reading::word_in))]
+#[tactic(auto, unfolding(crate::specs::Private::Reading::read_session, crate::specs::Private::Reading::read_word))]
 pub(crate) fn session(fields: &mut Fields<'_>, version: RecordVersion) -> Result<Option<u64>, Stop>
-    ensures read { IfOk result (λ session. session_in version fields.old.bytes.now ≡ Some (session, fields.new.bytes.now)) }
-    ensures bad { OnErr result (session_in version fields.old.bytes.now ≡ None) }
+    ensures read { IfOk result (λ session. read_session version fields.old.bytes.now ≡ Some (session, fields.new.bytes.now)) }
+    ensures bad { OnErr result (read_session version fields.old.bytes.now ≡ None) }
 {
     if !version.has_session() {
         return Ok(None);

@@ -2,8 +2,8 @@
 ghost use Rattle.std.specs.Prelude.{◌≡◌, ◌≤◌, ◌++◌, List, ℕ, Some, None, IfOk, IsErrOf, OnOk, length};
 ghost use Rattle.std.specs.List.{AllByRecursion};
 ghost use Rattle.csi_records.specs.declared.version.RecordVersion.{RecordVersion};
-ghost use Rattle.csi_records.specs.Reading.{Reader, counted_in};
-ghost use Rattle.csi_records.specs.Spelling.{counted, present};
+ghost use Rattle.csi_records.specs.Private.Reading.{Reader, read_counted};
+ghost use Rattle.csi_records.specs.Public.Spelling.{list_spelling, present};
 
 use crate::fault::Stop;
 use crate::version::RecordVersion;
@@ -37,17 +37,17 @@ pub(crate) trait Item: Drop {
 }
 
 impl Item for Capability {
-    ghost use Rattle.csi_frames.specs.Spelling.{capability};
-    ghost use Rattle.csi_records.specs.Reading.{capability_in};
-    ghost use Rattle.csi_records.specs.Records.{IsCapabilityIn};
+    ghost use Rattle.csi_frames.specs.Public.Spelling.{capability};
+    ghost use Rattle.csi_records.specs.Private.Reading.{read_capability};
+    ghost use Rattle.csi_records.specs.Public.Records.{IsCapabilityIn};
 
-    ghost item_in = { capability_in };
+    ghost item_in = { read_capability };
 
     ghost item_bytes = { capability };
 
     ghost is_item = { IsCapabilityIn };
 
-    #[tactic(auto, unfolding(crate::specs::Reading::capability_in))]
+    #[tactic(auto, unfolding(crate::specs::Private::Reading::read_capability))]
     fn read(
         fields: &mut Fields<'_>,
         alloc: Global,
@@ -63,17 +63,17 @@ impl Item for Capability {
 }
 
 impl Item for NodeHolding {
-    ghost use Rattle.csi_records.specs.Reading.{holding_in};
-    ghost use Rattle.csi_records.specs.Records.{IsHolding};
-    ghost use Rattle.csi_records.specs.Spelling.{holding_bytes};
+    ghost use Rattle.csi_records.specs.Private.Reading.{read_holding};
+    ghost use Rattle.csi_records.specs.Public.Records.{IsHolding};
+    ghost use Rattle.csi_records.specs.Public.Spelling.{holding_bytes};
 
-    ghost item_in = { holding_in };
+    ghost item_in = { read_holding };
 
     ghost item_bytes = { holding_bytes };
 
     ghost is_item = { IsHolding };
 
-    #[tactic(auto, unfolding(crate::specs::Reading::holding_in, crate::specs::Reading::text_in, crate::specs::Reading::flag_in))]
+    #[tactic(auto, unfolding(crate::specs::Private::Reading::read_holding, crate::specs::Private::Reading::read_text, crate::specs::Private::Reading::read_flag))]
     fn read(
         fields: &mut Fields<'_>,
         alloc: Global,
@@ -97,17 +97,17 @@ impl Item for NodeHolding {
 }
 
 impl Item for NodeTarget {
-    ghost use Rattle.csi_records.specs.Reading.{target_in};
-    ghost use Rattle.csi_records.specs.Records.{IsTargetRow};
-    ghost use Rattle.csi_records.specs.Spelling.{target_bytes};
+    ghost use Rattle.csi_records.specs.Private.Reading.{read_target};
+    ghost use Rattle.csi_records.specs.Public.Records.{IsTargetRow};
+    ghost use Rattle.csi_records.specs.Public.Spelling.{target_bytes};
 
-    ghost item_in = { λ version. target_in };
+    ghost item_in = { λ version. read_target };
 
     ghost item_bytes = { target_bytes };
 
     ghost is_item = { λ version. IsTargetRow };
 
-    #[tactic(auto, unfolding(crate::specs::Reading::target_in, crate::specs::Reading::text_in, crate::specs::Reading::flag_in))]
+    #[tactic(auto, unfolding(crate::specs::Private::Reading::read_target, crate::specs::Private::Reading::read_text, crate::specs::Private::Reading::read_flag))]
     fn read(
         fields: &mut Fields<'_>,
         alloc: Global,
@@ -125,16 +125,16 @@ impl Item for NodeTarget {
 }
 
 /// A count of at most `most`, and as many items.
-#[tactic(auto, unfolding(crate::specs::Reading::counted_in, crate::specs::Reading::count_in))]
+#[tactic(auto, unfolding(crate::specs::Private::Reading::read_counted, crate::specs::Private::Reading::read_count))]
 pub(crate) fn list<T: Item>(
     fields: &mut Fields<'_>,
     alloc: Global,
     version: RecordVersion,
     most: u8,
 ) -> Result<Vec<T>, Stop>
-    ensures read { IfOk result (λ list. counted_in most (T.item_in version) fields.old.bytes.now ≡ Some (list.items, fields.new.bytes.now)) }
+    ensures read { IfOk result (λ list. read_counted most (T.item_in version) fields.old.bytes.now ≡ Some (list.items, fields.new.bytes.now)) }
     ensures within { IfOk result (λ list. length list.items ≤ most) }
-    ensures bad { IsErrOf result Stop.Bad → counted_in most (T.item_in version) fields.old.bytes.now ≡ None }
+    ensures bad { IsErrOf result Stop.Bad → read_counted most (T.item_in version) fields.old.bytes.now ≡ None }
 {
     let count = fields.byte(most, FaultKind::BadCount)?;
     let mut list = Vec::with_capacity(alloc, count as usize)?;
@@ -148,7 +148,7 @@ pub(crate) fn list<T: Item>(
 /// The count of the items, at most 255, and each of them.
 pub(crate) fn put_list<T: Item>(out: &mut Vec<u8>, from: &[T]) -> Result<(), NoMemory>
     requires { length from.now ≤ 255 }
-    ensures written { OnOk result (out.new.items ≡ out.old.items ++ counted T.item_bytes from.now) }
+    ensures written { OnOk result (out.new.items ≡ out.old.items ++ list_spelling T.item_bytes from.now) }
     ensures fits { OnOk result (AllByRecursion (T.is_item present) from.now) }
 {
     append_byte(out, from.len() as u8)?;

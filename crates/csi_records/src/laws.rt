@@ -1,5 +1,5 @@
 //! The laws of records.
-ghost use Rattle.csi_records.specs.Laws.{RecordLaws};
+ghost use Rattle.csi_records.specs.Public.Laws.{RecordLaws};
 
 /// A law, and nothing that runs: equal parts mean equal records; parts, or bytes, that are a record's have no part that is refused,
 /// and others have one place at most where the first part is refused; and bytes are one record's at most. So what `write_record` wrote is

@@ -1,11 +1,11 @@
 //! A node's record, read from its parts.
 ghost use Rattle.std.specs.Prelude.{◌≡◌, ◌↔◌, IfOk, IfErr, IfSome, IsTrue, OnOk};
 ghost use Rattle.std.specs.Option.{option_copied};
-ghost use Rattle.csi_node.specs.Judging.{IsRecordRefusal, KeepRules};
-ghost use Rattle.csi_node.specs.Record.{parts as rows_shown};
-ghost use Rattle.csi_stores.specs.Part.{all_stored_in};
-ghost use Rattle.csi_records.specs.Records.{node_layout, node_of, IsNodeOf, IsRecordOf};
-ghost use Rattle.csi_records.specs.Places.{ReadsParts};
+ghost use Rattle.csi_node.specs.Public.Judging.{IsRecordRefusal, KeepRules};
+ghost use Rattle.csi_node.specs.Model.Record.{parts as rows_shown};
+ghost use Rattle.csi_stores.specs.Public.Part.{all_stored_in};
+ghost use Rattle.csi_records.specs.Public.Records.{node_layout, node_record_of, IsNodeOf, IsRecordOf};
+ghost use Rattle.csi_records.specs.Public.Places.{ReadsParts};
 
 use crate::answered::{NodeHead, head_of};
 use crate::fault::{RecordStop, Stop};
@@ -29,7 +29,7 @@ fn is_wanted(wanted: Option<&NodeId>, node: &NodeId) -> bool
 
 // The record of these rows under this head: with the head's session, or without one.
 fn record_of(head: NodeHead, rows: Vec<NodeRow>) -> Result<NodeRecord, RecordFault>
-    ensures made { IfOk result (λ made. made ≡ node_of head.id head.session rows.items) }
+    ensures made { IfOk result (λ made. made ≡ node_record_of head.id head.session rows.items) }
     ensures rules { OnOk result (KeepRules head.session (rows_shown rows.items)) }
     ensures refused { IfErr result (IsRecordRefusal head.session rows.items) }
 {
@@ -46,7 +46,8 @@ pub(crate) fn node_record(
     wanted: Option<&NodeId>,
     parts: &[Part],
 ) -> Result<NodeRecord, RecordStop>
-    ensures { ReadsParts (IsRecordOf (node_layout version (option_copied wanted.entry))) (IsNodeOf version (option_copied wanted.entry)) (all_stored_in parts.now) result }
+    ensures { ReadsParts (IsRecordOf (node_layout version (option_copied wanted.entry))) (IsNodeOf version (option_copied wanted.entry))
+        (all_stored_in parts.now) result }
 {
     let [first, others @ ..] = parts else {
         return Err(RecordStop::BadRecord(0));

@@ -1,6 +1,6 @@
 //! The value of a part.
 ghost use Rattle.std.specs.Prelude.{◌≡◌};
-ghost use Rattle.csi_stores.specs.Part.{value_in};
+ghost use Rattle.csi_stores.specs.Public.Part.{value_in};
 
 use csi_stores::Part;
 

@@ -1,13 +1,13 @@
 //! The rows of either plugin's record: read from parts, and written as parts.
 ghost use Rattle.std.specs.Prelude.{◌≡◌, ◌++◌, [], ◌∷◌, ℕ, List, Some, None, map, IfOk, IsErrOf, OnOk};
 ghost use Rattle.std.specs.List.{AllByRecursion};
-ghost use Rattle.csi_types.specs.VolumeId.{IsVolumeId};
+ghost use Rattle.csi_types.specs.Public.VolumeId.{IsVolumeId};
 ghost use Rattle.csi_records.specs.declared.version.RecordVersion.{RecordVersion};
-ghost use Rattle.csi_frames.specs.Bytes.{AreBytes};
-ghost use Rattle.csi_stores.specs.Part.{StoredPart, stored_in, all_stored_in, change_of, put_all};
-ghost use Rattle.csi_records.specs.Reading.{Reader, IsReadWhole, whole};
-ghost use Rattle.csi_records.specs.Spelling.{present};
-ghost use Rattle.csi_records.specs.Stopping.{AreRead};
+ghost use Rattle.csi_frames.specs.Public.Bytes.{AreBytes};
+ghost use Rattle.csi_stores.specs.Public.Part.{StoredPart, stored_in, all_stored_in, part_change, put_all};
+ghost use Rattle.csi_records.specs.Private.Reading.{Reader, IsReadWhole, read_whole};
+ghost use Rattle.csi_records.specs.Public.Spelling.{present};
+ghost use Rattle.csi_records.specs.Private.Stopping.{AreRead};
 
 use crate::fault::Stop;
 use crate::fields::tag;
@@ -50,7 +50,7 @@ pub(crate) trait Row: Drop {
     /// Puts the row's part at the end.
     fn push(&self, alloc: Global, parts: &mut Vec<Part>) -> Result<(), NoMemory>
         requires { is_small self.now }
-        ensures pushed { OnOk result (map change_of parts.new.items ≡ map change_of parts.old.items ++ put_all (row_part present (shown self.now) ∷ [])) }
+        ensures pushed { OnOk result (map part_change parts.new.items ≡ map part_change parts.old.items ++ put_all (row_part present (shown self.now) ∷ [])) }
         ensures fits { OnOk result (is_row present (shown self.now)) };
 
     /// A law, and nothing that runs: a row is read from its part, and from no other.
@@ -59,15 +59,15 @@ pub(crate) trait Row: Drop {
 }
 
 // The row of which this is the whole value, in this version.
-#[tactic(auto, unfolding(crate::specs::Reading::whole))]
+#[tactic(auto, unfolding(crate::specs::Private::Reading::read_whole))]
 fn row_in<T: Row>(
     alloc: Global,
     version: RecordVersion,
     id: VolumeId,
     value: &[u8],
 ) -> Result<T, Stop>
-    ensures read { IfOk result (λ row. whole version (T.row_in version id) value.now ≡ Some (T.shown row)) }
-    ensures bad { IsErrOf result Stop.Bad → whole version (T.row_in version id) value.now ≡ None }
+    ensures read { IfOk result (λ row. read_whole version (T.row_in version id) value.now ≡ Some (T.shown row)) }
+    ensures bad { IsErrOf result Stop.Bad → read_whole version (T.row_in version id) value.now ≡ None }
     ensures bytes { AreBytes value.now }
     ensures id { IsVolumeId id }
 {
@@ -127,7 +127,10 @@ pub(crate) fn parts_with<T: Row>(
     rows: &[T],
 ) -> Result<Vec<Part>, NoMemory>
     requires { AllByRecursion T.is_small rows.now }
-    ensures parts { IfOk result (λ parts. map change_of parts.items ≡ put_all (record { key = 0; value = head.items } ∷ map (T.row_part present) (map T.shown rows.now))) }
+    ensures parts { IfOk result (λ parts. map part_change parts.items ≡ put_all (record {
+      key = 0;
+      value = head.items;
+    } ∷ map (T.row_part present) (map T.shown rows.now))) }
     ensures fit { IfOk result (λ parts. AllByRecursion (T.is_row present) (map T.shown rows.now)) }
 {
     let mut parts = Vec::new(alloc);

@@ -2,12 +2,12 @@
 ghost use Rattle.std.specs.Prelude.{◌≡◌, List, Some, map, IfOk};
 ghost use Rattle.csi_records.specs.declared.version.RecordVersion.{RecordVersion};
 ghost use Rattle.std.specs.Option.{option_copied};
-ghost use Rattle.csi_stores.specs.Part.{StoredPart, all_stored_in, change_of, put_all};
-ghost use Rattle.csi_records.specs.Spelling.{present, record_bytes};
-ghost use Rattle.csi_records.specs.Records.{node_layout, IsNodeOf, IsRecordOf};
-ghost use Rattle.csi_records.specs.Reading.{version_in_parts};
-ghost use Rattle.csi_records.specs.Places.{ReadsParts, ReadsStored, ReadsBytes};
-ghost use Rattle.csi_records.specs.Writing.{CanBeWritten};
+ghost use Rattle.csi_stores.specs.Public.Part.{StoredPart, all_stored_in, part_change, put_all};
+ghost use Rattle.csi_records.specs.Public.Spelling.{present, record_bytes};
+ghost use Rattle.csi_records.specs.Public.Records.{node_layout, IsNodeOf, IsRecordOf};
+ghost use Rattle.csi_records.specs.Private.Reading.{version_in_parts};
+ghost use Rattle.csi_records.specs.Public.Places.{ReadsParts, ReadsStored, ReadsBytes};
+ghost use Rattle.csi_records.specs.Public.Writing.{CanBeWritten};
 
 use crate::controller_record::controller_record;
 use crate::fault::{RecordStop, Stop};
@@ -39,7 +39,7 @@ pub trait Record: Drop {
 
     /// The record's parts in the present version, by rising key: what puts each of them into a store.
     fn to_parts(&self, alloc: Global) -> Result<Vec<Part>, NoMemory>
-        ensures changes { IfOk result (λ parts. map change_of parts.items ≡ put_all (parts_of self.now)) }
+        ensures changes { IfOk result (λ parts. map part_change parts.items ≡ put_all (parts_of self.now)) }
         ensures stored { IfOk result (λ parts. all_stored_in parts.items ≡ parts_of self.now) }
         ensures parts { IfOk result (λ parts. is_record present (parts_of self.now)) }
         ensures writable { IfOk result (λ parts. CanBeWritten (parts_of self.now)) };
@@ -68,8 +68,8 @@ fn version_of(parts: &[Part]) -> Option<RecordVersion>
 
 impl Record for ControllerRecord {
     ghost use Rattle.std.specs.Prelude.{map, Some};
-    ghost use Rattle.csi_records.specs.Spelling.{present, controller_parts, volume_row};
-    ghost use Rattle.csi_records.specs.Records.{controller_layout, IsControllerOf, IsRecordOf};
+    ghost use Rattle.csi_records.specs.Public.Spelling.{present, controller_parts, volume_row};
+    ghost use Rattle.csi_records.specs.Public.Records.{controller_layout, IsControllerOf, IsRecordOf};
 
     ghost is_record = { λ version. IsRecordOf (controller_layout version) };
 
@@ -103,13 +103,13 @@ impl Record for ControllerRecord {
 
 impl Record for NodeRecord {
     ghost use Rattle.std.specs.Prelude.{map, Some, None};
-    ghost use Rattle.csi_node.specs.OneRow.{shown};
-    ghost use Rattle.csi_records.specs.Spelling.{present, node_parts};
-    ghost use Rattle.csi_records.specs.Records.{node_layout, IsNodeOf, IsRecordOf};
+    ghost use Rattle.csi_node.specs.Model.OneRow.{node_row_shown};
+    ghost use Rattle.csi_records.specs.Public.Spelling.{present, node_parts};
+    ghost use Rattle.csi_records.specs.Public.Records.{node_layout, IsNodeOf, IsRecordOf};
 
     ghost is_record = { λ version. IsRecordOf (node_layout version None) };
 
-    ghost parts_of = { λ kept. node_parts present kept.id (Some kept.session) (map shown kept.rows) };
+    ghost parts_of = { λ kept. node_parts present kept.id (Some kept.session) (map node_row_shown kept.rows) };
 
     ghost is_of = { λ version. IsNodeOf version None };
 
@@ -137,7 +137,8 @@ fn node_of_parts(
     wanted: Option<&NodeId>,
     parts: &[Part],
 ) -> Result<Stored<NodeRecord>, RecordStop>
-    ensures { ReadsStored (λ version. IsRecordOf (node_layout version (option_copied wanted.entry))) (λ version. IsNodeOf version (option_copied wanted.entry)) (all_stored_in parts.now) result }
+    ensures { ReadsStored (λ version. IsRecordOf (node_layout version (option_copied wanted.entry))) (λ version. IsNodeOf version
+        (option_copied wanted.entry)) (all_stored_in parts.now) result }
 {
     let Some(version) = version_of(parts) else {
         return Err(RecordStop::BadRecord(0));
@@ -186,7 +187,8 @@ pub fn record_of_node(
     id: &NodeId,
     parts: &[Part],
 ) -> Result<Stored<NodeRecord>, RecordStop>
-    ensures { ReadsStored (λ version. IsRecordOf (node_layout version (Some id.now))) (λ version. IsNodeOf version (Some id.now)) (all_stored_in parts.now) result }
+    ensures { ReadsStored (λ version. IsRecordOf (node_layout version (Some id.now))) (λ version. IsNodeOf version (Some id.now))
+        (all_stored_in parts.now) result }
 {
     node_of_parts(alloc, Some(id), parts)
 }

@@ -1,10 +1,10 @@
 //! The values of parts, written in the present version: of heads and of rows.
 ghost use Rattle.std.specs.Prelude.{◌≡◌, ◌<◌, ◌++◌, Some, IfOk, OnOk};
-ghost use Rattle.csi_types.specs.Text.{IsNodeId};
-ghost use Rattle.csi_node.specs.OneRow.{shown};
-ghost use Rattle.csi_records.specs.Spelling.{present, volume_row, staged_bytes, volume_bytes, answered_bytes, controller_head, node_head};
-ghost use Rattle.csi_records.specs.Writing.{AreHeldFew, ArePublishedFew};
-ghost use Rattle.csi_records.specs.Records.{IsVolumeRow, IsStagedSo, IsAnsweredRow};
+ghost use Rattle.csi_types.specs.Public.Text.{IsNodeId};
+ghost use Rattle.csi_node.specs.Model.OneRow.{node_row_shown};
+ghost use Rattle.csi_records.specs.Public.Spelling.{present, volume_row, staged_bytes, volume_bytes, answered_bytes, controller_head, node_head};
+ghost use Rattle.csi_records.specs.Public.Writing.{AreHeldFew, ArePublishedFew};
+ghost use Rattle.csi_records.specs.Public.Records.{IsVolumeRow, IsStagedSo, IsAnsweredRow};
 
 use crate::items::{Item, put_list};
 use crate::version::PRESENT;
@@ -50,8 +50,8 @@ pub fn volume_value(alloc: Global, row: &ControllerRow) -> Result<Vec<u8>, NoMem
 /// was kept (this profile's own).
 pub fn answered_value(alloc: Global, row: &NodeRow) -> Result<Vec<u8>, NoMemory>
     requires { ArePublishedFew row.now }
-    ensures value { IfOk result (λ value. value.items ≡ answered_bytes present (shown row.now)) }
-    ensures fits { IfOk result (λ value. IsAnsweredRow present (shown row.now)) }
+    ensures value { IfOk result (λ value. value.items ≡ answered_bytes present (node_row_shown row.now)) }
+    ensures fits { IfOk result (λ value. IsAnsweredRow present (node_row_shown row.now)) }
 {
     let _id = row.id.number();
     let mut out = Vec::new(alloc);

@@ -1,8 +1,8 @@
 //! The bytes of a whole record, split into parts.
 ghost use Rattle.std.specs.Prelude.{◌≡◌, Some, None, IfOk, OnErr, IsErrOf};
-ghost use Rattle.csi_stores.specs.Part.{stored_in, all_stored_in};
-ghost use Rattle.csi_records.specs.Reading.{long_in, part_in};
-ghost use Rattle.csi_records.specs.Stopping.{AreSplit, HasNoHead};
+ghost use Rattle.csi_stores.specs.Public.Part.{stored_in, all_stored_in};
+ghost use Rattle.csi_records.specs.Private.Reading.{read_long, read_part};
+ghost use Rattle.csi_records.specs.Private.Stopping.{AreSplit, HasNoHead};
 
 use crate::fault::Stop;
 use crate::version::RecordVersion;
@@ -20,10 +20,10 @@ pub(crate) struct SplitParts {
 }
 
 // A number of 32 bits.
-#[tactic(auto, unfolding(crate::specs::Reading::long_in))]
+#[tactic(auto, unfolding(crate::specs::Private::Reading::read_long))]
 fn long(fields: &mut Fields<'_>) -> Result<u32, Stop>
-    ensures read { IfOk result (λ n. long_in fields.old.bytes.now ≡ Some (n, fields.new.bytes.now)) }
-    ensures bad { OnErr result (long_in fields.old.bytes.now ≡ None) }
+    ensures read { IfOk result (λ n. read_long fields.old.bytes.now ≡ Some (n, fields.new.bytes.now)) }
+    ensures bad { OnErr result (read_long fields.old.bytes.now ≡ None) }
 {
     if fields.bytes.len() < 4 {
         return Err(Stop::Bad);
@@ -34,10 +34,10 @@ fn long(fields: &mut Fields<'_>) -> Result<u32, Stop>
 }
 
 // A part.
-#[tactic(auto, unfolding(crate::specs::Reading::part_in, crate::specs::Reading::word_in, crate::specs::Reading::bytes_in))]
+#[tactic(auto, unfolding(crate::specs::Private::Reading::read_part, crate::specs::Private::Reading::read_word, crate::specs::Private::Reading::read_bytes))]
 fn part(fields: &mut Fields<'_>, alloc: Global) -> Result<Part, Stop>
-    ensures read { IfOk result (λ part. part_in fields.old.bytes.now ≡ Some (stored_in part, fields.new.bytes.now)) }
-    ensures bad { IsErrOf result Stop.Bad → part_in fields.old.bytes.now ≡ None }
+    ensures read { IfOk result (λ part. read_part fields.old.bytes.now ≡ Some (stored_in part, fields.new.bytes.now)) }
+    ensures bad { IsErrOf result Stop.Bad → read_part fields.old.bytes.now ≡ None }
 {
     let key = fields.word()?;
     let count = long(fields)? as usize;
@@ -54,7 +54,7 @@ fn part(fields: &mut Fields<'_>, alloc: Global) -> Result<Part, Stop>
 }
 
 /// The parts of bytes, until one is none; `Bad` where no version and number of parts stand in front.
-#[tactic(auto, unfolding(crate::specs::Reading::record_head_in, crate::specs::Reading::code_in, crate::specs::Reading::byte_in))]
+#[tactic(auto, unfolding(crate::specs::Private::Reading::read_record_head, crate::specs::Private::Reading::read_code, crate::specs::Private::Reading::read_byte))]
 pub(crate) fn split(alloc: Global, bytes: &[u8]) -> Result<SplitParts, Stop>
     ensures split { IfOk result (λ split. AreSplit split.version bytes.now (all_stored_in split.parts.items) split.all) }
     ensures bad { IsErrOf result Stop.Bad → HasNoHead bytes.now }

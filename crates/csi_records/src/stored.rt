@@ -1,6 +1,6 @@
 //! What was read of a store, or of bytes.
 ghost use Rattle.std.specs.Prelude.{◌≡◌, ◌↔◌, IsTrue};
-ghost use Rattle.csi_records.specs.Spelling.{present};
+ghost use Rattle.csi_records.specs.Public.Spelling.{present};
 
 use crate::version::{PRESENT, RecordVersion};
 

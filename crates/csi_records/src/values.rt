@@ -1,6 +1,6 @@
 //! How a volume is staged, and the last call that is kept, read from the bytes of a value.
 ghost use Rattle.std.specs.Prelude.{◌≡◌, Some, None, IfOk, IsErrOf};
-ghost use Rattle.csi_records.specs.Reading.{kept_in, staged_in};
+ghost use Rattle.csi_records.specs.Private.Reading.{read_kept, read_staged};
 
 use crate::fault::Stop;
 use crate::items::Item;
@@ -10,14 +10,14 @@ use csi_types::{Capability, Detail, Kind, Number, Reply, VolumeId};
 use std::alloc::Global;
 
 /// How a volume is staged, if it is.
-#[tactic(auto, unfolding(crate::specs::Reading::staged_in, crate::specs::Reading::flag_in))]
+#[tactic(auto, unfolding(crate::specs::Private::Reading::read_staged, crate::specs::Private::Reading::read_flag))]
 pub(crate) fn staged(
     fields: &mut Fields<'_>,
     alloc: Global,
     version: RecordVersion,
 ) -> Result<Option<Capability>, Stop>
-    ensures read { IfOk result (λ staged. staged_in version fields.old.bytes.now ≡ Some (staged, fields.new.bytes.now)) }
-    ensures bad { IsErrOf result Stop.Bad → staged_in version fields.old.bytes.now ≡ None }
+    ensures read { IfOk result (λ staged. read_staged version fields.old.bytes.now ≡ Some (staged, fields.new.bytes.now)) }
+    ensures bad { IsErrOf result Stop.Bad → read_staged version fields.old.bytes.now ≡ None }
 {
     if !fields.flag()? {
         return Ok(None);
@@ -35,10 +35,17 @@ pub(crate) struct KeptCall {
 }
 
 /// The last call that is kept: its number, the kind of its reply, and the reply.
-#[tactic(auto, unfolding(crate::specs::Reading::kept_in, crate::specs::Reading::number_in, crate::specs::Reading::code_in, crate::specs::Reading::byte_in, crate::specs::Reading::reply_in, crate::specs::Reading::status_in, crate::specs::Reading::reply_id_in, crate::specs::Reading::word_in, crate::specs::Reading::text_in))]
+#[tactic(auto, unfolding(crate::specs::Private::Reading::read_kept, crate::specs::Private::Reading::read_number, crate::specs::Private::Reading::read_code, crate::specs::Private::Reading::read_byte, crate::specs::Private::Reading::read_reply, crate::specs::Private::Reading::read_status, crate::specs::Private::Reading::read_reply_id, crate::specs::Private::Reading::read_word, crate::specs::Private::Reading::read_text))]
 pub(crate) fn kept(fields: &mut Fields<'_>, alloc: Global) -> Result<KeptCall, Stop>
-    ensures read { IfOk result (λ kept. kept_in fields.old.bytes.now ≡ Some (record { number = kept.number; kind = kept.kind; reply = kept.reply }, fields.new.bytes.now)) }
-    ensures bad { IsErrOf result Stop.Bad → kept_in fields.old.bytes.now ≡ None }
+    ensures read { IfOk result (λ kept. read_kept fields.old.bytes.now ≡ Some (
+      record {
+        number = kept.number;
+        kind = kept.kind;
+        reply = kept.reply;
+      },
+      fields.new.bytes.now,
+    )) }
+    ensures bad { IsErrOf result Stop.Bad → read_kept fields.old.bytes.now ≡ None }
 {
     let number = number_at(fields)?;
     let Some(kind) = reply_kind(fields.any_byte()?) else {

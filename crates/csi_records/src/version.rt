@@ -1,6 +1,7 @@
 //! Versions of records. What a version has is told here and nowhere else.
 ghost use Rattle.std.specs.Prelude.{◌≡◌};
-ghost use Rattle.csi_records.specs.Version.{version_number, version_from_number, modes_of, has_session};
+ghost use Rattle.csi_records.specs.Public.Version.{record_version_number, modes_of, has_session};
+ghost use Rattle.csi_records.specs.Private.Version.{record_version_from_number};
 
 use csi_frames::Version;
 
@@ -21,7 +22,7 @@ pub(crate) const PRESENT: RecordVersion = RecordVersion::Three;
 impl RecordVersion {
     /// The byte that stands for the version.
     pub(crate) fn number(self) -> u8
-        ensures { result ≡ version_number self }
+        ensures { result ≡ record_version_number self }
     {
         match self {
             RecordVersion::One => 1,
@@ -32,7 +33,7 @@ impl RecordVersion {
 
     /// The version that a byte stands for, if there is one.
     pub(crate) fn from_number(number: u8) -> Option<RecordVersion>
-        ensures { result ≡ version_from_number number }
+        ensures { result ≡ record_version_from_number number }
     {
         match number {
             1 => Some(RecordVersion::One),

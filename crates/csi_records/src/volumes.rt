@@ -1,11 +1,11 @@
 //! The parts of a controller's record: its head, read, and its rows.
 ghost use Rattle.std.specs.Prelude.{◌≡◌, ℕ, Some, None, IfOk, IfSome, OnErr, Option};
-ghost use Rattle.csi_types.specs.Limits.{IsWord};
-ghost use Rattle.csi_frames.specs.Bytes.{AreBytes};
-ghost use Rattle.csi_stores.specs.Part.{stored_in};
-ghost use Rattle.csi_records.specs.Spelling.{controller_head};
-ghost use Rattle.csi_records.specs.Records.{Head, IsHead};
-ghost use Rattle.csi_records.specs.Reading.{controller_head_in, whole};
+ghost use Rattle.csi_types.specs.Public.Limits.{IsWord};
+ghost use Rattle.csi_frames.specs.Public.Bytes.{AreBytes};
+ghost use Rattle.csi_stores.specs.Public.Part.{stored_in};
+ghost use Rattle.csi_records.specs.Public.Spelling.{controller_head};
+ghost use Rattle.csi_records.specs.Public.Records.{Head, IsHead};
+ghost use Rattle.csi_records.specs.Private.Reading.{read_controller_head, read_whole};
 
 use crate::fault::Stop;
 use crate::fields::{live_of, session, tag};
@@ -22,16 +22,16 @@ use csi_types::{CapabilityList, Name, NoMemory, VolumeId};
 use std::alloc::Global;
 
 impl Row for ControllerRow {
-    ghost use Rattle.csi_records.specs.Reading.{volume_in};
-    ghost use Rattle.csi_records.specs.Records.{IsVolumeRow};
-    ghost use Rattle.csi_records.specs.Spelling.{VolumeRow, volume_row, volume_part};
-    ghost use Rattle.csi_records.specs.Writing.{AreHeldFew};
+    ghost use Rattle.csi_records.specs.Private.Reading.{read_volume};
+    ghost use Rattle.csi_records.specs.Public.Records.{IsVolumeRow};
+    ghost use Rattle.csi_records.specs.Public.Spelling.{VolumeRow, volume_row, volume_part};
+    ghost use Rattle.csi_records.specs.Public.Writing.{AreHeldFew};
 
     ghost Shown = { VolumeRow };
 
     ghost shown = { volume_row };
 
-    ghost row_in = { volume_in };
+    ghost row_in = { read_volume };
 
     ghost row_part = { volume_part };
 
@@ -39,7 +39,7 @@ impl Row for ControllerRow {
 
     ghost is_small = { AreHeldFew };
 
-    #[tactic(auto, unfolding(crate::specs::Reading::volume_in, crate::specs::Reading::code_in, crate::specs::Reading::byte_in, crate::specs::Reading::text_in, crate::specs::Reading::word_in))]
+    #[tactic(auto, unfolding(crate::specs::Private::Reading::read_volume, crate::specs::Private::Reading::read_code, crate::specs::Private::Reading::read_byte, crate::specs::Private::Reading::read_text, crate::specs::Private::Reading::read_word))]
     fn read(
         fields: &mut Fields<'_>,
         alloc: Global,
@@ -88,10 +88,13 @@ pub(crate) struct ControllerHead {
 }
 
 // What the head tells of which this is the whole value, in this version.
-#[tactic(auto, unfolding(crate::specs::Reading::whole, crate::specs::Reading::controller_head_in, crate::specs::Reading::word_in))]
+#[tactic(auto, unfolding(crate::specs::Private::Reading::read_whole, crate::specs::Private::Reading::read_controller_head, crate::specs::Private::Reading::read_word))]
 fn head_in(version: RecordVersion, value: &[u8]) -> Result<ControllerHead, Stop>
-    ensures read { IfOk result (λ head. whole version (controller_head_in version) value.now ≡ Some (record { own = head.next_id; session = head.session })) }
-    ensures bad { OnErr result (whole version (controller_head_in version) value.now ≡ None) }
+    ensures read { IfOk result (λ head. read_whole version (read_controller_head version) value.now ≡ Some (record {
+      own = head.next_id;
+      session = head.session;
+    })) }
+    ensures bad { OnErr result (read_whole version (read_controller_head version) value.now ≡ None) }
     ensures bytes { AreBytes value.now }
 {
     let mut fields = Fields { bytes: value };

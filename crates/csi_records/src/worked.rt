@@ -1,5 +1,5 @@
 //! Worked examples of the spelling of records. Each function proves a statement, and does nothing.
-ghost use Rattle.csi_records.specs.Worked.{CreatedRow, EmptyRow};
+ghost use Rattle.csi_records.specs.Private.Worked.{CreatedRow, EmptyRow};
 
 fn created()
     ensures { CreatedRow }

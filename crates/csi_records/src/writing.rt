@@ -1,10 +1,10 @@
 //! What records have beside fields, written as bytes. Reading a value shows that it is within its limits.
 ghost use Rattle.std.specs.Prelude.{◌≡◌, ◌++◌, IfOk, OnOk};
 ghost use Rattle.byteorder.specs.Endian.{big_bytes};
-ghost use Rattle.csi_stores.specs.Part.{IsPart, stored_in, all_stored_in};
-ghost use Rattle.csi_records.specs.Spelling.{present, kept_bytes, part_bytes, record_bytes};
-ghost use Rattle.csi_records.specs.Records.{IsKept};
-ghost use Rattle.csi_records.specs.Writing.{CanBeWritten};
+ghost use Rattle.csi_stores.specs.Public.Part.{IsPart, stored_in, all_stored_in};
+ghost use Rattle.csi_records.specs.Public.Spelling.{present, kept_bytes, part_bytes, record_bytes};
+ghost use Rattle.csi_records.specs.Public.Records.{IsKeptCall};
+ghost use Rattle.csi_records.specs.Public.Writing.{CanBeWritten};
 
 use crate::part_value::value_of;
 use crate::version::PRESENT;
@@ -39,7 +39,7 @@ pub(crate) fn put_kept(
     reply: &Reply,
 ) -> Result<(), NoMemory>
     ensures written { OnOk result (out.new.items ≡ out.old.items ++ kept_bytes (record { number = last; kind = kind; reply = reply.now })) }
-    ensures fits { OnOk result (IsKept (record { number = last; kind = kind; reply = reply.now })) }
+    ensures fits { OnOk result (IsKeptCall (record { number = last; kind = kind; reply = reply.now })) }
 {
     append_word(out, last.session)?;
     append_word(out, last.call)?;

@@ -1,8 +1,10 @@
-//! The program `csi-replay`: what it asks of its process is in `process`.
+//! The program `csi-replay`: plugins over stores in files (`stores`), and what is asked of the process (`process`).
 #![tactic(auto)]
 
+mod laws;
 mod pictures;
 mod process;
+mod stores;
 
 use process::ended;
 use std::process::ExitCode;

@@ -1,5 +1,5 @@
 //! How runs are drawn.
-ghost use Rattle.csi_pictures.specs.Picture.{IsPicture};
+ghost use Rattle.csi_pictures.specs.Public.Picture.{IsPicture};
 
 use csi_commands::Draws;
 use csi_pictures::draw;

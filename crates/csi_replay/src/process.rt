@@ -1,9 +1,9 @@
 //! What a process does that was started with some words.
 use crate::pictures::Pictures;
+use crate::stores::{serve_controller, serve_node, tell};
 use csi_commands::stream;
-use csi_counted::Counted;
 use csi_endings::{Ending, FileCommand};
-use csi_processes::{serve_controller, serve_node, tell};
+use csi_stores::Counted;
 use csi_words::{CommandLine, parse};
 use std::process::ExitCode;
 use std::rt::Files;

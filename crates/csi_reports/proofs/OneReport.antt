@@ -8,29 +8,29 @@ use Rattle.std.specs.List.{AllByRecursion, flat_map}
 use Rattle.std.proofs.lemmas.Cmp.{tied_itself}
 use Rattle.serde_json.specs.Written.{compact_text}
 use Rattle.csi_types.specs.declared.holding.Holding.{Holding}
-use Rattle.csi_controller.specs.Core.{Shows}
-use Rattle.csi_controller.specs.State.{ControllerState}
-use Rattle.csi_controller.specs.Views.{attached}
-use Rattle.csi_node.specs.Record.{NodeParts}
+use Rattle.csi_controller.specs.Model.Core.{Shows}
+use Rattle.csi_controller.specs.Model.State.{ControllerState}
+use Rattle.csi_controller.specs.Public.Views.{attached_holdings}
+use Rattle.csi_node.specs.Model.Record.{NodeParts}
 use Rattle.csi_orchestrator.specs.declared.thing.Thing.{Thing}
 use Rattle.csi_orchestrator.specs.declared.thing.Known.{Known}
-use Rattle.csi_orchestrator.specs.History.{new_history}
-use Rattle.csi_orchestrator.specs.Listing.{ListsKnown, IsInOrder, thing_order}
-use Rattle.csi_orchestrator.specs.Shown.{view_of}
+use Rattle.csi_orchestrator.specs.Model.History.{new_history}
+use Rattle.csi_orchestrator.specs.Public.Listing.{ListsKnown, IsInOrder, thing_order}
+use Rattle.csi_orchestrator.specs.Model.Shown.{orchestrator_view}
 use Rattle.csi_orchestrator.proofs.ThingOrder.{order-total as things-total}
 use Rattle.csi_world.specs.declared.violation.Violation.{Violation}
 use Rattle.csi_world.specs.declared.violation.Violation.TheVariants as violations
-use Rattle.csi_world.specs.World.{NodeAt, World}
-use Rattle.csi_world.specs.Simulated.{WorldParts, AreNodesShown}
-use Rattle.csi_world.specs.Audited.{ArePlugins, Finds}
-use Rattle.csi_listings.specs.declared.entries.StagedAt.{StagedAt}
-use Rattle.csi_listings.specs.declared.entries.PublishedAt.{PublishedAt}
-use Rattle.csi_listings.specs.Entries.{attached_entry, staged_entry, published_entry}
-use Rattle.csi_listings.specs.Order.{flag_number, attached_place, staged_place, published_place, place_order}
-use Rattle.csi_listings.specs.Listed.{staged_on, published_on}
-use Rattle.csi_reports.specs.Report.{report_of, HasOneReport}
-use Rattle.csi_reports.specs.Laws.{ShowsAState}
-use Rattle.csi_listings.proofs.Places.{order-total}
+use Rattle.csi_world.specs.Model.World.{NodeAt, World}
+use Rattle.csi_world.specs.Model.Simulated.{WorldParts, AreNodesShown}
+use Rattle.csi_world.specs.Public.Audited.{ArePlugins, Finds}
+use Rattle.csi_reports.specs.declared.entries.StagedAt.{StagedAt}
+use Rattle.csi_reports.specs.declared.entries.PublishedAt.{PublishedAt}
+use Rattle.csi_reports.specs.Public.Entries.{attached_entry, staged_entry, published_entry}
+use Rattle.csi_reports.specs.Public.Order.{flag_number, attached_place, staged_place, published_place, place_order}
+use Rattle.csi_reports.specs.Public.Listed.{staged_on, published_on}
+use Rattle.csi_reports.specs.Public.Report.{report_of, HasOneReport}
+use Rattle.csi_reports.specs.Private.Laws.{ShowsAState}
+use Rattle.csi_reports.proofs.Places.{order-total}
 use Rattle.csi_reports.proofs.OneOrder.{one-order, same-members}
 
 -- ---- what a place tells
@@ -140,12 +140,12 @@ one-report world controller nodes a b first second =
     let p = first.of in
     let q = second.of in
     let are_attached : map attached_entry g.attached ≡ map attached_entry h.attached =
-    one-order place_order order-total one-place attached_place attached_entry attached-told (attached (world.controller).rows) g.attached h.attached p.attached.moved p.attached.rising q.attached.moved q.attached.rising in
-    let are_known : g.known ≡ h.known = one-list (view_of world.orchestrator).marks g.known h.known p.known q.known p.known_order q.known_order in
+    one-order place_order order-total one-place attached_place attached_entry attached-told (attached_holdings (world.controller).rows) g.attached h.attached p.attached.moved p.attached.rising q.attached.moved q.attached.rising in
+    let are_known : g.known ≡ h.known = one-list (orchestrator_view world.orchestrator).marks g.known h.known p.known q.known p.known_order q.known_order in
     let are_published : map published_entry g.published ≡ map published_entry h.published =
     one-order place_order order-total one-place published_place published_entry published-told (flat_map published_on world.nodes) g.published h.published p.published.moved p.published.rising q.published.moved q.published.rising in
     let are_staged : map staged_entry g.staged ≡ map staged_entry h.staged =
     one-order place_order order-total one-place staged_place staged_entry staged-told (flat_map staged_on world.nodes) g.staged h.staged p.staged.moved p.staged.rising q.staged.moved q.staged.rising in
-    let are_found : is_some g.found ≡ is_some h.found = one-finding (view_of world.orchestrator).marks shown g.found h.found (p.found shown plugins) (q.found shown plugins) in
+    let are_found : is_some g.found ≡ is_some h.found = one-finding (orchestrator_view world.orchestrator).marks shown g.found h.found (p.found shown plugins) (q.found shown plugins) in
     let same : report_of world g ≡ report_of world h = rw (are_attached, are_known, are_published, are_staged, are_found) refl in
     first.written ∙ ap compact_text same ∙ sym second.written

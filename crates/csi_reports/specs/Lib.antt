@@ -1,5 +1,2 @@
-pub mod Outcomes
-pub mod Gathered
-pub mod Report
-pub mod Found
-pub mod Laws
+pub mod Public
+pub mod Private

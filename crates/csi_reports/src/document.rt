@@ -2,12 +2,14 @@
 ghost use Rattle.std.specs.Prelude.{◌≡◌, ◌++◌, IfOk, OnOk, string_bytes};
 ghost use Rattle.json.specs.Tree.{json_tokens};
 ghost use Rattle.serde_json.specs.Written.{outline};
-ghost use Rattle.csi_reports.specs.Found.{gathered_of};
-ghost use Rattle.csi_reports.specs.Report.{report_of, IsReport};
+ghost use Rattle.csi_reports.specs.Private.Found.{gathered_of};
+ghost use Rattle.csi_reports.specs.Public.Report.{report_of, IsReport};
 
 use crate::gathering::{Findings, gathered};
+use crate::live_volumes::write_volumes;
+use crate::members::put_array;
 use crate::outcomes::write_outcomes;
-use csi_listings::{JsonWriter, put_array, write_volumes};
+use crate::writer::JsonWriter;
 use csi_types::NoMemory;
 use csi_world::World;
 use std::alloc::{AllocError, Global};
@@ -25,7 +27,7 @@ fn write_document(
     put_array(out, "attached", &findings.attached)?;
     out.key("events")?;
     write_outcomes(alloc, out, world.outcomes())?;
-    out.put_number("frames", world.frames())?;
+    out.put_number("frames", world.frame_count())?;
     put_array(out, "known", &findings.known)?;
     put_array(out, "published", &findings.published)?;
     let safe = findings.found.is_none();

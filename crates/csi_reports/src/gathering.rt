@@ -1,15 +1,16 @@
 //! What a report lists of a world.
 ghost use Rattle.std.specs.Prelude.{IfOk};
 ghost use Rattle.std.specs.List.{flat_map};
-ghost use Rattle.csi_controller.specs.Views.{attached as attached_by_rows};
-ghost use Rattle.csi_orchestrator.specs.Listing.{ListsKnown, IsInOrder};
-ghost use Rattle.csi_orchestrator.specs.Shown.{view_of};
-ghost use Rattle.csi_listings.specs.Order.{attached_place, staged_place, published_place, IsInPlace};
-ghost use Rattle.csi_listings.specs.Listed.{staged_on, published_on};
-ghost use Rattle.csi_reports.specs.Gathered.{IsGathered};
-ghost use Rattle.csi_reports.specs.Found.{gathered_of};
+ghost use Rattle.csi_controller.specs.Public.Views.{attached_holdings};
+ghost use Rattle.csi_orchestrator.specs.Public.Listing.{ListsKnown, IsInOrder};
+ghost use Rattle.csi_orchestrator.specs.Model.Shown.{orchestrator_view};
+ghost use Rattle.csi_reports.specs.Public.Order.{attached_place, staged_place, published_place, IsInPlace};
+ghost use Rattle.csi_reports.specs.Public.Listed.{staged_on, published_on};
+ghost use Rattle.csi_reports.specs.Public.Gathered.{IsGathered};
+ghost use Rattle.csi_reports.specs.Private.Found.{gathered_of};
 
-use csi_listings::{PublishedAt, StagedAt, attached, published, staged};
+use crate::entries::{PublishedAt, StagedAt};
+use crate::lists::{attached, published, staged};
 use csi_orchestrator::{Known, Thing};
 use csi_types::{Holding, NoMemory};
 use csi_world::{Violation, World, audit};
@@ -27,14 +28,14 @@ pub struct Findings {
 
 // What its controller has attached, in place.
 fn attached_in(world: &World) -> Result<Vec<Holding>, NoMemory>
-    ensures { IfOk result (λ list. IsInPlace attached_place (attached_by_rows ((world.now).controller).rows) list.items) }
+    ensures { IfOk result (λ list. IsInPlace attached_place (attached_holdings ((world.now).controller).rows) list.items) }
 {
     attached(world.controller())
 }
 
 // What its orchestrator knows.
 fn known_in(world: &World) -> Result<Vec<(Thing, Known)>, NoMemory>
-    ensures known { IfOk result (λ things. ListsKnown (view_of (world.now).orchestrator).marks things.items) }
+    ensures known { IfOk result (λ things. ListsKnown (orchestrator_view (world.now).orchestrator).marks things.items) }
     ensures order { IfOk result (λ things. IsInOrder things.items) }
 {
     match world.orchestrator().things() {

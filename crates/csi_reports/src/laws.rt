@@ -1,7 +1,7 @@
 //! What holds of reports.
 ghost use Rattle.std.specs.List.{AllByRecursion};
-ghost use Rattle.csi_reports.specs.Laws.{ShowsAState};
-ghost use Rattle.csi_reports.specs.Report.{HasOneReport};
+ghost use Rattle.csi_reports.specs.Private.Laws.{ShowsAState};
+ghost use Rattle.csi_reports.specs.Public.Report.{HasOneReport};
 
 use csi_node::Node;
 use csi_world::World;

@@ -3,10 +3,10 @@ ghost use Rattle.std.specs.Prelude.{◌≡◌, ◌++◌, OnOk, codes, decimal, s
 ghost use Rattle.std.specs.List.{flat_map};
 ghost use Rattle.json.specs.Tree.{json_tokens};
 ghost use Rattle.serde_json.specs.Written.{outline};
-ghost use Rattle.csi_listings.specs.Entries.{entries};
-ghost use Rattle.csi_reports.specs.Outcomes.{outcome_entry};
+ghost use Rattle.csi_reports.specs.Public.Entries.{entries};
+ghost use Rattle.csi_reports.specs.Public.Outcomes.{outcome_entry};
 
-use csi_listings::JsonWriter;
+use crate::writer::JsonWriter;
 use csi_world::{Outcome, text_of};
 use itoa::Buffer;
 use std::alloc::{AllocError, Global};
@@ -63,7 +63,7 @@ fn write_each(alloc: Global, out: &mut JsonWriter, items: &[Outcome]) -> Result<
 }
 
 /// Writes the texts of these outcomes, in order, as an array.
-#[tactic(auto, using(csi_listings::proofs::WrittenLists::array_written))]
+#[tactic(auto, using(crate::proofs::WrittenLists::array_written))]
 pub fn write_outcomes(
     alloc: Global,
     out: &mut JsonWriter,

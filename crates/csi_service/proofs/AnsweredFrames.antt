@@ -8,13 +8,13 @@ use Rattle.csi_types.specs.declared.call.Call.{Call}
 use Rattle.csi_types.specs.declared.call.Party.{Party}
 use Rattle.csi_types.specs.declared.frame.Body.{Body}
 use Rattle.csi_types.specs.declared.frame.Body.TheVariants as bodies
-use Rattle.csi_types.specs.Frame.{Frame}
-use Rattle.csi_types.specs.Replies.{call_frame}
-use Rattle.csi_types.specs.Same.{same_party}
-use Rattle.csi_fence.specs.Fenced.{Fenced, Machine, answered_in, unanswered, fenced_parts, fenced}
+use Rattle.csi_types.specs.Model.Frame.{Frame}
+use Rattle.csi_types.specs.Model.Replies.{call_frame}
+use Rattle.csi_types.specs.Model.Same.{same_party}
+use Rattle.csi_fence.specs.Model.Fenced.{Fenced, Machine, answered_in, unanswered, fenced_parts, fenced}
 use Rattle.csi_fence.proofs.Judged.{Judgement, was_over, was_fresh, was_repeated, was_stale, was_answered}
-use Rattle.csi_frames.specs.Lent.{call_in, call_of}
-use Rattle.csi_service.specs.Calls.{IsNoCallFor}
+use Rattle.csi_frames.specs.Public.Lent.{call_in, call_of}
+use Rattle.csi_service.specs.Private.Calls.{IsNoCallFor}
 
 -- a frame of this party with a call is a frame of the call
 pub is-call : (frame : Frame) (party : Party) (call : Call) → frame.party ≡ party → call_of frame ≡ Some call → frame ≡ call_frame frame.number party call

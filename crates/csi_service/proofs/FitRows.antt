@@ -1,36 +1,38 @@
 -- Rows stay within their limits: where those before a call and the row that it changed are, and where they were read of a record.
-use Rattle.std.proofs.Common.{◌≡◌, ◌∙◌, sym, ap, subst, refl, inl, inr, ℕ, Bool, true, false, cond, List, [], ◌∷◌, map, length, arith, IfSome}
-use Rattle.std.specs.Prelude.{Option, Some, None, filter, ◌==◌, nat_lt}
+use Rattle.std.proofs.Common.{◌≡◌, ◌∙◌, sym, ap, subst, refl, ℕ, Bool, true, false, cond, List, [], ◌∷◌, map, length, arith, IfSome, slice_get}
+use Rattle.std.specs.Prelude.{Option, Some, None, filter, option_map, ◌==◌, nat_lt}
 use Rattle.std.specs.List.{AllByRecursion}
 use Rattle.std.proofs.lemmas.Bool.{eqb-true}
 use Rattle.std.proofs.lemmas.Bool.Decides.{nat_tests}
 use Rattle.std.proofs.lemmas.Option.{same_Some}
-use Rattle.csi_lists.specs.Members.{IsAmong}
+use Rattle.csi_lists.specs.Model.Members.{IsAmong}
 use Rattle.csi_lists.proofs.Members.{each_of, all_of, in-map, among-filter, among-find}
 use Rattle.csi_lists.proofs.Options.{some_is_not_none}
 use Rattle.csi_types.specs.declared.capability.Capability.{Capability}
 use Rattle.csi_types.specs.declared.number.Number.{Number}
-use Rattle.csi_fence.specs.Fence.{begins}
+use Rattle.csi_fence.specs.Model.Fence.{begins}
 use Rattle.csi_controller.specs.declared.row.ControllerRow.{ControllerRow}
 use Rattle.csi_controller.specs.declared.row.NodeHolding.{NodeHolding}
-use Rattle.csi_controller.specs.Core.{Parts, IsRising as AreRising}
-use Rattle.csi_controller.specs.Views.{RecordParts, IsCopyOf}
-use Rattle.csi_controller.specs.WithoutSession.{latest_session, stays_in}
-use Rattle.csi_controller.specs.RowsLaw.{row_by_id, staying, Changes}
+use Rattle.csi_controller.specs.Model.Core.{ControllerParts}
+use Rattle.csi_controller.specs.Public.Core.{AreRisingRows}
+use Rattle.csi_controller.specs.Public.Views.{RecordParts, IsCopyOf}
+use Rattle.csi_controller.specs.Public.WithoutSession.{latest_session, stays_in}
+use Rattle.csi_controller.specs.Public.RowsLaw.{row_by_id, staying, Changes, ChangesAt}
 use Rattle.csi_controller.proofs.CatalogKept.{found-own}
 use Rattle.csi_node.specs.declared.row.NodeRow.{NodeRow}
-use Rattle.csi_node.specs.OneRow.{RowShown, shown}
-use Rattle.csi_node.specs.Record.{NodeParts, parts}
-use Rattle.csi_node.specs.Changes as node
-use Rattle.csi_node.specs.WithoutSession as unsessioned
-use Rattle.csi_stores.specs.Part.{StoredPart}
+use Rattle.csi_node.specs.Model.OneRow.{NodeRowShown, node_row_shown}
+use Rattle.csi_node.specs.Model.Record.{NodeParts, parts}
+use Rattle.csi_node.specs.Public.Changes as node
+use Rattle.csi_node.specs.Public.WithoutSession as unsessioned
+use Rattle.csi_stores.specs.Public.Part.{StoredPart}
 use Rattle.csi_records.specs.declared.version.RecordVersion.{RecordVersion}
-use Rattle.csi_records.specs.Spelling.{present, VolumeRow, volume_row, volume_part, answered_part}
-use Rattle.csi_records.specs.Records.{IsCapabilityIn, IsHolding, IsVolumeRow, IsStagedSo, IsAnsweredRow, controller_of, node_of, IsControllerOf, IsNodeOf}
-use Rattle.csi_service.specs.Services.{AreFitRows, IsNamedFit}
-use Rattle.csi_service.specs.NodeServices as nodes
-use Rattle.csi_service.proofs.ControllerChanges.{same-shown}
-use Rattle.csi_service.proofs.NodeChanges.{row-found}
+use Rattle.csi_records.specs.Public.Spelling.{present, VolumeRow, volume_row, volume_part, answered_part}
+use Rattle.csi_records.specs.Public.Records.{IsCapabilityIn, IsHolding, IsVolumeRow, IsStagedSo, IsAnsweredRow, controller_record_of, node_record_of, IsControllerOf, IsNodeOf}
+use Rattle.csi_service.specs.Public.Services.{AreFitControllerRows, IsNamedControllerRowFit, row_id}
+use Rattle.csi_service.specs.Public.NodeServices as nodes
+use Rattle.csi_service.proofs.ControllerChanges.{same-shown, named_row, named-at, by-id}
+use Rattle.csi_service.proofs.NodeChanges as told
+use Rattle.csi_service.proofs.RecordParts.{IsRisingById}
 
 -- ---- lists
 
@@ -59,7 +61,8 @@ among-staying false p xs x among = among
 
 -- ---- a call of the controller
 
-module _ (old new : Parts) (row : Option ℕ) (number : Number) (rising : AreRising new.rows) (changes : Changes row number old new) (fit : AreFitRows old.rows) (named : IsNamedFit row new.rows) where
+module _ (old new : ControllerParts) (row : Option ℕ) (number : Number) (rising : AreRisingRows new.rows) (changes : Changes row number old new) (fit : AreFitControllerRows old.rows)
+    (named : IfSome (named_row row new.rows) (λ (r : ControllerRow). IsVolumeRow present (volume_row r))) where
   -- a row is within its limits
   abbrev IsFit : ControllerRow → Type 0
   IsFit r = IsVolumeRow present (volume_row r)
@@ -82,7 +85,7 @@ module _ (old new : Parts) (row : Option ℕ) (number : Number) (rising : AreRis
 
   -- the row that it changed
   own : (r : ControllerRow) → IsAmong r new.rows → row ≡ Some r.id → IsFit r
-  own r among e = subst (λ (o : Option ControllerRow). IfSome o IsFit) (found-own new.rows r rising among) (subst (λ (o : Option ℕ). IsNamedFit o new.rows) e named)
+  own r among e = subst (λ (o : Option ControllerRow). IfSome o IsFit) (found-own new.rows r rising among) (subst (λ (o : Option ℕ). IfSome (named_row o new.rows) IsFit) e named)
 
   -- one or the other
   either : (r : ControllerRow) → IsAmong r new.rows → (key : ℕ) (b : Bool) → (key == r.id) ≡ b → row ≡ Some key → IsFit r
@@ -95,13 +98,19 @@ module _ (old new : Parts) (row : Option ℕ) (number : Number) (rising : AreRis
   one r among (Some key) e = either r among key (key == r.id) refl e
 
   -- all rows stay within their limits
-  pub controller-fit : AreFitRows new.rows
-  controller-fit = each-mapped (IsVolumeRow present) volume_row new.rows (all_of IsFit new.rows (λ r among. one r among row refl))
+  all-fit : AreFitControllerRows new.rows
+  all-fit = each-mapped (IsVolumeRow present) volume_row new.rows (all_of IsFit new.rows (λ r among. one r among row refl))
+
+-- so they do by the place of the row that it changed
+pub controller-fit : (old new : ControllerParts) (place : Option ℕ) (number : Number) → AreRisingRows new.rows → ChangesAt place number old new → AreFitControllerRows old.rows → IsNamedControllerRowFit place new.rows → AreFitControllerRows new.rows
+controller-fit old new place number rising changes fit named =
+    all-fit old new (row_id place new.rows) number rising (by-id place number old new changes) fit
+    (subst (λ (o : Option ControllerRow). IfSome o (λ (r : ControllerRow). IsVolumeRow present (volume_row r))) (named-at place new.rows rising) named)
 
 -- ---- a call of a node
 
 -- a row that is put in among rows
-fit-put : (P : RowShown → Type 0) (row : RowShown) (rows : List RowShown) → P row → AllByRecursion P rows → AllByRecursion P (node.put_row row rows)
+fit-put : (P : NodeRowShown → Type 0) (row : NodeRowShown) (rows : List NodeRowShown) → P row → AllByRecursion P rows → AllByRecursion P (node.put_row row rows)
 fit-put P row [] own all = (own, tt)
 fit-put P row (other ∷ others) own all = by (nat_lt other.id row.id) (other.id == row.id) (fit-put P row others own all.1)
   where
@@ -110,23 +119,23 @@ fit-put P row (other ∷ others) own all = by (nat_lt other.id row.id) (other.id
     by false true rest = (own, all.1)
     by false false rest = (own, all)
 
+-- those that stay are within them
+stay-fit : (old : NodeParts) (number : Number) → nodes.AreFitNodeRows (parts old.rows) → nodes.AreFitNodeRows (node.staying old.session number (parts old.rows))
+stay-fit old number fit =
+    all_of (IsAnsweredRow present) (node.staying old.session number (parts old.rows))
+    (λ r among. each_of (IsAnsweredRow present) (parts old.rows) r fit (among-staying (begins old.session number) _ (parts old.rows) r among))
+
 -- all rows stay within their limits
-pub node-fit : (old new : NodeParts) (row : Option ℕ) (number : Number) → node.Changes row number old new → nodes.AreFitRows (parts old.rows) → nodes.IsNamedFit row (parts new.rows) → nodes.AreFitRows (parts new.rows)
-node-fit old new row number changes fit named = by row refl
-  where
-    stay : List RowShown
-    stay = node.staying old.session number (parts old.rows)
-
-    stay_fit : nodes.AreFitRows stay
-    stay_fit = all_of (IsAnsweredRow present) stay (λ r among. each_of (IsAnsweredRow present) (parts old.rows) r fit (among-staying (begins old.session number) _ (parts old.rows) r among))
-
-    by : (o : Option ℕ) → row ≡ o → nodes.AreFitRows (parts new.rows)
-    by None e = subst nodes.AreFitRows (sym (changes.same e)) stay_fit
-    by (Some id) e =
-        let put = changes.put id e in
-        let found : node.row_by_id id (parts new.rows) ≡ Some put.0 = row-found id put.0 stay (parts new.rows) put.1 put.3 in
-        let own : IsAnsweredRow present put.0 = subst (λ (r : Option RowShown). IfSome r (IsAnsweredRow present)) found (subst (λ (o : Option ℕ). nodes.IsNamedFit o (parts new.rows)) e named) in
-        subst nodes.AreFitRows (sym put.3) (fit-put (IsAnsweredRow present) put.0 stay own stay_fit)
+pub node-fit : (old new : NodeParts) (place : Option ℕ) (number : Number) → IsRisingById (parts new.rows) → node.ChangesAt place number old new → nodes.AreFitNodeRows (parts old.rows) → nodes.IsNamedNodeRowFit place (parts new.rows)
+    → nodes.AreFitNodeRows (parts new.rows)
+node-fit old new None number rising changes fit named = subst nodes.AreFitNodeRows (sym (changes.same refl)) (stay-fit old number fit)
+node-fit old new (Some place) number rising changes fit named =
+    let put = changes.2.put changes.0.id refl in
+    let found : node.row_by_id changes.0.id (parts new.rows) ≡ Some put.0 = told.row-found changes.0.id put.0 (node.staying old.session number (parts old.rows)) (parts new.rows) put.1 put.3 in
+    let one : slice_get (parts new.rows) place ≡ Some put.0 =
+    told.named-at (Some place) (parts new.rows) rising ∙ ap (λ (o : Option NodeRowShown). told.named_row (option_map (λ (r : NodeRowShown). r.id) o) (parts new.rows)) changes.1 ∙ found in
+    let own : IsAnsweredRow present put.0 = subst (λ (o : Option NodeRowShown). IfSome o (IsAnsweredRow present)) one named in
+    subst nodes.AreFitNodeRows (sym put.3) (fit-put (IsAnsweredRow present) put.0 (node.staying old.session number (parts old.rows)) own (stay-fit old number fit))
 
 -- ---- rows that were read
 
@@ -153,37 +162,37 @@ wide-staged version None is = tt
 wide-staged version (Some capability) is = widened version capability is
 
 -- so is a node's row
-wide-answered : (version : RecordVersion) (row : RowShown) → IsAnsweredRow version row → IsAnsweredRow present row
+wide-answered : (version : RecordVersion) (row : NodeRowShown) → IsAnsweredRow version row → IsAnsweredRow present row
 wide-answered version row is = record { id = is.id; staged = wide-staged version row.staged is.staged; count = is.count; targets = is.targets; kept = is.kept }
 
 -- the rows of a controller's record that was read
-pub controller-read : (version : RecordVersion) (found : List StoredPart) (kept : RecordParts) → IsControllerOf version found kept → AreFitRows kept.rows
+pub controller-read : (version : RecordVersion) (found : List StoredPart) (kept : RecordParts) → IsControllerOf version found kept → AreFitControllerRows kept.rows
 controller-read version found kept is =
-    subst (λ (k : RecordParts). AreFitRows k.rows) (sym is.is)
+    subst (λ (k : RecordParts). AreFitControllerRows k.rows) (sym is.is)
     (by is.head.session is.rows (all-weaker (IsVolumeRow version) (IsVolumeRow present) (map volume_row is.rows) (wide-volume version) is.spelled.rows_fit))
   where
-    by : (session : Option ℕ) (rows : List ControllerRow) → AreFitRows rows → AreFitRows (controller_of is.head.own session rows).rows
+    by : (session : Option ℕ) (rows : List ControllerRow) → AreFitControllerRows rows → AreFitControllerRows (controller_record_of is.head.own session rows).rows
     by None rows fit = mapped-filter (IsVolumeRow present) volume_row (stays_in (latest_session rows)) rows fit
     by (Some session) rows fit = fit
 
 -- those of a node's
-pub node-read : (version : RecordVersion) (wanted : Option (List ℕ)) (found : List StoredPart) (kept : NodeParts) → IsNodeOf version wanted found kept → nodes.AreFitRows (parts kept.rows)
+pub node-read : (version : RecordVersion) (wanted : Option (List ℕ)) (found : List StoredPart) (kept : NodeParts) → IsNodeOf version wanted found kept → nodes.AreFitNodeRows (parts kept.rows)
 node-read version wanted found kept is =
-    subst (λ (k : NodeParts). nodes.AreFitRows (parts k.rows)) (sym is.is)
-    (by is.head.session is.rows (all-weaker (IsAnsweredRow version) (IsAnsweredRow present) (map shown is.rows) (wide-answered version) is.spelled.rows_fit))
+    subst (λ (k : NodeParts). nodes.AreFitNodeRows (parts k.rows)) (sym is.is)
+    (by is.head.session is.rows (all-weaker (IsAnsweredRow version) (IsAnsweredRow present) (map node_row_shown is.rows) (wide-answered version) is.spelled.rows_fit))
   where
-    by : (session : Option ℕ) (rows : List NodeRow) → nodes.AreFitRows (parts rows) → nodes.AreFitRows (parts (node_of is.head.own session rows).rows)
-    by None rows fit = mapped-filter (IsAnsweredRow present) shown (unsessioned.stays_in (unsessioned.latest_session rows)) rows fit
+    by : (session : Option ℕ) (rows : List NodeRow) → nodes.AreFitNodeRows (parts rows) → nodes.AreFitNodeRows (parts (node_record_of is.head.own session rows).rows)
+    by None rows fit = mapped-filter (IsAnsweredRow present) node_row_shown (unsessioned.stays_in (unsessioned.latest_session rows)) rows fit
     by (Some session) rows fit = fit
 
 -- ---- no rows
 
 -- where the head is all, a controller has no row
-pub controller-none : (head other : StoredPart) (rows : List ControllerRow) → (head ∷ map (volume_part present) (map volume_row rows)) ≡ other ∷ [] → AreFitRows rows
+pub controller-none : (head other : StoredPart) (rows : List ControllerRow) → (head ∷ map (volume_part present) (map volume_row rows)) ≡ other ∷ [] → AreFitControllerRows rows
 controller-none head other [] are = tt
 controller-none head other (row ∷ rows) are = absurd (omega (arith, ap length are))
 
 -- nor has a node
-pub node-none : (head other : StoredPart) (rows : List RowShown) → (head ∷ map (answered_part present) rows) ≡ other ∷ [] → nodes.AreFitRows rows
+pub node-none : (head other : StoredPart) (rows : List NodeRowShown) → (head ∷ map (answered_part present) rows) ≡ other ∷ [] → nodes.AreFitNodeRows rows
 node-none head other [] are = tt
 node-none head other (row ∷ rows) are = absurd (omega (arith, ap length are))

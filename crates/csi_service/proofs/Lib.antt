@@ -1,3 +1,7 @@
+pub mod StoreCalls
+pub mod GrowingAnswers
+pub mod Progress
+pub mod ServingEnds
 pub mod SoFar
 pub mod LoadedParts
 pub mod OpeningAnswers

@@ -3,42 +3,43 @@ use Rattle.std.proofs.Common.{◌≡◌, ◌≤◌, ◌∙◌, ◌⊎◌, ℕ, L
 use Rattle.csi_stores.specs.declared.keep.KeepFault.{KeepFault}
 use Rattle.csi_stores.specs.declared.keep.KeepFault.TheVariants.{Device, NoMemory, BadRecord, Full}
 use Rattle.csi_stores.specs.declared.part.Part.{Part}
-use Rattle.csi_stores.specs.Part.{StoredPart, Change, all_stored_in, put_all, change_of}
-use Rattle.csi_stores.specs.Content.{all_changed}
-use Rattle.csi_stores.specs.Stores.{Store, Found, Parts, Foreign, Unlisted, IsOnly, FindsSome, IsLoadFault, IsCommitFault}
+use Rattle.csi_stores.specs.Public.Part.{StoredPart, StoredChange, all_stored_in, put_all, part_change}
+use Rattle.csi_stores.specs.Public.Content.{all_changed}
+use Rattle.csi_stores.specs.Public.Stores.{Store, Found, Parts, Foreign, Unlisted, IsOnly, FindsSome, IsLoadFault, IsCommitFault}
 use Rattle.csi_records.specs.declared.fault.RecordStop.{RecordStop}
 use Rattle.csi_records.specs.declared.fault.RecordStop.TheVariants as stops
-use Rattle.csi_records.specs.Refusing.{fault_of_stop}
-use Rattle.csi_records.specs.Spelling.{present}
-use Rattle.csi_records.specs.Records.{IsRefusedAt, IsInSome}
-use Rattle.csi_service.specs.Opening.{Records, Becomes, OpensTo, HasRecord, IsOpenFault, IsRewritten, LeavesOpened, IsMade, IsUnmade}
+use Rattle.csi_records.specs.Public.Refusing.{fault_of_stop}
+use Rattle.csi_records.specs.Public.Spelling.{present}
+use Rattle.csi_records.specs.Public.Records.{IsRefusedAt, IsInSome}
+use Rattle.csi_service.specs.Public.Opening.{Records, IsOpeningCommit, OpensTo, HasRecord, IsOpenFault, LeavesOpened}
+use Rattle.csi_service.specs.Private.Opening.{IsCoreMade, IsCoreUnmade}
 use Rattle.csi_service.proofs.LoadedParts.{all-put}
 
 -- ---- of the parts alone
 
-module _ {X : Type 0} (records : Records X) (head : StoredPart) (found now : List StoredPart) (changes : List Change) (made : IsMade records head found now changes) where
+module _ {X : Type 0} (records : Records X) (head : StoredPart) (found now : List StoredPart) (changes : List StoredChange) (made : IsCoreMade records head found now changes) where
   -- what is made is what opening makes
   pub opens-to : OpensTo records head found now
   opens-to = elim made.leads [ inl same ↦ inl (same.1, same.2) | inr other ↦ inr other.0 ]
 
   -- the changes lead there
   pub leads-to : all_changed changes found ≡ now
-  leads-to = elim made.leads [ inl same ↦ ap (λ (cs : List Change). all_changed cs found) same.0 ∙ sym same.2 | inr other ↦ other.1 ]
+  leads-to = elim made.leads [ inl same ↦ ap (λ (cs : List StoredChange). all_changed cs found) same.0 ∙ sym same.2 | inr other ↦ other.1 ]
 
   -- without changes, all stays
   pub stays-as : changes ≡ [] → now ≡ found
-  stays-as none = sym leads-to ∙ ap (λ (cs : List Change). all_changed cs found) none
+  stays-as none = sym leads-to ∙ ap (λ (cs : List StoredChange). all_changed cs found) none
 
   -- some changes are those of the commit
-  pub becomes-by : (changes ≡ [] → ⊥) → (other : List StoredPart) → other ≡ all_changed changes found → Becomes records head found other
-  becomes-by some other is = subst (Becomes records head found) (sym (is ∙ leads-to)) (elim made.leads [ inl same ↦ absurd (some same.0) | inr becomes ↦ becomes.0 ])
+  pub becomes-by : (changes ≡ [] → ⊥) → (other : List StoredPart) → other ≡ all_changed changes found → IsOpeningCommit records head found other
+  becomes-by some other is = subst (IsOpeningCommit records head found) (sym (is ∙ leads-to)) (elim made.leads [ inl same ↦ absurd (some same.0) | inr becomes ↦ becomes.0 ])
 
 -- ---- a store that was loaded
 
 -- the store before and after it gave its parts
 pub record HasLoaded (before after : Store) (parts : List Part) : Type 0 where
   pub honest : after.honest → before.honest
-  pub given : after.honest → (content : List StoredPart) → before.holds content → map change_of parts ≡ put_all content
+  pub given : after.honest → (content : List StoredPart) → before.holds content → map part_change parts ≡ put_all content
   pub stays : after.honest → (content : List StoredPart) → before.holds content → IsOnly after (Parts content)
   pub listed : after.honest → (place : ℕ) → before.foreign place → ⊥
   pub left : after.honest → (found : Found) → after.leaves found → before.leaves found
@@ -68,11 +69,11 @@ module _ {X : Type 0} (records : Records X) (head : StoredPart) (before loaded :
   parts-are honest content holds = all-put parts content (load.given honest content holds)
 
   -- parts that are no record
-  pub unmade-cause : (stop : RecordStop) → IsUnmade records (all_stored_in parts) stop → IsOpenFault records before loaded head (fault_of_stop stop)
+  pub unmade-cause : (stop : RecordStop) → IsCoreUnmade records (all_stored_in parts) stop → IsOpenFault records before loaded head (fault_of_stop stop)
   unmade-cause (stops.BadRecord place) unmade = λ honest content holds. subst (λ (ps : List StoredPart). IsRefusedAt (IsInSome records.are) ps place) (parts-are honest content holds) unmade
   unmade-cause stops.NoMemory unmade = tt
 
-  module _ {C : Type 0} (parts_of : C → List StoredPart) (core : C) (changes : List Change) (made : IsMade records head (all_stored_in parts) (parts_of core) changes) where
+  module _ {C : Type 0} (parts_of : C → List StoredPart) (core : C) (changes : List StoredChange) (made : IsCoreMade records head (all_stored_in parts) (parts_of core) changes) where
     -- nothing is to be committed
     pub opened-same : changes ≡ [] → HasRecord records parts_of before loaded head core
     opened-same none = λ honest content holds.
@@ -111,7 +112,7 @@ module _ {X : Type 0} (records : Records X) (head : StoredPart) (before loaded :
               | inr new ↦ inr (record {
                 new = all_changed changes content;
                 is = new;
-                becomes = subst (λ (ps : List StoredPart). Becomes records head ps (all_changed changes content)) are
+                becomes = subst (λ (ps : List StoredPart). IsOpeningCommit records head ps (all_changed changes content)) are
                     (becomes-by records head (all_stored_in parts) (parts_of core) changes made some (all_changed changes content) (ap (all_changed changes) (sym are)));
                 is_record = subst (records.are present) (sym leads) made.is;
               })
@@ -134,11 +135,11 @@ module _ {X : Type 0} (records : Records X) (head : StoredPart) (before loaded :
           let is = was honest in
           let are = parts-are is content holds in (
             all_changed changes content,
-            subst (λ (ps : List StoredPart). Becomes records head ps (all_changed changes content)) are (becomes-by records head (all_stored_in parts) (parts_of core) changes made some (all_changed changes content) (ap (all_changed changes) (sym are))),
+            subst (λ (ps : List StoredPart). IsOpeningCommit records head ps (all_changed changes content)) are (becomes-by records head (all_stored_in parts) (parts_of core) changes made some (all_changed changes content) (ap (all_changed changes) (sym are))),
             λ fits. cause honest content (load.stays is content holds).there (load.room (all_changed changes content) fits),
           )
 
 -- some parts are some changes
-pub some-changes : (parts : List Part) → 1 ≤ length parts → map change_of parts ≡ [] → ⊥
+pub some-changes : (parts : List Part) → 1 ≤ length parts → map part_change parts ≡ [] → ⊥
 some-changes [] some none = omega arith
 some-changes (part ∷ parts) some none = cc

@@ -4,23 +4,23 @@ use Rattle.std.specs.Prelude.{Option}
 use Rattle.std.specs.List.{AllByRecursion}
 use Rattle.std.proofs.Math.Seq.{take-length}
 use Rattle.std.proofs.lemmas.List.{take-append-le}
-use Rattle.csi_frames.specs.Spelling.{text}
+use Rattle.csi_frames.specs.Public.Spelling.{text}
 use Rattle.csi_controller.specs.declared.row.ControllerRow.{ControllerRow}
-use Rattle.csi_controller.specs.Core.{IsRising as AreRising}
-use Rattle.csi_node.specs.OneRow.{RowShown}
-use Rattle.csi_node.specs.Judging.{KeepRules}
-use Rattle.csi_node.specs.Record.{id_at}
-use Rattle.csi_stores.specs.Part.{StoredPart}
-use Rattle.csi_stores.specs.Content.{IsRising}
+use Rattle.csi_controller.specs.Public.Core.{AreRisingRows}
+use Rattle.csi_node.specs.Model.OneRow.{NodeRowShown}
+use Rattle.csi_node.specs.Public.Judging.{KeepRules}
+use Rattle.csi_node.specs.Public.Record.{row_id_at}
+use Rattle.csi_stores.specs.Public.Part.{StoredPart}
+use Rattle.csi_stores.specs.Public.Content.{AreRisingParts}
 use Rattle.csi_stores.proofs.RisingChanges.{AreAbove}
 use Rattle.csi_records.specs.declared.version.RecordVersion.{RecordVersion}
-use Rattle.csi_records.specs.Spelling.{present, VolumeRow, volume_part, session_bytes, answered_part, node_parts}
-use Rattle.csi_records.specs.Records.{controller_layout, node_layout, AreControllerRows, IsRecordOf, IsVolumeRow, IsAnsweredRow}
+use Rattle.csi_records.specs.Public.Spelling.{present, VolumeRow, volume_part, session_bytes, answered_part, node_parts}
+use Rattle.csi_records.specs.Public.Records.{controller_layout, node_layout, AreControllerRows, IsRecordOf, IsVolumeRow, IsAnsweredRow}
 use Rattle.csi_service.proofs.ControllerChanges.{rising-in}
 
 -- a node's rows stand by rising id
-abbrev pub IsRisingById : List RowShown → Type 0
-IsRisingById rows = (i j : ℕ) → i < j → j < length rows → id_at rows i < id_at rows j
+abbrev pub IsRisingById : List NodeRowShown → Type 0
+IsRisingById rows = (i j : ℕ) → i < j → j < length rows → row_id_at rows i < row_id_at rows j
 
 -- ---- a controller's
 
@@ -30,28 +30,28 @@ volumes-above version [] fit = tt
 volumes-above version (row ∷ rows) fit = (fit.0.id.from_one, volumes-above version rows fit.1)
 
 -- rows that keep a controller's rules rise by id
-rows-rising : (next_id : ℕ) (session : Option ℕ) (rows : List ControllerRow) → AreControllerRows next_id session rows → AreRising rows
+rows-rising : (next_id : ℕ) (session : Option ℕ) (rows : List ControllerRow) → AreControllerRows next_id session rows → AreRisingRows rows
 rows-rising next_id None rows rules = rules.rising
 rows-rising next_id (Some session) rows rules = rules.0.rising
 
 -- the parts of a controller's record rise by key
-pub controller-rising : (version : RecordVersion) (parts : List StoredPart) → IsRecordOf (controller_layout version) parts → IsRising parts
+pub controller-rising : (version : RecordVersion) (parts : List StoredPart) → IsRecordOf (controller_layout version) parts → AreRisingParts parts
 controller-rising version parts is =
     let rules = is.spelled.rules in
-    subst IsRising (sym is.spelled.are) (
+    subst AreRisingParts (sym is.spelled.are) (
       volumes-above version is.rows is.spelled.rows_fit,
-      subst (λ (rows : List VolumeRow). IsRising (map (volume_part version) rows)) rules.1 (rising-in version rules.0 (rows-rising is.first.own is.first.session rules.0 rules.2)),
+      subst (λ (rows : List VolumeRow). AreRisingParts (map (volume_part version) rows)) rules.1 (rising-in version rules.0 (rows-rising is.first.own is.first.session rules.0 rules.2)),
     )
 
 -- ---- a node's
 
 -- rows whose ids are above a number are parts whose keys are
-answered-above : (version : RecordVersion) (low : ℕ) (rows : List RowShown) → ((place : ℕ) → place < length rows → low < id_at rows place) → AreAbove low (map (answered_part version) rows)
+answered-above : (version : RecordVersion) (low : ℕ) (rows : List NodeRowShown) → ((place : ℕ) → place < length rows → low < row_id_at rows place) → AreAbove low (map (answered_part version) rows)
 answered-above version low [] above = tt
 answered-above version low (row ∷ rows) above = (above zero (omega arith), answered-above version low rows (λ place within. above (suc place) (omega arith)))
 
 -- a node's rows by rising id are parts by rising key
-pub answered-rising : (version : RecordVersion) (rows : List RowShown) → IsRisingById rows → IsRising (map (answered_part version) rows)
+pub answered-rising : (version : RecordVersion) (rows : List NodeRowShown) → IsRisingById rows → AreRisingParts (map (answered_part version) rows)
 answered-rising version [] rising = tt
 answered-rising version (row ∷ rows) rising = (
   answered-above version row.id rows (λ place within. rising zero (suc place) (omega arith) (omega arith)),
@@ -59,19 +59,19 @@ answered-rising version (row ∷ rows) rising = (
 )
 
 -- the keys of a node's rows are above 0
-rows-above : (version : RecordVersion) (rows : List RowShown) → AllByRecursion (IsAnsweredRow version) rows → AreAbove 0 (map (answered_part version) rows)
+rows-above : (version : RecordVersion) (rows : List NodeRowShown) → AllByRecursion (IsAnsweredRow version) rows → AreAbove 0 (map (answered_part version) rows)
 rows-above version [] fit = tt
 rows-above version (row ∷ rows) fit = (fit.0.id.from_one, rows-above version rows fit.1)
 
 -- rows that keep a node's rules rise by id
-kept-rising : (session : Option ℕ) (rows : List RowShown) → KeepRules session rows → IsRisingById rows
+kept-rising : (session : Option ℕ) (rows : List NodeRowShown) → KeepRules session rows → IsRisingById rows
 kept-rising None rows rules = rules.rising
 kept-rising (Some session) rows rules = rules.0.rising
 
 -- the parts of a node's record rise by key
-pub node-rising : (version : RecordVersion) (wanted : Option (List ℕ)) (parts : List StoredPart) → IsRecordOf (node_layout version wanted) parts → IsRising parts
+pub node-rising : (version : RecordVersion) (wanted : Option (List ℕ)) (parts : List StoredPart) → IsRecordOf (node_layout version wanted) parts → AreRisingParts parts
 node-rising version wanted parts is =
-    subst IsRising (sym is.spelled.are) (
+    subst AreRisingParts (sym is.spelled.are) (
       rows-above version is.rows is.spelled.rows_fit,
       answered-rising version is.rows (kept-rising is.first.session is.rows is.spelled.rules),
     )
@@ -100,7 +100,7 @@ head_fields [] = []
 head_fields (part ∷ parts) = behind_two part.value
 
 -- a node's record in the present version is the record of that node
-pub node-wanted : (node : List ℕ) (session : Option ℕ) (rows : List RowShown) → IsRecordOf (node_layout present None) (node_parts present node session rows)
+pub node-wanted : (node : List ℕ) (session : Option ℕ) (rows : List NodeRowShown) → IsRecordOf (node_layout present None) (node_parts present node session rows)
     → IsRecordOf (node_layout present (Some node)) (node_parts present node session rows)
 node-wanted node session rows is = record {
   first = is.first;

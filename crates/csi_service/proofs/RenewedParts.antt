@@ -3,14 +3,14 @@ use Rattle.std.proofs.Common.{◌≡◌, ◌∙◌, sym, ap, refl, inl, inr, ℕ
 use Rattle.std.specs.Prelude.{Option, Some, None, not, ◌==◌, ◌||◌}
 use Rattle.std.proofs.lemmas.Bool.{eqb-true, eq-eqb, true≢false}
 use Rattle.std.proofs.lemmas.Option.{same_Some}
-use Rattle.csi_lists.specs.Members.{IsAmong}
+use Rattle.csi_lists.specs.Model.Members.{IsAmong}
 use Rattle.csi_lists.proofs.Members.{among-map, among-kept, among-find, in-map, in_filter}
 use Rattle.csi_lists.proofs.Options.{some_is_not_none}
 use Rattle.csi_lists.proofs.Searches.{find-filter, find-filtered, find-none_in_filter, find-missed, find-passes}
-use Rattle.csi_stores.specs.Part.{StoredPart, put_all, take_all}
-use Rattle.csi_stores.specs.Content.{put_in, take_out, all_changed, IsRising}
+use Rattle.csi_stores.specs.Public.Part.{StoredPart, put_all, take_all}
+use Rattle.csi_stores.specs.Public.Content.{put_in, take_out, all_changed, AreRisingParts}
 use Rattle.csi_stores.proofs.RisingChanges.{rising-all}
-use Rattle.csi_service.specs.Opening.{has_key, left_out}
+use Rattle.csi_service.specs.Private.Opening.{has_key, left_out}
 use Rattle.csi_service.proofs.RisingParts.{part_at, at-own, at-other, none-below, same-parts, at-put_own, at-put_other}
 use Rattle.csi_service.proofs.StayingRows.{all-append}
 
@@ -24,7 +24,7 @@ put-missed key (new ∷ news) olds missed =
     put-missed key news (put_in new olds) first.1 ∙ at-put_other new olds key first.0
 
 -- under the key of one of them, that one
-put-found : (key : ℕ) (part : StoredPart) (news olds : List StoredPart) → IsRising news → part_at key news ≡ Some part → part_at key (all_changed (put_all news) olds) ≡ Some part
+put-found : (key : ℕ) (part : StoredPart) (news olds : List StoredPart) → AreRisingParts news → part_at key news ≡ Some part → part_at key (all_changed (put_all news) olds) ≡ Some part
 put-found key part [] olds rising found = absurd (some_is_not_none part (sym found))
 put-found key part (new ∷ news) olds rising found = by (new.key == key) refl (put-found key part news (put_in new olds) rising.1)
   where
@@ -107,7 +107,7 @@ is-left key old olds news found missed =
 -- ---- all of them
 
 -- where keys rise, the new parts, put in, and then what they lack taken out, are all that is there
-pub all-renewed : (olds news : List StoredPart) → IsRising olds → IsRising news → all_changed (put_all news ++ take_all (left_out olds news)) olds ≡ news
+pub all-renewed : (olds news : List StoredPart) → AreRisingParts olds → AreRisingParts news → all_changed (put_all news ++ take_all (left_out olds news)) olds ≡ news
 all-renewed olds news rising rising_too =
     same-parts (all_changed (put_all news ++ take_all (left_out olds news)) olds) news (rising-all (put_all news ++ take_all (left_out olds news)) olds rising) rising_too
     (λ key. ap (part_at key) (all-append (put_all news) (take_all (left_out olds news)) olds) ∙ by key (part_at key news) refl)

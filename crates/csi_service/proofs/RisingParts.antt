@@ -5,8 +5,8 @@ use Rattle.std.proofs.lemmas.Bool.{eqb-true}
 use Rattle.std.proofs.lemmas.Bool.Decides.{nat_tests}
 use Rattle.std.proofs.lemmas.Option.{same_Some}
 use Rattle.csi_lists.proofs.Options.{some_is_not_none}
-use Rattle.csi_stores.specs.Part.{StoredPart}
-use Rattle.csi_stores.specs.Content.{put_in, IsRising}
+use Rattle.csi_stores.specs.Public.Part.{StoredPart}
+use Rattle.csi_stores.specs.Public.Content.{put_in, AreRisingParts}
 use Rattle.csi_stores.proofs.RisingChanges.{AreAbove, above-more, rising-put}
 
 -- the part under a key
@@ -34,13 +34,13 @@ none-below key (part ∷ parts) above =
     at-other key part parts differs ∙ none-below key parts above.1
 
 -- all keys from the first one on are above
-none-before : (key : ℕ) (part : StoredPart) (parts : List StoredPart) → key < part.key → IsRising (part ∷ parts) → part_at key (part ∷ parts) ≡ None
+none-before : (key : ℕ) (part : StoredPart) (parts : List StoredPart) → key < part.key → AreRisingParts (part ∷ parts) → part_at key (part ∷ parts) ≡ None
 none-before key part parts less rising =
     let differs : (part.key == key) ≡ false = grind (arith, nat_tests) in
     at-other key part parts differs ∙ none-below key parts (above-more key part.key parts less rising.0)
 
 -- two lists by rising key that have the same part under each key are one
-pub same-parts : (first second : List StoredPart) → IsRising first → IsRising second → ((key : ℕ) → part_at key first ≡ part_at key second) → first ≡ second
+pub same-parts : (first second : List StoredPart) → AreRisingParts first → AreRisingParts second → ((key : ℕ) → part_at key first ≡ part_at key second) → first ≡ second
 same-parts [] [] up up_too same = refl
 same-parts [] (y ∷ ys) up up_too same = absurd (some_is_not_none y (sym (at-own y.key y ys (itself y.key)) ∙ sym (same y.key)))
 same-parts (x ∷ xs) [] up up_too same = absurd (some_is_not_none x (sym (at-own x.key x xs (itself x.key)) ∙ same x.key))
@@ -100,7 +100,7 @@ at-put_other part (other ∷ others) key differs = by (nat_lt other.key part.key
     by false false t u rest = rw (t, u) (at-other key part (other ∷ others) differs)
 
 -- parts of which one is put in
-pub put-there : (part : StoredPart) (old new : List StoredPart) → IsRising old → IsRising new → part_at part.key new ≡ Some part
+pub put-there : (part : StoredPart) (old new : List StoredPart) → AreRisingParts old → AreRisingParts new → part_at part.key new ≡ Some part
     → ((key : ℕ) → (part.key == key) ≡ false → part_at key new ≡ part_at key old) → new ≡ put_in part old
 put-there part old new up up_too own others = same-parts new (put_in part old) up_too (rising-put part old up) (λ key. by key (part.key == key) refl)
   where

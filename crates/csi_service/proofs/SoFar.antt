@@ -5,8 +5,8 @@ use Rattle.std.specs.List.{AllByRecursion, list_any}
 use Rattle.std.proofs.lemmas.List.{map-append, take_more}
 use Rattle.csi_lists.proofs.Each.{each-append_one}
 use Rattle.csi_stores.specs.declared.part.Part.{Part}
-use Rattle.csi_stores.specs.Part.{StoredPart, Change, stored_in, all_stored_in, take_all}
-use Rattle.csi_service.specs.Opening.{has_key, left_out}
+use Rattle.csi_stores.specs.Public.Part.{StoredPart, StoredChange, stored_in, all_stored_in, take_all}
+use Rattle.csi_service.specs.Private.Opening.{has_key, left_out}
 
 -- the first items and the next one are one more of the first
 one-more : {X : Type 0} (xs : List X) (i : ℕ) (x d : X) → i < length xs → x ≡ get_or xs i d → take (i + 1) xs ≡ take i xs ++ x ∷ []
@@ -49,11 +49,11 @@ left-more found parts i part before after inside is so_far one =
     ∙ ap (λ (ps : List Part). left_out (all_stored_in ps) (all_stored_in parts)) (sym (one-more found i part part inside is))
 
 -- and what takes them out
-pub removed-more : (found parts : List Part) (i : ℕ) (part : Part) (before after : List Change) → i < length found → part ≡ get_or found i part
+pub removed-more : (found parts : List Part) (i : ℕ) (part : Part) (before after : List StoredChange) → i < length found → part ≡ get_or found i part
     → before ≡ take_all (left_out (all_stored_in (take i found)) (all_stored_in parts))
     → after ≡ before ++ take_all (cond (list_any (λ (p : Part). p.key == part.key) parts) [] (part.key ∷ [])) → after ≡ take_all (left_out (all_stored_in (take (i + 1) found)) (all_stored_in parts))
 removed-more found parts i part before after inside is so_far one =
     let keys = left_out (all_stored_in (take i found)) (all_stored_in parts) in
     let more = cond (list_any (λ (p : Part). p.key == part.key) parts) [] (part.key ∷ []) in
-    one ∙ ap (λ (cs : List Change). cs ++ take_all more) so_far ∙ sym (map-append (λ (k : ℕ). record { key = k; value = None }) keys more)
+    one ∙ ap (λ (cs : List StoredChange). cs ++ take_all more) so_far ∙ sym (map-append (λ (k : ℕ). record { key = k; value = None }) keys more)
     ∙ ap take_all (left-more found parts i part keys (keys ++ more) inside is refl refl)

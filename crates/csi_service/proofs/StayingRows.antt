@@ -4,15 +4,15 @@ use Rattle.std.specs.Prelude.{Option, Some, None, find, filter, option_map, ◌=
 use Rattle.std.specs.List.{AllByRecursion}
 use Rattle.std.proofs.lemmas.Bool.{eqb-true, eq-eqb}
 use Rattle.std.proofs.lemmas.Bool.Decides.{nat_tests}
-use Rattle.csi_lists.specs.Members.{IsAmong}
+use Rattle.csi_lists.specs.Model.Members.{IsAmong}
 use Rattle.csi_lists.proofs.Members.{among-map, among-filter, some-found}
 use Rattle.csi_lists.proofs.Options.{some_is_not_none, none-from_map}
 use Rattle.csi_lists.proofs.Searches.{find-of_map}
-use Rattle.csi_types.specs.VolumeId.{IsVolumeId}
-use Rattle.csi_stores.specs.Part.{StoredPart, Change, take_all}
-use Rattle.csi_stores.specs.Content.{take_out, changed_to, all_changed, IsRising}
+use Rattle.csi_types.specs.Public.VolumeId.{IsVolumeId}
+use Rattle.csi_stores.specs.Public.Part.{StoredPart, StoredChange, take_all}
+use Rattle.csi_stores.specs.Public.Content.{take_out, changed_to, all_changed, AreRisingParts}
 use Rattle.csi_stores.proofs.RisingChanges.{AreAbove}
-use Rattle.csi_service.specs.Changed.{head_change}
+use Rattle.csi_service.specs.Public.Changed.{head_change}
 use Rattle.csi_service.proofs.RisingParts.{none-below, put-head, put-row}
 
 -- ---- parts that are taken out
@@ -38,7 +38,7 @@ take-own part parts above =
     rw goes (take-none part.key parts above)
 
 -- changes of higher keys leave a part in front
-pub behind-first : (first : StoredPart) (changes : List Change) (parts : List StoredPart) → AllByRecursion (λ (change : Change). first.key < change.key) changes → all_changed changes (first ∷ parts) ≡ first ∷ all_changed changes parts
+pub behind-first : (first : StoredPart) (changes : List StoredChange) (parts : List StoredPart) → AllByRecursion (λ (change : StoredChange). first.key < change.key) changes → all_changed changes (first ∷ parts) ≡ first ∷ all_changed changes parts
 behind-first first [] parts above = refl
 behind-first first (change ∷ changes) parts above =
     ap (all_changed changes) (by change.value) ∙ behind-first first changes (changed_to change.key change.value parts) above.1
@@ -48,7 +48,7 @@ behind-first first (change ∷ changes) parts above =
     by (Some value) = put-row first (record { key = change.key; value = value }) parts above.0
 
 -- some changes and then others are the others after the first
-pub all-append : (first second : List Change) (parts : List StoredPart) → all_changed (first ++ second) parts ≡ all_changed second (all_changed first parts)
+pub all-append : (first second : List StoredChange) (parts : List StoredPart) → all_changed (first ++ second) parts ≡ all_changed second (all_changed first parts)
 all-append [] second parts = refl
 all-append (change ∷ changes) second parts = all-append changes second _
 
@@ -67,26 +67,26 @@ module _ {R : Type 0} (shown : R → StoredPart) (stays : R → Bool) where
       by false rest = rest
 
   -- where all keys are above a key, those that are taken out are
-  above-gone : (key : ℕ) (rows : List R) → AreAbove key (map shown rows) → AllByRecursion (λ (change : Change). key < change.key) (take_all (gone_keys rows))
+  above-gone : (key : ℕ) (rows : List R) → AreAbove key (map shown rows) → AllByRecursion (λ (change : StoredChange). key < change.key) (take_all (gone_keys rows))
   above-gone key [] above = tt
   above-gone key (row ∷ rows) above = by (not (stays row)) (above-gone key rows above.1)
     where
-      by : (b : Bool) → AllByRecursion (λ (change : Change). key < change.key) (take_all (gone_keys rows))
-          → AllByRecursion (λ (change : Change). key < change.key) (take_all (map (λ (r : R). (shown r).key) (cond b (row ∷ filter (λ (r : R). not (stays r)) rows) (filter (λ (r : R). not (stays r)) rows))))
+      by : (b : Bool) → AllByRecursion (λ (change : StoredChange). key < change.key) (take_all (gone_keys rows))
+          → AllByRecursion (λ (change : StoredChange). key < change.key) (take_all (map (λ (r : R). (shown r).key) (cond b (row ∷ filter (λ (r : R). not (stays r)) rows) (filter (λ (r : R). not (stays r)) rows))))
       by true rest = (above.0, rest)
       by false rest = rest
 
   -- where keys rise, those of the rows that stay do
-  pub rising-staying : (rows : List R) → IsRising (map shown rows) → IsRising (map shown (filter stays rows))
+  pub rising-staying : (rows : List R) → AreRisingParts (map shown rows) → AreRisingParts (map shown (filter stays rows))
   rising-staying [] rising = tt
   rising-staying (row ∷ rows) rising = by (stays row) (rising-staying rows rising.1)
     where
-      by : (b : Bool) → IsRising (map shown (filter stays rows)) → IsRising (map shown (cond b (row ∷ filter stays rows) (filter stays rows)))
+      by : (b : Bool) → AreRisingParts (map shown (filter stays rows)) → AreRisingParts (map shown (cond b (row ∷ filter stays rows) (filter stays rows)))
       by true rest = (above-staying (shown row).key rows rising.0, rest)
       by false rest = rest
 
   -- the parts of the rows that don't stay, taken out, leave those of the rows that do
-  pub gone-taken : (rows : List R) → IsRising (map shown rows) → all_changed (take_all (gone_keys rows)) (map shown rows) ≡ map shown (filter stays rows)
+  pub gone-taken : (rows : List R) → AreRisingParts (map shown rows) → all_changed (take_all (gone_keys rows)) (map shown rows) ≡ map shown (filter stays rows)
   gone-taken [] rising = refl
   gone-taken (row ∷ rows) rising = by (stays row) (gone-taken rows rising.1)
     where
@@ -111,7 +111,7 @@ module _ {R : Type 0} (shown : R → StoredPart) (stays : R → Bool) where
       some_is_not_none (shown found.0) (sym (ap (option_map shown) found.1) ∙ sym (find-of_map (λ (part : StoredPart). part.key == key) shown rows) ∙ none-below key (map shown rows) above)
 
   -- the key of a row that doesn't stay is that of none that stays
-  pub gone-nowhere : (key : ℕ) (rows : List R) → IsRising (map shown rows) → IsAmong key (gone_keys rows) → find (λ (r : R). (shown r).key == key) (filter stays rows) ≡ None
+  pub gone-nowhere : (key : ℕ) (rows : List R) → AreRisingParts (map shown rows) → IsAmong key (gone_keys rows) → find (λ (r : R). (shown r).key == key) (filter stays rows) ≡ None
   gone-nowhere key [] rising among = absurd among
   gone-nowhere key (row ∷ rows) rising among = by (stays row) ((shown row).key == key) refl (gone-nowhere key rows rising.1) among
     where
@@ -134,8 +134,8 @@ module _ {R : Type 0} (shown : R → StoredPart) (stays : R → Bool) where
 
 -- the head where it is a new one, and then changes of rows, whose keys are above the head's, lead from the old head and the old rows
 -- to the new ones
-pub headed-changed : (is_new : Bool) (before after : StoredPart) (first second : List Change) (olds news : List StoredPart) → before.key ≡ after.key → (is_new ≡ false → after ≡ before)
-    → AllByRecursion (λ (change : Change). after.key < change.key) first → AllByRecursion (λ (change : Change). after.key < change.key) second → all_changed second (all_changed first olds) ≡ news
+pub headed-changed : (is_new : Bool) (before after : StoredPart) (first second : List StoredChange) (olds news : List StoredPart) → before.key ≡ after.key → (is_new ≡ false → after ≡ before)
+    → AllByRecursion (λ (change : StoredChange). after.key < change.key) first → AllByRecursion (λ (change : StoredChange). after.key < change.key) second → all_changed second (all_changed first olds) ≡ news
     → all_changed (head_change is_new after ++ first ++ second) (before ∷ olds) ≡ after ∷ news
 headed-changed is_new before after first second olds news keys same above above_too leads =
     all-append (head_change is_new after ++ first) second (before ∷ olds)
@@ -147,6 +147,6 @@ headed-changed is_new before after first second olds news keys same above above_
     by false s = ap (λ (head : StoredPart). head ∷ olds) (sym (s refl))
 
 -- ids of volumes are keys above a head's
-pub above-zero : (ids : List ℕ) → AllByRecursion IsVolumeId ids → AllByRecursion (λ (change : Change). 0 < change.key) (take_all ids)
+pub above-zero : (ids : List ℕ) → AllByRecursion IsVolumeId ids → AllByRecursion (λ (change : StoredChange). 0 < change.key) (take_all ids)
 above-zero [] fit = tt
 above-zero (id ∷ ids) fit = (fit.0.from_one, above-zero ids fit.1)

@@ -1,8 +1,2 @@
-pub mod Opening
-pub mod Appending
-pub mod Calls
-pub mod Changed
-pub mod Services
-pub mod NodeServices
-pub mod WholeRecords
-pub mod Worked
+pub mod Public
+pub mod Private

@@ -1,20 +1,20 @@
-//! What a step changed of a plugin's record, whichever plugin it is.
-ghost use Rattle.std.specs.Prelude.{◌≡◌, [], false, None, IfSome};
+//! What a frame changed of a plugin's record, whichever plugin it is.
+ghost use Rattle.std.specs.Prelude.{◌≡◌, [], false, None};
 ghost use Rattle.std.specs.List.{AllByRecursion};
-ghost use Rattle.csi_types.specs.VolumeId.{IsVolumeId};
+ghost use Rattle.csi_types.specs.Public.VolumeId.{IsVolumeId};
 
 use csi_types::VolumeId;
 use std::alloc::Global;
 
-/// What a step changed of a plugin's record.
+/// What a frame changed of a plugin's record.
 #[derive(Drop)]
 pub(crate) struct Changed {
     /// Whether the head says something new: another session, or another next id of a controller.
     pub new_head: bool,
-    /// The volumes whose rows were forgotten, since the step began a session.
+    /// The volumes whose rows were forgotten, since the frame began a session.
     pub forgotten: Vec<VolumeId>,
-    /// The volume whose row was changed or made.
-    pub row: Option<VolumeId>,
+    /// Where the row is that was changed or made: its place among the plugin's rows.
+    pub row: Option<usize>,
 }
 
 /// Nothing was changed. It takes no memory.
@@ -35,15 +35,6 @@ pub(crate) fn ids_law(ids: &[VolumeId])
     ensures { AllByRecursion IsVolumeId ids.now }
 {
     for id in ids {
-        let _number = id.number();
-    }
-}
-
-/// For the proof alone: so is an id that may be there.
-pub(crate) fn id_law(id: Option<VolumeId>)
-    ensures { IfSome id IsVolumeId }
-{
-    if let Some(id) = id {
         let _number = id.number();
     }
 }

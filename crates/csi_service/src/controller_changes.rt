@@ -1,11 +1,10 @@
 //! What a call changes of a controller's record, and the parts that say so.
-ghost use Rattle.std.specs.Prelude.{◌≡◌, ◌↔◌, ◌++◌, ◌==◌, find, map, IfOk, IfSome, IsTrue, OnOk};
+ghost use Rattle.std.specs.Prelude.{◌≡◌, ◌≤◌, ◌↔◌, ◌++◌, [], map, IfOk, IfSome, IsTrue, OnOk, IsOk};
 ghost use Rattle.std.specs.List.{AllByRecursion};
-ghost use Rattle.csi_types.specs.VolumeId.{IsVolumeId};
-ghost use Rattle.csi_stores.specs.Part.{change_of};
-ghost use Rattle.csi_records.specs.Records.{IsVolumeRow};
-ghost use Rattle.csi_records.specs.Spelling.{present, volume_row};
-ghost use Rattle.csi_service.specs.Services.{forgotten_by, row_change};
+ghost use Rattle.csi_types.specs.Public.VolumeId.{IsVolumeId};
+ghost use Rattle.csi_stores.specs.Public.Part.{part_change};
+ghost use Rattle.csi_service.specs.Private.Services.{forgotten_by_controller};
+ghost use Rattle.csi_service.specs.Public.Services.{row_id, row_at, controller_row_change, IsNamedControllerRowFit};
 
 use crate::changed::ids_law;
 use csi_controller::{Controller, sound_law};
@@ -14,18 +13,22 @@ use csi_stores::{Part, push_value};
 use csi_types::{NoMemory, Number, VolumeId};
 use std::alloc::Global;
 
-/// Puts the part of a volume's row at the end, if it has one.
+/// Puts the part of the row at a place at the end, if one is named and there. It is no search.
 pub(crate) fn push_row(
     alloc: Global,
     parts: &mut Vec<Part>,
     controller: &Controller,
-    id: VolumeId,
+    place: Option<usize>,
 ) -> Result<(), NoMemory>
-    ensures parts { OnOk result (map change_of parts.new.items ≡ map change_of parts.old.items ++ row_change (find (λ row. row.id == id) controller.now.rows)) }
-    ensures fit { OnOk result (IfSome (find (λ row. row.id == id) controller.now.rows) (λ row. IsVolumeRow present (volume_row row))) }
+    ensures parts { OnOk result (map part_change parts.new.items ≡ map part_change parts.old.items ++ controller_row_change
+        (row_at place controller.now.rows)) }
+    ensures fit { OnOk result (IsNamedControllerRowFit place controller.now.rows) }
 {
     sound_law(controller);
-    match controller.row_with_id(id) {
+    let Some(place) = place else {
+        return Ok(());
+    };
+    match controller.row_at(place) {
         Some(row) => {
             let value = volume_value(alloc, row)?;
             push_value(parts, row.id.number(), value)
@@ -34,19 +37,31 @@ pub(crate) fn push_row(
     }
 }
 
-/// The volumes that a call of this number makes the controller forget. Where it begins no session, none are asked for.
+/// For the proof alone: the id of the row at a place is a number from 1.
+pub(crate) fn id_law(controller: &Controller, place: Option<usize>)
+    ensures { IfSome (row_id place controller.now.rows) IsVolumeId }
+{
+    if let Some(place) = place {
+        if let Some(row) = controller.row_at(place) {
+            let _number = row.id.number();
+        }
+    }
+}
+
+/// The volumes that a call of this number makes the controller forget. Where it begins no session there are none, and no memory is asked for.
 pub(crate) fn forgotten(
     alloc: Global,
     controller: &Controller,
     number: Number,
 ) -> Result<Vec<VolumeId>, NoMemory>
-    ensures ids { IfOk result (λ ids. ids.items ≡ forgotten_by number controller.now) }
+    ensures ids { IfOk result (λ ids. ids.items ≡ forgotten_by_controller number controller.now) }
     ensures limits { IfOk result (λ ids. AllByRecursion IsVolumeId ids.items) }
+    ensures none { number.session ≤ controller.now.session → IsOk result × IfOk result (λ ids. ids.items ≡ []) }
 {
     if number.session <= controller.session() {
         return Ok(Vec::new(alloc));
     }
-    match controller.empty() {
+    match controller.forgettable() {
         Ok(ids) => {
             ids_law(&ids);
             Ok(ids)

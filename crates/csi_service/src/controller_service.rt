@@ -1,39 +1,36 @@
 //! The controller plugin over a store.
 ghost use Rattle.std.specs.Prelude.{◌≡◌, ◌≤◌, ◌+◌, ◌∷◌, ℕ, length, Some, None, [], map, IfOk, IfErr, OnErr, OnOk, Option};
-ghost use Rattle.csi_types.specs.Frame.{Frame as FrameParts, IsAllowed};
-ghost use Rattle.csi_types.specs.Lent.{lent_call, HasFitTexts};
-ghost use Rattle.csi_types.specs.Replies.{call_frame};
-ghost use Rattle.csi_frames.specs.Lent.{lent};
-ghost use Rattle.csi_controller.specs.Core.{Shows};
-ghost use Rattle.csi_controller.specs.Fenced.{fenced};
-ghost use Rattle.csi_controller.specs.State.{ControllerState, empty_controller};
-ghost use Rattle.csi_controller.specs.Step.{answer_frame};
-ghost use Rattle.csi_stores.specs.Part.{change_of};
-ghost use Rattle.csi_controller.specs.Views.{RecordParts};
-ghost use Rattle.csi_records.specs.Records.{controller_layout, AreParts};
-ghost use Rattle.csi_records.specs.Spelling.{present, controller_head, controller_parts, volume_row};
-ghost use Rattle.csi_stores.specs.Content.{all_changed};
-ghost use Rattle.csi_stores.specs.Keeping.{RefusesAt};
-ghost use Rattle.csi_serving.specs.Answering.{Steps};
-ghost use Rattle.csi_service.specs.Appending.{AppendsReply};
-ghost use Rattle.csi_service.specs.Calls.{IsNoCallFor};
-ghost use Rattle.csi_service.specs.Opening.{controller_records, IsOpenFault, LeavesOpened, HasRecord};
-ghost use Rattle.csi_service.specs.Services.{controller_service_parts, controller_service_changes, AreFitRows, IsNamedFit, ControllerStaysFit, ControllerAnswers, ControllerDiffers};
+ghost use Rattle.csi_types.specs.Model.Frame.{Frame as FrameParts};
+ghost use Rattle.csi_types.specs.Public.Frame.{IsAllowed};
+ghost use Rattle.csi_types.specs.Public.Lent.{lent_call, HasFitTexts};
+ghost use Rattle.csi_types.specs.Model.Replies.{call_frame};
+ghost use Rattle.csi_frames.specs.Public.Lent.{lent_frame};
+ghost use Rattle.csi_controller.specs.Model.Core.{Shows};
+ghost use Rattle.csi_controller.specs.Model.Fenced.{fenced};
+ghost use Rattle.csi_controller.specs.Model.State.{ControllerState, empty_controller};
+ghost use Rattle.csi_controller.specs.Public.Step.{answer_frame};
+ghost use Rattle.csi_stores.specs.Public.Part.{part_change};
+ghost use Rattle.csi_controller.specs.Public.Views.{RecordParts};
+ghost use Rattle.csi_records.specs.Public.Records.{controller_layout, AreParts};
+ghost use Rattle.csi_records.specs.Public.Spelling.{present, controller_head, controller_parts, volume_row};
+ghost use Rattle.csi_stores.specs.Public.Content.{all_changed};
+ghost use Rattle.csi_stores.specs.Public.Keeping.{RefusesAt};
+ghost use Rattle.csi_service.specs.Public.Answering.{AppendsReply, AnswersAsBefore};
+ghost use Rattle.csi_service.specs.Private.Calls.{IsNoCallFor};
+ghost use Rattle.csi_service.specs.Public.Opening.{controller_records, IsOpenFault, LeavesOpened, HasRecord};
+ghost use Rattle.csi_service.specs.Public.Services.{controller_service_parts, controller_service_changes, AreFitControllerRows, IsNamedControllerRowFit, ControllerStaysFit, ControllerAnswers, ControllerDiffers};
 
-use crate::calls::{call_for, texts_law};
-use crate::changed::{Changed, id_law, nothing};
-use crate::controller_changes::{forgotten, is_same_head, push_row};
+use crate::changed::{Changed, nothing};
+use crate::controller_changes::{forgotten, id_law, is_same_head, push_row};
 use crate::opening::{Opens, head_part, open, renewal};
-use crate::replies::{MOST_BYTES, append, frame_of};
+use crate::plugin_core::Core;
+use crate::replies::{MOST_BYTES, append};
 use csi_controller::{Controller, ControllerRecord, current_law, showing_law, sound_law};
 use csi_fence::Answer;
 use csi_frames::FrameRef;
 use csi_records::{Record, RecordStop, Stored, controller_head_value, push_removals};
-use csi_serving::Core;
 use csi_stores::{Keep, KeepFault, Part, push_value};
-use csi_types::{
-    Body, CallRef, CapabilityList, CapabilityRef, Config, Frame, NoMemory, Number, Party,
-};
+use csi_types::{Body, CallRef, Config, NoMemory, Number, Party};
 use std::alloc::Global;
 
 /// The controller plugin with its record, whose parts a store keeps. This profile's own.
@@ -41,7 +38,7 @@ use std::alloc::Global;
 pub struct ControllerService {
     alloc: Global,
     controller: Controller,
-    // By the last step that answered.
+    // By the last frame that was answered.
     changed: Changed,
 }
 
@@ -56,7 +53,7 @@ impl Opens for ControllerService {
 
     ghost parts_of = { controller_service_parts };
 
-    ghost is_new = { λ config service. (service.controller.config ≡ config) × (controller_service_changes service ≡ []) × AreFitRows service.controller.rows };
+    ghost is_new = { λ config service. (service.controller.config ≡ config) × (controller_service_changes service ≡ []) × AreFitControllerRows service.controller.rows };
 
     fn made(
         alloc: Global,
@@ -102,8 +99,14 @@ impl ControllerService {
         config: Config,
         kept: ControllerRecord,
     ) -> Result<ControllerService, NoMemory>
-        ensures has { IfOk result (λ service. service.controller ≡ record { config = config; next_id = kept.next_id; session = kept.session; rows = kept.rows }) }
-        ensures parts { IfOk result (λ service. controller_service_parts service ≡ controller_parts present kept.next_id (Some kept.session) (map volume_row kept.rows)) }
+        ensures has { IfOk result (λ service. service.controller ≡ record {
+          config = config;
+          next_id = kept.next_id;
+          session = kept.session;
+          rows = kept.rows;
+        }) }
+        ensures parts { IfOk result (λ service. controller_service_parts service ≡ controller_parts present kept.next_id (Some kept.session)
+            (map volume_row kept.rows)) }
         ensures config { IfOk result (λ service. service.controller.config ≡ config) }
         ensures changes { IfOk result (λ service. controller_service_changes service ≡ []) }
     {
@@ -139,9 +142,10 @@ impl ControllerService {
         config: Config,
         keep: &mut K,
     ) -> Result<ControllerService, KeepFault>
-        ensures opened { IfOk result (HasRecord controller_records controller_service_parts (K.store keep.old) (K.store keep.new) (controller_head present 1 (Some 0))) }
+        ensures opened { IfOk result (HasRecord controller_records controller_service_parts (K.store keep.old) (K.store keep.new)
+            (controller_head present 1 (Some 0))) }
         ensures config { IfOk result (λ service. service.controller.config ≡ config) }
-        ensures fit { IfOk result (λ service. AreFitRows service.controller.rows) }
+        ensures fit { IfOk result (λ service. AreFitControllerRows service.controller.rows) }
         ensures changes { IfOk result (λ service. controller_service_changes service ≡ []) }
         ensures cause { IfErr result (IsOpenFault controller_records (K.store keep.old) (K.store keep.new) (controller_head present 1 (Some 0))) }
         ensures honest { (K.store keep.new).honest → (K.store keep.old).honest }
@@ -150,16 +154,16 @@ impl ControllerService {
     {
         open(alloc, config, keep)
     }
-}
 
-impl ControllerService {
     // Answers a call of the controller, which is within its limits, and notes what that changed. A refusal leaves what the record says.
     fn answer_call(&mut self, number: Number, call: &CallRef<'_>) -> Result<Answer, NoMemory>
         requires allowed { IsAllowed Party.Controller (Body.Call (lent_call call.now)) }
         requires texts { HasFitTexts (lent_call call.now) }
-        ensures answered { IfOk result (λ answer. ControllerAnswers self.old (call_frame number Party.Controller (lent_call call.now)) (Some (answer_frame number answer)) self.new) }
+        ensures answered { IfOk result (λ answer. ControllerAnswers self.old (call_frame number Party.Controller (lent_call call.now)) (Some
+            (answer_frame number answer)) self.new) }
         ensures allowed { IfOk result (λ answer. IsAllowed Party.Controller (Body.Reply answer.kind answer.reply)) }
-        ensures parts { OnOk result (controller_service_parts self.new ≡ all_changed (controller_service_changes self.new) (controller_service_parts self.old)) }
+        ensures parts { OnOk result (controller_service_parts self.new ≡ all_changed (controller_service_changes self.new)
+            (controller_service_parts self.old)) }
         ensures nothing { (state : ControllerState) → Shows self.old.controller state
             → (fenced self.old.controller.config state (call_frame number Party.Controller (lent_call call.now))).state ≡ state → OnOk result (controller_service_changes self.new ≡ []) }
         ensures config { self.new.controller.config ≡ self.old.controller.config }
@@ -179,7 +183,7 @@ impl ControllerService {
             return Err(NoMemory);
         };
         let answer = answer.unwrap();
-        id_law(answer.row);
+        id_law(&self.controller, answer.row);
         let now = (self.controller.next_id(), self.controller.session());
         self.changed = Changed {
             new_head: !is_same_head(before, now),
@@ -196,39 +200,9 @@ impl ControllerService {
         ensures config { self.new.controller.config ≡ self.old.controller.config }
         ensures changes { controller_service_changes self.new ≡ [] }
         ensures differs { ControllerDiffers self.new.changed self.old.controller self.new.controller }
-        ensures fit { AreFitRows self.old.controller.rows → AreFitRows self.new.controller.rows }
+        ensures fit { AreFitControllerRows self.old.controller.rows → AreFitControllerRows self.new.controller.rows }
     {
         self.changed = nothing(self.alloc);
-    }
-
-    /// Answers a frame that is lent, as `step` answers that frame, with the texts that the frame lends, and appends the bytes of its reply,
-    /// if it has one: at most 544. The answer is whether it has one. Room for a reply is asked for first, so that a refusal leaves
-    /// everything as it was.
-    pub fn answer_into(&mut self, frame: &FrameRef<'_>, out: &mut Vec<u8>) -> Result<bool, NoMemory>
-        ensures answered { IfOk result (AppendsReply ControllerAnswers self.old (lent frame.now) self.new out.old.items out.new.items) }
-        ensures few { OnOk result (length out.new.items ≤ length out.old.items + 544) }
-        ensures parts { OnOk result (controller_service_parts self.new ≡ all_changed (controller_service_changes self.new) (controller_service_parts self.old)) }
-        ensures nothing { (state : ControllerState) → Shows self.old.controller state → (fenced self.old.controller.config state (lent frame.now)).state ≡ state → OnOk result (controller_service_changes self.new ≡ []) }
-        ensures config { self.new.controller.config ≡ self.old.controller.config }
-        ensures differs { OnOk result (ControllerDiffers self.new.changed self.old.controller self.new.controller) }
-        ensures fit { OnOk result (ControllerStaysFit self.old self.new) }
-        ensures err_shows { (state : ControllerState) → Shows self.old.controller state → OnErr result (Shows self.new.controller state) }
-        ensures err { OnErr result (controller_service_parts self.new ≡ controller_service_parts self.old) }
-        ensures err_changes { OnErr result (controller_service_changes self.new ≡ controller_service_changes self.old) }
-        ensures err_bytes { OnErr result (out.new.items ≡ out.old.items) }
-    {
-        if frame.is_for(&Party::Controller) {
-            out.reserve(MOST_BYTES)?;
-            let capabilities = frame.capabilities(self.alloc)?;
-            if let Some(call) = frame.call(&capabilities) {
-                let number = frame.number();
-                let answer = self.answer_call(number, &call)?;
-                append(number, &Party::Controller, answer, out);
-                return Ok(true);
-            }
-        }
-        self.pass();
-        Ok(false)
     }
 }
 
@@ -243,63 +217,50 @@ impl Core for ControllerService {
 
     ghost changes = { controller_service_changes };
 
-    ghost is_fit = { λ service. AreFitRows service.controller.rows };
+    ghost is_fit = { λ service. AreFitControllerRows service.controller.rows };
 
-    ghost is_fit_change = { λ service. IsNamedFit service.changed.row service.controller.rows };
+    ghost is_fit_change = { λ service. IsNamedControllerRowFit service.changed.row service.controller.rows };
 
     ghost answers = { ControllerAnswers };
 
-    /// The controller's own answer. A frame that leaves its state changes no part: a reply, another plugin's call, a stale call and one
-    /// that came again. After a refusal `parts` gives what it gave before.
-    fn step(&mut self, frame: &Frame) -> Result<Option<Frame>, NoMemory>
-        ensures answered { IfOk result (λ reply. ControllerAnswers self.old frame.now reply self.new) }
-        ensures parts { OnOk result (controller_service_parts self.new ≡ all_changed (controller_service_changes self.new) (controller_service_parts self.old)) }
-        ensures nothing { (state : ControllerState) → Shows self.old.controller state → (fenced self.old.controller.config state frame.now).state ≡ state → OnOk result (controller_service_changes self.new ≡ []) }
+    /// The controller's own answer to the texts that the frame lends; its reply has at most 544 bytes. A frame that leaves the controller's
+    /// state changes no part: a reply, another plugin's call, a stale call and one that came again. Room for a reply is asked for first.
+    fn answer_into(&mut self, frame: &FrameRef<'_>, out: &mut Vec<u8>) -> Result<bool, NoMemory>
+        ensures answered { IfOk result (AppendsReply ControllerAnswers self.old (lent_frame frame.now) self.new out.old.items out.new.items) }
+        ensures few { OnOk result (length out.new.items ≤ length out.old.items + 544) }
+        ensures parts { OnOk result (controller_service_parts self.new ≡ all_changed (controller_service_changes self.new)
+            (controller_service_parts self.old)) }
+        ensures nothing { (state : ControllerState) → Shows self.old.controller state →
+            (fenced self.old.controller.config state (lent_frame frame.now)).state ≡ state → OnOk result (controller_service_changes self.new ≡ []) }
         ensures config { self.new.controller.config ≡ self.old.controller.config }
-        ensures err { OnErr result (controller_service_parts self.new ≡ controller_service_parts self.old) }
-        ensures err_changes { OnErr result (controller_service_changes self.new ≡ controller_service_changes self.old) }
         // A part is told only where what it says is other than it was.
         ensures differs { OnOk result (ControllerDiffers self.new.changed self.old.controller self.new.controller) }
         ensures fit { OnOk result (ControllerStaysFit self.old self.new) }
+        ensures err_answers { OnErr result (AnswersAsBefore ControllerAnswers self.old self.new) }
+        ensures err_shows { (state : ControllerState) → Shows self.old.controller state → OnErr result (Shows self.new.controller state) }
+        ensures err { OnErr result (controller_service_parts self.new ≡ controller_service_parts self.old) }
+        ensures err_changes { OnErr result (controller_service_changes self.new ≡ controller_service_changes self.old) }
+        ensures err_bytes { OnErr result (out.new.items ≡ out.old.items) }
     {
-        // the proof has to be told the types of a lent call's parts
-        let _parts: Option<(&CapabilityList, CapabilityRef<'_>)> = None;
-        match call_for(frame, &Party::Controller) {
-            Some(call) => {
-                texts_law(call);
-                let answer = self.answer_call(frame.number(), &call.lend())?;
-                Ok(Some(frame_of(frame.number(), Party::Controller, answer)))
-            }
-            None => {
-                self.pass();
-                Ok(None)
+        if frame.is_for(&Party::Controller) {
+            out.reserve(MOST_BYTES)?;
+            if let Some(call) = frame.call() {
+                let number = frame.number();
+                let answer = self.answer_call(number, call)?;
+                append(number, &Party::Controller, answer, out);
+                return Ok(true);
             }
         }
-    }
-
-    /// The call is answered with the texts that the frame lends, and the reply is spelled from its parts. A frame that leaves the
-    /// controller's state changes no part.
-    fn answer(&mut self, frame: &FrameRef<'_>) -> Result<Option<Vec<u8>>, NoMemory>
-        ensures answered { IfOk result (Steps ControllerAnswers self.old (lent frame.now) self.new) }
-        ensures parts { OnOk result (controller_service_parts self.new ≡ all_changed (controller_service_changes self.new) (controller_service_parts self.old)) }
-        ensures nothing { (state : ControllerState) → Shows self.old.controller state → (fenced self.old.controller.config state (lent frame.now)).state ≡ state → OnOk result (controller_service_changes self.new ≡ []) }
-        ensures differs { OnOk result (ControllerDiffers self.new.changed self.old.controller self.new.controller) }
-        ensures fit { OnOk result (ControllerStaysFit self.old self.new) }
-        ensures config { self.new.controller.config ≡ self.old.controller.config }
-    {
-        let mut bytes = Vec::new(self.alloc);
-        if self.answer_into(frame, &mut bytes)? {
-            Ok(Some(bytes))
-        } else {
-            Ok(None)
-        }
+        self.pass();
+        Ok(false)
     }
 
     /// The head where a volume was made or a session began, what takes out the rows that were forgotten, and the row of the one volume
-    /// that was changed or made. The row is found by its id.
+    /// that was changed or made. No row is
+    /// searched for.
     fn parts(&self) -> Result<Vec<Part>, NoMemory>
-        ensures changes { IfOk result (λ parts. map change_of parts.items ≡ controller_service_changes self.now) }
-        ensures fit { OnOk result (IsNamedFit self.now.changed.row self.now.controller.rows) }
+        ensures changes { IfOk result (λ parts. map part_change parts.items ≡ controller_service_changes self.now) }
+        ensures fit { OnOk result (IsNamedControllerRowFit self.now.changed.row self.now.controller.rows) }
     {
         let mut parts = Vec::new(self.alloc);
         if self.changed.new_head {
@@ -312,9 +273,7 @@ impl Core for ControllerService {
             push_value(&mut parts, 0, value)?;
         }
         push_removals(&mut parts, &self.changed.forgotten)?;
-        if let Some(id) = self.changed.row {
-            push_row(self.alloc, &mut parts, &self.controller, id)?;
-        }
+        push_row(self.alloc, &mut parts, &self.controller, self.changed.row)?;
         Ok(parts)
     }
 

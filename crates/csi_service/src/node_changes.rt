@@ -1,13 +1,11 @@
 //! What a call changes of a node's record, and the parts that say so.
-ghost use Rattle.std.specs.Prelude.{◌≡◌, ◌++◌, map, IfOk, IfSome, OnOk};
+ghost use Rattle.std.specs.Prelude.{◌≡◌, ◌≤◌, ◌++◌, [], map, IfOk, IfSome, OnOk, IsOk};
 ghost use Rattle.std.specs.List.{AllByRecursion};
-ghost use Rattle.csi_types.specs.VolumeId.{IsVolumeId};
-ghost use Rattle.csi_node.specs.Changes.{row_by_id};
-ghost use Rattle.csi_node.specs.Record.{parts as rows_shown};
-ghost use Rattle.csi_stores.specs.Part.{change_of};
-ghost use Rattle.csi_records.specs.Records.{IsAnsweredRow};
-ghost use Rattle.csi_records.specs.Spelling.{present};
-ghost use Rattle.csi_service.specs.NodeServices.{forgotten_by, row_change};
+ghost use Rattle.csi_types.specs.Public.VolumeId.{IsVolumeId};
+ghost use Rattle.csi_node.specs.Model.Record.{parts as rows_shown};
+ghost use Rattle.csi_stores.specs.Public.Part.{part_change};
+ghost use Rattle.csi_service.specs.Private.NodeServices.{forgotten_by_node};
+ghost use Rattle.csi_service.specs.Public.NodeServices.{row_id, row_at, node_row_change, IsNamedNodeRowFit};
 
 use crate::changed::ids_law;
 use csi_node::Node;
@@ -16,17 +14,21 @@ use csi_stores::{Part, push_value};
 use csi_types::{NoMemory, Number, VolumeId};
 use std::alloc::Global;
 
-/// Puts the part of a volume's row at the end, if it has one.
+/// Puts the part of the row at a place at the end, if one is named and there. It is no search.
 pub(crate) fn push_row(
     alloc: Global,
     parts: &mut Vec<Part>,
     node: &Node,
-    id: VolumeId,
+    place: Option<usize>,
 ) -> Result<(), NoMemory>
-    ensures parts { OnOk result (map change_of parts.new.items ≡ map change_of parts.old.items ++ row_change (row_by_id id (rows_shown node.now.rows))) }
-    ensures fit { OnOk result (IfSome (row_by_id id (rows_shown node.now.rows)) (IsAnsweredRow present)) }
+    ensures parts { OnOk result (map part_change parts.new.items ≡ map part_change parts.old.items ++ node_row_change (row_at place
+        (rows_shown node.now.rows))) }
+    ensures fit { OnOk result (IsNamedNodeRowFit place (rows_shown node.now.rows)) }
 {
-    match node.row_with_id(id) {
+    let Some(place) = place else {
+        return Ok(());
+    };
+    match node.row_at(place) {
         Some(row) => {
             let value = answered_value(alloc, row)?;
             push_value(parts, row.id.number(), value)
@@ -35,19 +37,31 @@ pub(crate) fn push_row(
     }
 }
 
-/// The volumes that a call of this number makes the node forget. Where it begins no session, none are asked for.
+/// For the proof alone: the id of the row at a place is a number from 1.
+pub(crate) fn id_law(node: &Node, place: Option<usize>)
+    ensures { IfSome (row_id place (rows_shown node.now.rows)) IsVolumeId }
+{
+    if let Some(place) = place {
+        if let Some(row) = node.row_at(place) {
+            let _number = row.id.number();
+        }
+    }
+}
+
+/// The volumes that a call of this number makes the node forget. Where it begins no session there are none, and no memory is asked for.
 pub(crate) fn forgotten(
     alloc: Global,
     node: &Node,
     number: Number,
 ) -> Result<Vec<VolumeId>, NoMemory>
-    ensures ids { IfOk result (λ ids. ids.items ≡ forgotten_by number node.now) }
+    ensures ids { IfOk result (λ ids. ids.items ≡ forgotten_by_node number node.now) }
     ensures limits { IfOk result (λ ids. AllByRecursion IsVolumeId ids.items) }
+    ensures none { number.session ≤ node.now.session → IsOk result × IfOk result (λ ids. ids.items ≡ []) }
 {
     if number.session <= node.session() {
         return Ok(Vec::new(alloc));
     }
-    match node.empty() {
+    match node.forgettable() {
         Ok(ids) => {
             ids_law(&ids);
             Ok(ids)

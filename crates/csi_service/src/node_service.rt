@@ -2,20 +2,17 @@
 ghost use Rattle.std.specs.Prelude.{◌≡◌};
 ghost use Rattle.csi_types.specs.declared.call.Party.TheVariants.{Node as OfNode};
 
-use crate::calls::{call_for, texts_law};
-use crate::changed::{Changed, id_law, nothing};
-use crate::node_changes::{forgotten, push_row};
+use crate::changed::{Changed, nothing};
+use crate::node_changes::{forgotten, id_law, push_row};
 use crate::opening::{Opens, head_part, open, renewal};
-use crate::replies::{MOST_BYTES, append, frame_of};
+use crate::plugin_core::Core;
+use crate::replies::{MOST_BYTES, append};
 use csi_fence::Answer;
 use csi_frames::FrameRef;
 use csi_node::{Node, NodeRecord, record_law, showing_law};
 use csi_records::{RecordStop, Stored, node_head_value, push_removals, record_of_node};
-use csi_serving::Core;
 use csi_stores::{Keep, KeepFault, Part, push_value};
-use csi_types::{
-    Body, CallRef, CapabilityList, CapabilityRef, Frame, NoMemory, NodeId, Number, Party,
-};
+use csi_types::{Body, CallRef, NoMemory, NodeId, Number, Party};
 use std::alloc::Global;
 
 /// A node's plugin with its record, whose parts a store keeps: a core that answers as its `Node` does. This profile's own.
@@ -25,18 +22,18 @@ pub struct NodeService {
     node: Node,
     // The node, as frames name it.
     party: Party,
-    // By the last step that answered.
+    // By the last frame that was answered.
     changed: Changed,
     ghost own: { party ≡ OfNode node.id },
 }
 
 impl Opens for NodeService {
     ghost use Rattle.std.specs.Prelude.{◌≡◌, Some, []};
-    ghost use Rattle.csi_node.specs.Record.{NodeParts, parts as shown_rows};
-    ghost use Rattle.csi_records.specs.Spelling.{present, node_head};
-    ghost use Rattle.csi_service.specs.NodeServices.{node_service_changes, AreFitRows};
-    ghost use Rattle.csi_service.specs.Opening.{node_records};
-    ghost use Rattle.csi_service.specs.Services.{node_service_parts};
+    ghost use Rattle.csi_node.specs.Model.Record.{NodeParts, parts as shown_rows};
+    ghost use Rattle.csi_records.specs.Public.Spelling.{present, node_head};
+    ghost use Rattle.csi_service.specs.Public.NodeServices.{node_service_changes, AreFitNodeRows};
+    ghost use Rattle.csi_service.specs.Public.Opening.{node_records};
+    ghost use Rattle.csi_service.specs.Public.Services.{node_service_parts};
 
     type Asked = NodeId;
 
@@ -48,7 +45,7 @@ impl Opens for NodeService {
 
     ghost parts_of = { node_service_parts };
 
-    ghost is_new = { λ id service. (node_service_changes service ≡ []) × (service.node.id ≡ id) × AreFitRows (shown_rows service.node.rows) };
+    ghost is_new = { λ id service. (node_service_changes service ≡ []) × (service.node.id ≡ id) × AreFitNodeRows (shown_rows service.node.rows) };
 
     fn made(
         alloc: Global,
@@ -71,40 +68,23 @@ impl Opens for NodeService {
 
 impl NodeService {
     ghost use Rattle.std.specs.Prelude.{◌≡◌, ◌≤◌, ◌+◌, ◌∷◌, ℕ, length, Some, None, [], map, IfOk, IfErr, OnErr, OnOk};
-    ghost use Rattle.csi_types.specs.Frame.{Frame as FrameParts, IsAllowed};
-    ghost use Rattle.csi_types.specs.Lent.{lent_call, HasFitTexts};
-    ghost use Rattle.csi_types.specs.Replies.{call_frame};
-    ghost use Rattle.csi_node.specs.Fenced.{fenced, answer_frame};
-    ghost use Rattle.csi_node.specs.OneRow.{shown};
-    ghost use Rattle.csi_node.specs.Record.{Shows, parts as shown_rows};
-    ghost use Rattle.csi_node.specs.State.{NodeState};
-    ghost use Rattle.csi_records.specs.Spelling.{present, node_head, node_parts};
-    ghost use Rattle.csi_stores.specs.Content.{all_changed};
-    ghost use Rattle.csi_stores.specs.Keeping.{RefusesAt};
-    ghost use Rattle.csi_frames.specs.Lent.{lent};
-    ghost use Rattle.csi_service.specs.Appending.{AppendsReply};
-    ghost use Rattle.csi_service.specs.Calls.{IsNoCallFor};
-    ghost use Rattle.csi_service.specs.NodeServices.{node_service_changes, AreFitRows, IsNamedFit, NodeStaysFit, NodeDiffers, NodeServiceAnswers};
-    ghost use Rattle.csi_service.specs.Opening.{node_records, IsOpenFault, LeavesOpened, HasRecord};
-    ghost use Rattle.csi_service.specs.Services.{node_service_parts};
-
-    // The node of its record.
-    fn of_record(alloc: Global, id: NodeId, kept: NodeRecord) -> Result<NodeService, NoMemory>
-        requires { kept.id ≡ id }
-        ensures has { IfOk result (λ service. service.node ≡ kept) }
-        ensures parts { IfOk result (λ service. node_service_parts service ≡ node_parts present kept.id (Some kept.session) (map shown kept.rows)) }
-        ensures changes { IfOk result (λ service. node_service_changes service ≡ []) }
-    {
-        match Node::from_record(alloc, kept) {
-            Ok(node) => Ok(NodeService {
-                alloc,
-                node,
-                party: Party::Node(id),
-                changed: nothing(alloc),
-            }),
-            Err(_) => Err(NoMemory),
-        }
-    }
+    ghost use Rattle.csi_types.specs.Model.Frame.{Frame as FrameParts};
+    ghost use Rattle.csi_types.specs.Public.Frame.{IsAllowed};
+    ghost use Rattle.csi_types.specs.Public.Lent.{lent_call, HasFitTexts};
+    ghost use Rattle.csi_types.specs.Model.Replies.{call_frame};
+    ghost use Rattle.csi_node.specs.Model.Fenced.{fenced};
+    ghost use Rattle.csi_node.specs.Public.Fenced.{answer_frame};
+    ghost use Rattle.csi_node.specs.Model.OneRow.{node_row_shown};
+    ghost use Rattle.csi_node.specs.Model.Record.{Shows, parts as shown_rows};
+    ghost use Rattle.csi_node.specs.Model.State.{NodeState};
+    ghost use Rattle.csi_records.specs.Public.Spelling.{present, node_head, node_parts};
+    ghost use Rattle.csi_stores.specs.Public.Content.{all_changed};
+    ghost use Rattle.csi_stores.specs.Public.Keeping.{RefusesAt};
+    ghost use Rattle.csi_frames.specs.Public.Lent.{lent_frame};
+    ghost use Rattle.csi_service.specs.Private.Calls.{IsNoCallFor};
+    ghost use Rattle.csi_service.specs.Public.NodeServices.{node_service_changes, AreFitNodeRows, IsNamedNodeRowFit, NodeStaysFit, NodeDiffers, NodeServiceAnswers};
+    ghost use Rattle.csi_service.specs.Public.Opening.{node_records, IsOpenFault, LeavesOpened, HasRecord};
+    ghost use Rattle.csi_service.specs.Public.Services.{node_service_parts};
 
     /// A node that answered nothing, which no store has yet. A refusal is one of memory.
     pub fn new(alloc: Global, id: NodeId) -> Result<NodeService, NoMemory>
@@ -124,7 +104,7 @@ impl NodeService {
     /// The node of its record. A refusal is one of memory.
     pub fn from_record(alloc: Global, kept: NodeRecord) -> Result<NodeService, NoMemory>
         ensures has { IfOk result (λ service. service.node ≡ kept) }
-        ensures parts { IfOk result (λ service. node_service_parts service ≡ node_parts present kept.id (Some kept.session) (map shown kept.rows)) }
+        ensures parts { IfOk result (λ service. node_service_parts service ≡ node_parts present kept.id (Some kept.session) (map node_row_shown kept.rows)) }
         ensures changes { IfOk result (λ service. node_service_changes service ≡ []) }
     {
         let id = kept.id().clone()?;
@@ -133,7 +113,7 @@ impl NodeService {
 
     /// The node's record as a value. A refusal is one of memory, and leaves the node as it is.
     pub fn record(&self) -> Result<NodeRecord, NoMemory>
-        ensures { IfOk result (λ kept. node_parts present kept.id (Some kept.session) (map shown kept.rows) ≡ node_service_parts self.now) }
+        ensures { IfOk result (λ kept. node_parts present kept.id (Some kept.session) (map node_row_shown kept.rows) ≡ node_service_parts self.now) }
     {
         match self.node.record() {
             Ok(kept) => Ok(kept),
@@ -148,10 +128,10 @@ impl NodeService {
     /// only where the device failed in this call, and `Full` only where what it would commit doesn't fit. What is left then is what
     /// was there, or what it would commit. This profile's own.
     pub fn open<K: Keep>(alloc: Global, id: NodeId, keep: &mut K) -> Result<NodeService, KeepFault>
-        ensures changes { IfOk result (λ service. node_service_changes service ≡ []) }
-        ensures id { IfOk result (λ service. service.node.id ≡ id) }
-        ensures fit { IfOk result (λ service. AreFitRows (shown_rows service.node.rows)) }
         ensures opened { IfOk result (HasRecord (node_records id) node_service_parts (K.store keep.old) (K.store keep.new) (node_head present id (Some 0))) }
+        ensures id { IfOk result (λ service. service.node.id ≡ id) }
+        ensures fit { IfOk result (λ service. AreFitNodeRows (shown_rows service.node.rows)) }
+        ensures changes { IfOk result (λ service. node_service_changes service ≡ []) }
         ensures cause { IfErr result (IsOpenFault (node_records id) (K.store keep.old) (K.store keep.new) (node_head present id (Some 0))) }
         ensures honest { (K.store keep.new).honest → (K.store keep.old).honest }
         ensures foreign { (K.store keep.new).honest → (place : ℕ) → (K.store keep.old).foreign place → RefusesAt place result }
@@ -160,16 +140,35 @@ impl NodeService {
         open(alloc, id, keep)
     }
 
+    // The node of its record.
+    fn of_record(alloc: Global, id: NodeId, kept: NodeRecord) -> Result<NodeService, NoMemory>
+        requires { kept.id ≡ id }
+        ensures has { IfOk result (λ service. service.node ≡ kept) }
+        ensures parts { IfOk result (λ service. node_service_parts service ≡ node_parts present kept.id (Some kept.session) (map node_row_shown kept.rows)) }
+        ensures changes { IfOk result (λ service. node_service_changes service ≡ []) }
+    {
+        match Node::from_record(alloc, kept) {
+            Ok(node) => Ok(NodeService {
+                alloc,
+                node,
+                party: Party::Node(id),
+                changed: nothing(alloc),
+            }),
+            Err(_) => Err(NoMemory),
+        }
+    }
+
     // Answers a call of the node, which is within its limits, and notes what that changed. A refusal leaves what the record says.
     fn answer_call(&mut self, number: Number, call: &CallRef<'_>) -> Result<Answer, NoMemory>
         requires allowed { IsAllowed self.old.party (Body.Call (lent_call call.now)) }
         requires texts { HasFitTexts (lent_call call.now) }
-        ensures answered { IfOk result (λ answer. NodeServiceAnswers self.old (call_frame number self.old.party (lent_call call.now)) (Some (answer_frame self.old.node.id number answer)) self.new) }
+        ensures answered { IfOk result (λ answer. NodeServiceAnswers self.old (call_frame number self.old.party (lent_call call.now)) (Some
+            (answer_frame self.old.node.id number answer)) self.new) }
         ensures allowed { IfOk result (λ answer. IsAllowed self.old.party (Body.Reply answer.kind answer.reply)) }
-        ensures party { self.new.party ≡ self.old.party }
         ensures parts { OnOk result (node_service_parts self.new ≡ all_changed (node_service_changes self.new) (node_service_parts self.old)) }
         ensures nothing { (state : NodeState) → Shows self.old.node state
             → (fenced self.old.node.id state (call_frame number self.old.party (lent_call call.now))).state ≡ state → OnOk result (node_service_changes self.new ≡ []) }
+        ensures party { self.new.party ≡ self.old.party }
         ensures err_shows { (state : NodeState) → Shows self.old.node state → OnErr result (Shows self.new.node state) }
         ensures err { OnErr result (node_service_parts self.new ≡ node_service_parts self.old) }
         ensures err_changes { OnErr result (node_service_changes self.new ≡ node_service_changes self.old) }
@@ -184,7 +183,8 @@ impl NodeService {
             return Err(NoMemory);
         };
         let answer = answer.unwrap();
-        id_law(answer.row);
+        record_law(&self.node);
+        id_law(&self.node, answer.row);
         self.changed = Changed {
             new_head: self.node.session() != session,
             forgotten,
@@ -199,21 +199,55 @@ impl NodeService {
         ensures parts { node_service_parts self.new ≡ all_changed (node_service_changes self.new) (node_service_parts self.old) }
         ensures changes { node_service_changes self.new ≡ [] }
         ensures differs { NodeDiffers self.new.changed self.old.node self.new.node }
-        ensures fit { AreFitRows (shown_rows self.old.node.rows) → AreFitRows (shown_rows self.new.node.rows) }
+        ensures fit { AreFitNodeRows (shown_rows self.old.node.rows) → AreFitNodeRows (shown_rows self.new.node.rows) }
     {
         self.changed = nothing(self.alloc);
     }
+}
 
-    /// Answers a frame that is lent, as `step` answers that frame, with the texts that the frame lends, and appends the bytes of its reply,
-    /// if it has one: at most 544. The answer is whether it has one. Room for a reply is asked for first, so that a refusal leaves
-    /// everything as it was.
-    pub fn answer_into(&mut self, frame: &FrameRef<'_>, out: &mut Vec<u8>) -> Result<bool, NoMemory>
-        ensures answered { IfOk result (AppendsReply NodeServiceAnswers self.old (lent frame.now) self.new out.old.items out.new.items) }
+impl Core for NodeService {
+    ghost use Rattle.std.specs.Prelude.{◌≡◌, ◌≤◌, ◌+◌, [], length, Some, None, map, IfOk, OnErr, OnOk};
+    ghost use Rattle.csi_frames.specs.Public.Lent.{lent_frame};
+    ghost use Rattle.csi_node.specs.Model.Fenced.{fenced};
+    ghost use Rattle.csi_node.specs.Model.OneRow.{node_row_shown};
+    ghost use Rattle.csi_node.specs.Model.Record.{Shows, parts as shown_rows};
+    ghost use Rattle.csi_node.specs.Model.State.{NodeState};
+    ghost use Rattle.csi_records.specs.Public.Records.{node_layout, AreParts};
+    ghost use Rattle.csi_records.specs.Public.Spelling.{present};
+    ghost use Rattle.csi_service.specs.Public.Answering.{AppendsReply, AnswersAsBefore};
+    ghost use Rattle.csi_stores.specs.Public.Content.{all_changed};
+    ghost use Rattle.csi_stores.specs.Public.Part.{part_change};
+    ghost use Rattle.csi_service.specs.Public.NodeServices.{node_service_changes, AreFitNodeRows, IsNamedNodeRowFit, NodeStaysFit, NodeDiffers, NodeServiceAnswers};
+    ghost use Rattle.csi_service.specs.Public.Services.{node_service_parts};
+
+    type Record = NodeRecord;
+
+    ghost spells = { λ kept parts. AreParts (node_layout present None) (record { own = kept.id; session = Some kept.session }) (map node_row_shown kept.rows) parts };
+
+    ghost is_same = { λ one other. (one.id ≡ other.id) × (one.session ≡ other.session) × (map node_row_shown one.rows ≡ map node_row_shown other.rows) };
+
+    ghost parts_of = { node_service_parts };
+
+    ghost changes = { node_service_changes };
+
+    ghost is_fit = { λ service. AreFitNodeRows (shown_rows service.node.rows) };
+
+    ghost is_fit_change = { λ service. IsNamedNodeRowFit service.changed.row (shown_rows service.node.rows) };
+
+    ghost answers = { NodeServiceAnswers };
+
+    /// The node's own answer to the texts that the frame lends; its reply has at most 544 bytes. A frame that leaves the node's state changes
+    /// no part: a reply, another plugin's call, a stale call and one that came again. Room for a reply is asked for first.
+    fn answer_into(&mut self, frame: &FrameRef<'_>, out: &mut Vec<u8>) -> Result<bool, NoMemory>
+        ensures answered { IfOk result (AppendsReply NodeServiceAnswers self.old (lent_frame frame.now) self.new out.old.items out.new.items) }
         ensures few { OnOk result (length out.new.items ≤ length out.old.items + 544) }
         ensures parts { OnOk result (node_service_parts self.new ≡ all_changed (node_service_changes self.new) (node_service_parts self.old)) }
-        ensures nothing { (state : NodeState) → Shows self.old.node state → (fenced self.old.node.id state (lent frame.now)).state ≡ state → OnOk result (node_service_changes self.new ≡ []) }
+        ensures nothing { (state : NodeState) → Shows self.old.node state → (fenced self.old.node.id state (lent_frame frame.now)).state ≡ state →
+            OnOk result (node_service_changes self.new ≡ []) }
+        // A part is told only where what it says is other than it was.
         ensures differs { OnOk result (NodeDiffers self.new.changed self.old.node self.new.node) }
         ensures fit { OnOk result (NodeStaysFit self.old self.new) }
+        ensures err_answers { OnErr result (AnswersAsBefore NodeServiceAnswers self.old self.new) }
         ensures err_shows { (state : NodeState) → Shows self.old.node state → OnErr result (Shows self.new.node state) }
         ensures err { OnErr result (node_service_parts self.new ≡ node_service_parts self.old) }
         ensures err_changes { OnErr result (node_service_changes self.new ≡ node_service_changes self.old) }
@@ -221,10 +255,9 @@ impl NodeService {
     {
         if frame.is_for(&self.party) {
             out.reserve(MOST_BYTES)?;
-            let capabilities = frame.capabilities(self.alloc)?;
-            if let Some(call) = frame.call(&capabilities) {
+            if let Some(call) = frame.call() {
                 let number = frame.number();
-                let answer = self.answer_call(number, &call)?;
+                let answer = self.answer_call(number, call)?;
                 append(number, &self.party, answer, out);
                 return Ok(true);
             }
@@ -232,89 +265,12 @@ impl NodeService {
         self.pass();
         Ok(false)
     }
-}
-
-impl Core for NodeService {
-    ghost use Rattle.std.specs.Prelude.{◌≡◌, [], Some, None, map, IfOk, OnErr, OnOk};
-    ghost use Rattle.csi_frames.specs.Lent.{lent};
-    ghost use Rattle.csi_node.specs.Fenced.{fenced};
-    ghost use Rattle.csi_node.specs.OneRow.{shown};
-    ghost use Rattle.csi_node.specs.Record.{Shows, parts as shown_rows};
-    ghost use Rattle.csi_node.specs.State.{NodeState};
-    ghost use Rattle.csi_records.specs.Records.{node_layout, AreParts};
-    ghost use Rattle.csi_records.specs.Spelling.{present};
-    ghost use Rattle.csi_serving.specs.Answering.{Steps};
-    ghost use Rattle.csi_stores.specs.Content.{all_changed};
-    ghost use Rattle.csi_stores.specs.Part.{change_of};
-    ghost use Rattle.csi_service.specs.NodeServices.{node_service_changes, AreFitRows, IsNamedFit, NodeStaysFit, NodeDiffers, NodeServiceAnswers};
-    ghost use Rattle.csi_service.specs.Services.{node_service_parts};
-
-    type Record = NodeRecord;
-
-    ghost spells = { λ kept parts. AreParts (node_layout present None) (record { own = kept.id; session = Some kept.session }) (map shown kept.rows) parts };
-
-    ghost is_same = { λ one other. (one.id ≡ other.id) × (one.session ≡ other.session) × (map shown one.rows ≡ map shown other.rows) };
-
-    ghost parts_of = { node_service_parts };
-
-    ghost changes = { node_service_changes };
-
-    ghost is_fit = { λ service. AreFitRows (shown_rows service.node.rows) };
-
-    ghost is_fit_change = { λ service. IsNamedFit service.changed.row (shown_rows service.node.rows) };
-
-    ghost answers = { NodeServiceAnswers };
-
-    /// The node's own answer. A frame that leaves its state changes no part: a reply, another plugin's call, a stale call and one that
-    /// came again. After a refusal `parts` gives what it gave before.
-    fn step(&mut self, frame: &Frame) -> Result<Option<Frame>, NoMemory>
-        ensures answered { IfOk result (λ reply. NodeServiceAnswers self.old frame.now reply self.new) }
-        ensures parts { OnOk result (node_service_parts self.new ≡ all_changed (node_service_changes self.new) (node_service_parts self.old)) }
-        ensures nothing { (state : NodeState) → Shows self.old.node state → (fenced self.old.node.id state frame.now).state ≡ state → OnOk result (node_service_changes self.new ≡ []) }
-        ensures err { OnErr result (node_service_parts self.new ≡ node_service_parts self.old) }
-        ensures err_changes { OnErr result (node_service_changes self.new ≡ node_service_changes self.old) }
-        // A part is told only where what it says is other than it was.
-        ensures differs { OnOk result (NodeDiffers self.new.changed self.old.node self.new.node) }
-        ensures fit { OnOk result (NodeStaysFit self.old self.new) }
-    {
-        // the proof has to be told the types of a lent call's parts
-        let _parts: Option<(&CapabilityList, CapabilityRef<'_>)> = None;
-        match call_for(frame, &self.party) {
-            Some(call) => {
-                texts_law(call);
-                let party = self.party.clone()?;
-                let answer = self.answer_call(frame.number(), &call.lend())?;
-                Ok(Some(frame_of(frame.number(), party, answer)))
-            }
-            None => {
-                self.pass();
-                Ok(None)
-            }
-        }
-    }
-
-    /// The call is answered with the texts that the frame lends, and the reply is spelled from its parts. A frame that leaves the node's
-    /// state changes no part.
-    fn answer(&mut self, frame: &FrameRef<'_>) -> Result<Option<Vec<u8>>, NoMemory>
-        ensures answered { IfOk result (Steps NodeServiceAnswers self.old (lent frame.now) self.new) }
-        ensures parts { OnOk result (node_service_parts self.new ≡ all_changed (node_service_changes self.new) (node_service_parts self.old)) }
-        ensures nothing { (state : NodeState) → Shows self.old.node state → (fenced self.old.node.id state (lent frame.now)).state ≡ state → OnOk result (node_service_changes self.new ≡ []) }
-        ensures differs { OnOk result (NodeDiffers self.new.changed self.old.node self.new.node) }
-        ensures fit { OnOk result (NodeStaysFit self.old self.new) }
-    {
-        let mut bytes = Vec::new(self.alloc);
-        if self.answer_into(frame, &mut bytes)? {
-            Ok(Some(bytes))
-        } else {
-            Ok(None)
-        }
-    }
 
     /// The head where a session began, what takes out the rows that were forgotten, and the row of the one volume that was changed or
-    /// made. The row is found by its id.
+    /// made. No row is searched for.
     fn parts(&self) -> Result<Vec<Part>, NoMemory>
-        ensures changes { IfOk result (λ parts. map change_of parts.items ≡ node_service_changes self.now) }
-        ensures fit { OnOk result (IsNamedFit self.now.changed.row (shown_rows self.now.node.rows)) }
+        ensures changes { IfOk result (λ parts. map part_change parts.items ≡ node_service_changes self.now) }
+        ensures fit { OnOk result (IsNamedNodeRowFit self.now.changed.row (shown_rows self.now.node.rows)) }
     {
         let mut parts = Vec::new(self.alloc);
         if self.changed.new_head {
@@ -322,9 +278,7 @@ impl Core for NodeService {
             push_value(&mut parts, 0, value)?;
         }
         push_removals(&mut parts, &self.changed.forgotten)?;
-        if let Some(id) = self.changed.row {
-            push_row(self.alloc, &mut parts, &self.node, id)?;
-        }
+        push_row(self.alloc, &mut parts, &self.node, self.changed.row)?;
         Ok(parts)
     }
 

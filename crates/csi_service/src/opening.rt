@@ -1,9 +1,10 @@
 //! A store, opened: its parts are judged, and the plugin is made of them, before anything is committed.
 ghost use Rattle.std.specs.Prelude.{◌≡◌, ◌∷◌, ◌++◌, ◌==◌, [], ℕ, List, map, if◌then◌else◌, IfOk, IfErr, OnOk};
 ghost use Rattle.std.specs.List.{list_any};
-ghost use Rattle.csi_stores.specs.Part.{StoredPart, all_stored_in, change_of, put_all, take_all};
-ghost use Rattle.csi_stores.specs.Keeping.{RefusesAt};
-ghost use Rattle.csi_service.specs.Opening.{Records, HasRecord, IsOpenFault, LeavesOpened, IsMade, IsUnmade, IsRenewal, left_out};
+ghost use Rattle.csi_stores.specs.Public.Part.{StoredPart, all_stored_in, part_change, put_all, take_all};
+ghost use Rattle.csi_stores.specs.Public.Keeping.{RefusesAt};
+ghost use Rattle.csi_service.specs.Public.Opening.{Records, HasRecord, IsOpenFault, LeavesOpened};
+ghost use Rattle.csi_service.specs.Private.Opening.{IsCoreMade, IsCoreUnmade, IsRenewal, left_out};
 
 use csi_records::{Record, RecordStop, RecordVersion, is_present};
 use csi_stores::{Keep, KeepFault, Part, push_removal, push_value};
@@ -37,14 +38,15 @@ pub(crate) trait Opens: Drop {
         asked: Self::Asked,
         parts: &[Part],
     ) -> Result<(Self, Vec<Part>), RecordStop>
-        ensures made { IfOk result (λ made. IsMade (records asked) (head asked) (all_stored_in parts.now) (parts_of made.0) (map change_of made.1.items)) }
+        ensures made { IfOk result (λ made. IsCoreMade (records asked) (head asked) (all_stored_in parts.now) (parts_of made.0)
+            (map part_change made.1.items)) }
         ensures new { IfOk result (λ made. is_new asked made.0) }
-        ensures refused { IfErr result (IsUnmade (records asked) (all_stored_in parts.now)) };
+        ensures refused { IfErr result (IsCoreUnmade (records asked) (all_stored_in parts.now)) };
 }
 
 /// The head of a new record, to be put in.
 pub(crate) fn head_part(alloc: Global, value: Vec<u8>) -> Result<Vec<Part>, NoMemory>
-    ensures { IfOk result (λ parts. map change_of parts.items ≡ put_all (record { key = 0; value = value.items } ∷ [])) }
+    ensures { IfOk result (λ parts. map part_change parts.items ≡ put_all (record { key = 0; value = value.items } ∷ [])) }
 {
     let mut parts = Vec::new(alloc);
     push_value(&mut parts, 0, value)?;
@@ -53,7 +55,8 @@ pub(crate) fn head_part(alloc: Global, value: Vec<u8>) -> Result<Vec<Part>, NoMe
 
 // Puts at the end that the part of this key is taken out, unless one of these parts has it.
 fn push_unless(removals: &mut Vec<Part>, parts: &[Part], key: u64) -> Result<(), NoMemory>
-    ensures { OnOk result (map change_of removals.new.items ≡ map change_of removals.old.items ++ take_all (if list_any (λ part. part.key == key) parts.now then [] else key ∷ [])) }
+    ensures { OnOk result (map part_change removals.new.items ≡ map part_change removals.old.items ++ take_all (if list_any
+        (λ part. part.key == key) parts.now then [] else key ∷ [])) }
 {
     for part in parts {
         if part.key == key {
@@ -65,7 +68,7 @@ fn push_unless(removals: &mut Vec<Part>, parts: &[Part], key: u64) -> Result<(),
 
 // What takes out the parts that were found, but for those that the record has a part of.
 fn left_out(alloc: Global, found: &[Part], parts: &[Part]) -> Result<Vec<Part>, NoMemory>
-    ensures { IfOk result (λ removals. map change_of removals.items ≡ take_all (left_out (all_stored_in found.now) (all_stored_in parts.now))) }
+    ensures { IfOk result (λ removals. map part_change removals.items ≡ take_all (left_out (all_stored_in found.now) (all_stored_in parts.now))) }
 {
     let mut removals = Vec::new(alloc);
     for part in found {
@@ -82,7 +85,7 @@ pub(crate) fn renewal<T: Record>(
     found: &[Part],
     kept: &T,
 ) -> Result<Vec<Part>, NoMemory>
-    ensures { IfOk result (λ parts. IsRenewal T.is_record T.parts_of version (all_stored_in found.now) kept.now (map change_of parts.items)) }
+    ensures { IfOk result (λ parts. IsRenewal T.is_record T.parts_of version (all_stored_in found.now) kept.now (map part_change parts.items)) }
 {
     if is_present(version) {
         return Ok(Vec::new(alloc));

@@ -1,5 +1,5 @@
 //! Whole records as bytes.
-ghost use Rattle.csi_service.specs.WholeRecords.{ReadsRecord};
+ghost use Rattle.csi_service.specs.Public.WholeRecords.{ReadsRecord};
 
 use csi_records::{Record, RecordStop, Stored};
 use csi_stores::KeepFault;

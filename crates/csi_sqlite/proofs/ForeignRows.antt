@@ -8,14 +8,14 @@ use Rattle.sqlite_value.specs.Order.{Row}
 use Rattle.sqlite_keyed.proofs.SortLemmas.{sorted_unique}
 use Rattle.sqlite.specs.State.{State}
 use Rattle.sqlite.specs.Tree.{Trees}
-use Rattle.csi_tables.specs.Rows.{cells, AreByKey}
+use Rattle.csi_sqlite.specs.Public.Rows.{cells, AreByKey}
 use Rattle.csi_stores.specs.declared.part.Part.{Part}
-use Rattle.csi_stores.specs.Part.{StoredPart}
+use Rattle.csi_stores.specs.Public.Part.{StoredPart}
 use Rattle.csi_stores.specs.declared.keep.KeepFault.{KeepFault}
 use Rattle.csi_stores.specs.declared.keep.KeepFault.TheVariants.{Device, NoMemory, BadRecord, Full}
-use Rattle.csi_stores.specs.Keeping.{RefusesAt}
-use Rattle.csi_sqlite.specs.Tables.{row_of, StoresParts}
-use Rattle.csi_sqlite.specs.Loading.{IsRowOf, IsFirstBad, IsLoaded, IsForeign, StoresForeign}
+use Rattle.csi_stores.specs.Public.Keeping.{RefusesAt}
+use Rattle.csi_sqlite.specs.Public.Tables.{keyed_row, StoresParts}
+use Rattle.csi_sqlite.specs.Public.Loading.{IsRowOfPart, IsFirstBad, IsLoaded, IsForeign, StoresForeign}
 use Rattle.csi_sqlite.proofs.Tabled.{by_key, by_key_total, sorted_from, stores}
 use Rattle.csi_sqlite.proofs.Loading.{none_refused}
 
@@ -25,11 +25,11 @@ one_order columns rows others are also =
     sorted_unique by_key by_key_total rows others are.rising (IsPermutation-trans _ _ _ (IsPermutation-sym _ _ are.same) also.same) (sorted_from by_key by_key_total others also.rising)
 
 -- before the place up to which rows are parts, each is one
-part_before : (rows : List Row) (place at : ℕ) (parts : List StoredPart) (row : Row) → AllZip IsRowOf (take place rows) parts → at < place → slice_get rows at ≡ Some row → (part : StoredPart) × IsRowOf row part
+part_before : (rows : List Row) (place at : ℕ) (parts : List StoredPart) (row : Row) → AllZip IsRowOfPart (take place rows) parts → at < place → slice_get rows at ≡ Some row → (part : StoredPart) × IsRowOfPart row part
 part_before [] place at parts row zip less here = absurd (cc)
 part_before (r ∷ rows) zero at parts row zip less here = absurd (omega arith)
 part_before (r ∷ rows) (suc place) at [] row zip less here = absurd zip
-part_before (r ∷ rows) (suc place) zero (p ∷ parts) row zip less here = let same : r ≡ row = cc in (p, subst (λ x. IsRowOf x p) same zip.0)
+part_before (r ∷ rows) (suc place) zero (p ∷ parts) row zip less here = let same : r ≡ row = cc in (p, subst (λ x. IsRowOfPart x p) same zip.0)
 part_before (r ∷ rows) (suc place) (suc at) (p ∷ parts) row zip less here = part_before rows place at parts row zip.1 (omega arith) here
 
 -- one row is the first that is no part
@@ -48,7 +48,7 @@ none_foreign db content place has foreign =
     let moved = IsPermutation-trans _ _ _ (IsPermutation-sym _ _ has.rows.stored.same) foreign.1.stored.same in
     let rows = foreign.2.1 in
     none_refused content place has.keys
-    (foreign.2.0, record { same = IsPermutation-trans (map cells (map row_of content)) _ _ moved rows.same; wide = rows.wide; rising = rows.rising }, foreign.2.2)
+    (foreign.2.0, record { same = IsPermutation-trans (map cells (map keyed_row content)) _ _ moved rows.same; wide = rows.wide; rising = rows.rising }, foreign.2.2)
 
 -- one row of a database is the first that is no part
 pub one_foreign : (db : Trees) (place at : ℕ) → StoresForeign db place → StoresForeign db at → at ≡ place

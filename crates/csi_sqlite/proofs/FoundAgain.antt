@@ -4,12 +4,12 @@ use Rattle.std.proofs.Math.Logic.{∥∥₁_map}
 use Rattle.sqlite.specs.Effect.{Database}
 use Rattle.sqlite.specs.State.{State}
 use Rattle.sqlite.specs.Tree.{Trees}
-use Rattle.csi_stores.specs.Part.{StoredPart}
-use Rattle.csi_stores.specs.Stores.{Found, Has, IsOnly, FindsSome}
-use Rattle.csi_stores.specs.Stores.Found.{Parts, Foreign, Unlisted}
-use Rattle.csi_sqlite.specs.Tables.{StoresParts}
-use Rattle.csi_sqlite.specs.Loading.{StoresForeign, Stores}
-use Rattle.csi_sqlite.specs.Kept.{sqlite_store}
+use Rattle.csi_stores.specs.Public.Part.{StoredPart}
+use Rattle.csi_stores.specs.Public.Stores.{Found, Has, IsOnly, FindsSome}
+use Rattle.csi_stores.specs.Public.Stores.Found.{Parts, Foreign, Unlisted}
+use Rattle.csi_sqlite.specs.Public.Tables.{StoresParts}
+use Rattle.csi_sqlite.specs.Public.Loading.{StoresForeign, Stores}
+use Rattle.csi_sqlite.specs.Public.Kept.{sqlite_store}
 use Rattle.csi_sqlite.proofs.Tabled.{one_content}
 use Rattle.csi_sqlite.proofs.Closed.{stored_in}
 use Rattle.csi_sqlite.proofs.ForeignRows.{none_foreign, one_foreign, foreign_seen}

@@ -1,3 +1,14 @@
+mod ListFacts
+mod StoredRows
+mod TextMeanings
+mod QueryAnswers
+mod Keys
+mod Sorted
+mod Schemas
+mod MakingTable
+mod ReadingRows
+mod RemovingRow
+mod PuttingRow
 pub mod KeyOrder
 pub mod Tabled
 pub mod Loading

@@ -6,11 +6,11 @@ use Rattle.sqlite.specs.declared.error.ErrorCode.TheVariants.{OutOfMemory}
 use Rattle.sqlite.specs.State.{State}
 use Rattle.csi_stores.specs.declared.keep.KeepFault.{KeepFault}
 use Rattle.csi_stores.specs.declared.keep.KeepFault.TheVariants.{Device, NoMemory, BadRecord, Full}
-use Rattle.csi_sqlite.specs.Tables.{IsCounted}
-use Rattle.csi_sqlite.specs.Refusals.{IsTold, MakesChange}
+use Rattle.csi_sqlite.specs.Private.Tables.{IsCounted}
+use Rattle.csi_sqlite.specs.Public.Refusals.{IsToldFault, MakesChange}
 
 -- an error is told as a failing device where it isn't want of memory
-pub told : (P : Error → Type 0) (before after : ℕ) (error : Error) (fault : KeepFault) → IsCounted before after fault → ((fault ≡ NoMemory) ↔ (error ≡ SqliteFailure OutOfMemory)) → P error → IsTold P fault
+pub told : (P : Error → Type 0) (before after : ℕ) (error : Error) (fault : KeepFault) → IsCounted before after fault → ((fault ≡ NoMemory) ↔ (error ≡ SqliteFailure OutOfMemory)) → P error → IsToldFault P fault
 told P before after error Device counted memory refuses = (error, λ is. absurd (let e = memory.1 is in cc), refuses)
 told P before after error NoMemory counted memory refuses = subst P (memory.0 refl) refuses
 told P before after error (BadRecord place) counted memory refuses = absurd counted

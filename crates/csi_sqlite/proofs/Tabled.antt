@@ -16,21 +16,21 @@ use Rattle.sqlite.specs.Effect.{Database}
 use Rattle.sqlite_keyed.proofs.ListLemmas.{all-filter, filter_all}
 use Rattle.sqlite_keyed.proofs.SortLemmas.{sorted_unique}
 use Rattle.sqlite.specs.State.{State, IsUnchanged}
-use Rattle.csi_tables.specs.Rows.{KeyedRow, cells, without, AreRising, StoresRows, HasRows}
-use Rattle.csi_stores.specs.Part.{StoredPart}
-use Rattle.csi_stores.specs.Content.{put_in, take_out, IsRising}
-use Rattle.csi_sqlite.specs.Tables.{row_of, AreKeys, StoresParts, HasParts, HoldsParts}
+use Rattle.csi_sqlite.specs.Public.Rows.{KeyedRow, cells, without, AreRising, StoresRows, HasRows}
+use Rattle.csi_stores.specs.Public.Part.{StoredPart}
+use Rattle.csi_stores.specs.Public.Content.{put_in, take_out, AreRisingParts}
+use Rattle.csi_sqlite.specs.Public.Tables.{keyed_row, AreKeys, StoresParts, HasParts, HoldsParts}
 use Rattle.csi_stores.proofs.RisingChanges.{AreAbove, rising-all}
 use Rattle.csi_sqlite.proofs.KeyOrder.{key_below, key_back, same_key}
 
 -- ---- in their order
 
 -- parts by rising key are rows by rising key
-pub rising_rows : (content : List StoredPart) → IsRising content → AreKeys content → AreRising (map row_of content)
+pub rising_rows : (content : List StoredPart) → AreRisingParts content → AreKeys content → AreRising (map keyed_row content)
 rising_rows [] rising keys = tt
 rising_rows (part ∷ parts) rising keys = (go parts rising.0 keys.1, rising_rows parts rising.1 keys.1)
   where
-    go : (later : List StoredPart) → AreAbove part.key later → AreKeys later → AllByRecursion (λ (row : KeyedRow). slice_cmp nat_cmp (big_bytes 8 part.key) row.key ≡ Less) (map row_of later)
+    go : (later : List StoredPart) → AreAbove part.key later → AreKeys later → AllByRecursion (λ (row : KeyedRow). slice_cmp nat_cmp (big_bytes 8 part.key) row.key ≡ Less) (map keyed_row later)
     go [] above fits = tt
     go (p ∷ ps) above fits = (key_below part.key p.key above.0 fits.0, go ps above.1 fits.1)
 
@@ -65,7 +65,7 @@ abbrev part_in : Row → StoredPart
 part_in c = record { key = big_number 8 (bytes (column c 0)); value = bytes (column c 1) }
 
 -- the columns of parts' rows are these parts again
-parts_back : (content : List StoredPart) → AreKeys content → map part_in (map cells (map row_of content)) ≡ content
+parts_back : (content : List StoredPart) → AreKeys content → map part_in (map cells (map keyed_row content)) ≡ content
 parts_back [] keys = refl
 parts_back (part ∷ parts) keys = ap₂ (λ (k : ℕ) (l : List StoredPart). record { key = k; value = part.value } ∷ l) (key_back part.key keys.0) (parts_back parts keys.1)
 
@@ -73,8 +73,8 @@ parts_back (part ∷ parts) keys = ap₂ (λ (k : ℕ) (l : List StoredPart). re
 pub one_content : (db : Trees) (a b : List StoredPart) → StoresParts db a → StoresParts db b → b ≡ a
 one_content db a b are also =
     let same = IsPermutation-trans _ _ _ (IsPermutation-sym _ _ are.rows.stored.same) also.rows.stored.same in
-    let strict = strict_cells (map row_of a) (rising_rows a are.rising are.keys) in
-    let sorted = sorted_from by_key by_key_total _ (strict_cells (map row_of b) (rising_rows b also.rising also.keys)) in
+    let strict = strict_cells (map keyed_row a) (rising_rows a are.rising are.keys) in
+    let sorted = sorted_from by_key by_key_total _ (strict_cells (map keyed_row b) (rising_rows b also.rising also.keys)) in
     sym (parts_back b also.keys) ∙ ap (map part_in) (sorted_unique by_key by_key_total _ _ strict same sorted) ∙ parts_back a are.keys
 
 -- where a connection sees these parts, its database has them
@@ -88,7 +88,7 @@ still_holds old new content same has = (
     rows = record {
       is_open = same.0.is_open;
       declared = ap (λ (d : Database). d.schema) same.0.now_is ∙ has.0.rows.declared;
-      stores = subst (λ (d : Database). StoresRows d.trees (map row_of content)) (sym same.0.now_is) has.0.rows.stores;
+      stores = subst (λ (d : Database). StoresRows d.trees (map keyed_row content)) (sym same.0.now_is) has.0.rows.stores;
     };
     rising = has.0.rising;
     keys = has.0.keys;
@@ -122,7 +122,7 @@ none_out : (key : ℕ) (parts : List StoredPart) → Lacks key parts → take_ou
 none_out key parts lacks = filter_all (λ part. not (part.key == key)) parts lacks
 
 -- a part that is put in goes before those of other keys, but for the order
-put_moves : (part : StoredPart) (parts : List StoredPart) → IsRising parts → IsPermutation (part ∷ take_out part.key parts) (put_in part parts)
+put_moves : (part : StoredPart) (parts : List StoredPart) → AreRisingParts parts → IsPermutation (part ∷ take_out part.key parts) (put_in part parts)
 put_moves part [] rising = IsPermutation-refl _
 put_moves part (other ∷ others) rising = by (nat_lt other.key part.key) (other.key == part.key) refl refl (put_moves part others rising.1)
   where
@@ -140,37 +140,37 @@ put_moves part (other ∷ others) rising = by (nat_lt other.key part.key) (other
         subst (λ l. IsPermutation (part ∷ other ∷ l) (part ∷ other ∷ others)) (sym none) (IsPermutation-refl _)
 
 -- the rows of other keys are those of the parts that are left without the key
-pub without-parts : (key : ℕ) (parts : List StoredPart) → key < 2 ^ 64 → AreKeys parts → without (big_bytes 8 key) (map row_of parts) ≡ map row_of (take_out key parts)
+pub without-parts : (key : ℕ) (parts : List StoredPart) → key < 2 ^ 64 → AreKeys parts → without (big_bytes 8 key) (map keyed_row parts) ≡ map keyed_row (take_out key parts)
 without-parts key [] fits keys = refl
 without-parts key (part ∷ parts) fits keys = rw (same_key part.key key keys.0 fits) (by (part.key == key) (without-parts key parts fits keys.1))
   where
-    by : (b : Bool) → without (big_bytes 8 key) (map row_of parts) ≡ map row_of (take_out key parts)
-        → cond (not b) (row_of part ∷ without (big_bytes 8 key) (map row_of parts)) (without (big_bytes 8 key) (map row_of parts)) ≡ map row_of (cond (not b) (part ∷ take_out key parts) (take_out key parts))
+    by : (b : Bool) → without (big_bytes 8 key) (map keyed_row parts) ≡ map keyed_row (take_out key parts)
+        → cond (not b) (keyed_row part ∷ without (big_bytes 8 key) (map keyed_row parts)) (without (big_bytes 8 key) (map keyed_row parts)) ≡ map keyed_row (cond (not b) (part ∷ take_out key parts) (take_out key parts))
     by true more = more
-    by false more = ap (λ l. row_of part ∷ l) more
+    by false more = ap (λ l. keyed_row part ∷ l) more
 
 -- rows in another order
-pub moved_rows : (s : State) (a b : List StoredPart) → IsPermutation a b → HasRows s (map row_of a) → HasRows s (map row_of b)
+pub moved_rows : (s : State) (a b : List StoredPart) → IsPermutation a b → HasRows s (map keyed_row a) → HasRows s (map keyed_row b)
 moved_rows s a b moves h = record {
   is_open = h.is_open;
   declared = h.declared;
   stores = record {
     listed = h.stores.listed;
-    stored = record { ordered = h.stores.stored.ordered; numbered = h.stores.stored.numbered; same = IsPermutation-trans _ _ _ h.stores.stored.same (IsPermutation-map cells _ _ (IsPermutation-map row_of a b moves)) };
+    stored = record { ordered = h.stores.stored.ordered; numbered = h.stores.stored.numbered; same = IsPermutation-trans _ _ _ h.stores.stored.same (IsPermutation-map cells _ _ (IsPermutation-map keyed_row a b moves)) };
   };
 }
 
 -- a part's row, beside the rows of other keys, is the parts with this one put in
-pub put_has : (s : State) (part : StoredPart) (content : List StoredPart) → part.key < 2 ^ 64 → IsRising content → AreKeys content
-    → HasRows s (row_of part ∷ without (big_bytes 8 part.key) (map row_of content)) → HasParts s (put_in part content)
+pub put_has : (s : State) (part : StoredPart) (content : List StoredPart) → part.key < 2 ^ 64 → AreRisingParts content → AreKeys content
+    → HasRows s (keyed_row part ∷ without (big_bytes 8 part.key) (map keyed_row content)) → HasParts s (put_in part content)
 put_has s part content fits rising keys h = record {
-  rows = moved_rows s _ _ (put_moves part content rising) (subst (λ l. HasRows s (row_of part ∷ l)) (without-parts part.key content fits keys) h);
+  rows = moved_rows s _ _ (put_moves part content rising) (subst (λ l. HasRows s (keyed_row part ∷ l)) (without-parts part.key content fits keys) h);
   rising = rising-all (record { key = part.key; value = Some part.value } ∷ []) content rising;
   keys = keys-put part content fits keys;
 }
 
 -- the rows of other keys are the parts with that key taken out
-pub removed_has : (s : State) (key : ℕ) (content : List StoredPart) → key < 2 ^ 64 → IsRising content → AreKeys content → HasRows s (without (big_bytes 8 key) (map row_of content)) → HasParts s (take_out key content)
+pub removed_has : (s : State) (key : ℕ) (content : List StoredPart) → key < 2 ^ 64 → AreRisingParts content → AreKeys content → HasRows s (without (big_bytes 8 key) (map keyed_row content)) → HasParts s (take_out key content)
 removed_has s key content fits rising keys h = record {
   rows = subst (HasRows s) (without-parts key content fits keys) h;
   rising = rising-all (record { key = key; value = None } ∷ []) content rising;

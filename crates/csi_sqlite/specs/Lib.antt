@@ -1,6 +1,2 @@
-pub mod Loading
-pub mod Looking
-pub mod Refusals
-pub mod Tables
-pub mod Closing
-pub mod Kept
+pub mod Public
+pub mod Private

@@ -4,22 +4,23 @@ ghost use Rattle.sqlite.specs.Held.{Held, state};
 ghost use Rattle.sqlite.specs.State.{HasCleanDisk};
 ghost use Rattle.sqlite.specs.Order.{Row};
 ghost use Rattle.sqlite.specs.Tree.{Trees};
-ghost use Rattle.csi_tables.specs.Declared.{parts_schema};
-ghost use Rattle.csi_tables.specs.Listed.{ListsOther};
-ghost use Rattle.csi_tables.specs.Rows.{IsBlank, HasColumns};
-ghost use Rattle.csi_stores.specs.Part.{StoredPart, change_of, put_all};
-ghost use Rattle.csi_stores.specs.Content.{all_changed};
-ghost use Rattle.csi_stores.specs.Keeping.{RefusesAt};
-ghost use Rattle.csi_stores.specs.Stores.{Found, IsOnly, IsSettled, FindsSome, IsLoadFault, IsCommitFault};
-ghost use Rattle.csi_stores.specs.Stores.Found.{Parts};
-ghost use Rattle.csi_tables.specs.Statements.{RefusesToMake};
-ghost use Rattle.csi_sqlite.specs.Kept.{sqlite_store};
-ghost use Rattle.csi_sqlite.specs.Refusals.{IsTold, IsNotLoaded, RefusesChanges};
-ghost use Rattle.csi_sqlite.specs.Loading.{IsLoaded, IsForeign, LeavesFound};
-ghost use Rattle.csi_sqlite.specs.Tables.{StoresParts, HoldsParts, OpensOver, IsCounted, CountsFault, CountsOnce};
+ghost use Rattle.csi_sqlite.specs.Public.Declared.{parts_schema};
+ghost use Rattle.csi_sqlite.specs.Public.Listed.{ListsOther};
+ghost use Rattle.csi_sqlite.specs.Public.Rows.{IsBlank, HasColumns};
+ghost use Rattle.csi_stores.specs.Public.Part.{StoredPart, part_change, put_all};
+ghost use Rattle.csi_stores.specs.Public.Content.{all_changed};
+ghost use Rattle.csi_stores.specs.Public.Keeping.{RefusesAt};
+ghost use Rattle.csi_stores.specs.Public.Stores.{Found, IsOnly, IsSettled, FindsSome, IsLoadFault, IsCommitFault};
+ghost use Rattle.csi_stores.specs.Public.Stores.Found.{Parts};
+ghost use Rattle.csi_sqlite.specs.Public.Statements.{RefusesToMake};
+ghost use Rattle.csi_sqlite.specs.Public.Kept.{sqlite_store};
+ghost use Rattle.csi_sqlite.specs.Public.Refusals.{IsToldFault, IsNotLoaded, RefusesChanges};
+ghost use Rattle.csi_sqlite.specs.Public.Loading.{IsLoaded, IsForeign, LeavesFound};
+ghost use Rattle.csi_sqlite.specs.Public.Tables.{StoresParts, HoldsParts, OpensOver, CountsFault, CountsOnce};
+ghost use Rattle.csi_sqlite.specs.Private.Tables.{IsCounted};
 
+use crate::rows::{all_rows, make_table};
 use csi_stores::{Keep, KeepFault, Part};
-use csi_tables::{all_rows, make_table};
 use sqlite::{Alter, Connection, Error, ErrorCode};
 use std::alloc::Global;
 
@@ -84,15 +85,20 @@ impl<S: Alter> SqliteKeep<S> {
         alloc: Global,
         mut connection: Connection<S>,
     ) -> Result<SqliteKeep<S>, (KeepFault, Connection<S>)>
-        ensures blank { IfOk result (λ keep. HasCleanDisk (state S.Store keep.connection) → IsBlank (state S.Store connection) → HoldsParts (state S.Store keep.connection) []) }
-        ensures found { IfOk result (λ keep. HasCleanDisk (state S.Store keep.connection) → (content : List StoredPart) → IsTrue (state S.Store connection).is_open → StoresParts (state S.Store connection).now.trees content → HoldsParts (state S.Store keep.connection) content) }
+        ensures blank { IfOk result (λ keep. HasCleanDisk (state S.Store keep.connection) → IsBlank (state S.Store connection) →
+            HoldsParts (state S.Store keep.connection) []) }
+        ensures found { IfOk result (λ keep. HasCleanDisk (state S.Store keep.connection) → (content : List StoredPart) →
+            IsTrue (state S.Store connection).is_open → StoresParts (state S.Store connection).now.trees content →
+            HoldsParts (state S.Store keep.connection) content) }
         ensures there { IfOk result (λ keep. (state S.Store connection).now.schema ≡ parts_schema → keep.connection ≡ connection) }
-        ensures other { ListsOther (state S.Store connection).now.schema → IsErrAnd result (λ refusal. (refusal.0 ≡ KeepFault.Device) × (refusal.1 ≡ connection)) }
+        ensures other { ListsOther (state S.Store connection).now.schema →
+            IsErrAnd result (λ refusal. (refusal.0 ≡ KeepFault.Device) × (refusal.1 ≡ connection)) }
         ensures left { IfOk result (λ keep. OpensOver (state S.Store connection) (state S.Store keep.connection)) }
         ensures faults { IfOk result (λ keep. keep.faults ≡ 0) }
         ensures back { IfErr result (λ refusal. OpensOver (state S.Store connection) (state S.Store refusal.1)) }
         ensures cause { IfErr result (λ refusal. (refusal.0 ≡ KeepFault.Device) ⊎ (refusal.0 ≡ KeepFault.NoMemory)) }
-        ensures device { IfErr result (λ refusal. HasCleanDisk (state S.Store refusal.1) → (state S.Store connection).in_transaction ≡ false → ¬ ListsOther (state S.Store connection).now.schema → IsTold (RefusesToMake (state S.Store connection) (state S.Store refusal.1)) refusal.0) }
+        ensures device { IfErr result (λ refusal. HasCleanDisk (state S.Store refusal.1) → (state S.Store connection).in_transaction ≡ false →
+            ¬ ListsOther (state S.Store connection).now.schema → IsToldFault (RefusesToMake (state S.Store connection) (state S.Store refusal.1)) refusal.0) }
         ensures opens { (state S.Store connection).in_transaction ≡ false → (state S.Store connection).now.schema ≡ parts_schema → IsOk result }
     {
         if !connection.is_autocommit() {
@@ -136,17 +142,28 @@ impl<S: Alter> Keep for SqliteKeep<S> {
     /// the table.
     fn load(&mut self) -> Result<Vec<Part>, KeepFault>
         ensures honest { HasCleanDisk (state S.Store self.new.connection) → HasCleanDisk (state S.Store self.old.connection) }
-        ensures parts { HasCleanDisk (state S.Store self.new.connection) → (content : List StoredPart) → HoldsParts (state S.Store self.old.connection) content → IfOk result (λ parts. map change_of parts.items ≡ put_all content) }
-        ensures stays { HasCleanDisk (state S.Store self.new.connection) → (content : List StoredPart) → HoldsParts (state S.Store self.old.connection) content → OnOk result (IsOnly (sqlite_store (state S.Store self.new.connection) self.new.faults) (Parts content)) }
-        ensures left { HasCleanDisk (state S.Store self.new.connection) → (found : Found) → LeavesFound (state S.Store self.new.connection) found → LeavesFound (state S.Store self.old.connection) found }
-        ensures some { HasCleanDisk (state S.Store self.new.connection) → (found : Found) → IsOnly (sqlite_store (state S.Store self.old.connection) self.old.faults) found → FindsSome (sqlite_store (state S.Store self.new.connection) self.new.faults) }
+        ensures parts { HasCleanDisk (state S.Store self.new.connection) → (content : List StoredPart) →
+            HoldsParts (state S.Store self.old.connection) content → IfOk result (λ parts. map part_change parts.items ≡ put_all content) }
+        ensures stays { HasCleanDisk (state S.Store self.new.connection) → (content : List StoredPart) →
+            HoldsParts (state S.Store self.old.connection) content →
+            OnOk result (IsOnly (sqlite_store (state S.Store self.new.connection) self.new.faults) (Parts content)) }
+        ensures left { HasCleanDisk (state S.Store self.new.connection) → (found : Found) → LeavesFound (state S.Store self.new.connection) found →
+            LeavesFound (state S.Store self.old.connection) found }
+        ensures some { HasCleanDisk (state S.Store self.new.connection) → (found : Found) →
+            IsOnly (sqlite_store (state S.Store self.old.connection) self.old.faults) found →
+            FindsSome (sqlite_store (state S.Store self.new.connection) self.new.faults) }
         ensures faults { self.old.faults ≤ self.new.faults }
-        ensures foreign { HasCleanDisk (state S.Store self.new.connection) → (place : ℕ) → IsForeign (state S.Store self.old.connection) place → RefusesAt place result }
+        ensures foreign { HasCleanDisk (state S.Store self.new.connection) → (place : ℕ) → IsForeign (state S.Store self.old.connection) place →
+            RefusesAt place result }
         ensures counted { CountsOnce self.old.faults self.new.faults result }
-        ensures crash { HasCleanDisk (state S.Store self.new.connection) → (db : Trees) → (state S.Store self.new.connection).may_leave db → (state S.Store self.old.connection).may_leave db }
-        ensures cause { IfErr result (λ fault. IsLoadFault (sqlite_store (state S.Store self.old.connection) self.old.faults) (sqlite_store (state S.Store self.new.connection) self.new.faults) fault) }
-        ensures judged { HasCleanDisk (state S.Store self.new.connection) → (columns : List Row) → HasColumns (state S.Store self.old.connection) columns → IsLoaded (state S.Store self.old.connection) columns result }
-        ensures told { HasCleanDisk (state S.Store self.new.connection) → IfErr result (IsNotLoaded (state S.Store self.old.connection) (state S.Store self.new.connection)) }
+        ensures crash { HasCleanDisk (state S.Store self.new.connection) → (db : Trees) → (state S.Store self.new.connection).may_leave db →
+            (state S.Store self.old.connection).may_leave db }
+        ensures cause { IfErr result (λ fault. IsLoadFault (sqlite_store (state S.Store self.old.connection) self.old.faults) (sqlite_store
+            (state S.Store self.new.connection) self.new.faults) fault) }
+        ensures judged { HasCleanDisk (state S.Store self.new.connection) → (columns : List Row) →
+            HasColumns (state S.Store self.old.connection) columns → IsLoaded (state S.Store self.old.connection) columns result }
+        ensures told { HasCleanDisk (state S.Store self.new.connection) →
+            IfErr result (IsNotLoaded (state S.Store self.old.connection) (state S.Store self.new.connection)) }
         ensures outside { (state S.Store self.old.connection).in_transaction ≡ false → (state S.Store self.new.connection).in_transaction ≡ false }
     {
         match all_rows(&mut self.connection) {
@@ -161,14 +178,25 @@ impl<S: Alter> Keep for SqliteKeep<S> {
     /// changes, or to their commit.
     fn commit(&mut self, parts: &[Part]) -> Result<(), KeepFault>
         ensures honest { HasCleanDisk (state S.Store self.new.connection) → HasCleanDisk (state S.Store self.old.connection) }
-        ensures done { HasCleanDisk (state S.Store self.new.connection) → (content : List StoredPart) → HoldsParts (state S.Store self.old.connection) content → OnOk result (IsOnly (sqlite_store (state S.Store self.new.connection) self.new.faults) (Parts (all_changed (map change_of parts.now) content))) }
-        ensures refused { HasCleanDisk (state S.Store self.new.connection) → (content : List StoredPart) → HoldsParts (state S.Store self.old.connection) content → OnErr result ((other : Found) → LeavesFound (state S.Store self.new.connection) other → LeavesFound (state S.Store self.old.connection) other ⊎ (other ≡ Parts (all_changed (map change_of parts.now) content))) }
-        ensures some { HasCleanDisk (state S.Store self.new.connection) → (content : List StoredPart) → IsOnly (sqlite_store (state S.Store self.old.connection) self.old.faults) (Parts content) → FindsSome (sqlite_store (state S.Store self.new.connection) self.new.faults) }
+        ensures done { HasCleanDisk (state S.Store self.new.connection) → (content : List StoredPart) →
+            HoldsParts (state S.Store self.old.connection) content →
+            OnOk result (IsOnly (sqlite_store (state S.Store self.new.connection) self.new.faults) (Parts (all_changed (map part_change parts.now) content))) }
+        ensures refused { HasCleanDisk (state S.Store self.new.connection) → (content : List StoredPart) →
+            HoldsParts (state S.Store self.old.connection) content → OnErr result ((other : Found) →
+            LeavesFound (state S.Store self.new.connection) other → LeavesFound (state S.Store self.old.connection) other
+            ⊎ (other ≡ Parts (all_changed (map part_change parts.now) content))) }
+        ensures some { HasCleanDisk (state S.Store self.new.connection) → (content : List StoredPart) →
+            IsOnly (sqlite_store (state S.Store self.old.connection) self.old.faults) (Parts content) →
+            FindsSome (sqlite_store (state S.Store self.new.connection) self.new.faults) }
         ensures faults { self.old.faults ≤ self.new.faults }
-        ensures cause { IfErr result (λ fault. IsCommitFault (sqlite_store (state S.Store self.old.connection) self.old.faults) (sqlite_store (state S.Store self.new.connection) self.new.faults) (all_changed (map change_of parts.now)) fault) }
+        ensures cause { IfErr result (λ fault. IsCommitFault (sqlite_store (state S.Store self.old.connection) self.old.faults) (sqlite_store
+            (state S.Store self.new.connection) self.new.faults) (all_changed (map part_change parts.now)) fault) }
         ensures counted { CountsOnce self.old.faults self.new.faults result }
-        ensures crash { HasCleanDisk (state S.Store self.new.connection) → (content : List StoredPart) → HoldsParts (state S.Store self.old.connection) content → (db : Trees) → (state S.Store self.new.connection).may_leave db → (state S.Store self.old.connection).may_leave db ⊎ StoresParts db (all_changed (map change_of parts.now) content) }
-        ensures told { HasCleanDisk (state S.Store self.new.connection) → (state S.Store self.old.connection).in_transaction ≡ false → IfErr result (IsTold (RefusesChanges S.Store (map change_of parts.now) self.old.connection self.new.connection)) }
+        ensures crash { HasCleanDisk (state S.Store self.new.connection) → (content : List StoredPart) →
+            HoldsParts (state S.Store self.old.connection) content → (db : Trees) → (state S.Store self.new.connection).may_leave db →
+            (state S.Store self.old.connection).may_leave db ⊎ StoresParts db (all_changed (map part_change parts.now) content) }
+        ensures told { HasCleanDisk (state S.Store self.new.connection) → (state S.Store self.old.connection).in_transaction ≡ false →
+            IfErr result (IsToldFault (RefusesChanges S.Store (map part_change parts.now) self.old.connection self.new.connection)) }
         ensures outside { (state S.Store self.old.connection).in_transaction ≡ false → (state S.Store self.new.connection).in_transaction ≡ false }
     {
         if parts.is_empty() {

@@ -6,9 +6,9 @@ use Rattle.std.proofs.lemmas.Bool.Decides.{nat_tests}
 use Rattle.std.proofs.lemmas.List.Quantifiers.{position-Some}
 use Rattle.csi_lists.proofs.Options.{some_is_not_none}
 use Rattle.csi_stores.specs.declared.entries.Entry.{Entry}
-use Rattle.csi_stores.specs.Part.{StoredPart}
-use Rattle.csi_stores.specs.Content.{put_in}
-use Rattle.csi_stores.specs.Memory.{stored, all_stored}
+use Rattle.csi_stores.specs.Public.Part.{StoredPart}
+use Rattle.csi_stores.specs.Public.Content.{put_in}
+use Rattle.csi_stores.specs.Public.Memory.{stored, all_stored}
 
 -- before a greater or an equal key the others stay
 put-behind : (part other : StoredPart) (others parts : List StoredPart) → nat_le part.key other.key ≡ false → put_in part others ≡ parts → put_in part (other ∷ others) ≡ other ∷ parts

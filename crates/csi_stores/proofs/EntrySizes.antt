@@ -2,9 +2,9 @@
 use Rattle.std.proofs.Common.{◌≡◌, ℕ, ◌+◌, ◌<◌, ◌≤◌, zero, suc, List, [], ◌∷◌, length, get_or, take, ap, arith}
 use Rattle.std.proofs.lemmas.List.Sums.{sum_by-cons}
 use Rattle.csi_stores.specs.declared.entries.Entry.{Entry}
-use Rattle.csi_stores.specs.Part.{StoredPart}
-use Rattle.csi_stores.specs.Content.{size_of}
-use Rattle.csi_stores.specs.Memory.{stored, all_stored}
+use Rattle.csi_stores.specs.Public.Part.{StoredPart}
+use Rattle.csi_stores.specs.Public.Content.{size_of}
+use Rattle.csi_stores.specs.Public.Memory.{stored, all_stored}
 
 -- a part more takes 8 bytes and those of its value
 size-more : (part : StoredPart) (parts : List StoredPart) → size_of (part ∷ parts) ≡ 8 + length part.value + size_of parts

@@ -1,3 +1,4 @@
+pub mod Failures
 pub mod EntryPlaces
 pub mod EntrySizes
 pub mod MemoryStores

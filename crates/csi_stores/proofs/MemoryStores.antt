@@ -1,7 +1,7 @@
 -- What opening a store in memory again finds.
 use Rattle.std.proofs.Common.{◌∙◌, ap, sym}
-use Rattle.csi_stores.specs.Stores.{Found, Parts, Foreign, Unlisted, Has, IsOnly}
-use Rattle.csi_stores.specs.Memory.{Memory, memory_store}
+use Rattle.csi_stores.specs.Public.Stores.{Found, Parts, Foreign, Unlisted, Has, IsOnly}
+use Rattle.csi_stores.specs.Public.Memory.{Memory, memory_store}
 
 -- what it has is found, and nothing else
 pub settled : (memory : Memory) (found : Found) → Has (memory_store memory) found → IsOnly (memory_store memory) found

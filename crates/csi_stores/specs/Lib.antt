@@ -1,5 +1,1 @@
-pub mod Part
-pub mod Content
-pub mod Keeping
-pub mod Memory
-pub mod Stores
+pub mod Public

@@ -1,8 +1,8 @@
 //! Parts in memory, by rising key.
 ghost use Rattle.std.specs.Prelude.{◌≡◌, ◌++◌, ◌∷◌, [], map, OnOk, IfOk, nat_le, position, Some};
-ghost use Rattle.csi_stores.specs.Content.{put_in, take_out, changed_to, all_changed, size_of};
-ghost use Rattle.csi_stores.specs.Part.{change_of};
-ghost use Rattle.csi_stores.specs.Memory.{stored, all_stored};
+ghost use Rattle.csi_stores.specs.Public.Content.{put_in, take_out, changed_to, all_changed, size_of};
+ghost use Rattle.csi_stores.specs.Public.Part.{part_change};
+ghost use Rattle.csi_stores.specs.Public.Memory.{stored, all_stored};
 
 use crate::part::Part;
 use csi_types::NoMemory;
@@ -80,7 +80,7 @@ fn take(entries: &mut Vec<Entry>, key: u64)
 
 // Makes one change.
 fn change(alloc: Global, entries: &mut Vec<Entry>, part: &Part) -> Result<(), NoMemory>
-    ensures { OnOk result (all_stored entries.new.items ≡ changed_to (change_of part.now).key (change_of part.now).value (all_stored entries.old.items)) }
+    ensures { OnOk result (all_stored entries.new.items ≡ changed_to (part_change part.now).key (part_change part.now).value (all_stored entries.old.items)) }
 {
     match &part.value {
         Some(value) => put(entries, part.key, Vec::from_slice(alloc, value)?),
@@ -97,7 +97,7 @@ pub(crate) fn change_all(
     entries: &mut Vec<Entry>,
     parts: &[Part],
 ) -> Result<(), NoMemory>
-    ensures { OnOk result (all_stored entries.new.items ≡ all_changed (map change_of parts.now) (all_stored entries.old.items)) }
+    ensures { OnOk result (all_stored entries.new.items ≡ all_changed (map part_change parts.now) (all_stored entries.old.items)) }
 {
     for part in parts {
         change(alloc, entries, part)?;

@@ -1,9 +1,9 @@
 //! Where records are kept.
 ghost use Rattle.std.specs.Prelude.{◌≡◌, ◌≤◌, ◌⊎◌, ℕ, List, map, IfOk, IfErr, OnOk, OnErr};
-ghost use Rattle.csi_stores.specs.Part.{StoredPart, put_all, change_of};
-ghost use Rattle.csi_stores.specs.Content.{all_changed};
-ghost use Rattle.csi_stores.specs.Keeping.{RefusesAt};
-ghost use Rattle.csi_stores.specs.Stores.{Store, Found, Parts, IsOnly, FindsSome, IsLoadFault, IsCommitFault};
+ghost use Rattle.csi_stores.specs.Public.Part.{StoredPart, put_all, part_change};
+ghost use Rattle.csi_stores.specs.Public.Content.{all_changed};
+ghost use Rattle.csi_stores.specs.Public.Keeping.{RefusesAt};
+ghost use Rattle.csi_stores.specs.Public.Stores.{Store, Found, Parts, IsOnly, FindsSome, IsLoadFault, IsCommitFault};
 
 use crate::part::Part;
 use csi_types::NoMemory;
@@ -46,8 +46,10 @@ pub trait Keep {
     /// What opening again may find only gets less, and never nothing; where the parts were given, opening again finds them alone.
     fn load(&mut self) -> Result<Vec<Part>, KeepFault>
         ensures honest { (store self.new).honest → (store self.old).honest }
-        ensures parts { (store self.new).honest → (content : List StoredPart) → (store self.old).holds content → IfOk result (λ parts. map change_of parts.items ≡ put_all content) }
-        ensures stays { (store self.new).honest → (content : List StoredPart) → (store self.old).holds content → OnOk result (IsOnly (store self.new) (Parts content)) }
+        ensures parts { (store self.new).honest → (content : List StoredPart) → (store self.old).holds content →
+            IfOk result (λ parts. map part_change parts.items ≡ put_all content) }
+        ensures stays { (store self.new).honest → (content : List StoredPart) → (store self.old).holds content →
+            OnOk result (IsOnly (store self.new) (Parts content)) }
         ensures foreign { (store self.new).honest → (place : ℕ) → (store self.old).foreign place → RefusesAt place result }
         ensures left { (store self.new).honest → (found : Found) → (store self.new).leaves found → (store self.old).leaves found }
         ensures some { (store self.new).honest → (found : Found) → IsOnly (store self.old) found → FindsSome (store self.new) }
@@ -61,14 +63,14 @@ pub trait Keep {
     fn commit(&mut self, parts: &[Part]) -> Result<(), KeepFault>
         ensures honest { (store self.new).honest → (store self.old).honest }
         ensures done { (store self.new).honest → (content : List StoredPart) → (store self.old).holds content →
-            OnOk result (IsOnly (store self.new) (Parts (all_changed (map change_of parts.now) content))) }
+            OnOk result (IsOnly (store self.new) (Parts (all_changed (map part_change parts.now) content))) }
         ensures refused { (store self.new).honest → (content : List StoredPart) → (store self.old).holds content →
-            OnErr result ((other : Found) → (store self.new).leaves other → (store self.old).leaves other ⊎ (other ≡ Parts (all_changed (map change_of parts.now) content))) }
+            OnErr result ((other : Found) → (store self.new).leaves other → (store self.old).leaves other ⊎ (other ≡ Parts (all_changed (map part_change parts.now) content))) }
         ensures some { (store self.new).honest → (content : List StoredPart) → IsOnly (store self.old) (Parts content) → FindsSome (store self.new) }
         ensures room { (content : List StoredPart) → (store self.old).fits content → (store self.new).fits content }
         ensures no_more_room { (content : List StoredPart) → (store self.new).fits content → (store self.old).fits content }
         ensures faults { (store self.old).faults ≤ (store self.new).faults }
-        ensures cause { IfErr result (λ fault. IsCommitFault (store self.old) (store self.new) (all_changed (map change_of parts.now)) fault) };
+        ensures cause { IfErr result (λ fault. IsCommitFault (store self.old) (store self.new) (all_changed (map part_change parts.now)) fault) };
 
     /// How often the device failed so far; a count of 2^64 - 1 stays. It takes no memory.
     fn faults(&self) -> u64

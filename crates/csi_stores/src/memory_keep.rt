@@ -1,9 +1,9 @@
 //! A store in memory.
 ghost use Rattle.std.specs.Prelude.{◌≡◌, ◌≤◌, ◌<◌, ◌⊎◌, [], map, IfOk, IfErr, OnOk, OnErr, IsOk};
-ghost use Rattle.csi_stores.specs.Part.{put_all, change_of};
-ghost use Rattle.csi_stores.specs.Content.{all_changed, size_of};
-ghost use Rattle.csi_stores.specs.Memory.{Memory, all_stored, memory_store};
-ghost use Rattle.csi_stores.specs.Stores.{IsSettled};
+ghost use Rattle.csi_stores.specs.Public.Part.{put_all, part_change};
+ghost use Rattle.csi_stores.specs.Public.Content.{all_changed, size_of};
+ghost use Rattle.csi_stores.specs.Public.Memory.{Memory, all_stored, memory_store};
+ghost use Rattle.csi_stores.specs.Public.Stores.{IsSettled};
 
 use crate::entries::{Entry, change_all, copies_of, fit};
 use crate::keep::{Keep, KeepFault};
@@ -23,7 +23,7 @@ pub struct MemoryKeep {
 }
 
 impl Model for MemoryKeep {
-    ghost use Rattle.csi_stores.specs.Memory.{Memory, IsMemory, all_stored};
+    ghost use Rattle.csi_stores.specs.Public.Memory.{Memory, IsMemory, all_stored};
 
     ghost Value = { Memory };
 
@@ -34,7 +34,7 @@ impl Model for MemoryKeep {
 
 // The parts that put these entries in.
 fn parts_of(alloc: Global, entries: &[Entry]) -> Result<Vec<Part>, NoMemory>
-    ensures { IfOk result (λ parts. map change_of parts.items ≡ put_all (all_stored entries.now)) }
+    ensures { IfOk result (λ parts. map part_change parts.items ≡ put_all (all_stored entries.now)) }
 {
     let mut parts = Vec::with_capacity(alloc, entries.len())?;
     for entry in entries {
@@ -64,12 +64,12 @@ impl MemoryKeep {
 }
 
 impl Keep for MemoryKeep {
-    ghost use Rattle.csi_stores.specs.Memory.{memory_store};
+    ghost use Rattle.csi_stores.specs.Public.Memory.{memory_store};
 
     ghost store = { memory_store };
 
     fn load(&mut self) -> Result<Vec<Part>, KeepFault>
-        ensures parts { IfOk result (λ parts. map change_of parts.items ≡ put_all self.old.parts) }
+        ensures parts { IfOk result (λ parts. map part_change parts.items ≡ put_all self.old.parts) }
         ensures same { self.new ≡ self.old }
         ensures cause { IfErr result (λ fault. fault ≡ KeepFault.NoMemory) }
     {
@@ -77,11 +77,12 @@ impl Keep for MemoryKeep {
     }
 
     fn commit(&mut self, parts: &[Part]) -> Result<(), KeepFault>
-        ensures done { OnOk result (self.new.parts ≡ all_changed (map change_of parts.now) self.old.parts) }
-        ensures fits { OnOk result (size_of (all_changed (map change_of parts.now) self.old.parts) ≤ self.old.limit) }
+        ensures done { OnOk result (self.new.parts ≡ all_changed (map part_change parts.now) self.old.parts) }
+        ensures fits { OnOk result (size_of (all_changed (map part_change parts.now) self.old.parts) ≤ self.old.limit) }
         ensures limit { self.new.limit ≡ self.old.limit }
         ensures refused { OnErr result (self.new ≡ self.old) }
-        ensures cause { IfErr result (λ fault. (fault ≡ KeepFault.NoMemory) ⊎ ((fault ≡ KeepFault.Full) × (self.old.limit < size_of (all_changed (map change_of parts.now) self.old.parts)))) }
+        ensures cause { IfErr result (λ fault. (fault ≡ KeepFault.NoMemory)
+            ⊎ ((fault ≡ KeepFault.Full) × (self.old.limit < size_of (all_changed (map part_change parts.now) self.old.parts)))) }
         ensures nothing { parts.now ≡ [] → IsOk result }
     {
         let limit = self.limit;

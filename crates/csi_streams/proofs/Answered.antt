@@ -4,26 +4,27 @@ use Rattle.std.specs.List.{flat_map}
 use Rattle.std.specs.Option.{option_to_list}
 use Rattle.std.proofs.lemmas.List.{append-nil}
 use Rattle.std.proofs.lemmas.List.Concat.{flat_map-append}
-use Rattle.csi_types.specs.Config.{Config}
+use Rattle.csi_types.specs.Model.Config.{Config}
 use Rattle.csi_types.specs.declared.number.Number.{Number}
 use Rattle.csi_types.specs.declared.call.Party.{Party}
 use Rattle.csi_types.specs.declared.frame.Body.{Body}
 use Rattle.csi_types.specs.declared.frame.Body.TheVariants as bodies
-use Rattle.csi_types.specs.Frame.{Frame}
-use Rattle.csi_frames.specs.Lent.{call_in, call_of}
-use Rattle.csi_frames.specs.Spelling.{spelling}
-use Rattle.csi_controller.specs.State.{ControllerState, empty_controller}
-use Rattle.csi_fence.specs.Fenced.{Fenced, fenced_parts}
-use Rattle.csi_controller.specs.Fenced.{controller_with, fenced, after_frames}
-use Rattle.csi_controller.specs.Core.{Parts, Shows}
-use Rattle.csi_streams.specs.Answering.{HasAnswered}
-use Rattle.csi_streams.specs.Streaming.{AreReplies}
-use Rattle.csi_streams.specs.Handling.{Handles}
-use Rattle.csi_streams.specs.Replay.{replay_config, replies_from, answered}
+use Rattle.csi_types.specs.Model.Frame.{Frame}
+use Rattle.csi_frames.specs.Public.Lent.{call_in, call_of}
+use Rattle.csi_frames.specs.Public.Spelling.{spelling}
+use Rattle.csi_controller.specs.Model.State.{ControllerState, empty_controller}
+use Rattle.csi_fence.specs.Model.Fenced.{Fenced, fenced_parts}
+use Rattle.csi_controller.specs.Model.Fenced.{controller_with, fenced}
+use Rattle.csi_controller.specs.Public.Fenced.{after_frames}
+use Rattle.csi_controller.specs.Model.Core.{ControllerParts, Shows}
+use Rattle.csi_streams.specs.Private.Answering.{HasAnswered}
+use Rattle.csi_streams.specs.Public.Streaming.{AreReplies}
+use Rattle.csi_streams.specs.Private.Handling.{Handles}
+use Rattle.csi_streams.specs.Public.Replay.{replay_config, replies_from, spelled_replies}
 
 -- the replies to no frames have no bytes
-pub answered-none : answered [] ≡ []
-unfolding answered
+pub answered-none : spelled_replies [] ≡ []
+unfolding spelled_replies
 answered-none = refl
 
 -- the state after frames and one more is what that one leaves of the state after the frames
@@ -39,12 +40,12 @@ replies_from-push state (f ∷ frames) frame =
     ∙ sym (append_assoc (option_to_list (fenced replay_config state f).reply) (replies_from (fenced replay_config state f).state frames) _)
 
 -- the bytes of the replies to frames and one more are those of the replies to the frames, and then of the one to that frame
-pub answered-push : (frames : List Frame) (frame : Frame) → answered (frames ++ frame ∷ []) ≡ answered frames ++ flat_map spelling (option_to_list (fenced replay_config (after_frames replay_config empty_controller frames) frame).reply)
-unfolding answered
+pub answered-push : (frames : List Frame) (frame : Frame) → spelled_replies (frames ++ frame ∷ []) ≡ spelled_replies frames ++ flat_map spelling (option_to_list (fenced replay_config (after_frames replay_config empty_controller frames) frame).reply)
+unfolding spelled_replies
 answered-push frames frame = ap (flat_map spelling) (replies_from-push empty_controller frames frame) ∙ flat_map-append spelling (replies_from empty_controller frames) _
 
 -- one frame more was answered
-pub answered_more : (frames : List Frame) (frame : Frame) (old new : Parts) (reply : Option Frame) (before after : List ℕ) → HasAnswered old frames
+pub answered_more : (frames : List Frame) (frame : Frame) (old new : ControllerParts) (reply : Option Frame) (before after : List ℕ) → HasAnswered old frames
     → reply ≡ (fenced old.config (after_frames replay_config empty_controller frames) frame).reply → Shows new (fenced old.config (after_frames replay_config empty_controller frames) frame).state → new.config ≡ old.config
     → after ≡ before ++ flat_map spelling (option_to_list reply) → Handles HasAnswered AreReplies frames frame new before after
 answered_more frames frame old new reply before after has replied shown same appended =
@@ -58,7 +59,7 @@ answered_more frames frame old new reply before after has replied shown same app
       appended = appended;
       given = λ bytes is.
           ap (λ (front : List ℕ). front ++ flat_map spelling (option_to_list reply)) is
-          ∙ ap (λ (r : Option Frame). answered frames ++ flat_map spelling (option_to_list r)) (replied ∙ ap (λ (config : Config). (fenced config state frame).reply) has.config)
+          ∙ ap (λ (r : Option Frame). spelled_replies frames ++ flat_map spelling (option_to_list r)) (replied ∙ ap (λ (config : Config). (fenced config state frame).reply) has.config)
           ∙ sym (answered-push frames frame);
     }
 
@@ -68,7 +69,7 @@ silent config state number party (bodies.Call call) e = absurd cc
 silent config state number party (bodies.Reply kind reply) e = refl
 
 -- a reply gets no answer, and changes nothing
-pub answered_none : (frames : List Frame) (frame : Frame) (parts : Parts) (bytes : List ℕ) → HasAnswered parts frames → None ≡ call_of frame → Handles HasAnswered AreReplies frames frame parts bytes bytes
+pub answered_none : (frames : List Frame) (frame : Frame) (parts : ControllerParts) (bytes : List ℕ) → HasAnswered parts frames → None ≡ call_of frame → Handles HasAnswered AreReplies frames frame parts bytes bytes
 answered_none frames frame parts bytes has is =
     let state : ControllerState = after_frames replay_config empty_controller frames in
     let same = sym (silent parts.config state frame.number frame.party frame.body is) in

@@ -4,15 +4,15 @@ use Rattle.std.specs.List.{flat_map}
 use Rattle.std.specs.Fmt.{decimal}
 use Rattle.std.proofs.lemmas.List.{append-nil}
 use Rattle.csi_types.specs.declared.capability.Capability.{Capability}
-use Rattle.csi_types.specs.Frame.{Frame}
-use Rattle.csi_frames.specs.Spelling.{spelling}
-use Rattle.csi_streams.specs.declared.answers.AnswerFault.{AnswerFault}
+use Rattle.csi_types.specs.Model.Frame.{Frame}
+use Rattle.csi_frames.specs.Public.Spelling.{spelling}
+use Rattle.csi_types.specs.declared.memory.NoMemory.{NoMemory}
 use Rattle.csi_streams.specs.declared.lines.Lines.{Lines}
-use Rattle.csi_streams.specs.Handling.{Handles}
-use Rattle.csi_streams.specs.Shown.{capability_word, capability_words, frame_words}
-use Rattle.csi_streams.specs.Lines.{with_blanks, frame_line, lines_from, lines}
-use Rattle.csi_streams.specs.Showing.{HasShown, after_blanks}
-use Rattle.csi_streams.specs.Streaming.{AreLines}
+use Rattle.csi_streams.specs.Private.Handling.{Handles}
+use Rattle.csi_streams.specs.Public.Shown.{capability_word, capability_words, frame_words}
+use Rattle.csi_streams.specs.Public.Lines.{with_blanks, frame_line, lines_from, lines}
+use Rattle.csi_streams.specs.Private.Showing.{HasShown, after_blanks}
+use Rattle.csi_streams.specs.Public.Streaming.{AreLines}
 
 -- words with blanks between them are the first, and the others with a blank before each
 pub with_blanks-after : (word : List ℕ) (words : List (List ℕ)) → with_blanks (word ∷ words) ≡ word ++ after_blanks words
@@ -54,7 +54,7 @@ lines-push frames frame =
     lines_from-push 0 frames frame ∙ ap (λ (at : ℕ). lines_from 0 frames ++ frame_line at frame) here
 
 -- where the line of a frame was appended, in its place, one frame more was shown
-pub shown_more : (frames : List Frame) (frame : Frame) (place : ℕ) (shown : Lines) (before after : List ℕ) (result : Result (Unit {0}) AnswerFault) → place ≡ length (flat_map spelling frames) → OnOk result (after ≡ before ++ frame_line place frame)
+pub shown_more : (frames : List Frame) (frame : Frame) (place : ℕ) (shown : Lines) (before after : List ℕ) (result : Result (Unit {0}) NoMemory) → place ≡ length (flat_map spelling frames) → OnOk result (after ≡ before ++ frame_line place frame)
     → OnOk result (Handles HasShown AreLines frames frame shown before after)
 shown_more frames frame place shown before after (Ok done) here appended = record {
   handled = tt;

@@ -1,11 +1,2 @@
-pub mod Replay
-pub mod Shown
-pub mod Lines
-pub mod Streaming
-pub mod Failing
-pub mod Answering
-pub mod Showing
-pub mod Progress
-pub mod Handling
-pub mod Passing
-pub mod Worked
+pub mod Public
+pub mod Private

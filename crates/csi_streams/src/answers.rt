@@ -1,30 +1,31 @@
 //! A stream of frames, answered by a new controller.
 ghost use Rattle.std.specs.Prelude.{◌≡◌, ◌++◌, ◌∷◌, [], ℕ, List, length, IfOk, IfErr, OnOk, OnErr};
 ghost use Rattle.std.specs.List.{flat_map};
-ghost use Rattle.csi_frames.specs.Spelling.{spelling};
+ghost use Rattle.csi_frames.specs.Public.Spelling.{spelling};
 ghost use Rattle.csi_types.specs.declared.call.Party.{Party as OneParty};
-ghost use Rattle.csi_types.specs.Frame.{Frame as FrameParts, IsAllowed};
-ghost use Rattle.csi_types.specs.Lent.{lent_call, HasFitTexts};
-ghost use Rattle.csi_types.specs.Replies.{call_frame};
-ghost use Rattle.csi_frames.specs.Stream.{FramesOf};
-ghost use Rattle.csi_controller.specs.State.{ControllerState, empty_controller};
-ghost use Rattle.csi_controller.specs.Core.{Shows};
-ghost use Rattle.csi_controller.specs.Step.{answer_frame};
-ghost use Rattle.csi_streams.specs.Replay.{replay_config, answered, AppendsAll, Fails};
-ghost use Rattle.csi_streams.specs.Answering.{HasAnswered};
-ghost use Rattle.csi_streams.specs.Failing.{TellsReader, TellsWriter};
-ghost use Rattle.csi_streams.specs.Streaming.{AreReplies, Streams};
-ghost use Rattle.csi_streams.specs.Handling.{Handles};
+ghost use Rattle.csi_types.specs.Model.Frame.{Frame as FrameParts};
+ghost use Rattle.csi_types.specs.Public.Frame.{IsAllowed};
+ghost use Rattle.csi_types.specs.Public.Lent.{lent_call, HasFitTexts};
+ghost use Rattle.csi_types.specs.Model.Replies.{call_frame};
+ghost use Rattle.csi_frames.specs.Public.Stream.{FramesOf};
+ghost use Rattle.csi_controller.specs.Model.State.{ControllerState, empty_controller};
+ghost use Rattle.csi_controller.specs.Model.Core.{Shows};
+ghost use Rattle.csi_controller.specs.Public.Step.{answer_frame};
+ghost use Rattle.csi_streams.specs.Public.Replay.{replay_config, spelled_replies, AppendsAll, Fails};
+ghost use Rattle.csi_streams.specs.Private.Answering.{HasAnswered};
+ghost use Rattle.csi_streams.specs.Public.Failing.{TellsReader, TellsWriter};
+ghost use Rattle.csi_streams.specs.Public.Streaming.{AreReplies, IsStreamed};
+ghost use Rattle.csi_streams.specs.Private.Handling.{Handles};
 
 use crate::handler::Handler;
 use crate::slices::handle_slice;
 use crate::streaming::{StreamFault, handle_stream};
 use csi_controller::Controller;
-use csi_counted::Counted;
 use csi_fence::{Answer, CoreFault};
 use csi_frames::{FaultKind, FrameRef, encode_reply};
+use csi_stores::Counted;
 use csi_types::{Body, CallRef, Config, MAX_CAPACITY, NoMemory, Number, Party};
-use std::alloc::{AllocError, Global};
+use std::alloc::Global;
 use std::io::{Read, Write};
 use thiserror::Error;
 
@@ -38,41 +39,6 @@ pub enum AnswerFault {
     /// An allocation was refused.
     #[error("out of memory")]
     NoMemory,
-}
-
-impl From<NoMemory> for AnswerFault {
-    ghost use Rattle.std.specs.Prelude.{◌≡◌};
-    ghost use Rattle.csi_streams.specs.declared.answers.AnswerFault.TheVariants.{NoMemory as Refused};
-
-    ghost from_gives = { λ _ fault. fault ≡ Refused };
-
-    fn from(_refused: NoMemory) -> AnswerFault {
-        AnswerFault::NoMemory
-    }
-}
-
-impl From<CoreFault> for AnswerFault {
-    ghost use Rattle.std.specs.Prelude.{◌≡◌};
-    ghost use Rattle.csi_streams.specs.declared.answers.AnswerFault.TheVariants.{NoMemory as Refused};
-
-    ghost from_gives = { λ _ fault. fault ≡ Refused };
-
-    fn from(fault: CoreFault) -> AnswerFault {
-        match fault {
-            CoreFault::NoMemory => AnswerFault::NoMemory,
-        }
-    }
-}
-
-impl From<AllocError> for AnswerFault {
-    ghost use Rattle.std.specs.Prelude.{◌≡◌};
-    ghost use Rattle.csi_streams.specs.declared.answers.AnswerFault.TheVariants.{NoMemory as Refused};
-
-    ghost from_gives = { λ _ fault. fault ≡ Refused };
-
-    fn from(_refused: AllocError) -> AnswerFault {
-        AnswerFault::NoMemory
-    }
 }
 
 // Appends the frame of the controller's answer. An `Err` appends nothing.
@@ -90,20 +56,17 @@ fn answer_call(
     number: Number,
     call: &CallRef<'_>,
     out: &mut Vec<u8>,
-) -> Result<(), AnswerFault>
-    ensures ok { (frames : List FrameParts) (party : OneParty) → HasAnswered controller.old frames → IsAllowed party (Body.Call (lent_call call.now)) → HasFitTexts (lent_call call.now)
+) -> Result<(), NoMemory>
+    ensures ok { (frames : List FrameParts) (party : OneParty) → HasAnswered controller.old frames →
+        IsAllowed party (Body.Call (lent_call call.now)) → HasFitTexts (lent_call call.now)
         → OnOk result (Handles HasAnswered AreReplies frames (call_frame number party (lent_call call.now)) controller.new out.old.items out.new.items) }
-    ensures fault { IfErr result (λ fault. fault ≡ AnswerFault.NoMemory) }
     ensures err { OnErr result (out.new.items ≡ out.old.items) }
 {
     // By a `?` the answer would be copied once more.
     match controller.answer(number, call) {
-        Ok(Some(answer)) => match append(number, &answer, out) {
-            Ok(()) => Ok(()),
-            Err(refused) => Err(AnswerFault::from(refused)),
-        },
+        Ok(Some(answer)) => append(number, &answer, out),
         Ok(None) => Ok(()),
-        Err(fault) => Err(AnswerFault::from(fault)),
+        Err(CoreFault::NoMemory) => Err(NoMemory),
     }
 }
 
@@ -115,14 +78,13 @@ impl Handler for Controller {
 
     fn handle(
         &mut self,
-        alloc: Global,
+        _alloc: Global,
         _place: u64,
         frame: &FrameRef<'_>,
         out: &mut Vec<u8>,
-    ) -> Result<(), AnswerFault> {
-        let capabilities = frame.capabilities(alloc)?;
-        match frame.call(&capabilities) {
-            Some(call) => answer_call(self, frame.number(), &call, out),
+    ) -> Result<(), NoMemory> {
+        match frame.call() {
+            Some(call) => answer_call(self, frame.number(), call, out),
             None => Ok(()),
         }
     }
@@ -147,12 +109,11 @@ pub fn answer(alloc: Global, input: &[u8], out: &mut Vec<u8>) -> Result<u64, Ans
     ensures stream { (frames : List FrameParts) × (rest : List ℕ) × FramesOf input.now frames rest }
     // and these frames were answered.
     ensures ok { (frames : List FrameParts) (rest : List ℕ) → FramesOf input.now frames rest →
-        IfOk result (λ count. (count ≡ length frames) × AppendsAll answered frames rest out.old.items out.new.items) }
+        IfOk result (λ count. (count ≡ length frames) × AppendsAll spelled_replies frames rest out.old.items out.new.items) }
     ensures fault { (frames : List FrameParts) (rest : List ℕ) → FramesOf input.now frames rest →
-        IfErr result (Fails answered frames rest out.old.items out.new.items) }
+        IfErr result (Fails spelled_replies frames rest out.old.items out.new.items) }
 {
-    let mut controller = new_controller(alloc);
-    handle_slice(alloc, &mut controller, input, out)
+    handle_slice(alloc, new_controller(alloc), input, out)
 }
 
 /// The same of the frames that `reader` has: reads at most 65,536 bytes at a time, and writes and flushes the replies to the frames
@@ -164,11 +125,11 @@ pub fn answer_from<R: Read, W: Write>(
     reader: &mut Counted<R>,
     writer: &mut Counted<W>,
 ) -> Result<u64, StreamFault>
-    ensures streams { Streams AreReplies (R.remaining reader.old.inner) (R.remaining reader.new.inner) (W.contents writer.old.inner) (W.contents writer.new.inner) result }
+    ensures streams { IsStreamed AreReplies (R.remaining reader.old.inner) (R.remaining reader.new.inner) (W.contents writer.old.inner)
+        (W.contents writer.new.inner) result }
     // A device that failed is told, and no other: the reader failed at `Input` and at no other end, the writer at `Output`.
     ensures reader { TellsReader reader.old.faults reader.new.faults result }
     ensures writer { TellsWriter writer.old.faults writer.new.faults result }
 {
-    let mut controller = new_controller(alloc);
-    handle_stream(alloc, &mut controller, reader, writer)
+    handle_stream(alloc, new_controller(alloc), reader, writer)
 }

@@ -2,7 +2,7 @@
 #![tactic(auto)]
 
 mod answers;
-mod frames;
+mod giving;
 mod handler;
 mod lines;
 mod shown;

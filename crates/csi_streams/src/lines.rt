@@ -1,21 +1,21 @@
 //! A stream of frames, shown in lines.
 ghost use Rattle.std.specs.Prelude.{◌≡◌, ◌++◌, ℕ, List, [], IfErr, OnOk, OnErr};
-ghost use Rattle.csi_types.specs.Frame.{Frame as FrameParts};
-ghost use Rattle.csi_frames.specs.Stream.{FramesOf};
-ghost use Rattle.csi_streams.specs.Lines.{frame_line, lines as lines_of};
-ghost use Rattle.csi_streams.specs.Replay.{AppendsAll, Fails};
-ghost use Rattle.csi_streams.specs.Showing.{HasShown};
-ghost use Rattle.csi_streams.specs.Failing.{TellsReader, TellsWriter};
-ghost use Rattle.csi_streams.specs.Streaming.{AreLines, Streams};
+ghost use Rattle.csi_types.specs.Model.Frame.{Frame as FrameParts};
+ghost use Rattle.csi_frames.specs.Public.Stream.{FramesOf};
+ghost use Rattle.csi_streams.specs.Public.Lines.{frame_line, lines as lines_of};
+ghost use Rattle.csi_streams.specs.Public.Replay.{AppendsAll, Fails};
+ghost use Rattle.csi_streams.specs.Private.Showing.{HasShown};
+ghost use Rattle.csi_streams.specs.Public.Failing.{TellsReader, TellsWriter};
+ghost use Rattle.csi_streams.specs.Public.Streaming.{AreLines, IsStreamed};
 
 use crate::answers::AnswerFault;
 use crate::handler::Handler;
 use crate::shown::ShownFrame;
 use crate::slices::handle_slice;
 use crate::streaming::{StreamFault, handle_stream};
-use csi_counted::Counted;
 use csi_frames::FrameRef;
-use csi_types::Frame;
+use csi_stores::Counted;
+use csi_types::{Frame, NoMemory};
 use std::alloc::Global;
 use std::io::{Read, Write};
 
@@ -25,9 +25,8 @@ fn append_line(
     place: u64,
     frame: &Frame,
     out: &mut Vec<u8>,
-) -> Result<(), AnswerFault>
+) -> Result<(), NoMemory>
     ensures ok { OnOk result (out.new.items ≡ out.old.items ++ frame_line place frame.now) }
-    ensures fault { IfErr result (λ fault. fault ≡ AnswerFault.NoMemory) }
     ensures err { OnErr result (out.new.items ≡ out.old.items) }
 {
     let frame = ShownFrame(frame);
@@ -54,7 +53,7 @@ impl Handler for Lines {
         place: u64,
         frame: &FrameRef<'_>,
         out: &mut Vec<u8>,
-    ) -> Result<(), AnswerFault> {
+    ) -> Result<(), NoMemory> {
         let frame = frame.to_frame(alloc)?;
         append_line(&mut self.line, place, &frame, out)
     }
@@ -78,8 +77,7 @@ pub fn show(alloc: Global, input: &[u8], out: &mut Vec<u8>) -> Result<(), Answer
     ensures fault { (frames : List FrameParts) (rest : List ℕ) → FramesOf input.now frames rest →
         IfErr result (Fails lines_of frames rest out.old.items out.new.items) }
 {
-    let mut lines = new_lines(alloc);
-    match handle_slice(alloc, &mut lines, input, out) {
+    match handle_slice(alloc, new_lines(alloc), input, out) {
         Ok(_) => Ok(()),
         Err(fault) => Err(fault),
     }
@@ -95,11 +93,11 @@ pub fn show_from<R: Read, W: Write>(
     reader: &mut Counted<R>,
     writer: &mut Counted<W>,
 ) -> Result<u64, StreamFault>
-    ensures streams { Streams AreLines (R.remaining reader.old.inner) (R.remaining reader.new.inner) (W.contents writer.old.inner) (W.contents writer.new.inner) result }
+    ensures streams { IsStreamed AreLines (R.remaining reader.old.inner) (R.remaining reader.new.inner) (W.contents writer.old.inner)
+        (W.contents writer.new.inner) result }
     // A device that failed is told, and no other: the reader failed at `Input` and at no other end, the writer at `Output`.
     ensures reader { TellsReader reader.old.faults reader.new.faults result }
     ensures writer { TellsWriter writer.old.faults writer.new.faults result }
 {
-    let mut lines = new_lines(alloc);
-    handle_stream(alloc, &mut lines, reader, writer)
+    handle_stream(alloc, new_lines(alloc), reader, writer)
 }

@@ -1,31 +1,41 @@
-//! A stream that is there whole, handled in pieces.
+//! A stream that is there whole.
 ghost use Rattle.std.specs.Prelude.{◌≡◌, ℕ, List, []};
-ghost use Rattle.csi_types.specs.Frame.{Frame};
-ghost use Rattle.csi_frames.specs.Stream.{FramesOf};
-ghost use Rattle.csi_streams.specs.Handling.{HandlesWhole};
+ghost use Rattle.csi_types.specs.Model.Frame.{Frame};
+ghost use Rattle.csi_frames.specs.Public.Stream.{FramesOf};
+ghost use Rattle.csi_streams.specs.Private.Handling.{HandlesWhole, slice_fault};
 
 use crate::answers::AnswerFault;
-use crate::frames::{FrameStream, PIECE};
+use crate::giving::Appending;
 use crate::handler::Handler;
+use csi_driver::{Frames, FramesFault};
+use csi_types::NoMemory;
 use std::alloc::Global;
+
+// Why the frames of a slice weren't handled to their end.
+fn fault_of(fault: FramesFault<NoMemory>) -> AnswerFault
+    ensures { result ≡ slice_fault fault }
+{
+    match fault {
+        FramesFault::Frame(kind, place) => AnswerFault::Frame(kind, place),
+        FramesFault::NoMemory => AnswerFault::NoMemory,
+        FramesFault::Handler(NoMemory) => AnswerFault::NoMemory,
+    }
+}
 
 /// Handles the frames of `input`, and gives their count.
 pub(crate) fn handle_slice<H: Handler>(
     alloc: Global,
-    handler: &mut H,
+    handler: H,
     input: &[u8],
     out: &mut Vec<u8>,
 ) -> Result<u64, AnswerFault>
-    requires handled { H.has_handled handler.old [] }
+    requires handled { H.has_handled handler [] }
     requires gave { H.gives [] [] }
     ensures { (frames : List Frame) (rest : List ℕ) → FramesOf input.now frames rest → HandlesWhole H.gives frames rest out.old.items out.new.items result }
 {
-    let mut stream = FrameStream::new(alloc);
-    let mut rest = input;
-    while !rest.is_empty() {
-        let (piece, behind) = rest.split_at(rest.len().min(PIECE));
-        stream.handle_piece(alloc, handler, piece, out)?;
-        rest = behind;
+    let mut frames = Frames::new(alloc, Appending { alloc, handler });
+    match frames.read_slice(&mut (), out, input) {
+        Ok(()) => Ok(frames.count()),
+        Err(fault) => Err(fault_of(fault)),
     }
-    stream.end()
 }

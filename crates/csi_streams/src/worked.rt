@@ -1,5 +1,5 @@
 //! Worked examples of the lines that are shown. Each function proves a statement, and does nothing.
-ghost use Rattle.csi_streams.specs.Worked.{DeletingRow, CreatingRow, PublishingRow};
+ghost use Rattle.csi_streams.specs.Private.Worked.{DeletingRow, CreatingRow, PublishingRow};
 
 fn deleting()
     ensures { DeletingRow }

@@ -59,7 +59,7 @@ fn a_world_shows_its_parts(rt: HostRuntime) {
     works(&rt, &mut parts, stage(&rt, SingleNodeWriter));
     let world = parts.world(&rt);
     drop(parts);
-    assert!(&rt; world.frames() == 0 && world.outcomes().is_empty());
+    assert!(&rt; world.frame_count() == 0 && world.outcomes().is_empty());
     assert!(&rt; world.controller().next_id() == 2 && world.nodes().len() == 1);
     assert!(&rt; world.orchestrator().session() == 1);
     let id = node_id(&rt, "n1");

@@ -14,10 +14,10 @@ use Rattle.csi_types.specs.declared.call.Kind.{Kind}
 use Rattle.csi_types.specs.declared.call.Kind.TheVariants as kinds
 use Rattle.csi_types.specs.declared.call.Party.{Party}
 use Rattle.csi_types.specs.declared.call.Party.TheVariants.{Controller, Node}
-use Rattle.csi_types.specs.Mode.{mode_number}
-use Rattle.csi_types.specs.Same.{same_text, same_flag, same_access, same_capability, same_number, kind_number, same_kind, same_party}
-use Rattle.csi_types.specs.Holding.{same_holding}
-use Rattle.csi_types.specs.Key.{Key, Exists, Attached, Staged, Published, same_key}
+use Rattle.csi_types.specs.Model.Mode.{mode_number}
+use Rattle.csi_types.specs.Model.Same.{same_text, same_flag, same_access, same_capability, same_number, kind_number, same_kind, same_party}
+use Rattle.csi_types.specs.Model.Holding.{same_holding}
+use Rattle.csi_types.specs.Public.Key.{Key, Exists, Attached, Staged, Published, same_key}
 
 -- the test of two texts holds exactly where they are equal
 pub same_text-tells : (a b : List ℕ) → IsTrue (same_text a b) ↔ (a ≡ b)

@@ -3,9 +3,10 @@ use Rattle.std.proofs.Common.{◌≡◌, ◌↔◌, Bool, true, false, cond, not
 use Rattle.std.specs.Prelude.{IsTrue}
 use Rattle.std.proofs.lemmas.Bool.{and_parts, and_from, false≢true}
 use Rattle.csi_types.specs.declared.holding.Holding.{Holding}
-use Rattle.csi_types.specs.Holding.{CanHoldBoth, is_second_writer, same_holding, is_compatible}
-use Rattle.csi_types.specs.Same.{same_text}
-use Rattle.csi_types.specs.Sharing.{is_multi_node}
+use Rattle.csi_types.specs.Public.Holding.{CanHoldBoth}
+use Rattle.csi_types.specs.Model.Holding.{is_second_writer, same_holding, is_compatible}
+use Rattle.csi_types.specs.Model.Same.{same_text}
+use Rattle.csi_types.specs.Model.Sharing.{is_multi_node}
 use Rattle.csi_types.proofs.Equality.{same_text-tells, same_holding-tells}
 
 -- the test holds of exactly the pairs of holdings that can be held together

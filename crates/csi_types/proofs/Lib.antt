@@ -1,3 +1,4 @@
 pub mod Equality
 pub mod Holdings
 pub mod Order
+pub mod TakenOff

@@ -2,7 +2,7 @@
 use Rattle.std.proofs.Common.{◌≡◌, ◌⊎◌, ◌<◌, true, arith}
 use Rattle.std.proofs.lemmas.Bool.Decides.{nat_tests}
 use Rattle.csi_types.specs.declared.number.Number.{Number}
-use Rattle.csi_types.specs.Number.{is_before}
+use Rattle.csi_types.specs.Model.Number.{is_before}
 
 -- by session first, then by call
 pub before-parts : (a b : Number) → is_before a b ≡ true → (a.session < b.session) ⊎ ((a.session ≡ b.session) × (a.call < b.call))

@@ -1,7 +1,8 @@
 //! Calls, and the plugins that they are for.
 ghost use Rattle.std.specs.Prelude.{◌≡◌, IsTrue, ◌↔◌};
-ghost use Rattle.csi_types.specs.Call.{kind_of, is_party_of};
-ghost use Rattle.csi_types.specs.Names.{kind_name};
+ghost use Rattle.csi_types.specs.Model.Call.{kind_of};
+ghost use Rattle.csi_types.specs.Public.Call.{is_party_of};
+ghost use Rattle.csi_types.specs.Public.Names.{kind_name};
 
 use crate::capability::{Capability, CapabilityList};
 use crate::text::{Name, NodeId, Target};

@@ -1,7 +1,7 @@
 //! What a volume can do.
 ghost use Rattle.std.specs.Prelude.{◌≡◌, ◌≤◌, ◌↔◌, length, IsSome, IfSome, vec_len};
-ghost use Rattle.csi_types.specs.Lent.{lent_access, lent_capability};
-ghost use Rattle.csi_types.specs.Same.{same_access as is_same_access, same_capability as is_same_capability, has_capability as is_among};
+ghost use Rattle.csi_types.specs.Public.Lent.{lent_access, lent_capability};
+ghost use Rattle.csi_types.specs.Model.Same.{same_access as is_same_access, same_capability as is_same_capability, has_capability as is_among};
 
 use crate::lent::{AccessRef, CapabilityRef};
 use crate::mode::Mode;

@@ -1,6 +1,7 @@
 //! The capacity that a volume gets.
 ghost use Rattle.std.specs.Prelude.{◌≡◌};
-ghost use Rattle.csi_types.specs.Capacity.{is_bad_range as is_bad, is_empty_range as is_empty, wanted, grant_of};
+ghost use Rattle.csi_types.specs.Model.Capacity.{is_bad_range as is_bad, is_empty_range as is_empty, capacity_wanted};
+ghost use Rattle.csi_types.specs.Public.Capacity.{grant_of};
 
 use crate::status::Status;
 
@@ -30,7 +31,7 @@ pub fn is_empty_range(required: u64, limit: u64) -> bool
 /// The capacity in bytes that is asked for with this range: `required`, or where it is 0 the smaller of
 /// `DEFAULT_CAPACITY` and `limit`. Which one of the range is this profile's own. It takes no memory.
 pub fn wanted_capacity(required: u64, limit: u64) -> u64
-    ensures { result ≡ wanted required limit }
+    ensures { result ≡ capacity_wanted required limit }
 {
     if required == 0 {
         DEFAULT_CAPACITY.min(limit)

@@ -1,6 +1,7 @@
 //! A controller's configuration.
 ghost use Rattle.std.specs.Prelude.{◌≡◌, ◌↔◌, IsOk, IfOk, IfErr, IsErrOf, Some, None};
-ghost use Rattle.csi_types.specs.Config.{config_fault, config_fault_number, has_node as node_listed, has_same_node as node_repeated, has_bad_slots as slots_exceeded};
+ghost use Rattle.csi_types.specs.Public.Config.{config_fault, config_fault_number, has_same_node as node_repeated, has_bad_slots as slots_exceeded};
+ghost use Rattle.csi_types.specs.Model.Config.{has_node as node_listed};
 
 use crate::text::NodeId;
 use std::alloc::Global;
@@ -62,7 +63,8 @@ impl Drop for Config {
 
 impl Model for Config {
     ghost use Rattle.std.specs.Prelude.{◌≡◌, None};
-    ghost use Rattle.csi_types.specs.Config.{Config as Parts, config_fault};
+    ghost use Rattle.csi_types.specs.Model.Config.{Config as Parts};
+    ghost use Rattle.csi_types.specs.Public.Config.{config_fault};
 
     ghost Value = { Parts };
 

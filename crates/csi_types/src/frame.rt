@@ -1,7 +1,8 @@
 //! Frames: a call or a reply with its number and its party.
 ghost use Rattle.std.specs.Prelude.{◌≡◌, ◌↔◌, IsTrue, IsSome, IfSome};
-ghost use Rattle.csi_types.specs.Call.{kind_of, is_party_of};
-ghost use Rattle.csi_types.specs.Reply.{has_id_by_rule};
+ghost use Rattle.csi_types.specs.Model.Call.{kind_of};
+ghost use Rattle.csi_types.specs.Public.Call.{is_party_of};
+ghost use Rattle.csi_types.specs.Public.Reply.{has_id_by_rule};
 
 use crate::call::{Call, Kind, Party};
 use crate::number::Number;
@@ -25,7 +26,8 @@ pub struct Frame {
 }
 
 impl Model for Frame {
-    ghost use Rattle.csi_types.specs.Frame.{Frame as Parts, IsAllowed};
+    ghost use Rattle.csi_types.specs.Model.Frame.{Frame as Parts};
+    ghost use Rattle.csi_types.specs.Public.Frame.{IsAllowed};
 
     ghost Value = { Parts };
 
@@ -37,7 +39,7 @@ impl Model for Frame {
 }
 
 impl Frame {
-    ghost use Rattle.csi_types.specs.Frame.{IsAllowed};
+    ghost use Rattle.csi_types.specs.Public.Frame.{IsAllowed};
 
     /// A call for a plugin, or `None` where calls of its kind aren't for that plugin. It takes no memory.
     pub fn call(number: Number, party: Party, call: Call) -> Option<Frame>

@@ -1,6 +1,7 @@
 //! Holdings: which volume is published at which node, and how.
 ghost use Rattle.std.specs.Prelude.{◌≡◌, ◌↔◌, IsTrue};
-ghost use Rattle.csi_types.specs.Holding.{CanHoldBoth, is_compatible};
+ghost use Rattle.csi_types.specs.Public.Holding.{CanHoldBoth};
+ghost use Rattle.csi_types.specs.Model.Holding.{is_compatible};
 
 use crate::capability::Capability;
 use crate::node_use::same_way;

@@ -1,15 +1,19 @@
 //! Calls that lend their texts: whoever keeps a part of one makes a copy of that part, and nobody else does.
-ghost use Rattle.std.specs.Prelude.{◌≡◌, ◌≤◌, ◌↔◌, ◌&&◌, IfOk, IsOk, IsErrOf, IsTrue, length};
-ghost use Rattle.csi_types.specs.Call.{kind_of};
-ghost use Rattle.csi_types.specs.Lent.{lent_access, lent_capability, lent_call, HasFitTexts, IsTooLong, HasNoText};
-ghost use Rattle.csi_types.specs.Limits.{IsAccess};
-ghost use Rattle.csi_types.specs.Text.{IsText};
+ghost use Rattle.std.specs.Prelude.{◌≡◌, ◌==◌, ◌≤◌, ◌↔◌, ◌&&◌, IfOk, IsOk, IsErrOf, IsTrue, length};
+ghost use Rattle.std.specs.List.{list_all};
+ghost use Rattle.csi_types.specs.Model.Call.{kind_of};
+ghost use Rattle.csi_types.specs.Public.Lent.{lent_access, lent_capability, lent_capabilities, lent_call, HasFitTexts, IsTooLong, HasNoText};
+ghost use Rattle.csi_types.specs.Public.Limits.{IsAccess};
+ghost use Rattle.csi_types.specs.Model.Same.{has_capability as is_among};
+ghost use Rattle.csi_types.specs.Public.Text.{IsText};
 
 use crate::call::{Call, Kind};
-use crate::capability::{Access, Capability, CapabilityList};
+use crate::capability::{Access, Capability, CapabilityList, has_capability};
+use crate::memory::NoMemory;
 use crate::mode::Mode;
+use crate::spelled::SpelledCapabilities;
 use crate::text::{FsType, Name, NodeId, Target, TextFault};
-use crate::volume_id::VolumeId;
+use crate::volume_id::VolumeIdRef;
 use std::alloc::Global;
 
 /// An `Access`, lent.
@@ -26,6 +30,15 @@ pub struct CapabilityRef<'a> {
     pub mode: Mode,
 }
 
+/// Capabilities, lent: from none to 8 of them, in order.
+#[derive(Clone, Copy)]
+pub enum CapabilitiesRef<'a> {
+    /// Those of a list.
+    Lent(&'a CapabilityList),
+    /// Those that bytes spell, which are read where they are wanted.
+    Spelled(SpelledCapabilities<'a>),
+}
+
 /// A `Call`, lent. Its texts may be outside their limits, which a `Call`'s are not.
 #[derive(Clone, Copy)]
 pub enum CallRef<'a> {
@@ -33,36 +46,36 @@ pub enum CallRef<'a> {
         name: &'a str,
         required: u64,
         limit: u64,
-        capabilities: &'a CapabilityList,
+        capabilities: CapabilitiesRef<'a>,
     },
     DeleteVolume {
-        id: VolumeId,
+        id: VolumeIdRef,
     },
     ControllerPublishVolume {
-        id: VolumeId,
+        id: VolumeIdRef,
         node: &'a str,
         capability: CapabilityRef<'a>,
         readonly: bool,
     },
     ControllerUnpublishVolume {
-        id: VolumeId,
+        id: VolumeIdRef,
         node: &'a str,
     },
     NodeStageVolume {
-        id: VolumeId,
+        id: VolumeIdRef,
         capability: CapabilityRef<'a>,
     },
     NodeUnstageVolume {
-        id: VolumeId,
+        id: VolumeIdRef,
     },
     NodePublishVolume {
-        id: VolumeId,
+        id: VolumeIdRef,
         target: &'a str,
         capability: CapabilityRef<'a>,
         readonly: bool,
     },
     NodeUnpublishVolume {
-        id: VolumeId,
+        id: VolumeIdRef,
         target: &'a str,
     },
 }
@@ -106,42 +119,42 @@ impl Call {
                 name: name.as_str(),
                 required: *required,
                 limit: *limit,
-                capabilities,
+                capabilities: CapabilitiesRef::Lent(capabilities),
             },
-            Call::DeleteVolume { id } => CallRef::DeleteVolume { id: *id },
+            Call::DeleteVolume { id } => CallRef::DeleteVolume { id: id.lend() },
             Call::ControllerPublishVolume {
                 id,
                 node,
                 capability,
                 readonly,
             } => CallRef::ControllerPublishVolume {
-                id: *id,
+                id: id.lend(),
                 node: node.as_str(),
                 capability: capability.lend(),
                 readonly: *readonly,
             },
             Call::ControllerUnpublishVolume { id, node } => CallRef::ControllerUnpublishVolume {
-                id: *id,
+                id: id.lend(),
                 node: node.as_str(),
             },
             Call::NodeStageVolume { id, capability } => CallRef::NodeStageVolume {
-                id: *id,
+                id: id.lend(),
                 capability: capability.lend(),
             },
-            Call::NodeUnstageVolume { id } => CallRef::NodeUnstageVolume { id: *id },
+            Call::NodeUnstageVolume { id } => CallRef::NodeUnstageVolume { id: id.lend() },
             Call::NodePublishVolume {
                 id,
                 target,
                 capability,
                 readonly,
             } => CallRef::NodePublishVolume {
-                id: *id,
+                id: id.lend(),
                 target: target.as_str(),
                 capability: capability.lend(),
                 readonly: *readonly,
             },
             Call::NodeUnpublishVolume { id, target } => CallRef::NodeUnpublishVolume {
-                id: *id,
+                id: id.lend(),
                 target: target.as_str(),
             },
         }
@@ -183,6 +196,53 @@ impl CapabilityRef<'_> {
             Err(fault) => Err(fault),
         }
     }
+}
+
+impl CapabilitiesRef<'_> {
+    /// Whether there are none. It takes no memory.
+    pub fn is_empty(self) -> bool
+        ensures { result ≡ (length (lent_capabilities self.entry) == 0) }
+    {
+        match self {
+            CapabilitiesRef::Lent(list) => list.as_slice().is_empty(),
+            CapabilitiesRef::Spelled(list) => list.count == 0,
+        }
+    }
+
+    /// Whether each of them is one of these. It takes no memory.
+    pub fn are_among(self, own: &[Capability]) -> bool
+        ensures { result ≡ list_all (is_among own.now) (lent_capabilities self.entry) }
+    {
+        match self {
+            CapabilitiesRef::Lent(list) => has_each(own, list.as_slice()),
+            CapabilitiesRef::Spelled(list) => list.are_among(own),
+        }
+    }
+
+    /// A list of them, with texts of its own.
+    pub fn to_list(self, alloc: Global) -> Result<CapabilityList, NoMemory>
+        ensures { IfOk result (λ list. list ≡ lent_capabilities self.entry) }
+    {
+        match self {
+            CapabilitiesRef::Lent(list) => match list.clone() {
+                Ok(copy) => Ok(copy),
+                Err(_) => Err(NoMemory),
+            },
+            CapabilitiesRef::Spelled(list) => list.to_list(alloc),
+        }
+    }
+}
+
+// Whether the list has each of these capabilities.
+fn has_each(own: &[Capability], wished: &[Capability]) -> bool
+    ensures { result ≡ list_all (is_among own.now) wished.now }
+{
+    for capability in wished {
+        if !has_capability(own, capability.lend()) {
+            return false;
+        }
+    }
+    true
 }
 
 // Whether a text has so many bytes.

@@ -1,6 +1,7 @@
 //! Access modes.
 ghost use Rattle.std.specs.Prelude.{◌≡◌};
-ghost use Rattle.csi_types.specs.Mode.{mode_number, mode_from_number};
+ghost use Rattle.csi_types.specs.Model.Mode.{mode_number};
+ghost use Rattle.csi_types.specs.Public.Mode.{mode_from_number};
 
 /// How a volume may be used, and from how many nodes at once: `AccessMode` of CSI's spec.md,
 /// "CreateVolume". `UNKNOWN`, 0, is never accepted.

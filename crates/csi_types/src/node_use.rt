@@ -1,9 +1,10 @@
 //! Uses of a volume at nodes, lent, and which two of them can be held together.
 ghost use Rattle.std.specs.Prelude.{◌≡◌, ◌↔◌, ◌&&◌, ℕ, IsTrue};
-ghost use Rattle.csi_types.specs.Holding.{CanHoldBoth, is_compatible};
-ghost use Rattle.csi_types.specs.Lent.{lent_capability};
-ghost use Rattle.csi_types.specs.NodeUse.{holding_of};
-ghost use Rattle.csi_types.specs.Same.{same_capability as is_same_capability, same_flag};
+ghost use Rattle.csi_types.specs.Public.Holding.{CanHoldBoth};
+ghost use Rattle.csi_types.specs.Model.Holding.{is_compatible};
+ghost use Rattle.csi_types.specs.Public.Lent.{lent_capability};
+ghost use Rattle.csi_types.specs.Public.NodeUse.{holding_of};
+ghost use Rattle.csi_types.specs.Model.Same.{same_capability as is_same_capability, same_flag};
 
 use crate::capability::same_capability;
 use crate::lent::CapabilityRef;

@@ -1,6 +1,6 @@
 //! What a plugin answers.
 ghost use Rattle.std.specs.Prelude.{◌≡◌};
-ghost use Rattle.csi_types.specs.Reply.{has_id_by_rule};
+ghost use Rattle.csi_types.specs.Public.Reply.{has_id_by_rule};
 
 use crate::call::Kind;
 use crate::status::Status;

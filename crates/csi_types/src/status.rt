@@ -1,7 +1,7 @@
 //! How a call ended.
 ghost use Rattle.std.specs.Prelude.{◌≡◌};
-ghost use Rattle.csi_types.specs.Status.{status_code, status_from_code};
-ghost use Rattle.csi_types.specs.Names.{status_name};
+ghost use Rattle.csi_types.specs.Public.Status.{status_code, status_from_code};
+ghost use Rattle.csi_types.specs.Public.Names.{status_name};
 
 /// How a call ended: the status codes of gRPC, which CSI's spec.md, "Error Scheme", uses.
 #[derive(Clone, Copy, Debug, PartialEq, Eq)]

@@ -1,7 +1,7 @@
 //! Texts with limits: UTF-8 of a stated number of bytes. A contract sees a text as its bytes.
 ghost use Rattle.std.specs.Prelude.{◌≡◌, ◌<◌, ◌≤◌, ◌↔◌, [], length, IfOk, IsOk, IsErrOf};
 ghost use Rattle.std.specs.String.{string_bytes};
-ghost use Rattle.csi_types.specs.TextFault.{text_fault_number};
+ghost use Rattle.csi_types.specs.Public.TextFault.{text_fault_number};
 
 mod detail;
 mod fs_type;

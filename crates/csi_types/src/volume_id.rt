@@ -1,6 +1,6 @@
 //! A volume's id.
 ghost use Rattle.std.specs.Prelude.{◌≡◌, ◌<◌, ◌≢◌, IsSome, IfSome, ◌↔◌};
-ghost use Rattle.csi_types.specs.VolumeId.{IsVolumeId};
+ghost use Rattle.csi_types.specs.Public.VolumeId.{IsVolumeId};
 
 use std::marker::Model;
 
@@ -13,7 +13,7 @@ pub struct VolumeId {
 
 impl Model for VolumeId {
     ghost use Rattle.std.specs.Prelude.{ℕ};
-    ghost use Rattle.csi_types.specs.VolumeId.{IsVolumeId};
+    ghost use Rattle.csi_types.specs.Public.VolumeId.{IsVolumeId};
 
     ghost Value = { ℕ };
 
@@ -42,5 +42,32 @@ impl VolumeId {
         ensures limits { IsVolumeId self }
     {
         self.number
+    }
+
+    /// The id, lent.
+    pub fn lend(self) -> VolumeIdRef
+        ensures { result.number ≡ self }
+    {
+        VolumeIdRef {
+            number: self.number,
+        }
+    }
+}
+
+/// A `VolumeId`, lent: a type without a model, as all are that a frame lends.
+#[derive(Clone, Copy)]
+pub struct VolumeIdRef {
+    pub number: u64,
+    ghost from_one: { 0 < number },
+}
+
+impl VolumeIdRef {
+    /// The id.
+    pub fn volume_id(self) -> VolumeId
+        ensures { result ≡ self.number }
+    {
+        VolumeId {
+            number: self.number,
+        }
     }
 }

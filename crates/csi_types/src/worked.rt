@@ -1,5 +1,5 @@
 //! Worked examples and laws of the values' rules. Each function proves a statement, and does nothing.
-ghost use Rattle.csi_types.specs.Worked.{GrantRows, NumberRows, TestsTellEquality};
+ghost use Rattle.csi_types.specs.Private.Worked.{GrantRows, NumberRows, TestsTellEquality};
 
 fn grants()
     ensures { GrantRows }

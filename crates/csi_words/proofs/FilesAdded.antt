@@ -2,7 +2,8 @@
 use Rattle.std.proofs.Common.{◌≡◌, ◌<◌, ◌+◌, ℕ, List, [], ◌∷◌, ◌++◌, ◌∙◌, get_or, length, map, take, ap, refl, sym}
 use Rattle.std.proofs.lemmas.List.{map_push, take_more}
 use Rattle.clap.specs.Words.{App}
-use Rattle.csi_words.specs.Words.{with_file_command, with_file_commands}
+use Rattle.csi_words.specs.Public.Words.{with_file_command}
+use Rattle.csi_words.specs.Private.Words.{with_file_commands}
 
 -- one name more is one command more
 added-last : (app : App) (names : List (List ℕ)) (name : List ℕ) → with_file_commands app (names ++ name ∷ []) ≡ with_file_command (with_file_commands app names) name

@@ -2,7 +2,8 @@
 ghost use Rattle.std.specs.Prelude.{◌≡◌, IfOk, IfErr, map, option_map, is_some, string_bytes, codes, true};
 ghost use Rattle.clap.specs.Words.{Shape, app_of, first_of, found_of, kind_of, new_app, rows_of, subcommand_of, subcommand_rows_of, takes, with_subcommand};
 ghost use Rattle.clap.specs.declared.error.kind.ErrorKind.TheVariants.{OutOfMemory};
-ghost use Rattle.csi_words.specs.Words.{command_entered, IsAddedAs, command_in as named_in, controller_in, node_in, record_in, on_file_in, ending_of as ending_by, named_by, read, EndsWords, program as all_words, with_word, with_file_commands as with_files};
+ghost use Rattle.csi_words.specs.Public.Words.{command_entered, command_in as named_in, controller_in, node_in, record_in, on_file_in, named_by, read, EndsWords, program as all_words, with_word};
+ghost use Rattle.csi_words.specs.Private.Words.{IsAddedAs, ending_of_words, with_file_commands as with_files};
 
 use clap::error::ErrorKind;
 use clap::{Arg, ArgMatches, Command, Error};
@@ -101,7 +102,7 @@ fn matches_of<'a>(alloc: Global, words: &'a [String]) -> Result<ArgMatches<'a>, 
 
 // The ending where words are refused so.
 fn ending_of(kind: ErrorKind) -> Ending
-    ensures is { result ≡ ending_by kind }
+    ensures is { result ≡ ending_of_words kind }
     ensures ends { EndsWords result }
 {
     match kind {

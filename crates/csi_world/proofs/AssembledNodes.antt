@@ -1,9 +1,9 @@
 -- The ids of two lists of nodes, place by place.
 use Rattle.std.proofs.Common.{◌≡◌, ◌<◌, ℕ, zero, suc, List, [], ◌∷◌, length, get_or, map, refl, arith}
 use Rattle.csi_types.specs.declared.config.NodeSlots.{NodeSlots}
-use Rattle.csi_node.specs.Record.{NodeParts}
-use Rattle.csi_world.specs.After.{node_id}
-use Rattle.csi_world.specs.Assembled.{AreOfNodes}
+use Rattle.csi_node.specs.Model.Record.{NodeParts}
+use Rattle.csi_world.specs.Model.After.{node_id}
+use Rattle.csi_world.specs.Public.Assembled.{AreOfNodes}
 
 -- the ids are the same up to a place
 abbrev pub AreSameBelow : List NodeParts → List NodeSlots → ℕ → Type 0

@@ -1,13 +1,13 @@
 -- Bytes that spell a frame are read as this frame, unless memory is refused.
 use Rattle.std.proofs.Common.{◌≡◌, ℕ, zero, suc, List, length, Result, Ok, Err, slice_get, refl, sym, ap, subst, inl, inr, arith}
 use Rattle.std.proofs.Math.Seq.{take-length}
-use Rattle.csi_types.specs.Frame.{Frame}
+use Rattle.csi_types.specs.Model.Frame.{Frame}
 use Rattle.csi_frames.specs.declared.fault.FrameFault.{FrameFault}
-use Rattle.csi_frames.specs.Decoding.{no_memory, GivesUnlessMemory}
-use Rattle.csi_frames.specs.Spelling.{Spells, BeginsWith}
-use Rattle.csi_world.specs.World.{World}
-use Rattle.csi_world.specs.After.{frame_at}
-use Rattle.csi_world.specs.Simulating.{numbered}
+use Rattle.csi_frames.specs.Public.Decoding.{no_memory, GivesUnlessMemory}
+use Rattle.csi_frames.specs.Public.Spelling.{Spells, BeginsWith}
+use Rattle.csi_world.specs.Model.World.{World}
+use Rattle.csi_world.specs.Model.After.{frame_numbered}
+use Rattle.csi_world.specs.Public.Simulating.{numbered}
 
 -- bytes that spell a frame begin with it, and it takes them all
 pub begins-whole : (frame : Frame) (bytes : List ℕ) → Spells frame bytes → BeginsWith bytes frame (length bytes)
@@ -28,6 +28,6 @@ only-value result value read (inl e) is = cc
 only-value result value read (inr e) is = absurd (ok_isnt_err read no_memory result is e)
 
 -- the frame of a number is the world's
-pub frame-numbered : (frames : List Frame) (world : World) (number : ℕ) → frames ≡ world.frames → numbered frames number ≡ frame_at world number
+pub frame-numbered : (frames : List Frame) (world : World) (number : ℕ) → frames ≡ world.frames → numbered frames number ≡ frame_numbered world number
 frame-numbered frames world zero same = refl
 frame-numbered frames world (suc place) same = ap (λ (fs : List Frame). slice_get fs place) same

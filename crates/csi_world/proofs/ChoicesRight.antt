@@ -5,23 +5,24 @@ use Rattle.std.proofs.lemmas.Option.{none-some}
 use Rattle.csi_types.specs.declared.number.Number.{Number}
 use Rattle.csi_types.specs.declared.reply.Reply.{Reply}
 use Rattle.csi_types.specs.declared.status.Status.{Status}
-use Rattle.csi_types.specs.Call.{kind_of}
-use Rattle.csi_types.specs.Config.{Config}
-use Rattle.csi_types.specs.Frame.{Frame}
-use Rattle.csi_lists.specs.Members.{IsAmong}
-use Rattle.csi_types.specs.Number.{is_before, IsBefore}
+use Rattle.csi_types.specs.Model.Call.{kind_of}
+use Rattle.csi_types.specs.Model.Config.{Config}
+use Rattle.csi_types.specs.Model.Frame.{Frame}
+use Rattle.csi_lists.specs.Model.Members.{IsAmong}
+use Rattle.csi_types.specs.Model.Number.{is_before, IsBefore}
 use Rattle.csi_types.proofs.Order.{before-trans}
 use Rattle.csi_types.specs.declared.call.Party.{Party}
 use Rattle.csi_types.specs.declared.call.Party.TheVariants.{Controller, Node}
-use Rattle.csi_fence.specs.Delivery.{IsEmpty}
-use Rattle.csi_types.specs.Key.{StagedAs, Staged}
-use Rattle.csi_node.specs.State.{NodeState, empty_node}
-use Rattle.csi_orchestrator.specs.Thing.{Issued}
-use Rattle.csi_orchestrator.specs.History.{Item, Started, Sent, Accepted, Closed, Noted, History, with_items}
-use Rattle.csi_orchestrator.specs.Readings.{issued_in, last_number}
+use Rattle.csi_fence.specs.Public.Delivery.{IsEmpty}
+use Rattle.csi_types.specs.Public.Key.{StagedAs, Staged}
+use Rattle.csi_node.specs.Model.State.{NodeState, empty_node}
+use Rattle.csi_orchestrator.specs.Model.Thing.{Issued}
+use Rattle.csi_orchestrator.specs.Model.History.{Item, Started, Sent, Accepted, Closed, Noted, History, with_items}
+use Rattle.csi_orchestrator.specs.Model.Readings.{issued_in, last_number}
 use Rattle.csi_orchestrator.proofs.Numbers.{open-sent}
-use Rattle.csi_world.specs.World.{World, empty_world, node_state, with_history}
-use Rattle.csi_world.specs.Step.{Choice, Sends, Closes, Takes, Notes, Starts, Answers, frame_of, MaySend, MayTake, MayChoose, MayChooseAll, chosen, chosen_all}
+use Rattle.csi_world.specs.Model.World.{World, empty_world, node_state, with_history}
+use Rattle.csi_world.specs.Public.Step.{Choice, Sends, Closes, Takes, Notes, Starts, Answers, MaySend, MayTake, MayChoose, MayChooseAll, chosen, chosen_all}
+use Rattle.csi_orchestrator.specs.Public.Steps.{frame_of}
 use Rattle.csi_world.proofs.WorldView.{party_of, node_view, plugin_view, view_of}
 use Rattle.csi_world.proofs.GivenIds.{GivenId}
 use Rattle.csi_world.proofs.KeyedCalls.{IsOwn, IsAnsweredOk, Named}

@@ -7,15 +7,15 @@ use Rattle.csi_types.specs.declared.call.Call.{Call}
 use Rattle.csi_types.specs.declared.call.Call.TheVariants as calls
 use Rattle.csi_types.specs.declared.call.Party.{Party}
 use Rattle.csi_types.specs.declared.call.Party.TheVariants.{Controller, Node}
-use Rattle.csi_types.specs.Number.{IsBefore}
-use Rattle.csi_types.specs.Same.{same_text}
+use Rattle.csi_types.specs.Model.Number.{IsBefore}
+use Rattle.csi_types.specs.Model.Same.{same_text}
 use Rattle.csi_types.proofs.Equality.{same_text-tells}
-use Rattle.csi_lists.specs.Members.{IsAmong}
+use Rattle.csi_lists.specs.Model.Members.{IsAmong}
 use Rattle.csi_lists.proofs.Members.{among-kept, in_filter, in-filter_map}
-use Rattle.csi_orchestrator.specs.Thing.{Issued}
-use Rattle.csi_orchestrator.specs.History.{Item, Sent, History}
-use Rattle.csi_orchestrator.specs.Readings.{newest, issued_in, issued_of, id_in, id_by, id_of}
-use Rattle.csi_orchestrator.specs.Guards.{IsGuarded, HasId}
+use Rattle.csi_orchestrator.specs.Model.Thing.{Issued}
+use Rattle.csi_orchestrator.specs.Model.History.{Item, Sent, History}
+use Rattle.csi_orchestrator.specs.Model.Readings.{newest, issued_in, issued_of, id_in, id_by, id_of}
+use Rattle.csi_orchestrator.specs.Public.Guards.{IsGuarded, HasId}
 use Rattle.csi_world.proofs.KeyedCalls.{is_making}
 use Rattle.csi_world.proofs.HeardReplies.{newest-found}
 

@@ -10,21 +10,21 @@ use Rattle.csi_types.specs.declared.call.Kind.{Kind}
 use Rattle.csi_types.specs.declared.call.Party.{Party}
 use Rattle.csi_types.specs.declared.reply.Reply.{Reply}
 use Rattle.csi_types.specs.declared.status.Status.TheVariants.{Ok}
-use Rattle.csi_fence.specs.Delivery.{View, Delivery, Acts, Rests, Misses, Becomes, kept_of}
-use Rattle.csi_fence.specs.Fence.{Kept}
-use Rattle.csi_types.specs.Frame.{Frame}
-use Rattle.csi_types.specs.Key.{Key, Exists, Form, HasId}
-use Rattle.csi_lists.specs.Members.{IsAmong}
+use Rattle.csi_fence.specs.Public.Delivery.{PluginView, Delivery, Acts, Rests, Misses, CallBecomes, kept_of}
+use Rattle.csi_fence.specs.Model.Fence.{Kept}
+use Rattle.csi_types.specs.Model.Frame.{Frame}
+use Rattle.csi_types.specs.Public.Key.{Key, Exists, Form, HasId}
+use Rattle.csi_lists.specs.Model.Members.{IsAmong}
 use Rattle.csi_lists.proofs.Members.{among-last}
-use Rattle.csi_types.specs.Replies.{reply_frame}
-use Rattle.csi_types.specs.Same.{same_party}
+use Rattle.csi_types.specs.Model.Replies.{reply_frame}
+use Rattle.csi_types.specs.Model.Same.{same_party}
 use Rattle.csi_types.proofs.Equality.{same_text-tells, same_party-tells, same_key-tells}
-use Rattle.csi_controller.specs.State.{Volume, ControllerState}
-use Rattle.csi_controller.specs.View as controllers
-use Rattle.csi_orchestrator.specs.Thing.{Issued}
-use Rattle.csi_orchestrator.specs.Readings.{issued_in}
-use Rattle.csi_world.specs.World.{NodeAt, World}
-use Rattle.csi_world.specs.Safe.{IsAttachedWhileLive}
+use Rattle.csi_controller.specs.Model.State.{Volume, ControllerState}
+use Rattle.csi_controller.specs.Public.View as controllers
+use Rattle.csi_orchestrator.specs.Model.Thing.{Issued}
+use Rattle.csi_orchestrator.specs.Model.Readings.{issued_in}
+use Rattle.csi_world.specs.Model.World.{NodeAt, World}
+use Rattle.csi_world.specs.Model.Safe.{IsAttachedWhileLive}
 use Rattle.csi_world.proofs.WorldView.{party_of, plugin_view, view_of, ChangesOnly, acts-all, rests-all, misses-all}
 use Rattle.csi_world.proofs.GivenIds.{GivenId, HasName, AreGiven, id-of_found, live-named, is_given, is_forgotten, gone-forgotten, not-forgotten, stays-gone, stays-forgotten, IsNewlyGiven, AreGivenNext}
 use Rattle.csi_world.proofs.KeyedCalls.{IsOwn, key_at, is_key, is_of, is_making, own-kept}
@@ -62,7 +62,7 @@ kept-either old new call key kind reply of_party only keeps other k is = by (sam
 
     by : (b : Bool) → same_party (party_of other) (party_of key) ≡ b → ((view_of old).kept other ≡ Some k) ⊎ (IsAmong (reply_frame k.number (party_of other) k.kind k.reply) (old.frames ++ answer_to call kind reply ∷ []))
     by true e = now (party_of other) ((same_party-tells (party_of other) (party_of key)).0 e) is (keeps other)
-    by false e = inl (ap (λ (v : View). v.kept other) (sym (only (party_of other) e)) ∙ is)
+    by false e = inl (ap (λ (v : PluginView). v.kept other) (sym (only (party_of other) e)) ∙ is)
 
 -- a sent call that came to its plugin, and what the plugins know then
 module _ (world : World) (controller : ControllerState) (nodes : List NodeAt) (call : Issued) where
@@ -221,11 +221,11 @@ module _ (world : World) (controller : ControllerState) (nodes : List NodeAt) (c
 
     -- by the thing by which the plugin answers it
     pub effects : IsOwn given call.name call.party call.call → (thing : Option Key) → IsAnsweredBy world.controller controller call.party call.call thing
-        → Becomes thing (delivery_of call kind reply) (plugin_view world (party_of key)) (plugin_view next (party_of key)) → AreEffects given more key kind reply
+        → CallBecomes thing (delivery_of call kind reply) (plugin_view world (party_of key)) (plugin_view next (party_of key)) → AreEffects given more key kind reply
     effects own thing by becomes = at by (call-seen given world.controller well.so_far.are_given well.of_controller call.name call.party call.call own key of_key)
       where
-        becomes_at : (o : Option Key) → thing ≡ o → Becomes o (delivery_of call kind reply) (plugin_view world (party_of key)) (plugin_view next (party_of key))
-        becomes_at o e = subst (λ (x : Option Key). Becomes x (delivery_of call kind reply) (plugin_view world (party_of key)) (plugin_view next (party_of key))) e becomes
+        becomes_at : (o : Option Key) → thing ≡ o → CallBecomes o (delivery_of call kind reply) (plugin_view world (party_of key)) (plugin_view next (party_of key))
+        becomes_at o e = subst (λ (x : Option Key). CallBecomes x (delivery_of call kind reply) (plugin_view world (party_of key)) (plugin_view next (party_of key))) e becomes
 
         at : IsAnsweredBy world.controller controller call.party call.call thing → IsFound given world.controller call.party call.call key ⊎ IsMissed given world.controller call.party call.call key
             → AreEffects given more key kind reply

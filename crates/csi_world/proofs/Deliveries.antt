@@ -12,25 +12,26 @@ use Rattle.csi_types.specs.declared.call.Party.TheVariants.{Controller, Node}
 use Rattle.csi_types.specs.declared.frame.Body.{Body}
 use Rattle.csi_types.specs.declared.frame.Body.TheVariants as bodies
 use Rattle.csi_types.specs.declared.reply.Reply.{Reply}
-use Rattle.csi_types.specs.Config.{Config}
-use Rattle.csi_fence.specs.Delivery.{Becomes, IsClosed, IsDelivered}
-use Rattle.csi_types.specs.Frame.{Frame}
-use Rattle.csi_types.specs.Key.{Key, Exists, HasId, asked}
-use Rattle.csi_lists.specs.Members.{IsAmong}
-use Rattle.csi_types.specs.Replies.{call_frame}
-use Rattle.csi_controller.specs.State.{Volume, ControllerState, volume_with_id}
-use Rattle.csi_fence.specs.Fenced.{Fenced}
-use Rattle.csi_controller.specs.Fenced as controller
-use Rattle.csi_controller.specs.Safe.{ControllerSafetyLaw}
-use Rattle.csi_controller.specs.View as controllers
-use Rattle.csi_node.specs.State.{NodeState}
-use Rattle.csi_node.specs.Fenced as node
-use Rattle.csi_node.specs.Safe.{NodeSafetyLaw}
-use Rattle.csi_node.specs.View as nodes
-use Rattle.csi_orchestrator.specs.Thing.{Issued}
-use Rattle.csi_orchestrator.specs.Readings.{issued_in}
-use Rattle.csi_world.specs.World.{NodeAt, World, node_state, with_node, with_frame}
-use Rattle.csi_world.specs.Step.{answered_by_node, answered}
+use Rattle.csi_types.specs.Model.Config.{Config}
+use Rattle.csi_fence.specs.Public.Delivery.{CallBecomes, IsClosed, IsDelivered}
+use Rattle.csi_types.specs.Model.Frame.{Frame}
+use Rattle.csi_types.specs.Public.Key.{Key, Exists, HasId, asked}
+use Rattle.csi_lists.specs.Model.Members.{IsAmong}
+use Rattle.csi_types.specs.Model.Replies.{call_frame}
+use Rattle.csi_controller.specs.Model.State.{Volume, ControllerState}
+use Rattle.csi_controller.specs.Public.State.{volume_with_id}
+use Rattle.csi_fence.specs.Model.Fenced.{Fenced}
+use Rattle.csi_controller.specs.Model.Fenced as controller
+use Rattle.csi_controller.specs.Public.Safe.{ControllerSafetyLaw}
+use Rattle.csi_controller.specs.Public.View as controllers
+use Rattle.csi_node.specs.Model.State.{NodeState}
+use Rattle.csi_node.specs.Model.Fenced as node
+use Rattle.csi_node.specs.Public.Safe.{NodeSafetyLaw}
+use Rattle.csi_node.specs.Public.View as nodes
+use Rattle.csi_orchestrator.specs.Model.Thing.{Issued}
+use Rattle.csi_orchestrator.specs.Model.Readings.{issued_in}
+use Rattle.csi_world.specs.Model.World.{NodeAt, World, node_state, with_node, with_frame}
+use Rattle.csi_world.specs.Model.Step.{answered_by_node, answered_by_plugin}
 use Rattle.csi_world.proofs.WorldView.{party_of, node_view, plugin_view, view_of, ChangesOnly, closed-all}
 use Rattle.csi_world.proofs.GivenIds.{GivenId, HasName, AreOf, name-of_found, id-of_found, AreGivenNext, given-next}
 use Rattle.csi_world.proofs.KeyedCalls.{IsKeyed, key_at, keyed, own-kept}
@@ -160,7 +161,7 @@ module _ (laws : PluginLaws) (config : Config) (world : World) (controller : Con
       made =
           effects world controller nodes call given more well keeps following.1 (exclusive laws.exclusive config world good.reached).attached_while_live (exclusive laws.exclusive config next reached).attached_while_live
           among key keyed_call.by_name keyed_call.of_party (subst (λ p. ChangesOnly p world next) (sym keyed_call.of_party) only) kind reply (so_far.named.own call among) thing by
-          (subst (λ p. Becomes thing (delivery_of call kind reply) (plugin_view world p) (plugin_view next p)) (sym keyed_call.of_party) delivered.becomes)
+          (subst (λ p. CallBecomes thing (delivery_of call kind reply) (plugin_view world p) (plugin_view next p)) (sym keyed_call.of_party) delivered.becomes)
 
 -- a controller that gets no frame keeps its names
 names-stay : (controller : ControllerState) → controllers.KeepsNames controller controller
@@ -171,7 +172,7 @@ names-stay controller = record { grows = omega arith; comes = λ id volume is. i
 
 -- a plugin got a sent call
 call-got : PluginLaws → (config : Config) (world : World) (name : List ℕ) (number : Number) (party : Party) (c : Call) → IsGood config world
-    → IsAmong {X = Issued} (record { name = name; number = number; party = party; call = c }) (issued_in world.history.items) → IsGood config (answered config world (call_frame number party c))
+    → IsAmong {X = Issued} (record { name = name; number = number; party = party; call = c }) (issued_in world.history.items) → IsGood config (answered_by_plugin config world (call_frame number party c))
 call-got laws config world name number Controller c good among =
     let call : Issued = record { name = name; number = number; party = Controller; call = c } in
     let frame : Frame = call_frame number Controller c in
@@ -209,11 +210,11 @@ call-got laws config world name number (Node id) c good among = by (node_state i
 
 -- a frame came that was sent; plugins answer no reply
 got : PluginLaws → (config : Config) (world : World) (number : Number) (party : Party) (body : Body) → IsGood config world
-    → IsAmong {X = Frame} (record { number = number; party = party; body = body }) world.frames → IsGood config (answered config world (record { number = number; party = party; body = body }))
+    → IsAmong {X = Frame} (record { number = number; party = party; body = body }) world.frames → IsGood config (answered_by_plugin config world (record { number = number; party = party; body = body }))
 got laws config world number party (bodies.Call c) good among =
     let of = good.well.so_far.truth.calls (record { number = number; party = party; body = bodies.Call c }) c among refl in
     let call : Issued = of.call in
-    subst (λ (f : Frame). IsGood config (answered config world f)) (sym of.is) (call-got laws config world call.name call.number call.party call.call good of.among)
+    subst (λ (f : Frame). IsGood config (answered_by_plugin config world f)) (sym of.is) (call-got laws config world call.name call.number call.party call.call good of.among)
 got laws config world number Controller (bodies.Reply kind reply) good among = good
 got laws config world number (Node id) (bodies.Reply kind reply) good among = by (node_state id world) refl
   where
@@ -222,5 +223,5 @@ got laws config world number (Node id) (bodies.Reply kind reply) good among = by
     by (Some state) e = subst (IsGood config) (sym (with_node-same config world id state good.reached e)) good
 
 -- what is kept of every world is so after a frame that was sent came
-pub frame-got : PluginLaws → (config : Config) (world : World) (frame : Frame) → IsGood config world → IsAmong frame world.frames → IsGood config (answered config world frame)
+pub frame-got : PluginLaws → (config : Config) (world : World) (frame : Frame) → IsGood config world → IsAmong frame world.frames → IsGood config (answered_by_plugin config world frame)
 frame-got laws config world frame good among = got laws config world frame.number frame.party frame.body good among

@@ -3,23 +3,24 @@ use Rattle.std.proofs.Common.{◌≡◌, ℕ, List, true, None, option_map, sym,
 use Rattle.std.specs.Prelude.{is_some}
 use Rattle.std.proofs.lemmas.Bool.{and_parts, and_left, eqb-true, false≢true, or_cases, or_left, or_right}
 use Rattle.csi_types.specs.declared.holding.Holding.{Holding}
-use Rattle.csi_fence.specs.Delivery.{View, IsClosed}
-use Rattle.csi_types.specs.Key.{Key, Exists, Attached, Staged, Published, HasId, AttachedAs}
-use Rattle.csi_types.specs.Same.{same_text}
+use Rattle.csi_fence.specs.Public.Delivery.{PluginView, IsClosed}
+use Rattle.csi_types.specs.Public.Key.{Key, Exists, Attached, Staged, Published, HasId, AttachedAs}
+use Rattle.csi_types.specs.Model.Same.{same_text}
 use Rattle.csi_types.proofs.Equality.{same_text-tells}
-use Rattle.csi_lists.specs.Members.{IsAmong}
+use Rattle.csi_lists.specs.Model.Members.{IsAmong}
 use Rattle.csi_lists.proofs.Members.{among-find, none_passes}
 use Rattle.csi_lists.proofs.Options.{none-where}
 use Rattle.csi_lists.proofs.Searches.{find-none, find-passes}
-use Rattle.csi_controller.specs.State.{Volume, ControllerState, volume_with_id, live_volume, is_held_at, holding_at}
-use Rattle.csi_controller.specs.View as controllers
-use Rattle.csi_world.specs.World.{World}
-use Rattle.csi_world.specs.Safe.{IsAttachedWhileLive}
+use Rattle.csi_controller.specs.Model.State.{Volume, ControllerState, live_volume, is_held_at, holding_at}
+use Rattle.csi_controller.specs.Public.State.{volume_with_id}
+use Rattle.csi_controller.specs.Public.View as controllers
+use Rattle.csi_world.specs.Model.World.{World}
+use Rattle.csi_world.specs.Model.Safe.{IsAttachedWhileLive}
 use Rattle.csi_world.proofs.GivenIds.{GivenId, AreGiven, AreOf, gone-unnamed, unnamed-dead, is_given, is_forgotten}
 use Rattle.csi_world.proofs.WorldView.{view_of}
 
 -- the world by its things, where what was forgotten is spent too
-abbrev pub told_by : List GivenId → World → View
+abbrev pub told_by : List GivenId → World → PluginView
 told_by given world =
     record {
       held = (view_of world).held;

@@ -6,14 +6,14 @@ use Rattle.std.specs.List.Sorted.{IsSearchInRange, IsBinarySearchResult, IsNonDe
 use Rattle.std.specs.Ordering.{ordering_index, nat_cmp, is_lt, ordering_reverse}
 use Rattle.std.specs.declared.cmp.Ordering.{Ordering}
 use Rattle.std.specs.declared.cmp.Ordering.TheVariants.{Less, Equal, Greater}
-use Rattle.csi_lists.specs.Members.{IsAmong, EachTwo}
-use Rattle.csi_lists.specs.Places.{AtMostOne}
+use Rattle.csi_lists.specs.Model.Members.{IsAmong, EachTwo}
+use Rattle.csi_lists.specs.Public.Places.{AtMostOne}
 use Rattle.std.proofs.lemmas.Bool.{eq-eqb, false_from_ne_true}
 use Rattle.std.proofs.lemmas.Cmp.{ranked, tied_itself}
 use Rattle.csi_lists.proofs.Each.{each-at, each-place}
 use Rattle.csi_lists.proofs.Places.{FirstAt-only, at-index, position-first, position-none}
 use Rattle.csi_controller.specs.declared.row.ControllerRow.{ControllerRow}
-use Rattle.csi_controller.specs.Core.{IsRising}
+use Rattle.csi_controller.specs.Public.Core.{AreRisingRows}
 use Rattle.csi_controller.proofs.Sound.{rising-one}
 use Rattle.std.specs.List.{list_any}
 use Rattle.std.specs.Cmp.{both_ways}
@@ -23,10 +23,10 @@ use Rattle.csi_lists.proofs.Searches.{find-none}
 use Rattle.csi_lists.proofs.Tests.{any-then, then-any, none-among}
 use Rattle.csi_orchestrator.specs.declared.thing.Thing.{Thing}
 use Rattle.csi_orchestrator.specs.declared.thing.Known.{Known}
-use Rattle.csi_orchestrator.specs.Listing.{thing_order, IsInOrder}
-use Rattle.csi_orchestrator.specs.Thing.{same_thing}
+use Rattle.csi_orchestrator.specs.Public.Listing.{thing_order, IsInOrder}
+use Rattle.csi_orchestrator.specs.Model.Thing.{same_thing}
 use Rattle.csi_orchestrator.proofs.ThingOrder.{order-total, order-same}
-use Rattle.csi_world.specs.Listed.{is_entry_of}
+use Rattle.csi_world.specs.Private.Listed.{is_entry_of}
 use Rattle.csi_world.proofs.MarksTold.{same-itself, same-tells}
 
 -- what is among a list stands at a place of it, and the other way round
@@ -81,7 +81,7 @@ ties-found ord xs (Err i) rising within parted x among ties =
 -- ---- a row, by its id
 
 -- an id is at most a later one
-rises : (rows : List ControllerRow) (i j : ℕ) (d : ControllerRow) → IsRising rows → i ≤ j → j < length rows → (get_or rows i d).id ≤ (get_or rows j d).id
+rises : (rows : List ControllerRow) (i j : ℕ) (d : ControllerRow) → AreRisingRows rows → i ≤ j → j < length rows → (get_or rows i d).id ≤ (get_or rows j d).id
 rises [] i j d rising le within = absurd (omega arith)
 rises (row ∷ rows) zero zero d rising le within = omega arith
 rises (row ∷ rows) zero (suc j) d rising le within =
@@ -91,7 +91,7 @@ rises (row ∷ rows) (suc i) zero d rising le within = absurd (omega arith)
 rises (row ∷ rows) (suc i) (suc j) d rising le within = rises rows i j d (rising.1) (omega arith) (omega arith)
 
 -- how rising ids compare with an id never goes down
-comparisons_rise : (rows : List ControllerRow) (id : ℕ) → IsRising rows → IsNonDecreasingBy (λ (row : ControllerRow). ordering_index (nat_cmp row.id id)) rows
+comparisons_rise : (rows : List ControllerRow) (id : ℕ) → AreRisingRows rows → IsNonDecreasingBy (λ (row : ControllerRow). ordering_index (nat_cmp row.id id)) rows
 comparisons_rise rows id rising = λ i j d le within.
     let rise = rises rows i j d rising le within in
     grind (arith, nat_tests, rise)
@@ -101,7 +101,7 @@ other-id : (a b : ℕ) → (a ≡ b → ⊥) → (a == b) ≡ false
 other-id a b differ = grind (arith, nat_tests, differ)
 
 -- the answer of a binary search is the place
-pub searched : (rows : List ControllerRow) (id : ℕ) (r : Result ℕ ℕ) → IsRising rows → IsSearchInRange r (length rows) → IsBinarySearchResult (λ (row : ControllerRow). nat_cmp row.id id) rows r
+pub searched : (rows : List ControllerRow) (id : ℕ) (r : Result ℕ ℕ) → AreRisingRows rows → IsSearchInRange r (length rows) → IsBinarySearchResult (λ (row : ControllerRow). nat_cmp row.id id) rows r
     → result_ok r ≡ position (λ (row : ControllerRow). row.id == id) rows
 searched [] id (Ok at) rising within equal = absurd (omega arith)
 searched [] id (Err at) rising within parted = refl

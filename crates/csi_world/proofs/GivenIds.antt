@@ -4,14 +4,15 @@ use Rattle.std.specs.Prelude.{is_some}
 use Rattle.std.specs.List.{list_any}
 use Rattle.std.proofs.lemmas.Bool.{and_parts, and_from, eqb-true, eq-eqb, false≢true, false_from_ne_true}
 use Rattle.std.proofs.lemmas.Option.{none-some, same_Some}
-use Rattle.csi_types.specs.Key.{Key, Exists, Attached, Staged, Published}
-use Rattle.csi_types.specs.Same.{same_text}
+use Rattle.csi_types.specs.Public.Key.{Key, Exists, Attached, Staged, Published}
+use Rattle.csi_types.specs.Model.Same.{same_text}
 use Rattle.csi_types.proofs.Equality.{same_text-tells}
-use Rattle.csi_lists.specs.Members.{IsAmong}
+use Rattle.csi_lists.specs.Model.Members.{IsAmong}
 use Rattle.csi_lists.proofs.Searches.{find-passes, find-and}
 use Rattle.csi_lists.proofs.Tests.{alike, any-then, then-any}
-use Rattle.csi_controller.specs.State.{Volume, ControllerState, volume_named, volume_with_id}
-use Rattle.csi_controller.specs.View as controllers
+use Rattle.csi_controller.specs.Model.State.{Volume, ControllerState, volume_named}
+use Rattle.csi_controller.specs.Public.State.{volume_with_id}
+use Rattle.csi_controller.specs.Public.View as controllers
 
 -- an id that a name was given
 pub record GivenId : Type 0 where

@@ -8,21 +8,21 @@ use Rattle.csi_types.specs.declared.call.Call.TheVariants as calls
 use Rattle.csi_types.specs.declared.call.Party.{Party}
 use Rattle.csi_types.specs.declared.call.Party.TheVariants.{Controller, Node}
 use Rattle.csi_types.specs.declared.reply.Reply.{Reply}
-use Rattle.csi_fence.specs.Delivery.{View, IsClosed}
-use Rattle.csi_types.specs.Frame.{Frame}
-use Rattle.csi_types.specs.Key.{Key, Attached, Staged, StagedAs, asked}
+use Rattle.csi_fence.specs.Public.Delivery.{PluginView, IsClosed}
+use Rattle.csi_types.specs.Model.Frame.{Frame}
+use Rattle.csi_types.specs.Public.Key.{Key, Attached, Staged, StagedAs, asked}
 use Rattle.csi_lists.proofs.Members.{among-find, none_passes}
 use Rattle.csi_lists.proofs.Searches.{find-passes, find-same_among}
 use Rattle.std.proofs.lemmas.Option.{none-some, same_Some}
-use Rattle.csi_types.specs.Same.{same_text}
+use Rattle.csi_types.specs.Model.Same.{same_text}
 use Rattle.csi_types.proofs.Equality.{same_text-tells}
 use Rattle.csi_orchestrator.specs.declared.thing.Thing.{Thing}
 use Rattle.csi_orchestrator.specs.declared.thing.Thing.TheVariants as things
 use Rattle.csi_orchestrator.specs.declared.thing.Known.TheVariants.{Yes, No}
-use Rattle.csi_orchestrator.specs.Thing.{Issued, touches, is_thing, thing_at, is_doing}
-use Rattle.csi_orchestrator.specs.History.{Held, History}
-use Rattle.csi_orchestrator.specs.Readings.{newest, issued_in, known, held_by, held}
-use Rattle.csi_orchestrator.specs.Guards.{IsGuarded, HasId}
+use Rattle.csi_orchestrator.specs.Model.Thing.{Issued, touches, is_thing, thing_at, is_doing}
+use Rattle.csi_orchestrator.specs.Model.History.{Held, History}
+use Rattle.csi_orchestrator.specs.Model.Readings.{newest, issued_in, known, held_by_call, held}
+use Rattle.csi_orchestrator.specs.Public.Guards.{IsGuarded, HasId}
 use Rattle.csi_world.proofs.GivenIds.{GivenId, HasName, AreGiven}
 use Rattle.csi_world.proofs.KeyedCalls.{IsAnsweredOk, IsOwn, IsOne, Attachment, Staging, key_at, is_key, is_of, latest-last, Named, touches-key}
 use Rattle.csi_world.proofs.HeardReplies.{IsHeard, IsLatest, success-ok, id-given, known-yes, known-no, latest-known}
@@ -30,7 +30,7 @@ use Rattle.csi_world.proofs.RepliesTold.{Truth}
 use Rattle.csi_world.proofs.StagedAttached.{staging, IsStanding, IsAttachedSo, Stands}
 
 -- what is so of a history, the frames that were sent, the things, and the ids that were given
-pub record IsSoFar (history : History) (frames : List Frame) (view : View) (given : List GivenId) : Type 0 where
+pub record IsSoFar (history : History) (frames : List Frame) (view : PluginView) (given : List GivenId) : Type 0 where
   pub truth : Truth (issued_in history.items) frames view
   pub closed : IsClosed view
   pub named : Named (issued_in history.items) frames given
@@ -66,10 +66,10 @@ turned : (a b : List ℕ) → same_text a b ≡ true → same_text b a ≡ true
 turned a b h = (same_text-tells b a).1 (sym ((same_text-tells a b).0 h))
 
 -- a call of the name that isn't of this attachment tells nothing of how it is held
-held-none : (name node : List ℕ) (x : Issued) → touches (things.Attached name node) x ≡ false → same_text x.name name ≡ true → held_by node x.call ≡ None
+held-none : (name node : List ℕ) (x : Issued) → touches (things.Attached name node) x ≡ false → same_text x.name name ≡ true → held_by_call node x.call ≡ None
 held-none name node x other named = by x.party x.call other
   where
-    by : (party : Party) (c : Call) → is_thing (things.Attached name node) (thing_at x.name party c) ≡ false → held_by node c ≡ None
+    by : (party : Party) (c : Call) → is_thing (things.Attached name node) (thing_at x.name party c) ≡ false → held_by_call node c ≡ None
     by party (calls.ControllerPublishVolume i there capability readonly) other = at (same_text there node) refl
       where
         at : (b : Bool) → same_text there node ≡ b → cond b (Some (let h : Held = record { capability = capability; readonly = readonly } in h)) None ≡ None
@@ -79,7 +79,7 @@ held-none name node x other named = by x.party x.call other
 
 -- how the calls of a name hold the volume at a node, by the newest of them that tells it
 abbrev held_among : List ℕ → List ℕ → List Issued → Option Held
-held_among name node xs = newest (filter_map (λ (issued : Issued). held_by node issued.call) (filter (λ (issued : Issued). same_text issued.name name) xs))
+held_among name node xs = newest (filter_map (λ (issued : Issued). held_by_call node issued.call) (filter (λ (issued : Issued). same_text issued.name name) xs))
 
 -- where the latest call of an attachment put the volume there, it tells how the volume is held
 held-latest : (name node : List ℕ) (id : ℕ) (call : Issued) (here : Held) (xs : List Issued) → call.call ≡ calls.ControllerPublishVolume id node here.capability here.readonly
@@ -92,14 +92,14 @@ held-latest name node id call here (x ∷ xs) publishes found = by (touches (thi
 
     -- the call itself
     told : (y : Issued) → y.call ≡ calls.ControllerPublishVolume id node here.capability here.readonly → touches (things.Attached name node) y ≡ true
-        → (same_text y.name name ≡ true) × (held_by node y.call ≡ Some here)
+        → (same_text y.name name ≡ true) × (held_by_call node y.call ≡ Some here)
     told y is of =
         let whole : (same_text name y.name && same_text node node) ≡ true = sym (ap (λ c. is_thing (things.Attached name node) (thing_at y.name y.party c)) is) ∙ of in
         let parts = and_parts (same_text name y.name) (same_text node node) whole in
-        (turned name y.name parts.0, ap (held_by node) is ∙ ap (λ b. cond b (Some here) None) parts.1)
+        (turned name y.name parts.0, ap (held_by_call node) is ∙ ap (λ b. cond b (Some here) None) parts.1)
 
     skip : (b : Bool) → same_text x.name name ≡ b → touches (things.Attached name node) x ≡ false → held_among name node xs ≡ Some here
-        → newest (filter_map (λ (issued : Issued). held_by node issued.call) (cond b (x ∷ others) others)) ≡ Some here
+        → newest (filter_map (λ (issued : Issued). held_by_call node issued.call) (cond b (x ∷ others) others)) ≡ Some here
     skip false e other rest = rest
     skip true e other rest = rw (held-none name node x other e) rest
 
@@ -111,7 +111,7 @@ held-latest name node id call here (x ∷ xs) publishes found = by (touches (thi
     by false e found rest = skip (same_text x.name name) refl e (rest found)
 
 -- what is so of a history and of what came of it
-module _ (history : History) (frames : List Frame) (view : View) (given : List GivenId) (so : IsSoFar history frames view given) where
+module _ (history : History) (frames : List Frame) (view : PluginView) (given : List GivenId) (so : IsSoFar history frames view given) where
   -- an id that the orchestrator heard for a name is the one that it was given
   pub given-id : (name : List ℕ) (id : ℕ) → HasId history name id → HasName given name id
   given-id name id has = id-given history frames given name id so.heard so.truth.numbers so.named has

@@ -9,21 +9,21 @@ use Rattle.csi_types.specs.declared.capability.Capability.{Capability}
 use Rattle.csi_types.specs.declared.reply.Reply.{Reply}
 use Rattle.csi_types.specs.declared.status.Status.{Status}
 use Rattle.csi_types.specs.declared.status.Status.TheVariants.{Ok}
-use Rattle.csi_types.specs.Call.{kind_of}
-use Rattle.csi_types.specs.Frame.{Frame}
-use Rattle.csi_lists.specs.Members.{IsAmong, EachTwo}
+use Rattle.csi_types.specs.Model.Call.{kind_of}
+use Rattle.csi_types.specs.Model.Frame.{Frame}
+use Rattle.csi_lists.specs.Model.Members.{IsAmong, EachTwo}
 use Rattle.csi_lists.proofs.Members.{among-append, among-kept, among-filter_map}
 use Rattle.csi_lists.proofs.Searches.{find-passes}
 use Rattle.csi_lists.proofs.Tests.{any-then}
-use Rattle.csi_types.specs.Reply.{is_ok_status}
-use Rattle.csi_types.specs.Replies.{reply_frame}
-use Rattle.csi_types.specs.Same.{same_text, same_number}
+use Rattle.csi_types.specs.Model.Reply.{is_ok_status}
+use Rattle.csi_types.specs.Model.Replies.{reply_frame}
+use Rattle.csi_types.specs.Model.Same.{same_text, same_number}
 use Rattle.csi_types.proofs.Equality.{same_number-tells, same_text-tells}
 use Rattle.csi_orchestrator.specs.declared.thing.Thing.{Thing}
 use Rattle.csi_orchestrator.specs.declared.thing.Known.TheVariants.{Yes, No, Maybe}
-use Rattle.csi_orchestrator.specs.Thing.{Issued, touches, is_doing, is_yes, is_no}
-use Rattle.csi_orchestrator.specs.History.{Item, Accepted, History}
-use Rattle.csi_orchestrator.specs.Readings.{newest, issued_in, issued_of, is_success_of, has_success, known_by, known, id_in, id_by, id_of}
+use Rattle.csi_orchestrator.specs.Model.Thing.{Issued, touches, is_doing, is_yes, is_no}
+use Rattle.csi_orchestrator.specs.Model.History.{Item, Accepted, History}
+use Rattle.csi_orchestrator.specs.Model.Readings.{newest, issued_in, issued_of, is_success_of, has_success, known_by, known, id_in, id_by, id_of}
 use Rattle.csi_world.proofs.GivenIds.{GivenId, HasName}
 use Rattle.csi_world.proofs.KeyedCalls.{IsAnsweredOk, ComesAfter, one-number, Named}
 

@@ -11,17 +11,18 @@ use Rattle.csi_types.specs.declared.call.Party.{Party}
 use Rattle.csi_types.specs.declared.call.Party.TheVariants.{Controller, Node}
 use Rattle.csi_types.specs.declared.reply.Reply.{Reply}
 use Rattle.csi_types.specs.declared.status.Status.TheVariants.{Ok}
-use Rattle.csi_types.specs.Call.{kind_of, is_party_of}
-use Rattle.csi_types.specs.Frame.{Frame}
-use Rattle.csi_types.specs.Key.{Key, Exists, Attached, Staged, Published, same_key}
-use Rattle.csi_lists.specs.Members.{IsAmong, EachTwo}
+use Rattle.csi_types.specs.Model.Call.{kind_of}
+use Rattle.csi_types.specs.Public.Call.{is_party_of}
+use Rattle.csi_types.specs.Model.Frame.{Frame}
+use Rattle.csi_types.specs.Public.Key.{Key, Exists, Attached, Staged, Published, same_key}
+use Rattle.csi_lists.specs.Model.Members.{IsAmong, EachTwo}
 use Rattle.csi_lists.proofs.Members.{each_of}
-use Rattle.csi_types.specs.Number.{is_before, IsBefore}
-use Rattle.csi_types.specs.Replies.{reply_frame}
-use Rattle.csi_types.specs.Same.{same_text}
+use Rattle.csi_types.specs.Model.Number.{is_before, IsBefore}
+use Rattle.csi_types.specs.Model.Replies.{reply_frame}
+use Rattle.csi_types.specs.Model.Same.{same_text}
 use Rattle.csi_orchestrator.specs.declared.thing.Thing.{Thing}
 use Rattle.csi_orchestrator.specs.declared.thing.Thing.TheVariants as things
-use Rattle.csi_orchestrator.specs.Thing.{Issued, thing_at, same_thing, is_thing, touches}
+use Rattle.csi_orchestrator.specs.Model.Thing.{Issued, thing_at, same_thing, is_thing, touches}
 use Rattle.csi_world.proofs.WorldView.{party_of}
 use Rattle.csi_types.specs.declared.capability.Capability.{Capability}
 use Rattle.csi_world.proofs.GivenIds.{GivenId, HasName, AreGiven, GivesMore, names-ids}

@@ -3,16 +3,16 @@
 use Rattle.std.proofs.Common.{◌≡◌, List, [], ◌∷◌, map, Bool, true, false, cond, Some, find, refl, sym, ◌∙◌, ap, subst, inl, inr, ◌++◌}
 use Rattle.std.specs.List.{list_any}
 use Rattle.std.proofs.lemmas.Bool.{false≢true}
-use Rattle.csi_lists.specs.Members.{IsAmong}
+use Rattle.csi_lists.specs.Model.Members.{IsAmong}
 use Rattle.csi_lists.proofs.Members.{in-map}
 use Rattle.csi_lists.proofs.Tests.{then-any}
-use Rattle.csi_types.specs.Same.{same_text}
+use Rattle.csi_types.specs.Model.Same.{same_text}
 use Rattle.csi_types.proofs.Equality.{same_text-tells}
-use Rattle.csi_world.specs.World.{NodeAt}
+use Rattle.csi_world.specs.Model.World.{NodeAt}
 use Rattle.csi_world.specs.declared.auditing.lists.NodeLists.{NodeLists}
-use Rattle.csi_world.specs.Listed.{AreDistinct, node_listed, IsNodeAlike, AreNodesAlike, IsListOf, AreListsOf}
-use Rattle.csi_node.specs.Record.{NodeParts}
-use Rattle.csi_world.specs.Simulated.{AreNodesShown}
+use Rattle.csi_world.specs.Private.Listed.{AreDistinctTexts, node_listed, IsNodeAlike, AreNodesAlike, IsListOf, AreListsOf}
+use Rattle.csi_node.specs.Model.Record.{NodeParts}
+use Rattle.csi_world.specs.Model.Simulated.{AreNodesShown}
 
 -- ---- each node with the list of it
 
@@ -38,7 +38,7 @@ id_among : (ns : List NodeAt) (n : NodeAt) → IsAmong n ns → list_any (same_t
 id_among ns n among = then-any (same_text n.id) (map (λ (m : NodeAt). m.id) ns) n.id (in-map (λ (m : NodeAt). m.id) ns n among) ((same_text-tells n.id n.id).1 refl)
 
 -- where the ids differ, each node is found by its id
-pub node-found-by-id : (ns : List NodeAt) (n : NodeAt) → AreDistinct (map (λ (m : NodeAt). m.id) ns) → IsAmong n ns → find (λ (m : NodeAt). same_text m.id n.id) ns ≡ Some n
+pub node-found-by-id : (ns : List NodeAt) (n : NodeAt) → AreDistinctTexts (map (λ (m : NodeAt). m.id) ns) → IsAmong n ns → find (λ (m : NodeAt). same_text m.id n.id) ns ≡ Some n
 node-found-by-id [] n apart among = absurd among
 node-found-by-id (m ∷ ms) n apart (inl e) =
     let own : same_text m.id n.id ≡ true = (same_text-tells m.id n.id).1 (ap (λ (k : NodeAt). k.id) (sym e)) in

@@ -5,17 +5,17 @@ use Rattle.std.proofs.lemmas.Bool.{and_from}
 use Rattle.std.proofs.lemmas.List.{get_or_default, take_more}
 use Rattle.std.proofs.lemmas.List.Folds.{list_any-append, list_all_at, list_all_more}
 use Rattle.std.proofs.lemmas.List.Quantifiers.{position-Some}
-use Rattle.csi_lists.specs.Members.{IsAmong}
-use Rattle.csi_lists.specs.Places.{FirstAt}
+use Rattle.csi_lists.specs.Model.Members.{IsAmong}
+use Rattle.csi_lists.specs.Public.Places.{FirstAt}
 use Rattle.csi_lists.proofs.Places.{FirstAt-position, FirstAt-passes}
 use Rattle.csi_lists.proofs.Searches.{find-no_place}
 use Rattle.csi_lists.proofs.Tests.{any-find_none, then-any}
 use Rattle.csi_orchestrator.specs.declared.thing.Thing.{Thing}
 use Rattle.csi_orchestrator.specs.declared.thing.Known.{Known}
 use Rattle.csi_orchestrator.specs.declared.thing.Known.TheVariants.{Yes}
-use Rattle.csi_orchestrator.specs.Listing.{IsInOrder}
-use Rattle.csi_orchestrator.specs.Thing.{same_thing}
-use Rattle.csi_world.specs.Listed.{is_listed, is_entry_listed, is_entry_of, is_noted}
+use Rattle.csi_orchestrator.specs.Public.Listing.{IsInOrder}
+use Rattle.csi_orchestrator.specs.Model.Thing.{same_thing}
+use Rattle.csi_world.specs.Private.Listed.{is_listed, is_entry_listed, is_entry_of, is_noted}
 use Rattle.csi_world.proofs.MarksTold.{same-itself, same-tells}
 use Rattle.csi_world.proofs.FoundByHalving.{at-place, later-other}
 

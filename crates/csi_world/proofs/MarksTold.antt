@@ -2,20 +2,20 @@
 use Rattle.std.proofs.Common.{◌≡◌, ◌≢◌, ◌↔◌, List, Bool, true, IsTrue, ◌&&◌, refl, sym, ◌∙◌, ap, subst}
 use Rattle.std.specs.List.{list_all}
 use Rattle.std.proofs.lemmas.Bool.{and_parts, and_from, false≢true, false_from_ne_true}
-use Rattle.csi_lists.specs.Members.{IsAmong}
+use Rattle.csi_lists.specs.Model.Members.{IsAmong}
 use Rattle.csi_lists.proofs.Tests.{all-then, then-all, any-then, then-any}
-use Rattle.csi_types.specs.Same.{same_text}
+use Rattle.csi_types.specs.Model.Same.{same_text}
 use Rattle.csi_types.proofs.Equality.{same_text-tells}
 use Rattle.csi_orchestrator.specs.declared.thing.Thing.{Thing}
 use Rattle.csi_orchestrator.specs.declared.thing.Thing.TheVariants.{Exists, Attached, Staged, Published}
 use Rattle.csi_orchestrator.specs.declared.thing.Known.{Known}
 use Rattle.csi_orchestrator.specs.declared.thing.Known.TheVariants.{Yes, No, Maybe}
-use Rattle.csi_orchestrator.specs.Listing.{ListsKnown}
-use Rattle.csi_orchestrator.specs.Thing.{same_thing}
-use Rattle.csi_world.specs.World.{World}
-use Rattle.csi_world.specs.Safe.{holds}
-use Rattle.csi_world.specs.Audited.{AreMarkedRight}
-use Rattle.csi_world.specs.Listed.{is_listed, is_noted, is_affirmed}
+use Rattle.csi_orchestrator.specs.Public.Listing.{ListsKnown}
+use Rattle.csi_orchestrator.specs.Model.Thing.{same_thing}
+use Rattle.csi_world.specs.Model.World.{World}
+use Rattle.csi_world.specs.Model.Safe.{holds}
+use Rattle.csi_world.specs.Public.Audited.{AreMarkedRight}
+use Rattle.csi_world.specs.Private.Listed.{is_listed, is_noted, is_affirmed}
 
 -- Yes isn't No
 yes_not_no : Yes ≢ No

@@ -9,29 +9,29 @@ use Rattle.csi_types.specs.declared.call.Kind.{Kind}
 use Rattle.csi_types.specs.declared.call.Party.{Party}
 use Rattle.csi_types.specs.declared.call.Party.TheVariants.{Controller, Node}
 use Rattle.csi_types.specs.declared.reply.Reply.{Reply}
-use Rattle.csi_types.specs.Call.{kind_of}
-use Rattle.csi_fence.specs.Delivery.{View, IsClosed}
-use Rattle.csi_types.specs.Frame.{Frame}
-use Rattle.csi_types.specs.Key.{Key, Exists, Form, HasId, asked}
-use Rattle.csi_types.specs.Reply.{has_id_by_rule}
+use Rattle.csi_types.specs.Model.Call.{kind_of}
+use Rattle.csi_fence.specs.Public.Delivery.{PluginView, IsClosed}
+use Rattle.csi_types.specs.Model.Frame.{Frame}
+use Rattle.csi_types.specs.Public.Key.{Key, Exists, Form, HasId, asked}
+use Rattle.csi_types.specs.Public.Reply.{has_id_by_rule}
 use Rattle.csi_types.proofs.Equality.{same_text-tells}
-use Rattle.csi_lists.specs.Members.{IsAmong}
-use Rattle.csi_orchestrator.specs.Thing.{Issued, is_doing}
-use Rattle.csi_orchestrator.specs.History.{Item, Sent, History}
-use Rattle.csi_orchestrator.specs.Readings.{issued_in}
-use Rattle.csi_orchestrator.specs.Guards.{IsGuarded}
+use Rattle.csi_lists.specs.Model.Members.{IsAmong}
+use Rattle.csi_orchestrator.specs.Model.Thing.{Issued, is_doing}
+use Rattle.csi_orchestrator.specs.Model.History.{Item, Sent, History}
+use Rattle.csi_orchestrator.specs.Model.Readings.{issued_in}
+use Rattle.csi_orchestrator.specs.Public.Guards.{IsGuarded}
 use Rattle.csi_world.proofs.GivenIds.{GivenId, HasName}
 use Rattle.csi_world.proofs.KeyedCalls.{key_at, is_key, is_of, is_making}
 use Rattle.csi_world.proofs.CreatesFirst.{IsKnown, CreatesFirst, known-later, known-heard, making-guarded}
 use Rattle.csi_world.proofs.RepliesTold.{IsChanged, IsEffect, asked-doing}
 
 -- an id of the name was heard, and each CreateVolume that was sent for it is spent
-pub record IsEnded (items : List Item) (view : View) (name : List ℕ) : Type 0 where
+pub record IsEnded (items : List Item) (view : PluginView) (name : List ℕ) : Type 0 where
   pub known : IsKnown items name
   pub spent : (call : Issued) → IsAmong call (issued_in items) → call.name ≡ name → is_making call.call ≡ true → IsTrue (view.is_spent (Exists name) call.number)
 
 -- so it is of each name that was given an id and has no live volume
-abbrev pub AreEnded : List GivenId → List Item → View → Type 0
+abbrev pub AreEnded : List GivenId → List Item → PluginView → Type 0
 AreEnded given items view = (name : List ℕ) (id : ℕ) → HasName given name id → view.held (Exists name) ≡ None → IsEnded items view name
 
 -- a call of whether a volume is there is for its name
@@ -63,7 +63,7 @@ making-does (calls.CreateVolume create required limit capabilities) making = ref
 making-does c making = absurd (false≢true making)
 
 -- a guarded call is sent: no CreateVolume for such a name
-pub ended-sent : (given : List GivenId) (history : History) (view : View) (call : Issued) → IsGuarded history call.name call.party call.call → AreEnded given history.items view
+pub ended-sent : (given : List GivenId) (history : History) (view : PluginView) (call : Issued) → IsGuarded history call.name call.party call.call → AreEnded given history.items view
     → AreEnded given (Sent call ∷ history.items) view
 ended-sent given history view call guard ended name id has none =
     let old = ended name id has none in
@@ -79,7 +79,7 @@ ended-sent given history view call guard ended name id has none =
         absurd (known-heard history call.name (subst (IsKnown history.items) (sym named ∙ ap (λ (x : Issued). x.name) e) old.known) none)
 
 -- an item that sends nothing
-pub ended-noted : (given : List GivenId) (items : List Item) (item : Item) (view : View) → issued_in (item ∷ items) ≡ issued_in items → AreEnded given items view → AreEnded given (item ∷ items) view
+pub ended-noted : (given : List GivenId) (items : List Item) (item : Item) (view : PluginView) → issued_in (item ∷ items) ≡ issued_in items → AreEnded given items view → AreEnded given (item ∷ items) view
 ended-noted given items item view same ended name id has none =
     let old = ended name id has none in
     record {
@@ -88,7 +88,7 @@ ended-noted given items item view same ended name id has none =
     }
 
 -- a sent call that a plugin got, and what became of the things
-module _ (items : List Item) (frames : List Frame) (old new : View) (call : Issued) (key : Key) (kind : Kind) (reply : Reply) (effect : IsEffect (issued_in items) frames old new call key kind reply) where
+module _ (items : List Item) (frames : List Frame) (old new : PluginView) (call : Issued) (key : Key) (kind : Kind) (reply : Reply) (effect : IsEffect (issued_in items) frames old new call key kind reply) where
   -- the call is of the thing that it changed
   of_changed : (k : Key) → k ≡ key → is_of k call ≡ true
   of_changed k same = ap (λ x. is_of x call) same ∙ effect.of

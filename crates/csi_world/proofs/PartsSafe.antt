@@ -5,32 +5,32 @@ use Rattle.std.specs.List.{AllByRecursion, list_all}
 use Rattle.std.proofs.lemmas.Bool.{and_parts, and_from, eqb-true, eq-eqb, false≢true, true_from_ne_false}
 use Rattle.csi_types.specs.declared.capability.Capability.{Capability}
 use Rattle.csi_types.specs.declared.holding.Holding.{Holding}
-use Rattle.csi_types.specs.Holding.{AreApart}
-use Rattle.csi_lists.specs.Members.{IsAmong, EachTwo}
+use Rattle.csi_types.specs.Model.Holding.{AreApart}
+use Rattle.csi_lists.specs.Model.Members.{IsAmong, EachTwo}
 use Rattle.csi_lists.proofs.Members.{each_of, among-find, among-filter, in_filter, among-map, in-map, among-by_key}
 use Rattle.csi_lists.proofs.Searches.{find-and, find-passes, find-of_map}
 use Rattle.csi_lists.proofs.Tests.{all-then, then-all, any-then, then-any}
 use Rattle.csi_lists.proofs.Pairs.{two-by_key}
-use Rattle.csi_types.specs.Same.{same_text, same_capability}
+use Rattle.csi_types.specs.Model.Same.{same_text, same_capability}
 use Rattle.csi_types.proofs.Equality.{same_text-tells, same_capability-tells}
 use Rattle.csi_controller.specs.declared.row.ControllerRow.{ControllerRow}
 use Rattle.csi_controller.specs.declared.row.NodeHolding.{NodeHolding}
-use Rattle.csi_controller.specs.Core.{Shows as ControllerShows}
-use Rattle.csi_controller.specs.Core.{Parts as ControllerParts}
-use Rattle.csi_controller.specs.Exclusive.{IsRowExclusive}
-use Rattle.csi_controller.specs.Shown.{volume_of_row, holdings_in}
-use Rattle.csi_controller.specs.State.{Volume, live_volume}
-use Rattle.csi_node.specs.Record.{NodeParts}
-use Rattle.csi_node.specs.Safe.{IsPublishedRight}
-use Rattle.csi_node.specs.State.{StagedVolume}
+use Rattle.csi_controller.specs.Model.Core.{Shows as ControllerShows}
+use Rattle.csi_controller.specs.Model.Core.{ControllerParts}
+use Rattle.csi_controller.specs.Public.Exclusive.{IsRowExclusive}
+use Rattle.csi_controller.specs.Model.Shown.{volume_of_row, holdings_in}
+use Rattle.csi_controller.specs.Model.State.{Volume, live_volume}
+use Rattle.csi_node.specs.Model.Record.{NodeParts}
+use Rattle.csi_node.specs.Public.Safe.{IsPublishedRight}
+use Rattle.csi_node.specs.Model.State.{StagedVolume}
 use Rattle.csi_node.specs.declared.entries.Staged.{Staged as StagedEntry}
-use Rattle.csi_node.specs.Views.{staged_shown}
+use Rattle.csi_node.specs.Public.Views.{staged_shown}
 use Rattle.csi_world.specs.declared.auditing.lists.NodeLists.{NodeLists}
-use Rattle.csi_world.specs.World.{NodeAt, World}
-use Rattle.csi_world.specs.Safe.{IsExclusive, IsAttachedAs, IsStagedWhereAttached, IsAttachedWhileLive}
-use Rattle.csi_world.specs.Simulated.{AreNodesShown}
-use Rattle.csi_world.specs.Audited.{ArePlugins}
-use Rattle.csi_world.specs.Listed.{Lists, IsListed, IsPublishing, ArePluginsSafe, is_held_as, is_row_held, row_with_id, is_staged_right, is_node_attached}
+use Rattle.csi_world.specs.Model.World.{NodeAt, World}
+use Rattle.csi_world.specs.Model.Safe.{IsExclusive, IsAttachedAs, IsStagedWhereAttached, IsAttachedWhileLive}
+use Rattle.csi_world.specs.Model.Simulated.{AreNodesShown}
+use Rattle.csi_world.specs.Public.Audited.{ArePlugins}
+use Rattle.csi_world.specs.Private.Listed.{Lists, IsListed, IsPublishing, ArePluginsSafe, is_held_as, is_row_held, controller_row_with_id, is_staged_right, is_node_attached}
 use Rattle.csi_world.proofs.PluginSafety.{staged_there}
 use Rattle.csi_world.proofs.ListedNodes.{listed-of, node-of}
 
@@ -98,10 +98,10 @@ plugins-safe parts nodes world rows publishing are =
 -- the lists of a world's plugins
 module _ (lists : Lists) (world : World) (is : IsListed lists world) where
   -- a row's volume that is held so is attached so
-  row_attached : (id : ℕ) (node : List ℕ) (capability : Capability) → is_row_held node capability (row_with_id id lists.rows) ≡ true → IsAttachedAs world id node capability
-  row_attached id node capability = by (row_with_id id lists.rows) refl
+  row_attached : (id : ℕ) (node : List ℕ) (capability : Capability) → is_row_held node capability (controller_row_with_id id lists.rows) ≡ true → IsAttachedAs world id node capability
+  row_attached id node capability = by (controller_row_with_id id lists.rows) refl
     where
-      by : (o : Option ControllerRow) → row_with_id id lists.rows ≡ o → is_row_held node capability o ≡ true → IsAttachedAs world id node capability
+      by : (o : Option ControllerRow) → controller_row_with_id id lists.rows ≡ o → is_row_held node capability o ≡ true → IsAttachedAs world id node capability
       by None e h = absurd (false≢true h)
       by (Some row) e h =
           let found = any-then (is_held_as node capability) row.holdings.items h in
@@ -117,9 +117,9 @@ module _ (lists : Lists) (world : World) (is : IsListed lists world) where
           }
 
   -- what is attached so is held so by the row of its id
-  attached_row : (id : ℕ) (node : List ℕ) (capability : Capability) → IsAttachedAs world id node capability → is_row_held node capability (row_with_id id lists.rows) ≡ true
+  attached_row : (id : ℕ) (node : List ℕ) (capability : Capability) → IsAttachedAs world id node capability → is_row_held node capability (controller_row_with_id id lists.rows) ≡ true
   attached_row id node capability at =
-      by (row_with_id id lists.rows)
+      by (controller_row_with_id id lists.rows)
       (subst (IsAmong at.holding) (sym (is.holdings id))
       (in_filter (λ (x : Holding). x.volume == id) world.controller.holdings at.holding at.is_held (eq-eqb (at.holding).volume id at.of_volume)))
     where

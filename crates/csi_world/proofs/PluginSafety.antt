@@ -2,21 +2,21 @@
 use Rattle.std.proofs.Common.{◌≡◌, ℕ, true, Some, find, ◌==◌, sym, subst}
 use Rattle.std.proofs.lemmas.Bool.{eqb-true}
 use Rattle.csi_types.specs.declared.capability.Capability.{Capability}
-use Rattle.csi_types.specs.Config.{Config}
-use Rattle.csi_lists.specs.Members.{IsAmong}
+use Rattle.csi_types.specs.Model.Config.{Config}
+use Rattle.csi_lists.specs.Model.Members.{IsAmong}
 use Rattle.csi_lists.proofs.Members.{each_of, among-find}
 use Rattle.csi_lists.proofs.Options.{some-from_map}
 use Rattle.csi_lists.proofs.Searches.{find-passes}
-use Rattle.csi_controller.specs.Safe.{IsExclusive, ControllerSafetyLaw}
-use Rattle.csi_node.specs.Safe.{IsPublishedRight, NodeSafetyLaw}
-use Rattle.csi_node.specs.State.{NodeState, StagedVolume, staged_of}
-use Rattle.csi_world.specs.World.{World}
-use Rattle.csi_world.specs.Safe.{IsPublishedWhereStaged}
+use Rattle.csi_controller.specs.Public.Safe.{IsExclusiveState, ControllerSafetyLaw}
+use Rattle.csi_node.specs.Public.Safe.{IsPublishedRight, NodeSafetyLaw}
+use Rattle.csi_node.specs.Model.State.{NodeState, StagedVolume, staged_of}
+use Rattle.csi_world.specs.Model.World.{World}
+use Rattle.csi_world.specs.Model.Safe.{IsPublishedWhereStaged}
 use Rattle.csi_world.proofs.PluginsReached.{IsReached, IsNodeOfFrames}
 
 -- any two holdings of one volume are apart, and what is attached wasn't deleted
-pub exclusive : ControllerSafetyLaw → (config : Config) (world : World) → IsReached config world → IsExclusive world.controller
-exclusive law config world reached = let of = reached.controller in subst IsExclusive (sym of.1) (law config of.0)
+pub exclusive : ControllerSafetyLaw → (config : Config) (world : World) → IsReached config world → IsExclusiveState world.controller
+exclusive law config world reached = let of = reached.controller in subst IsExclusiveState (sym of.1) (law config of.0)
 
 -- the capability in which a volume is staged stands in the list
 pub staged_there : (state : NodeState) (id : ℕ) (capability : Capability) → staged_of id state ≡ Some capability → IsAmong {X = StagedVolume} (record { volume = id; capability = capability }) state.staged

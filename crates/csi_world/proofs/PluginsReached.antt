@@ -5,30 +5,32 @@ use Rattle.std.proofs.lemmas.Option.{none-some, same_Some}
 use Rattle.csi_types.specs.declared.config.NodeSlots.{NodeSlots}
 use Rattle.csi_types.specs.declared.call.Party.{Party}
 use Rattle.csi_types.specs.declared.call.Party.TheVariants.{Controller, Node}
-use Rattle.csi_types.specs.Config.{Config}
-use Rattle.csi_types.specs.Frame.{Frame}
-use Rattle.csi_lists.specs.Members.{IsAmong}
+use Rattle.csi_types.specs.Model.Config.{Config}
+use Rattle.csi_types.specs.Model.Frame.{Frame}
+use Rattle.csi_lists.specs.Model.Members.{IsAmong}
 use Rattle.csi_lists.proofs.Members.{each_of, among-find, among-map, some-found}
 use Rattle.csi_lists.proofs.Options.{some-from_map}
 use Rattle.csi_lists.proofs.Searches.{find-map, find-passes}
 use Rattle.csi_lists.proofs.Maps.{map-same}
-use Rattle.csi_types.specs.Same.{same_text}
+use Rattle.csi_types.specs.Model.Same.{same_text}
 use Rattle.csi_types.proofs.Equality.{same_text-tells}
-use Rattle.csi_controller.specs.State.{ControllerState, empty_controller}
-use Rattle.csi_controller.specs.Fenced as controller
-use Rattle.csi_node.specs.State.{NodeState, empty_node}
-use Rattle.csi_node.specs.Fenced as node
-use Rattle.csi_orchestrator.specs.History.{History}
-use Rattle.csi_world.specs.World.{NodeAt, World, new_node, empty_world, node_state, with_state, with_node, with_frame}
-use Rattle.csi_world.specs.Step.{answered_by_node, answered_by, answered}
+use Rattle.csi_controller.specs.Model.State.{ControllerState, empty_controller}
+use Rattle.csi_controller.specs.Model.Fenced as controller
+use Rattle.csi_controller.specs.Public.Fenced as public_controller
+use Rattle.csi_node.specs.Model.State.{NodeState, empty_node}
+use Rattle.csi_node.specs.Model.Fenced as node
+use Rattle.csi_node.specs.Public.Fenced as public_node
+use Rattle.csi_orchestrator.specs.Model.History.{History}
+use Rattle.csi_world.specs.Model.World.{NodeAt, World, new_node, empty_world, node_state, with_state, with_node, with_frame}
+use Rattle.csi_world.specs.Model.Step.{answered_by_node, answered_by, answered_by_plugin}
 
 -- a controller's state, and a node's, to which frames lead
 abbrev pub IsOfFrames : Config → ControllerState → Type 0
-IsOfFrames config state = (frames : List Frame) × (state ≡ controller.after_frames config empty_controller frames)
+IsOfFrames config state = (frames : List Frame) × (state ≡ public_controller.after_frames config empty_controller frames)
 
 -- a node's state is one to which frames lead
 abbrev pub IsNodeOfFrames : NodeAt → Type 0
-IsNodeOfFrames at = (frames : List Frame) × (at.state ≡ node.after_frames at.id empty_node frames)
+IsNodeOfFrames at = (frames : List Frame) × (at.state ≡ public_node.after_frames at.id empty_node frames)
 
 -- the plugins are in such states, and each node is as the one that is found by its id
 pub record IsReached (config : Config) (world : World) : Type 0 where
@@ -37,12 +39,12 @@ pub record IsReached (config : Config) (world : World) : Type 0 where
   pub alike : (at : NodeAt) → IsAmong at world.nodes → node_state at.id world ≡ Some at.state
 
 -- one frame more
-controller-more : (config : Config) (state : ControllerState) (frames : List Frame) (frame : Frame) → controller.after_frames config state (frames ++ frame ∷ []) ≡ (controller.fenced config (controller.after_frames config state frames) frame).state
+controller-more : (config : Config) (state : ControllerState) (frames : List Frame) (frame : Frame) → public_controller.after_frames config state (frames ++ frame ∷ []) ≡ (controller.fenced config (public_controller.after_frames config state frames) frame).state
 controller-more config state [] frame = refl
 controller-more config state (f ∷ fs) frame = controller-more config (controller.fenced config state f).state fs frame
 
 -- the same of a node
-node-more : (id : List ℕ) (state : NodeState) (frames : List Frame) (frame : Frame) → node.after_frames id state (frames ++ frame ∷ []) ≡ (node.fenced id (node.after_frames id state frames) frame).state
+node-more : (id : List ℕ) (state : NodeState) (frames : List Frame) (frame : Frame) → public_node.after_frames id state (frames ++ frame ∷ []) ≡ (node.fenced id (public_node.after_frames id state frames) frame).state
 node-more id state [] frame = refl
 node-more id state (f ∷ fs) frame = node-more id (node.fenced id state f).state fs frame
 
@@ -59,11 +61,11 @@ found-at id world state h =
     (found.0, among-find p world.nodes found.0 found.1, (same_text-tells (found.0).id id).0 (find-passes p world.nodes found.0 found.1), found.2)
 
 -- the node of an id is in a state that frames lead to
-pub node-of-frames : (config : Config) (world : World) (id : List ℕ) (state : NodeState) → IsReached config world → node_state id world ≡ Some state → (frames : List Frame) × (state ≡ node.after_frames id empty_node frames)
+pub node-of-frames : (config : Config) (world : World) (id : List ℕ) (state : NodeState) → IsReached config world → node_state id world ≡ Some state → (frames : List Frame) × (state ≡ public_node.after_frames id empty_node frames)
 node-of-frames config world id state reached h =
     let found = found-at id world state h in
     let of = each_of IsNodeOfFrames world.nodes found.0 reached.nodes found.1 in
-    (of.0, sym found.3 ∙ of.1 ∙ ap (λ i. node.after_frames i empty_node of.0) found.2)
+    (of.0, sym found.3 ∙ of.1 ∙ ap (λ i. public_node.after_frames i empty_node of.0) found.2)
 
 -- a node after another state of one node
 with_state-id : (id other : List ℕ) (state : NodeState) (at : NodeAt) → same_text (with_state id state at).id other ≡ same_text at.id other
@@ -100,12 +102,12 @@ node_state-same id old state world h =
     ∙ state-same id old state (find (λ (n : NodeAt). same_text n.id id) world.nodes) h (λ at e. find-passes (λ (n : NodeAt). same_text n.id id) world.nodes at e)
 
 -- a node's answer to a frame
-with_states : (id : List ℕ) (state : NodeState) (ns : List NodeAt) → ((frames : List Frame) × (state ≡ node.after_frames id empty_node frames)) → AllByRecursion IsNodeOfFrames ns → AllByRecursion IsNodeOfFrames (map (with_state id state) ns)
+with_states : (id : List ℕ) (state : NodeState) (ns : List NodeAt) → ((frames : List Frame) × (state ≡ public_node.after_frames id empty_node frames)) → AllByRecursion IsNodeOfFrames ns → AllByRecursion IsNodeOfFrames (map (with_state id state) ns)
 with_states id state [] of all = tt
 with_states id state (n ∷ ns) of all = (by (same_text n.id id) refl, with_states id state ns of all.1)
   where
     by : (b : Bool) → same_text n.id id ≡ b → IsNodeOfFrames (cond b (record n { state = state }) n)
-    by true e = (of.0, of.1 ∙ ap (λ i. node.after_frames i empty_node of.0) (sym ((same_text-tells n.id id).0 e)))
+    by true e = (of.0, of.1 ∙ ap (λ i. public_node.after_frames i empty_node of.0) (sym ((same_text-tells n.id id).0 e)))
     by false e = all.0
 
 -- the plugins of a world are in such states after a node got a frame
@@ -171,7 +173,7 @@ with_frame-history None world = refl
 with_frame-history (Some frame) world = refl
 
 -- a plugin's answer leaves the orchestrator's history
-pub answered-history : (config : Config) (world : World) (frame : Frame) → (answered config world frame).history ≡ world.history
+pub answered-history : (config : Config) (world : World) (frame : Frame) → (answered_by_plugin config world frame).history ≡ world.history
 answered-history config world frame = by frame.party
   where
     at_node : (id : List ℕ) (o : Option NodeState) → (answered_by_node id world frame o).history ≡ world.history

@@ -1,24 +1,25 @@
 -- What is known of a thing is so.
 use Rattle.std.proofs.Common.{◌≡◌, ◌⊎◌, ℕ, List, true, false, cond, Option, Some, None, option_map, find, is_some, refl, sym, ◌∙◌, ap, subst, inl, inr, ⊎_elim, ◌==◌}
 use Rattle.std.proofs.lemmas.Bool.{and_parts, eqb-true, false≢true}
-use Rattle.csi_types.specs.Call.{kind_of}
-use Rattle.csi_types.specs.Key.{Key, Exists, Attached, Staged, Published, Form, StagedAs, PublishedAs}
-use Rattle.csi_lists.specs.Members.{IsAmong}
+use Rattle.csi_types.specs.Model.Call.{kind_of}
+use Rattle.csi_types.specs.Public.Key.{Key, Exists, Attached, Staged, Published, Form, StagedAs, PublishedAs}
+use Rattle.csi_lists.specs.Model.Members.{IsAmong}
 use Rattle.csi_lists.proofs.Members.{among-find}
 use Rattle.csi_lists.proofs.Searches.{find-passes}
 use Rattle.csi_lists.proofs.Options.{is_some-map, none-where}
-use Rattle.csi_types.specs.Same.{same_text}
+use Rattle.csi_types.specs.Model.Same.{same_text}
 use Rattle.csi_types.proofs.Equality.{same_text-tells}
-use Rattle.csi_controller.specs.State.{Volume, volume_named, volume_with_id, live_volume, holding_at}
-use Rattle.csi_controller.specs.View as controllers
-use Rattle.csi_node.specs.State.{NodeState, StagedVolume, PublishedVolume, staged_of, is_published_at, published_at}
+use Rattle.csi_controller.specs.Model.State.{Volume, volume_named, live_volume, holding_at}
+use Rattle.csi_controller.specs.Public.State.{volume_with_id}
+use Rattle.csi_controller.specs.Public.View as controllers
+use Rattle.csi_node.specs.Model.State.{NodeState, StagedVolume, PublishedVolume, staged_of, is_published_at, published_at}
 use Rattle.csi_orchestrator.specs.declared.thing.Thing.{Thing}
 use Rattle.csi_orchestrator.specs.declared.thing.Thing.TheVariants as things
 use Rattle.csi_orchestrator.specs.declared.thing.Known.TheVariants.{Yes}
-use Rattle.csi_orchestrator.specs.Thing.{Issued, same_thing, touches, is_thing}
-use Rattle.csi_orchestrator.specs.Readings.{issued_in, known}
-use Rattle.csi_world.specs.World.{NodeAt, World, node_state}
-use Rattle.csi_world.specs.Safe.{IsStagedWhereAttached, IsPublishedWhereStaged, IsAttachedWhileLive, holds_attached, holds_staged, holds_published, holds, IsRecordedRight}
+use Rattle.csi_orchestrator.specs.Model.Thing.{Issued, same_thing, touches, is_thing}
+use Rattle.csi_orchestrator.specs.Model.Readings.{issued_in, known}
+use Rattle.csi_world.specs.Model.World.{NodeAt, World, node_state}
+use Rattle.csi_world.specs.Model.Safe.{IsStagedWhereAttached, IsPublishedWhereStaged, IsAttachedWhileLive, holds_attached, holds_staged, holds_published, holds, IsRecordedRight}
 use Rattle.csi_world.proofs.WorldView.{node_view, view_of}
 use Rattle.csi_world.proofs.GivenIds.{GivenId, HasName, AreGiven, AreOf, named-id, name-of_found, unnamed-gone}
 use Rattle.csi_world.proofs.KeyedCalls.{IsOne, Existence, Attachment, Staging, Publication, keyed}

@@ -12,20 +12,21 @@ use Rattle.csi_types.specs.declared.call.Party.{Party}
 use Rattle.csi_types.specs.declared.frame.Body.TheVariants as bodies
 use Rattle.csi_types.specs.declared.reply.Reply.{Reply}
 use Rattle.csi_types.specs.declared.status.Status.TheVariants.{Ok}
-use Rattle.csi_types.specs.Call.{kind_of}
-use Rattle.csi_fence.specs.Delivery.{View, Delivery, Acts, Rests, Misses, IsClosed}
-use Rattle.csi_fence.specs.Fence.{Kept}
-use Rattle.csi_types.specs.Frame.{Frame}
-use Rattle.csi_types.specs.Key.{Key, HasId, same_key, asked}
-use Rattle.csi_lists.specs.Members.{IsAmong, EachTwo}
+use Rattle.csi_types.specs.Model.Call.{kind_of}
+use Rattle.csi_fence.specs.Public.Delivery.{PluginView, Delivery, Acts, Rests, Misses, IsClosed}
+use Rattle.csi_fence.specs.Model.Fence.{Kept}
+use Rattle.csi_types.specs.Model.Frame.{Frame}
+use Rattle.csi_types.specs.Public.Key.{Key, HasId, same_key, asked}
+use Rattle.csi_lists.specs.Model.Members.{IsAmong, EachTwo}
 use Rattle.csi_lists.proofs.Members.{all_of, among-append, among-either, among-find, none_passes}
 use Rattle.csi_lists.proofs.Searches.{find-passes}
-use Rattle.csi_types.specs.Number.{IsBefore}
-use Rattle.csi_types.specs.Reply.{is_ok_status, has_id_by_rule}
-use Rattle.csi_types.specs.Replies.{reply_frame}
+use Rattle.csi_types.specs.Model.Number.{IsBefore}
+use Rattle.csi_types.specs.Model.Reply.{is_ok_status}
+use Rattle.csi_types.specs.Public.Reply.{has_id_by_rule}
+use Rattle.csi_types.specs.Model.Replies.{reply_frame}
 use Rattle.csi_types.proofs.Equality.{same_key-tells}
-use Rattle.csi_orchestrator.specs.Thing.{Issued, is_doing}
-use Rattle.csi_world.specs.Step.{frame_of}
+use Rattle.csi_orchestrator.specs.Model.Thing.{Issued, is_doing}
+use Rattle.csi_orchestrator.specs.Public.Steps.{frame_of}
 use Rattle.csi_world.proofs.WorldView.{party_of}
 use Rattle.csi_world.proofs.HeardReplies.{is_ok-then}
 use Rattle.csi_world.proofs.KeyedCalls.{is_of, is_key, key_at, IsAnsweredOk, ComesAfter, before-irreflexive, one-number, latest-last}
@@ -43,7 +44,7 @@ pub record IsFrameOf (issued : List Issued) (frame : Frame) : Type 0 where
   pub is : frame ≡ frame_of call
 
 -- what is so of the calls that were sent, of all frames, and of the things
-pub record Truth (issued : List Issued) (frames : List Frame) (view : View) : Type 0 where
+pub record Truth (issued : List Issued) (frames : List Frame) (view : PluginView) : Type 0 where
   -- what was sent: calls that were issued, and replies to their numbers, an OK with an id where it must, what is kept
   -- among them
   pub calls : (frame : Frame) (call : Call) → IsAmong frame frames → frame.body ≡ bodies.Call call → IsFrameOf issued frame
@@ -68,14 +69,14 @@ pub before_call : (frames : List Frame) (call : Issued) (number : Number) (party
 before_call frames call number party kind reply among = ⊎_elim (λ there. there) (λ e. absurd (reply_is_call number party kind reply call e)) (among-either frames (frame_of call) _ among)
 
 -- a new number has no reply
-pub unanswered : (issued : List Issued) (frames : List Frame) (view : View) (call : Issued) (reply : Reply) → Truth issued frames view → ((older : Issued) → IsAmong older issued → IsBefore older.number call.number)
+pub unanswered : (issued : List Issued) (frames : List Frame) (view : PluginView) (call : Issued) (reply : Reply) → Truth issued frames view → ((older : Issued) → IsAmong older issued → IsBefore older.number call.number)
     → IsAnsweredOk (frames ++ frame_of call ∷ []) call reply → ⊥
 unanswered issued frames view call reply truth later ok =
     let sent = truth.replies call.number call.party (kind_of call.call) reply (before_call frames call call.number call.party (kind_of call.call) reply ok.0) in
     before-irreflexive call.number (subst (λ n. IsBefore n call.number) sent.has_number (later sent.call sent.among))
 
 -- a call is sent
-pub truth-sent : (issued : List Issued) (frames : List Frame) (view : View) (call : Issued) → Truth issued frames view → ((older : Issued) → IsAmong older issued → IsBefore older.number call.number)
+pub truth-sent : (issued : List Issued) (frames : List Frame) (view : PluginView) (call : Issued) → Truth issued frames view → ((older : Issued) → IsAmong older issued → IsBefore older.number call.number)
     → Truth (call ∷ issued) (frames ++ frame_of call ∷ []) view
 truth-sent issued frames view call truth later =
     let nobody = unanswered issued frames view call in
@@ -144,7 +145,7 @@ asked-doing (calls.NodePublishVolume id target capability readonly) reply doing 
 asked-doing c reply doing ok rule = absurd (false≢true doing)
 
 -- a sent call that a plugin answered, and the things before and after it
-module _ (issued : List Issued) (frames : List Frame) (old new : View) (call : Issued) (key : Key) (kind : Kind) (reply : Reply) where
+module _ (issued : List Issued) (frames : List Frame) (old new : PluginView) (call : Issued) (key : Key) (kind : Kind) (reply : Reply) where
   -- the call was carried out: its number wasn't spent, it was answered OK, and its thing is as it asks
   pub record IsChanged (k : Key) : Type 0 where
     pub same : k ≡ key

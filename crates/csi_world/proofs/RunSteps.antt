@@ -6,23 +6,26 @@ use Rattle.csi_types.specs.declared.call.Party.{Party}
 use Rattle.csi_types.specs.declared.call.Party.TheVariants.{Controller, Node}
 use Rattle.csi_types.specs.declared.frame.Body.{Body}
 use Rattle.csi_types.specs.declared.frame.Body.TheVariants as bodies
-use Rattle.csi_types.specs.Config.{Config, has_node}
-use Rattle.csi_types.specs.Frame.{Frame}
-use Rattle.csi_lists.specs.Members.{IsAmong}
+use Rattle.csi_types.specs.Model.Config.{Config, has_node}
+use Rattle.csi_types.specs.Model.Frame.{Frame}
+use Rattle.csi_lists.specs.Model.Members.{IsAmong}
 use Rattle.csi_lists.proofs.Members.{among-append}
 use Rattle.csi_orchestrator.specs.declared.fault.Heard.TheVariants as heard
 use Rattle.csi_orchestrator.specs.declared.fault.OrchFault.{OrchFault}
-use Rattle.csi_orchestrator.specs.History.{Item, Started, Sent, Accepted, Closed, Noted, with_items}
-use Rattle.csi_orchestrator.specs.Readings.{issued_in}
-use Rattle.csi_orchestrator.specs.Moves as orchestrator
-use Rattle.csi_orchestrator.specs.Steps as stepwise
+use Rattle.csi_orchestrator.specs.Model.History.{Item, Started, Sent, Accepted, Closed, Noted, with_items}
+use Rattle.csi_orchestrator.specs.Model.Readings.{issued_in}
+use Rattle.csi_orchestrator.specs.Model.Moves as orchestrator
+use Rattle.csi_orchestrator.specs.Public.Moves as public_orchestrator
+use Rattle.csi_orchestrator.specs.Public.Steps as stepwise
 use Rattle.csi_types.specs.declared.event.Event.{Event}
 use Rattle.csi_types.specs.declared.event.Event.TheVariants as events
 use Rattle.csi_world.specs.declared.outcomes.Outcome.TheVariants as outcomes
-use Rattle.csi_world.specs.World.{World, empty_world, with_history}
-use Rattle.csi_world.specs.Step.{Choice, Sends, Closes, Takes, Notes, Starts, Answers, frame_of, answered, chosen, MayChooseAll, chosen_all}
-use Rattle.csi_world.specs.After.{Occurred, by_answer, by_result, node_id, orchestrated, called, delivered_body, delivered, next_frame, occurs, after_from}
-use Rattle.csi_world.specs.Laws.{RunsAreSteps}
+use Rattle.csi_world.specs.Model.World.{World, empty_world, with_history}
+use Rattle.csi_world.specs.Public.Step.{Choice, Sends, Closes, Takes, Notes, Starts, Answers, chosen, MayChooseAll, chosen_all}
+use Rattle.csi_orchestrator.specs.Public.Steps.{frame_of}
+use Rattle.csi_world.specs.Model.Step.{answered_by_plugin}
+use Rattle.csi_world.specs.Model.After.{Occurred, by_answer, by_result, node_id, orchestrated, called, delivered_body, delivered, next_frame, occurs, after_from}
+use Rattle.csi_world.specs.Private.Laws.{RunsAreSteps}
 use Rattle.csi_world.proofs.HeardReplies.{among-get}
 use Rattle.csi_world.proofs.PluginsReached.{answered-history}
 
@@ -120,7 +123,7 @@ moved config world input came reached (Ok done) e steps =
     in
     record {
       comes = record { choices = comes.choices; may = comes.may; few = omega (arith, comes.few, steps.few); same_world = comes.same_world ∙ sent };
-      reached = subst (stepwise.IsReached (map node_id config.nodes)) (ap (orchestrator.moved_to world.history) e ∙ ap (λ (w : World). w.history) sent) (stepwise.GoesOn world.history input reached);
+      reached = subst (stepwise.IsReached (map node_id config.nodes)) (ap (public_orchestrator.moved_to world.history) e ∙ ap (λ (w : World). w.history) sent) (stepwise.GoesOn world.history input reached);
     }
 
 -- the world after an input of the orchestrator comes so
@@ -132,14 +135,14 @@ orchestrates config world input law came reached =
 calls : (config : Config) (world : World) (frame : Frame) → IsAmong frame world.frames → stepwise.IsReached (map node_id config.nodes) world.history → (party : Party) → Stepped config world (called config world frame party).world
 calls config world frame among reached party = by party
   where
-    answers : Stepped config world (answered config world frame)
+    answers : Stepped config world (answered_by_plugin config world frame)
     answers =
         record {
           comes = record { choices = Answers frame ∷ []; may = (among, tt); few = omega arith; same_world = refl };
           reached = subst (stepwise.IsReached (map node_id config.nodes)) (sym (answered-history config world frame)) reached;
         }
 
-    at : (b : Bool) → Stepped config world (cond b (let o : Occurred = record { world = answered config world frame; outcome = outcomes.Answered (next_frame world) } in o)
+    at : (b : Bool) → Stepped config world (cond b (let o : Occurred = record { world = answered_by_plugin config world frame; outcome = outcomes.Answered (next_frame world) } in o)
         (record { world = world; outcome = outcomes.NoSuchNode })).world
     at true = answers
     at false = record { comes = stays config world 3; reached = reached }

@@ -6,12 +6,13 @@ use Rattle.csi_types.specs.declared.call.Call.{Call}
 use Rattle.csi_types.specs.declared.call.Call.TheVariants as calls
 use Rattle.csi_types.specs.declared.call.Party.{Party}
 use Rattle.csi_types.specs.declared.call.Party.TheVariants.{Controller, Node}
-use Rattle.csi_types.specs.Key.{Key, Exists, Attached, Staged, Published}
+use Rattle.csi_types.specs.Public.Key.{Key, Exists, Attached, Staged, Published}
 use Rattle.csi_types.proofs.Equality.{same_text-tells}
-use Rattle.csi_lists.specs.Members.{IsAmong}
-use Rattle.csi_controller.specs.State.{Volume, ControllerState, volume_with_id}
-use Rattle.csi_controller.specs.View as controllers
-use Rattle.csi_node.specs.View as nodes
+use Rattle.csi_lists.specs.Model.Members.{IsAmong}
+use Rattle.csi_controller.specs.Model.State.{Volume, ControllerState}
+use Rattle.csi_controller.specs.Public.State.{volume_with_id}
+use Rattle.csi_controller.specs.Public.View as controllers
+use Rattle.csi_node.specs.Public.View as nodes
 use Rattle.csi_world.proofs.GivenIds.{GivenId, HasName, AreGiven, AreOf, id-named, is_given}
 use Rattle.csi_world.proofs.KeyedCalls.{key_at, IsOwn, is_making}
 

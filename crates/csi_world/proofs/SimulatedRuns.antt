@@ -1,15 +1,16 @@
 -- Runs, event by event.
 use Rattle.std.proofs.Common.{◌≡◌, List, [], ◌∷◌, ◌++◌, map, None, refl, sym, ◌∙◌, ap, subst}
-use Rattle.csi_types.specs.Config.{Config, config_fault}
-use Rattle.csi_controller.specs.Core.{Shows as ControllerShows}
-use Rattle.csi_controller.specs.State.{empty_controller}
-use Rattle.csi_orchestrator.specs.History.{new_history}
-use Rattle.csi_orchestrator.specs.Shown.{Shows as OrchestratorShows}
+use Rattle.csi_types.specs.Model.Config.{Config}
+use Rattle.csi_types.specs.Public.Config.{config_fault}
+use Rattle.csi_controller.specs.Model.Core.{Shows as ControllerShows}
+use Rattle.csi_controller.specs.Model.State.{empty_controller}
+use Rattle.csi_orchestrator.specs.Model.History.{new_history}
+use Rattle.csi_orchestrator.specs.Model.Shown.{Shows as OrchestratorShows}
 use Rattle.csi_types.specs.declared.event.Event.{Event}
-use Rattle.csi_world.specs.World.{World, empty_world}
-use Rattle.csi_world.specs.After.{Occurred, Run, node_id, occurs, after_from, after}
-use Rattle.csi_world.specs.Simulated.{WorldParts, ShowsWorld, ShowsRun, AreNodesShown}
-use Rattle.csi_world.specs.Simulating.{IsLogged, IsRun, new_node_parts}
+use Rattle.csi_world.specs.Model.World.{World, empty_world}
+use Rattle.csi_world.specs.Model.After.{Occurred, Run, node_id, occurs, after_from, after}
+use Rattle.csi_world.specs.Model.Simulated.{WorldParts, ShowsWorld, ShowsRun, AreNodesShown}
+use Rattle.csi_world.specs.Private.Simulating.{IsLogged, IsRun, new_node_parts}
 use Rattle.csi_world.proofs.SystemNodes.{new-shown, new-ids}
 
 -- one event more

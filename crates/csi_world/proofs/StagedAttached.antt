@@ -10,32 +10,32 @@ use Rattle.csi_types.specs.declared.call.Kind.{Kind}
 use Rattle.csi_types.specs.declared.call.Party.{Party}
 use Rattle.csi_types.specs.declared.call.Party.TheVariants.{Controller, Node}
 use Rattle.csi_types.specs.declared.reply.Reply.{Reply}
-use Rattle.csi_fence.specs.Delivery.{View}
-use Rattle.csi_types.specs.Key.{Key, Attached, Staged, StagedAs, asked}
-use Rattle.csi_lists.specs.Members.{IsAmong}
-use Rattle.csi_types.specs.Same.{same_text}
+use Rattle.csi_fence.specs.Public.Delivery.{PluginView}
+use Rattle.csi_types.specs.Public.Key.{Key, Attached, Staged, StagedAs, asked}
+use Rattle.csi_lists.specs.Model.Members.{IsAmong}
+use Rattle.csi_types.specs.Model.Same.{same_text}
 use Rattle.csi_types.proofs.Equality.{same_text-tells}
-use Rattle.csi_orchestrator.specs.Thing.{Issued}
-use Rattle.csi_orchestrator.specs.History.{Item, Sent}
-use Rattle.csi_orchestrator.specs.Readings.{issued_in, is_success_of, has_success, held}
+use Rattle.csi_orchestrator.specs.Model.Thing.{Issued}
+use Rattle.csi_orchestrator.specs.Model.History.{Item, Sent}
+use Rattle.csi_orchestrator.specs.Model.Readings.{issued_in, is_success_of, has_success, held}
 use Rattle.csi_world.proofs.KeyedCalls.{key_at, is_key, is_of}
 use Rattle.csi_world.proofs.RepliesTold.{IsEffect}
 use Rattle.csi_types.specs.declared.number.Number.{Number}
-use Rattle.csi_types.specs.Frame.{Frame}
+use Rattle.csi_types.specs.Model.Frame.{Frame}
 
 -- a NodeStageVolume that was sent
 abbrev pub staging : List ℕ → Number → ℕ → List ℕ → Capability → Issued
 staging name number id node capability = record { name = name; number = number; party = Node node; call = calls.NodeStageVolume id capability }
 
 -- one that may still be carried out
-pub record MayStage (issued : List Issued) (view : View) (id : ℕ) (node : List ℕ) (capability : Capability) : Type 0 where
+pub record MayStage (issued : List Issued) (view : PluginView) (id : ℕ) (node : List ℕ) (capability : Capability) : Type 0 where
   pub name : List ℕ
   pub number : Number
   pub among : IsAmong (staging name number id node capability) issued
   pub unspent : view.is_spent (Staged id node) number ≡ false
 
 -- the volume is staged there so, or may come to be
-abbrev pub IsStanding : List Issued → View → ℕ → List ℕ → Capability → Type 0
+abbrev pub IsStanding : List Issued → PluginView → ℕ → List ℕ → Capability → Type 0
 IsStanding issued view id node capability = (view.held (Staged id node) ≡ Some (StagedAs capability)) ⊎ MayStage issued view id node capability
 
 -- the latest call of where it is attached put it there so, and its success was heard
@@ -47,7 +47,7 @@ pub record IsAttachedSo (items : List Item) (id : ℕ) (node : List ℕ) (capabi
   pub success : has_success items call.number ≡ true
 
 -- whatever stands is attached so
-abbrev pub Stands : List Item → View → Type 0
+abbrev pub Stands : List Item → PluginView → Type 0
 Stands items view = (id : ℕ) (node : List ℕ) (capability : Capability) → IsStanding (issued_in items) view id node capability → IsAttachedSo items id node capability
 
 -- a call that a plugin carried out
@@ -66,7 +66,7 @@ staged_by name Controller (calls.NodeStageVolume i other) reply id node capabili
 staged_by name party c reply id node capability of asks = absurd (false≢true of)
 
 -- whatever stands is attached so after a plugin answered a sent call, since it stood before
-pub stands-answered : (items : List Item) (frames : List Frame) (old new : View) (call : Issued) (key : Key) (kind : Kind) (reply : Reply)
+pub stands-answered : (items : List Item) (frames : List Frame) (old new : PluginView) (call : Issued) (key : Key) (kind : Kind) (reply : Reply)
     → IsEffect (issued_in items) frames old new call key kind reply
     → Stands items old → Stands items new
 stands-answered items frames old new call key kind reply effect stands id node capability standing = stands id node capability (before standing)
@@ -85,7 +85,7 @@ stands-answered items frames old new call key kind reply effect stands id node c
         inr (record { name = may.name; number = may.number; among = may.among; unspent = unspent })
 
 -- an item that sends nothing
-pub stands-noted : (items : List Item) (item : Item) (view : View) → issued_in (item ∷ items) ≡ issued_in items → Stands items view → Stands (item ∷ items) view
+pub stands-noted : (items : List Item) (item : Item) (view : PluginView) → issued_in (item ∷ items) ≡ issued_in items → Stands items view → Stands (item ∷ items) view
 stands-noted items item view same stands id node capability standing =
     let so = stands id node capability (subst (λ (list : List Issued). IsStanding list view id node capability) same standing) in
     record {
@@ -97,7 +97,7 @@ stands-noted items item view same stands id node capability standing =
     }
 
 -- a call is sent: it isn't of where a standing volume is attached, and stages only what is attached so
-pub stands-sent : (items : List Item) (call : Issued) (view : View) → Stands items view
+pub stands-sent : (items : List Item) (call : Issued) (view : PluginView) → Stands items view
     → ((id : ℕ) (node : List ℕ) (capability : Capability) → IsStanding (issued_in items) view id node capability → is_of (Attached id node) call ≡ false)
     → ((id : ℕ) (node : List ℕ) (capability : Capability) → call.party ≡ Node node → call.call ≡ calls.NodeStageVolume id capability → IsAttachedSo items id node capability)
     → Stands (Sent call ∷ items) view

@@ -1,21 +1,22 @@
 -- The world after an input of the orchestrator, by what its calls promise.
 use Rattle.std.proofs.Common.{◌≡◌, List, map, Result, Ok, Err, IfOk, IfErr, OnErr, refl, sym, ◌∙◌, ap, subst}
 use Rattle.std.proofs.lemmas.Result.{IfOk-weaker}
-use Rattle.csi_types.specs.Frame.{Frame}
+use Rattle.csi_types.specs.Model.Frame.{Frame}
 use Rattle.csi_orchestrator.specs.declared.fault.OrchFault.{OrchFault}
-use Rattle.csi_orchestrator.specs.History.{History}
-use Rattle.csi_orchestrator.specs.WellFormed.{IsWellFormed}
-use Rattle.csi_orchestrator.specs.Moves.{Input, Answer, Moved, moves, moved_to}
-use Rattle.csi_orchestrator.specs.Laws.{MovesKeepForm}
-use Rattle.csi_orchestrator.specs.Promises.{IsDone}
-use Rattle.csi_orchestrator.specs.RowMoves.{IsRefusal}
-use Rattle.csi_orchestrator.specs.Shown.{Shows as OrchestratorShows, Parts}
+use Rattle.csi_orchestrator.specs.Model.History.{History}
+use Rattle.csi_orchestrator.specs.Model.WellFormed.{IsWellFormed}
+use Rattle.csi_orchestrator.specs.Model.Moves.{Input, Answer, Moved, moves}
+use Rattle.csi_orchestrator.specs.Public.Moves.{moved_to}
+use Rattle.csi_orchestrator.specs.Public.Laws.{MovesKeepForm}
+use Rattle.csi_orchestrator.specs.Public.Promises.{FollowsUnrefused}
+use Rattle.csi_orchestrator.specs.Public.RowMoves.{IsRefusal}
+use Rattle.csi_orchestrator.specs.Model.Shown.{Shows as OrchestratorShows, OrchestratorParts}
 use Rattle.csi_world.specs.declared.outcomes.Outcome.{Outcome}
 use Rattle.csi_world.specs.declared.outcomes.Outcome.TheVariants as outcomes
-use Rattle.csi_world.specs.World.{World, with_history}
-use Rattle.csi_world.specs.After.{Occurred, by_answer, by_result, node_id, orchestrated}
-use Rattle.csi_world.specs.Simulated.{WorldParts}
-use Rattle.csi_world.specs.Simulating.{IsPosted, IsRefused, IsSettled, Does}
+use Rattle.csi_world.specs.Model.World.{World, with_history}
+use Rattle.csi_world.specs.Model.After.{Occurred, by_answer, by_result, node_id, orchestrated}
+use Rattle.csi_world.specs.Model.Simulated.{WorldParts}
+use Rattle.csi_world.specs.Private.Simulating.{IsPosted, IsInputRefused, IsInputSettled, Does}
 use Rattle.csi_world.proofs.SystemCalls.{at-world}
 
 -- the world after the orchestrator's move
@@ -23,42 +24,42 @@ after_move : World → List Frame → Result Moved OrchFault → World
 after_move world posted result = record world { frames = posted; history = moved_to world.history result }
 
 -- by what the orchestrator's move is, the frames and what came of it are these, and the orchestrator agrees
-record ComesTo (world : World) (new : Parts) (posted : List Frame) (outcome : Outcome) (result : Result Moved OrchFault) : Type 0 where
+record ComesTo (world : World) (new : OrchestratorParts) (posted : List Frame) (outcome : Outcome) (result : Result Moved OrchFault) : Type 0 where
   agrees : OrchestratorShows new (moved_to world.history result)
   occurs : by_result world result ≡ record { world = after_move world posted result; outcome = outcome }
 
 -- what was done, and its frame sent
-done-comes : (world : World) (new : Parts) (posted : List Frame) (outcome : Outcome) (answer : Answer) (result : Result Moved OrchFault)
-    → IsDone world.history result answer new → IsPosted world.frames posted answer outcome → ComesTo world new posted outcome result
+done-comes : (world : World) (new : OrchestratorParts) (posted : List Frame) (outcome : Outcome) (answer : Answer) (result : Result Moved OrchFault)
+    → FollowsUnrefused world.history result answer new → IsPosted world.frames posted answer outcome → ComesTo world new posted outcome result
 unfolding after_move
 done-comes world new posted outcome answer (Err fault) done sent = absurd done
 done-comes world new posted outcome answer (Ok moved) done sent =
     record { agrees = done.agrees; occurs = ap (by_answer (with_history moved.items world)) done.answered ∙ sent (with_history moved.items world) refl }
 
 -- what was refused
-refused-comes : (world : World) (old new : Parts) (posted : List Frame) (outcome : Outcome) (fault : OrchFault) (result : Result Moved OrchFault)
-    → OrchestratorShows old world.history → new ≡ old → IsRefusal result fault → IsRefused world.frames posted fault outcome → ComesTo world new posted outcome result
+refused-comes : (world : World) (old new : OrchestratorParts) (posted : List Frame) (outcome : Outcome) (fault : OrchFault) (result : Result Moved OrchFault)
+    → OrchestratorShows old world.history → new ≡ old → IsRefusal result fault → IsInputRefused world.frames posted fault outcome → ComesTo world new posted outcome result
 unfolding after_move
 refused-comes world old new posted outcome fault (Ok moved) agrees same refusal refused = absurd (refused.other refusal)
 refused-comes world old new posted outcome fault (Err other) agrees same refusal refused =
     record {
-      agrees = subst (λ (p : Parts). OrchestratorShows p world.history) (sym same) agrees;
+      agrees = subst (λ (p : OrchestratorParts). OrchestratorShows p world.history) (sym same) agrees;
       occurs = λ i. let o : Occurred = record { world = record world { frames = sym refused.frames i }; outcome = (ap outcomes.Refused (sym refusal) ∙ sym refused.came) i } in o;
     }
 
 -- a command, a timeout, a reply or a restart
-settled-comes : {X : Type 0} (answer : X → Answer) (world : World) (old new : Parts) (posted : List Frame) (outcome : Outcome) (answered : Result X OrchFault) (result : Result Moved OrchFault) → OrchestratorShows old world.history
-    → IfOk answered (λ x. IsDone world.history result (answer x) new) → IfErr answered (λ fault. IsRefusal result fault) → OnErr answered (new ≡ old)
-    → IsSettled answer world.frames posted answered outcome → ComesTo world new posted outcome result
+settled-comes : {X : Type 0} (answer : X → Answer) (world : World) (old new : OrchestratorParts) (posted : List Frame) (outcome : Outcome) (answered : Result X OrchFault) (result : Result Moved OrchFault) → OrchestratorShows old world.history
+    → IfOk answered (λ x. FollowsUnrefused world.history result (answer x) new) → IfErr answered (λ fault. IsRefusal result fault) → OnErr answered (new ≡ old)
+    → IsInputSettled answer world.frames posted answered outcome → ComesTo world new posted outcome result
 settled-comes answer world old new posted outcome (Ok x) result agrees ok err stays settled = done-comes world new posted outcome (answer x) result ok settled
 settled-comes answer world old new posted outcome (Err fault) result agrees ok err stays settled = refused-comes world old new posted outcome fault result agrees stays err settled
 
 -- what comes of an event or of a delivery that is this input
-pub input-becomes : MovesKeepForm → {X E : Type 0} (answer : X → Answer) (shown : WorldParts) (new : Parts) (posted : List Frame) (input : Input) (occurs : World → Occurred) (answered : Result X OrchFault) (result : Result Outcome E)
+pub input-becomes : MovesKeepForm → {X E : Type 0} (answer : X → Answer) (shown : WorldParts) (new : OrchestratorParts) (posted : List Frame) (input : Input) (occurs : World → Occurred) (answered : Result X OrchFault) (result : Result Outcome E)
     → ((world : World) → occurs world ≡ orchestrated shown.config world input)
-    → ((history : History) → IsWellFormed history → OrchestratorShows shown.orchestrator history → IfOk answered (λ x. IsDone history (moves (shown.orchestrator).nodes history input) (answer x) new))
+    → ((history : History) → IsWellFormed history → OrchestratorShows shown.orchestrator history → IfOk answered (λ x. FollowsUnrefused history (moves (shown.orchestrator).nodes history input) (answer x) new))
     → ((history : History) → IsWellFormed history → OrchestratorShows shown.orchestrator history → IfErr answered (λ fault. IsRefusal (moves (shown.orchestrator).nodes history input) fault))
-    → OnErr answered (new ≡ shown.orchestrator) → new.nodes ≡ (shown.orchestrator).nodes → IfOk result (λ outcome. IsSettled answer shown.frames posted answered outcome)
+    → OnErr answered (new ≡ shown.orchestrator) → new.nodes ≡ (shown.orchestrator).nodes → IfOk result (λ outcome. IsInputSettled answer shown.frames posted answered outcome)
     → Does shown (record shown { orchestrator = new; frames = posted }) result occurs
 unfolding after_move
 input-becomes law answer shown new posted input occurs answered result is ok err stays nodes sent = λ world own shows.
@@ -68,7 +69,7 @@ input-becomes law answer shown new posted input occurs answered result is ok err
     let comes : ComesTo world new posted outcome (moves (map node_id (shown.config).nodes) history input)
     = subst (λ ids. ComesTo world new posted outcome (moves ids history input)) shows.own_nodes
     (settled-comes answer world shown.orchestrator new posted outcome answered (moves (shown.orchestrator).nodes history input) shows.orchestrator
-    (ok history shows.form shows.orchestrator) (err history shows.form shows.orchestrator) stays (subst (λ (fs : List Frame). IsSettled answer fs posted answered outcome) shows.frames settled))
+    (ok history shows.form shows.orchestrator) (err history shows.form shows.orchestrator) stays (subst (λ (fs : List Frame). IsInputSettled answer fs posted answered outcome) shows.frames settled))
     in
     at-world shown (record shown { orchestrator = new; frames = posted }) outcome (occurs world) (after_move world posted (moves (map node_id (shown.config).nodes) history input)) refl refl (record { ids = own.ids; fit = own.fit })
     (record {

@@ -2,23 +2,25 @@
 use Rattle.std.proofs.Common.{◌≡◌, ℕ, zero, suc, Bool, true, false, cond, List, [], ◌∷◌, length, map, set, Option, Some, None, is_some, find, option_map, ◌||◌, nat_lt, refl, sym, ◌∙◌, ap, subst}
 use Rattle.std.specs.List.{list_any}
 use Rattle.std.proofs.lemmas.Bool.{or_parts, false≢true}
-use Rattle.csi_lists.specs.Places.{FirstAt}
+use Rattle.csi_lists.specs.Public.Places.{FirstAt}
 use Rattle.csi_lists.proofs.Options.{some_is_not_none}
 use Rattle.csi_lists.proofs.Places.{FirstAt-find}
 use Rattle.csi_lists.proofs.Tests.{alike, any-of_map, any-find}
 use Rattle.csi_types.specs.declared.config.NodeSlots.{NodeSlots}
 use Rattle.csi_types.specs.declared.config.ConfigFault.TheVariants.{BadGreatest, TooManyNodes, SameNode, BadSlots}
-use Rattle.csi_types.specs.Config.{Config, is_bad_greatest, has_node, has_same_node, has_bad_slots, config_fault}
-use Rattle.csi_types.specs.Same.{same_text}
+use Rattle.csi_types.specs.Model.Config.{Config, has_node}
+use Rattle.csi_types.specs.Public.Config.{is_bad_greatest, has_same_node, has_bad_slots, config_fault}
+use Rattle.csi_types.specs.Model.Same.{same_text}
 use Rattle.csi_types.proofs.Equality.{same_text-tells}
-use Rattle.csi_node.specs.Record.{NodeParts}
-use Rattle.csi_node.specs.Record.{Shows as NodeShows}
-use Rattle.csi_node.specs.State.{NodeState}
-use Rattle.csi_world.specs.World.{NodeAt, new_node, with_state}
-use Rattle.csi_world.specs.After.{node_id}
-use Rattle.csi_world.specs.Simulated.{AreNodesShown}
-use Rattle.csi_world.specs.Simulating.{IsSameNode, ShowsNode, new_node_parts}
-use Rattle.csi_world.specs.Listed.{AreDistinct}
+use Rattle.csi_node.specs.Model.Record.{NodeParts}
+use Rattle.csi_node.specs.Model.Record.{Shows as NodeShows}
+use Rattle.csi_node.specs.Model.State.{NodeState}
+use Rattle.csi_world.specs.Model.World.{NodeAt, new_node, with_state}
+use Rattle.csi_world.specs.Model.After.{node_id}
+use Rattle.csi_world.specs.Model.Simulated.{AreNodesShown}
+use Rattle.csi_world.specs.Private.Simulating.{IsSameNode, new_node_parts}
+use Rattle.csi_world.specs.Public.Simulating.{ShowsNode}
+use Rattle.csi_world.specs.Private.Listed.{AreDistinctTexts}
 
 -- is this node the one of the id
 abbrev pub is_shown_node : List ℕ → NodeParts → Bool
@@ -74,7 +76,7 @@ any-ids id [] = refl
 any-ids id (n ∷ ns) = ap (λ b. same_text id n.id || b) (any-ids id ns)
 
 -- where no two nodes have one id, their ids are distinct
-apart-from : (nodes : List NodeSlots) → has_same_node nodes ≡ false → AreDistinct (map node_id nodes)
+apart-from : (nodes : List NodeSlots) → has_same_node nodes ≡ false → AreDistinctTexts (map node_id nodes)
 apart-from [] h = tt
 apart-from (n ∷ ns) h =
     let both = or_parts (has_node n.id ns) (has_same_node ns) h in
@@ -88,7 +90,7 @@ fault-none false false true d h = absurd (some_is_not_none SameNode h)
 fault-none false false false d h = refl
 
 -- the nodes of a configuration without a fault have distinct ids
-pub fit-apart : (config : Config) → config_fault config.greatest config.nodes ≡ None → AreDistinct (map node_id config.nodes)
+pub fit-apart : (config : Config) → config_fault config.greatest config.nodes ≡ None → AreDistinctTexts (map node_id config.nodes)
 fit-apart config h =
     apart-from config.nodes (fault-none (is_bad_greatest config.greatest) (nat_lt 64 (length config.nodes)) (has_same_node config.nodes) (has_bad_slots config.nodes) h)
 
@@ -108,7 +110,7 @@ none-changed id state (x ∷ xs) (n ∷ ns) are none =
     λ i. here i ∷ none-changed id state xs ns (are.2) (both.1) i
 
 -- where a node is put that shows this state
-pub state-put : (id : List ℕ) (state : NodeState) (shown : List NodeParts) (nodes : List NodeAt) (i : ℕ) (old new : NodeParts) → AreNodesShown shown nodes → AreDistinct (map (λ (m : NodeParts). m.id) shown)
+pub state-put : (id : List ℕ) (state : NodeState) (shown : List NodeParts) (nodes : List NodeAt) (i : ℕ) (old new : NodeParts) → AreNodesShown shown nodes → AreDistinctTexts (map (λ (m : NodeParts). m.id) shown)
     → FirstAt (is_shown_node id) shown i old → new.id ≡ old.id → NodeShows new state → AreNodesShown (set shown i new) (map (with_state id state) nodes)
 state-put id state [] nodes i old new are apart first same shows = absurd first
 state-put id state (x ∷ xs) [] i old new are apart first same shows = absurd are

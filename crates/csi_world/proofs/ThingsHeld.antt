@@ -4,29 +4,29 @@ use Rattle.std.specs.List.{list_any, flat_map}
 use Rattle.std.proofs.lemmas.Bool.{and_parts, and_from, eqb-true, eq-eqb, false≢true}
 use Rattle.std.proofs.lemmas.Option.{none-some}
 use Rattle.csi_types.specs.declared.holding.Holding.{Holding}
-use Rattle.csi_lists.specs.Members.{IsAmong}
+use Rattle.csi_lists.specs.Model.Members.{IsAmong}
 use Rattle.csi_lists.proofs.Members.{among-append, among-filter, among-find, in_filter, among-joined, among-one, among-flat, in-flat, among-right, among-map, in-map, among-by_key}
 use Rattle.csi_lists.proofs.Searches.{find-passes, find-of_map}
-use Rattle.csi_types.specs.Same.{same_text}
+use Rattle.csi_types.specs.Model.Same.{same_text}
 use Rattle.csi_types.proofs.Equality.{same_text-tells}
 use Rattle.csi_controller.specs.declared.row.ControllerRow.{ControllerRow}
 use Rattle.csi_controller.specs.declared.row.NodeHolding.{NodeHolding}
-use Rattle.csi_lists.specs.Places.{AtMostOne}
+use Rattle.csi_lists.specs.Public.Places.{AtMostOne}
 use Rattle.csi_lists.proofs.Tests.{any-then, then-any, any-of_map, any-find}
 use Rattle.csi_lists.proofs.Options.{is_some-map}
-use Rattle.csi_controller.specs.Shown.{volume_of_row, holdings_in_row, holdings_in}
-use Rattle.csi_controller.specs.State.{Volume, volume_named, is_held_at}
+use Rattle.csi_controller.specs.Model.Shown.{volume_of_row, holdings_in_row, holdings_in}
+use Rattle.csi_controller.specs.Model.State.{Volume, volume_named, is_held_at}
 use Rattle.csi_controller.proofs.Sound.{rising-one}
 use Rattle.csi_node.specs.declared.entries.Staged.{Staged as StagedEntry}
 use Rattle.csi_node.specs.declared.entries.Published.{Published as PublishedEntry}
-use Rattle.csi_node.specs.State.{StagedVolume, PublishedVolume, NodeState, is_published_at}
-use Rattle.csi_node.specs.Views.{staged_shown, published_shown}
+use Rattle.csi_node.specs.Model.State.{StagedVolume, PublishedVolume, NodeState, is_published_at}
+use Rattle.csi_node.specs.Public.Views.{staged_shown, published_shown}
 use Rattle.csi_orchestrator.specs.declared.thing.Thing.{Thing}
 use Rattle.csi_orchestrator.specs.declared.thing.Thing.TheVariants.{Exists, Attached, Staged, Published}
 use Rattle.csi_world.specs.declared.auditing.lists.NodeLists.{NodeLists}
-use Rattle.csi_world.specs.World.{NodeAt, World, node_state}
-use Rattle.csi_world.specs.Safe.{holds, holds_attached, holds_staged, holds_published}
-use Rattle.csi_world.specs.Listed.{AreRowsApart, Lists, node_listed, IsNodeAlike, IsListed, row_with_id, exists_thing, attached_thing, things_of, staged_by, staged_thing, published_by, published_thing, things_at, things_listed}
+use Rattle.csi_world.specs.Model.World.{NodeAt, World, node_state}
+use Rattle.csi_world.specs.Model.Safe.{holds, holds_attached, holds_staged, holds_published}
+use Rattle.csi_world.specs.Private.Listed.{AreRowsApart, Lists, node_listed, IsNodeAlike, IsListed, controller_row_with_id, exists_thing, attached_thing, things_of, staged_things, staged_thing, published_things, published_thing, things_at, things_listed}
 use Rattle.csi_world.proofs.PartsSafe.{held_of}
 use Rattle.csi_world.proofs.ListedNodes.{listed-of, node-of, node-found-by-id}
 
@@ -49,7 +49,7 @@ module _ (lists : Lists) (world : World) (is : IsListed lists world) (kept : Are
   rows = lists.rows
 
   -- a row of this id is the one that is found by it
-  row-by-id : (row : ControllerRow) → IsAmong row rows → (id : ℕ) → row.id ≡ id → row_with_id id rows ≡ Some row
+  row-by-id : (row : ControllerRow) → IsAmong row rows → (id : ℕ) → row.id ≡ id → controller_row_with_id id rows ≡ Some row
   row-by-id row among id same = only-found (λ (r : ControllerRow). r.id == id) rows row (rising-one rows kept.rising id) among (eq-eqb row.id id same)
 
   -- the volume of a name is that of the row of the name
@@ -117,11 +117,11 @@ module _ (lists : Lists) (world : World) (is : IsListed lists world) (kept : Are
       (found.0, found.2, ap (option_map (λ (k : NodeAt). k.state)) by_id)
 
   -- the row that is found by an id is among the rows, and has the id
-  id-of-row : (id : ℕ) (row : ControllerRow) → row_with_id id rows ≡ Some row → IsAmong row rows × (id ≡ row.id)
+  id-of-row : (id : ℕ) (row : ControllerRow) → controller_row_with_id id rows ≡ Some row → IsAmong row rows × (id ≡ row.id)
   id-of-row id row e = (among-find (λ (r : ControllerRow). r.id == id) rows row e, sym (eqb-true row.id id (find-passes (λ (r : ControllerRow). r.id == id) rows row e)))
 
   -- what is listed as staged is staged, where a row has its id
-  staged-holds : (n : NodeLists) → IsAmong n lists.nodes → (s : StagedEntry) → IsAmong s n.staged.items → (row : ControllerRow) → row_with_id s.id rows ≡ Some row
+  staged-holds : (n : NodeLists) → IsAmong n lists.nodes → (s : StagedEntry) → IsAmong s n.staged.items → (row : ControllerRow) → controller_row_with_id s.id rows ≡ Some row
       → holds world (Staged row.name n.id) ≡ true
   staged-holds n at s here row e =
       let own = id-of-row s.id row e in
@@ -135,7 +135,7 @@ module _ (lists : Lists) (world : World) (is : IsListed lists world) (kept : Are
       ∙ then-any p list (staged_shown s) there (eq-eqb s.id row.id own.1)
 
   -- and what is listed as published is published
-  published-holds : (n : NodeLists) → IsAmong n lists.nodes → (s : PublishedEntry) → IsAmong s n.published.items → (row : ControllerRow) → row_with_id s.id rows ≡ Some row
+  published-holds : (n : NodeLists) → IsAmong n lists.nodes → (s : PublishedEntry) → IsAmong s n.published.items → (row : ControllerRow) → controller_row_with_id s.id rows ≡ Some row
       → holds world (Published row.name n.id s.target) ≡ true
   published-holds n at s here row e =
       let own = id-of-row s.id row e in
@@ -172,20 +172,20 @@ module _ (lists : Lists) (world : World) (is : IsListed lists world) (kept : Are
           let found = among-map (attached_thing row.name) row.holdings.items thing here in
           subst Holds (sym found.2) (attached-holds row own found.0 found.1)
 
-      staged_at : (n : NodeLists) → IsAmong n lists.nodes → (s : StagedEntry) → IsAmong s n.staged.items → (o : Option ControllerRow) → row_with_id s.id rows ≡ o → IsAmong thing (staged_by n.id o) → Holds thing
+      staged_at : (n : NodeLists) → IsAmong n lists.nodes → (s : StagedEntry) → IsAmong s n.staged.items → (o : Option ControllerRow) → controller_row_with_id s.id rows ≡ o → IsAmong thing (staged_things n.id o) → Holds thing
       staged_at n at s own None e here = absurd here
       staged_at n at s own (Some row) e here = among-one Holds thing _ here (staged-holds n at s own row e)
 
-      published_at : (n : NodeLists) → IsAmong n lists.nodes → (s : PublishedEntry) → IsAmong s n.published.items → (o : Option ControllerRow) → row_with_id s.id rows ≡ o
-          → IsAmong thing (published_by n.id s.target o)
+      published_at : (n : NodeLists) → IsAmong n lists.nodes → (s : PublishedEntry) → IsAmong s n.published.items → (o : Option ControllerRow) → controller_row_with_id s.id rows ≡ o
+          → IsAmong thing (published_things n.id s.target o)
           → Holds thing
       published_at n at s own None e here = absurd here
       published_at n at s own (Some row) e here = among-one Holds thing _ here (published-holds n at s own row e)
 
       of_list : (n : NodeLists) → IsAmong n lists.nodes
           → IsAmong thing (flat_map (staged_thing rows n.id) n.staged.items) ⊎ IsAmong thing (flat_map (published_thing rows n.id) n.published.items) → Holds thing
-      of_list n at (inl here) = let found = among-flat (staged_thing rows n.id) n.staged.items thing here in staged_at n at found.0 found.1 (row_with_id (found.0).id rows) refl found.2
-      of_list n at (inr here) = let found = among-flat (published_thing rows n.id) n.published.items thing here in published_at n at found.0 found.1 (row_with_id (found.0).id rows) refl found.2
+      of_list n at (inl here) = let found = among-flat (staged_thing rows n.id) n.staged.items thing here in staged_at n at found.0 found.1 (controller_row_with_id (found.0).id rows) refl found.2
+      of_list n at (inr here) = let found = among-flat (published_thing rows n.id) n.published.items thing here in published_at n at found.0 found.1 (controller_row_with_id (found.0).id rows) refl found.2
 
   -- ---- what holds is listed
 
@@ -226,7 +226,7 @@ module _ (lists : Lists) (world : World) (is : IsListed lists world) (kept : Are
       let there = among-by_key (λ (x : StagedVolume). x.volume) m.state.staged (map staged_shown n.staged.items) (λ id. sym (alike.staged id)) one.0 one.1 in
       let entry = among-map staged_shown n.staged.items one.0 there in
       let has = row-by-id row own (entry.0).id (sym (ap (λ (x : StagedVolume). x.volume) (sym entry.2) ∙ eqb-true (one.0).volume row.id one.2)) in
-      let here = subst (λ (o : Option ControllerRow). IsAmong (Staged row.name n.id) (staged_by n.id o)) (sym has) (inl refl) in
+      let here = subst (λ (o : Option ControllerRow). IsAmong (Staged row.name n.id) (staged_things n.id o)) (sym has) (inl refl) in
       at-node n (Staged row.name n.id) at
       (among-append (flat_map (staged_thing rows n.id) n.staged.items) _ _ (in-flat (staged_thing rows n.id) n.staged.items entry.0 (Staged row.name n.id) entry.1 here)))) h
   holds-then-listed (Published name node target) h =
@@ -237,7 +237,7 @@ module _ (lists : Lists) (world : World) (is : IsListed lists world) (kept : Are
       let there = among-by_key (λ (x : PublishedVolume). x.volume) m.state.published (map published_shown n.published.items) (λ id. sym (alike.published id)) one.0 one.1 in
       let entry = among-map published_shown n.published.items one.0 there in
       let has = row-by-id row own (entry.0).id (sym (ap (λ (x : PublishedVolume). x.volume) (sym entry.2) ∙ eqb-true (one.0).volume row.id parts.0)) in
-      let here = subst (λ (o : Option ControllerRow). IsAmong (Published row.name n.id (entry.0).target) (published_by n.id (entry.0).target o)) (sym has) (inl refl) in
+      let here = subst (λ (o : Option ControllerRow). IsAmong (Published row.name n.id (entry.0).target) (published_things n.id (entry.0).target o)) (sym has) (inl refl) in
       subst (λ t. IsAmong (Published row.name n.id t) things) (ap (λ (x : PublishedVolume). x.target) (sym entry.2) ∙ (same_text-tells (one.0).target target).0 parts.1)
       (at-node n (Published row.name n.id (entry.0).target) at
       (among-right (flat_map (staged_thing rows n.id) n.staged.items) _ _ (in-flat (published_thing rows n.id) n.published.items entry.0 _ entry.1 here))))) h

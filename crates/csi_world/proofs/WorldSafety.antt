@@ -3,20 +3,20 @@ use Rattle.std.proofs.Common.{◌≡◌, ℕ, List, Bool, cond, Some, None, opti
 use Rattle.std.proofs.lemmas.Bool.{and_parts, eqb-true}
 use Rattle.csi_types.specs.declared.capability.Capability.{Capability}
 use Rattle.csi_types.specs.declared.holding.Holding.{Holding}
-use Rattle.csi_types.specs.Config.{Config}
-use Rattle.csi_types.specs.Key.{AttachedAs, StagedAs, Attached, Staged, asked}
-use Rattle.csi_lists.specs.Members.{IsAmong}
+use Rattle.csi_types.specs.Model.Config.{Config}
+use Rattle.csi_types.specs.Public.Key.{AttachedAs, StagedAs, Attached, Staged, asked}
+use Rattle.csi_lists.specs.Model.Members.{IsAmong}
 use Rattle.csi_lists.proofs.Members.{each_of, among-find}
 use Rattle.csi_lists.proofs.Options.{some-from_map}
 use Rattle.csi_lists.proofs.Searches.{find-passes}
-use Rattle.csi_types.specs.Same.{same_text}
+use Rattle.csi_types.specs.Model.Same.{same_text}
 use Rattle.csi_types.proofs.Equality.{same_text-tells}
-use Rattle.csi_controller.specs.State.{is_held_at, holding_at}
-use Rattle.csi_node.specs.State.{NodeState, StagedVolume, staged_of}
-use Rattle.csi_orchestrator.specs.Readings.{issued_in}
-use Rattle.csi_world.specs.World.{NodeAt, World, empty_world}
-use Rattle.csi_world.specs.Step.{Choice, MayChooseAll, chosen_all}
-use Rattle.csi_world.specs.Safe.{IsAttachedAs, IsStagedWhereAttached, Safe}
+use Rattle.csi_controller.specs.Model.State.{is_held_at, holding_at}
+use Rattle.csi_node.specs.Model.State.{NodeState, StagedVolume, staged_of}
+use Rattle.csi_orchestrator.specs.Model.Readings.{issued_in}
+use Rattle.csi_world.specs.Model.World.{NodeAt, World, empty_world}
+use Rattle.csi_world.specs.Public.Step.{Choice, MayChooseAll, chosen_all}
+use Rattle.csi_world.specs.Model.Safe.{IsAttachedAs, IsStagedWhereAttached, Safe}
 use Rattle.csi_world.proofs.WorldView.{node_view, view_of}
 use Rattle.csi_world.proofs.KeyedCalls.{is_of}
 use Rattle.csi_world.proofs.HeardReplies.{success-ok}

@@ -4,15 +4,15 @@ use Rattle.std.proofs.Common.{◌≡◌, ◌⊎◌, ℕ, List, Bool, true, false
 use Rattle.csi_types.specs.declared.number.Number.{Number}
 use Rattle.csi_types.specs.declared.call.Party.{Party}
 use Rattle.csi_types.specs.declared.call.Party.TheVariants.{Controller, Node}
-use Rattle.csi_fence.specs.Delivery.{View, Delivery, Acts, Rests, Misses, IsSameView, IsClosed, kept_of}
-use Rattle.csi_types.specs.Key.{Key, Exists, Attached, Staged, Published}
-use Rattle.csi_types.specs.Number.{IsBefore}
-use Rattle.csi_types.specs.Same.{same_party}
+use Rattle.csi_fence.specs.Public.Delivery.{PluginView, Delivery, Acts, Rests, Misses, IsSameView, IsClosed, kept_of}
+use Rattle.csi_types.specs.Public.Key.{Key, Exists, Attached, Staged, Published}
+use Rattle.csi_types.specs.Model.Number.{IsBefore}
+use Rattle.csi_types.specs.Model.Same.{same_party}
 use Rattle.csi_types.proofs.Equality.{same_party-tells}
-use Rattle.csi_controller.specs.View as controllers
-use Rattle.csi_node.specs.State.{NodeState}
-use Rattle.csi_node.specs.View as nodes
-use Rattle.csi_world.specs.World.{World, node_state}
+use Rattle.csi_controller.specs.Public.View as controllers
+use Rattle.csi_node.specs.Model.State.{NodeState}
+use Rattle.csi_node.specs.Public.View as nodes
+use Rattle.csi_world.specs.Model.World.{World, node_state}
 
 -- the plugin that has a thing
 abbrev pub party_of : Key → Party
@@ -22,21 +22,21 @@ party_of (Staged id node) = Node node
 party_of (Published id node target) = Node node
 
 -- a node that isn't there
-abbrev pub no_view : View
+abbrev pub no_view : PluginView
 no_view = record { held = λ key. None; is_spent = λ key number. false; kept = λ key. None }
 
 -- a node by its things, if it is there
-abbrev pub node_view : List ℕ → Option NodeState → View
+abbrev pub node_view : List ℕ → Option NodeState → PluginView
 node_view node None = no_view
 node_view node (Some state) = nodes.view_of node state
 
 -- a plugin by its things
-abbrev pub plugin_view : World → Party → View
+abbrev pub plugin_view : World → Party → PluginView
 plugin_view world Controller = controllers.view_of world.controller
 plugin_view world (Node id) = node_view id (node_state id world)
 
 -- the world by its things
-abbrev pub view_of : World → View
+abbrev pub view_of : World → PluginView
 view_of world =
     record {
       held = λ key. (plugin_view world (party_of key)).held key;
@@ -49,8 +49,8 @@ abbrev pub ChangesOnly : Party → World → World → Type 0
 ChangesOnly party old new = (other : Party) → same_party other party ≡ false → plugin_view new other ≡ plugin_view old other
 
 -- a fact of two plugins' views, where the other plugins are as they were
-pub for_each : (P : View → View → Key → Type 0) (party : Party) (old new : World) → ChangesOnly party old new → (key : Key)
-    → P (plugin_view old party) (plugin_view new party) key → ((view : View) → P view view key)
+pub for_each : (P : PluginView → PluginView → Key → Type 0) (party : Party) (old new : World) → ChangesOnly party old new → (key : Key)
+    → P (plugin_view old party) (plugin_view new party) key → ((view : PluginView) → P view view key)
     → P (plugin_view old (party_of key)) (plugin_view new (party_of key)) key
 for_each P party old new only key its same = by (same_party (party_of key) party) refl
   where

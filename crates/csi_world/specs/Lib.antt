@@ -1,13 +1,3 @@
-pub mod World
-pub mod Step
-pub mod Safe
-pub mod After
-pub mod Simulated
-pub mod Assembled
-pub mod Audited
-pub mod Simulating
-pub mod System
-pub mod Listed
-pub mod Laws
-pub mod Worked
-pub mod Outcomes
+pub mod Model
+pub mod Public
+pub mod Private

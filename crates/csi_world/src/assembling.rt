@@ -1,6 +1,6 @@
 //! Worlds that are made of their parts.
 ghost use Rattle.std.specs.Prelude.{◌≡◌, ◌↔◌, IfOk, IsTrue, Err};
-ghost use Rattle.csi_world.specs.Assembled.{AreOfNodes, assembled};
+ghost use Rattle.csi_world.specs.Public.Assembled.{AreOfNodes, assembled};
 ghost use Rattle.csi_world.specs.declared.assembling.AssembleFault.TheVariants.{OtherNodes};
 
 use crate::plugins::controller_of_record;
@@ -68,7 +68,12 @@ fn plugins_of_records(
     controller: ControllerRecord,
     nodes: Vec<NodeRecord>,
 ) -> Result<(Controller, Vec<Node>), AssembleFault>
-    ensures controller { IfOk result (λ made. made.0 ≡ record { config = config.now; next_id = controller.next_id; session = controller.session; rows = controller.rows }) }
+    ensures controller { IfOk result (λ made. made.0 ≡ record {
+      config = config.now;
+      next_id = controller.next_id;
+      session = controller.session;
+      rows = controller.rows;
+    }) }
     ensures nodes { IfOk result (λ made. made.1.items ≡ nodes.items) }
     ensures own { IfOk result (λ made. AreOfNodes nodes.items config.now.nodes) }
     ensures other { (result ≡ Err OtherNodes) ↔ (AreOfNodes nodes.items config.now.nodes → ⊥) }

@@ -1,9 +1,9 @@
 //! The audit of a system's parts.
 ghost use Rattle.std.specs.Prelude.{map, IfOk};
-ghost use Rattle.csi_orchestrator.specs.Shown.{view_of};
-ghost use Rattle.csi_world.specs.World.{World as Shown};
-ghost use Rattle.csi_world.specs.Audited.{ArePlugins, Finds};
-ghost use Rattle.csi_world.specs.Listed.{AreDistinct, AreRowsApart, IsListed, ArePluginsSafe};
+ghost use Rattle.csi_orchestrator.specs.Model.Shown.{orchestrator_view};
+ghost use Rattle.csi_world.specs.Model.World.{World as Shown};
+ghost use Rattle.csi_world.specs.Public.Audited.{ArePlugins, Finds};
+ghost use Rattle.csi_world.specs.Private.Listed.{AreDistinctTexts, AreRowsApart, IsListed, ArePluginsSafe};
 
 mod gathering;
 mod halving;
@@ -34,7 +34,8 @@ fn audit_lists(
     orchestrator: &Orchestrator,
 ) -> Result<Option<Violation>, NoMemory>
     requires { AreRowsApart rows.now }
-    ensures { (world : Shown) → IsListed (record { rows = rows.now; nodes = nodes.now }) world → ArePluginsSafe world → IfOk result (Finds (view_of orchestrator.now).marks world) }
+    ensures { (world : Shown) → IsListed (record { rows = rows.now; nodes = nodes.now }) world → ArePluginsSafe world →
+        IfOk result (Finds (orchestrator_view orchestrator.now).marks world) }
 {
     if !is_staged_where_attached(rows, nodes) {
         return Ok(Some(Violation::StagedUnattached));
@@ -55,8 +56,8 @@ pub(crate) fn audit_parts(
     nodes: &[Node],
     orchestrator: &Orchestrator,
 ) -> Result<Option<Violation>, NoMemory>
-    requires { AreDistinct (map (λ node. node.id) nodes.now) }
-    ensures { (world : Shown) → ArePlugins controller.now nodes.now world → IfOk result (Finds (view_of orchestrator.now).marks world) }
+    requires { AreDistinctTexts (map (λ node. node.id) nodes.now) }
+    ensures { (world : Shown) → ArePlugins controller.now nodes.now world → IfOk result (Finds (orchestrator_view orchestrator.now).marks world) }
 {
     plugins_are_safe(controller, nodes);
     let lists = list_plugins(alloc, controller, nodes)?;
@@ -68,7 +69,8 @@ pub(crate) fn audit_parts(
 /// that it is given and no other: a `World` carries no promise of safety in its type. `safety_law` makes that promise, for
 /// the worlds that events lead to. An `Err` is an allocation that was refused. This profile's own.
 pub fn audit(alloc: Global, world: &World) -> Result<Option<Violation>, NoMemory>
-    ensures { (shown : Shown) → ArePlugins (world.now).controller (world.now).nodes shown → IfOk result (Finds (view_of (world.now).orchestrator).marks shown) }
+    ensures { (shown : Shown) → ArePlugins (world.now).controller (world.now).nodes shown →
+        IfOk result (Finds (orchestrator_view (world.now).orchestrator).marks shown) }
 {
     world.nodes_law();
     audit_parts(

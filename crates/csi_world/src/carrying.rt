@@ -1,7 +1,7 @@
 //! How a frame is carried: written as bytes, and read from them.
 ghost use Rattle.std.specs.Prelude.{◌≡◌, IfOk};
-ghost use Rattle.csi_frames.specs.Decoding.{no_memory};
-ghost use Rattle.csi_frames.specs.Spelling.{Spells};
+ghost use Rattle.csi_frames.specs.Public.Decoding.{no_memory};
+ghost use Rattle.csi_frames.specs.Public.Spelling.{Spells};
 
 use csi_frames::{FrameFault, decode, encode};
 use csi_types::{Frame, NoMemory};

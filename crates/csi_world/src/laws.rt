@@ -1,6 +1,7 @@
 //! Laws of worlds. Each function proves a statement, and does nothing.
-ghost use Rattle.csi_world.specs.Audited.{AuditsTellSafety};
-ghost use Rattle.csi_world.specs.Laws.{ChoicesAreSteps, EmptyIsSafe, RunsAreSteps, RunsAreSafe, SafetyLaw, TableLaw};
+ghost use Rattle.csi_world.specs.Public.Audited.{AuditsTellSafety};
+ghost use Rattle.csi_world.specs.Private.Laws.{ChoicesAreSteps, EmptyIsSafe, RunsAreSteps};
+ghost use Rattle.csi_world.specs.Public.Laws.{RunsAreSafe, SafetyLaw, TableLaws};
 
 fn choices_are_steps()
     ensures { ChoicesAreSteps }
@@ -32,7 +33,7 @@ pub fn runs_law()
 /// asks, the same call again is met, and other volumes stay as they are. CSI's spec.md asks for it in each
 /// call's section.
 pub fn table_law()
-    ensures { TableLaw }
+    ensures { TableLaws }
 {
     csi_controller::table_law();
     csi_node::table_law();

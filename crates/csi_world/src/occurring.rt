@@ -1,11 +1,12 @@
 //! What happens in a world.
 ghost use Rattle.std.specs.Prelude.{◌≡◌, ◌<◌, Option, Some, None, IfOk, OnOk, if◌then◌else◌};
-ghost use Rattle.csi_types.specs.Config.{has_node};
-ghost use Rattle.csi_world.specs.World.{World};
-ghost use Rattle.csi_world.specs.After.{called, delivered, delivered_body, frame_at, occurs};
-ghost use Rattle.csi_world.specs.Simulated.{ShowsWorld};
-ghost use Rattle.csi_world.specs.Simulating.{IsSound, Does, IsLogged};
-ghost use Rattle.csi_world.specs.System.{parts_of};
+ghost use Rattle.csi_types.specs.Model.Config.{has_node};
+ghost use Rattle.csi_world.specs.Model.World.{World};
+ghost use Rattle.csi_world.specs.Model.After.{called, delivered, delivered_body, frame_numbered, occurs};
+ghost use Rattle.csi_world.specs.Model.Simulated.{ShowsWorld};
+ghost use Rattle.csi_world.specs.Public.Simulating.{IsSoundWorld};
+ghost use Rattle.csi_world.specs.Private.Simulating.{Does, IsLogged};
+ghost use Rattle.csi_world.specs.Public.System.{world_parts};
 ghost use Rattle.csi_world.specs.declared.outcomes.Outcome.TheVariants as outcomes;
 
 use crate::carrying::carried;
@@ -25,7 +26,7 @@ fn copied(capabilities: &CapabilityList) -> Result<CapabilityList, NoMemory>
 impl System {
     // A call comes to its plugin.
     fn call(&mut self, frame: &Frame) -> Result<Outcome, NoMemory>
-        ensures { Does (parts_of self.old) (parts_of self.new) result (λ world. called self.old.config world frame.now frame.now.party) }
+        ensures { Does (world_parts self.old) (world_parts self.new) result (λ world. called self.old.config world frame.now frame.now.party) }
     {
         match frame.party() {
             Party::Controller => {
@@ -44,7 +45,7 @@ impl System {
 
     // A frame comes to its plugin or to the orchestrator.
     fn take(&mut self, frame: &Frame) -> Result<Outcome, NoMemory>
-        ensures { Does (parts_of self.old) (parts_of self.new) result (λ world. delivered_body self.old.config world frame.now frame.now.body) }
+        ensures { Does (world_parts self.old) (world_parts self.new) result (λ world. delivered_body self.old.config world frame.now frame.now.body) }
     {
         csi_orchestrator::form_law();
         match frame.body() {
@@ -55,7 +56,7 @@ impl System {
 
     // The frame of this number is delivered, if it is there.
     fn deliver(&mut self, bytes: &mut Vec<u8>, number: u64) -> Result<Outcome, NoMemory>
-        ensures { Does (parts_of self.old) (parts_of self.new) result (λ world. delivered self.old.config world (frame_at world number)) }
+        ensures { Does (world_parts self.old) (world_parts self.new) result (λ world. delivered self.old.config world (frame_numbered world number)) }
     {
         match frame_of(&self.frames, number) {
             Some(sent) => {
@@ -70,7 +71,7 @@ impl System {
 
     // The controller restarts, from its record.
     fn restart_controller(&mut self) -> Result<Outcome, NoMemory>
-        ensures { Does (parts_of self.old) (parts_of self.new) result (λ world. record { world = world; outcome = outcomes.Restarted }) }
+        ensures { Does (world_parts self.old) (world_parts self.new) result (λ world. record { world = world; outcome = outcomes.Restarted }) }
     {
         let controller = restarted_controller(self.alloc, &self.controller, &self.config)?;
         self.controller = controller;
@@ -79,7 +80,7 @@ impl System {
 
     // The node of this id restarts, from its record.
     fn restart_node(&mut self, id: &NodeId) -> Result<Outcome, NoMemory>
-        ensures { Does (parts_of self.old) (parts_of self.new) result (λ world.
+        ensures { Does (world_parts self.old) (world_parts self.new) result (λ world.
             record { world = world; outcome = if has_node id.now self.old.config.nodes then outcomes.Restarted else outcomes.NoSuchNode }) }
     {
         match place_of(&self.nodes, id) {
@@ -94,7 +95,7 @@ impl System {
 
     // What comes of an event, which isn't logged yet. Only what the orchestrator keeps of it is copied.
     fn outcome_of(&mut self, bytes: &mut Vec<u8>, event: &Event) -> Result<Outcome, NoMemory>
-        ensures { Does (parts_of self.old) (parts_of self.new) result (λ world. occurs self.old.config world event.now) }
+        ensures { Does (world_parts self.old) (world_parts self.new) result (λ world. occurs self.old.config world event.now) }
     {
         csi_orchestrator::form_law();
         let orchestrator = &mut self.orchestrator;
@@ -141,8 +142,8 @@ impl System {
     /// What comes of an event, which is logged. A frame that is delivered is written in place of the bytes. An `Err` is an
     /// allocation that was refused; the system is of no use then.
     pub(crate) fn occur(&mut self, bytes: &mut Vec<u8>, event: &Event) -> Result<(), NoMemory>
-        ensures { (world : World) → IsSound (parts_of self.old) → ShowsWorld (parts_of self.old) world →
-            OnOk result (IsLogged (parts_of self.old) (parts_of self.new) (occurs self.old.config world event.now)) }
+        ensures { (world : World) → IsSoundWorld (world_parts self.old) → ShowsWorld (world_parts self.old) world →
+            OnOk result (IsLogged (world_parts self.old) (world_parts self.new) (occurs self.old.config world event.now)) }
     {
         let outcome = self.outcome_of(bytes, event)?;
         self.outcomes.push(outcome)?;

@@ -1,6 +1,6 @@
 //! What comes of an event, and its text.
 ghost use Rattle.std.specs.Prelude.{◌≡◌, IfOk, string_bytes};
-ghost use Rattle.csi_world.specs.Outcomes.{refused_text as text_of_refusal, outcome_text};
+ghost use Rattle.csi_world.specs.Public.Outcomes.{refused_text as text_of_refusal, outcome_text};
 
 use csi_orchestrator::OrchFault;
 use std::alloc::{AllocError, Global};

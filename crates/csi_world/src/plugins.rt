@@ -1,9 +1,9 @@
 //! The plugins of a world: what they do with a frame, and how they restart.
 ghost use Rattle.std.specs.Prelude.{◌≡◌, find, map, position, IfOk};
 ghost use Rattle.std.specs.Option.{option_copied};
-ghost use Rattle.csi_types.specs.Same.{same_text};
-ghost use Rattle.csi_world.specs.After.{node_id};
-ghost use Rattle.csi_world.specs.Simulating.{ControllerDoes, NodeDoes, IsSameController, IsSameNode, new_node_parts};
+ghost use Rattle.csi_types.specs.Model.Same.{same_text};
+ghost use Rattle.csi_world.specs.Model.After.{node_id};
+ghost use Rattle.csi_world.specs.Private.Simulating.{ControllerDoes, NodeDoes, IsSameController, IsSameNode, new_node_parts};
 
 use csi_controller::{Controller, ControllerRecord};
 use csi_node::Node;

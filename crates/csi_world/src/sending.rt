@@ -1,9 +1,10 @@
 //! Frames that are sent, and what comes of it.
 ghost use Rattle.std.specs.Prelude.{◌≡◌, ◌+◌, List, [], IfOk};
 ghost use Rattle.std.specs.Option.{option_copied};
-ghost use Rattle.csi_types.specs.Frame.{Frame as FrameParts};
-ghost use Rattle.csi_orchestrator.specs.Moves.{Sends, Hears, Restarted};
-ghost use Rattle.csi_world.specs.Simulating.{IsSent, IsRefused, IsSettled, IsAnswered, numbered};
+ghost use Rattle.csi_types.specs.Model.Frame.{Frame as FrameParts};
+ghost use Rattle.csi_orchestrator.specs.Model.Moves.{Sends, Hears, Restarted};
+ghost use Rattle.csi_world.specs.Private.Simulating.{IsSent, IsInputRefused, IsInputSettled, IsReplySent};
+ghost use Rattle.csi_world.specs.Public.Simulating.{numbered};
 
 use crate::outcomes::Outcome;
 use csi_orchestrator::{Heard, OrchFault};
@@ -29,7 +30,7 @@ fn send(frames: &mut Vec<Frame>, frame: Frame) -> Result<u64, NoMemory>
 
 // What comes of a refusal. Want of memory is none.
 fn refused(fault: OrchFault) -> Result<Outcome, NoMemory>
-    ensures { IfOk result (IsRefused [] [] fault) }
+    ensures { IfOk result (IsInputRefused [] [] fault) }
 {
     match fault {
         OrchFault::NoMemory => Err(NoMemory),
@@ -42,7 +43,7 @@ pub(crate) fn settled(
     frames: &mut Vec<Frame>,
     answer: Result<Option<Frame>, OrchFault>,
 ) -> Result<Outcome, NoMemory>
-    ensures { IfOk result (IsSettled Sends frames.old.items frames.new.items answer) }
+    ensures { IfOk result (IsInputSettled Sends frames.old.items frames.new.items answer) }
 {
     match answer {
         Ok(Some(frame)) => Ok(Outcome::Sent(send(frames, frame)?)),
@@ -56,7 +57,7 @@ pub(crate) fn settled_reply(
     frames: &mut Vec<Frame>,
     answer: Result<Heard, OrchFault>,
 ) -> Result<Outcome, NoMemory>
-    ensures { IfOk result (IsSettled Hears frames.old.items frames.new.items answer) }
+    ensures { IfOk result (IsInputSettled Hears frames.old.items frames.new.items answer) }
 {
     match answer {
         Ok(Heard::Ignored) => Ok(Outcome::Ignored),
@@ -68,7 +69,7 @@ pub(crate) fn settled_reply(
 
 /// Sends a plugin's reply, if there is one.
 pub(crate) fn answered(frames: &mut Vec<Frame>, reply: Option<Frame>) -> Result<Outcome, NoMemory>
-    ensures { IfOk result (IsAnswered frames.old.items frames.new.items reply) }
+    ensures { IfOk result (IsReplySent frames.old.items frames.new.items reply) }
 {
     let number = frames.len() as u64 + 1;
     if let Some(frame) = reply {
@@ -79,7 +80,7 @@ pub(crate) fn answered(frames: &mut Vec<Frame>, reply: Option<Frame>) -> Result<
 
 /// What comes of a restart of the orchestrator. Nothing is sent.
 pub(crate) fn settled_restart(answer: Result<(), OrchFault>) -> Result<Outcome, NoMemory>
-    ensures { (frames : List FrameParts) → IfOk result (IsSettled (λ done. Restarted) frames frames answer) }
+    ensures { (frames : List FrameParts) → IfOk result (IsInputSettled (λ done. Restarted) frames frames answer) }
 {
     match answer {
         Ok(()) => Ok(Outcome::Restarted),

@@ -1,11 +1,11 @@
 //! Runs of events.
 ghost use Rattle.std.specs.Prelude.{◌≡◌, ℕ, [], take, IfOk, OnOk};
-ghost use Rattle.csi_types.specs.Config.{Config};
-ghost use Rattle.csi_world.specs.Safe.{Safe};
-ghost use Rattle.csi_world.specs.After.{after};
-ghost use Rattle.csi_world.specs.Simulated.{ShowsRun};
-ghost use Rattle.csi_world.specs.Simulating.{IsRun};
-ghost use Rattle.csi_world.specs.System.{parts_of};
+ghost use Rattle.csi_types.specs.Model.Config.{Config};
+ghost use Rattle.csi_world.specs.Model.Safe.{Safe};
+ghost use Rattle.csi_world.specs.Model.After.{after};
+ghost use Rattle.csi_world.specs.Model.Simulated.{ShowsRun};
+ghost use Rattle.csi_world.specs.Private.Simulating.{IsRun};
+ghost use Rattle.csi_world.specs.Public.System.{world_parts};
 
 use crate::laws::runs_law;
 use crate::plugins::{copied_config, ids_of, new_nodes};
@@ -18,7 +18,7 @@ use std::alloc::Global;
 
 // A system in which nothing happened.
 fn new_system(alloc: Global, config: &Config) -> Result<System, NoMemory>
-    ensures { IfOk result (λ system. IsRun config.now [] (parts_of system)) }
+    ensures { IfOk result (λ system. IsRun config.now [] (world_parts system)) }
 {
     config.fit_law();
     let own = copied_config(config)?;
@@ -40,7 +40,7 @@ fn new_system(alloc: Global, config: &Config) -> Result<System, NoMemory>
 
 // Lets these events happen, one after another.
 fn occur_all(alloc: Global, system: &mut System, events: &[Event]) -> Result<(), NoMemory>
-    ensures { (config : Config) → IsRun config [] (parts_of system.old) → OnOk result (IsRun config events.now (parts_of system.new)) }
+    ensures { (config : Config) → IsRun config [] (world_parts system.old) → OnOk result (IsRun config events.now (world_parts system.new)) }
 {
     let mut bytes = Vec::new(alloc);
     for event in events {

@@ -1,6 +1,6 @@
 //! What an audit finds.
 ghost use Rattle.std.specs.Prelude.{◌≡◌};
-ghost use Rattle.csi_world.specs.Audited.{violation_number};
+ghost use Rattle.csi_world.specs.Public.Audited.{violation_number};
 
 /// Which clause of safety fails first, in this order (CSI's spec.md, "CreateVolume", `AccessMode`, for the first, and "Volume
 /// Lifecycle" for the others).

@@ -1,11 +1,11 @@
 //! Simulated worlds.
 ghost use Rattle.std.specs.Prelude.{◌≡◌, find, length};
 ghost use Rattle.std.specs.Option.{option_copied};
-ghost use Rattle.csi_types.specs.Same.{same_text};
-ghost use Rattle.csi_world.specs.After.{frame_at};
-ghost use Rattle.csi_world.specs.Simulated.{ShowsWorld};
-ghost use Rattle.csi_world.specs.Simulating.{numbered, IsSound, ShowsNode};
-ghost use Rattle.csi_world.specs.System.{parts_of};
+ghost use Rattle.csi_types.specs.Model.Same.{same_text};
+ghost use Rattle.csi_world.specs.Model.After.{frame_numbered};
+ghost use Rattle.csi_world.specs.Model.Simulated.{ShowsWorld};
+ghost use Rattle.csi_world.specs.Public.Simulating.{numbered, IsSoundWorld, ShowsNode};
+ghost use Rattle.csi_world.specs.Public.System.{world_parts};
 
 use crate::outcomes::Outcome;
 use crate::plugins::node_of;
@@ -31,24 +31,24 @@ impl Drop for World {
 }
 
 impl Model for World {
-    ghost use Rattle.csi_world.specs.Simulated.{WorldParts};
-    ghost use Rattle.csi_world.specs.Simulating.{IsSound};
-    ghost use Rattle.csi_world.specs.System.{parts_of};
+    ghost use Rattle.csi_world.specs.Model.Simulated.{WorldParts};
+    ghost use Rattle.csi_world.specs.Public.Simulating.{IsSoundWorld};
+    ghost use Rattle.csi_world.specs.Public.System.{world_parts};
 
     ghost Value = { WorldParts };
 
-    ghost view = { λ world. parts_of world.system };
+    ghost view = { λ world. world_parts world.system };
 
-    ghost invariant = { λ world. IsSound (parts_of world.system) };
+    ghost invariant = { λ world. IsSoundWorld (world_parts world.system) };
 }
 
 impl World {
-    ghost use Rattle.csi_world.specs.World.{World as Shown, node_state};
+    ghost use Rattle.csi_world.specs.Model.World.{World as Shown, node_state};
 
     // The world of a system.
     pub(crate) fn of(system: System) -> World
-        requires { IsSound (parts_of system) }
-        ensures { result ≡ parts_of system }
+        requires { IsSoundWorld (world_parts system) }
+        ensures { result ≡ world_parts system }
     {
         World { system }
     }
@@ -61,7 +61,7 @@ impl World {
     }
 
     /// How many frames were sent. It takes no memory.
-    pub fn frames(&self) -> u64
+    pub fn frame_count(&self) -> u64
         ensures { result ≡ length self.now.frames }
     {
         self.system.frames.len() as u64
@@ -78,7 +78,7 @@ impl World {
     /// no memory.
     pub fn frame(&self, number: u64) -> Option<&Frame>
         ensures value { option_copied result ≡ numbered self.now.frames number }
-        ensures world { (world : Shown) → ShowsWorld self.now world → option_copied result ≡ frame_at world number }
+        ensures world { (world : Shown) → ShowsWorld self.now world → option_copied result ≡ frame_numbered world number }
     {
         frame_of(&self.system.frames, number)
     }
@@ -107,7 +107,7 @@ impl World {
     /// A law, and nothing that runs: the nodes are those of the configuration, in its order, and the configuration has no
     /// fault, so that no id comes twice.
     pub fn nodes_law(&self)
-        ensures { IsSound self.now }
+        ensures { IsSoundWorld self.now }
     {
         let _system = &self.system;
     }

@@ -3,15 +3,16 @@ ghost use Rattle.std.specs.Prelude.{◌≡◌, ◌≤◌, ℕ, [], Some, None, l
 ghost use Rattle.csi_types.specs.declared.call.Party.TheVariants.{Controller};
 ghost use Rattle.csi_fence.specs.declared.fence.Verdict.TheVariants.{Fresh, Repeated};
 ghost use Rattle.csi_types.specs.declared.status.Status.TheVariants.{Ok as OkStatus};
-ghost use Rattle.csi_types.specs.Call.{kind_of, is_party_of};
-ghost use Rattle.csi_fence.specs.Fence.{verdict_of as verdict_by};
-ghost use Rattle.csi_types.specs.Frame.{IsAllowed};
-ghost use Rattle.csi_types.specs.Lent.{lent_call};
-ghost use Rattle.csi_types.specs.Replies.{stale_reply};
-ghost use Rattle.csi_controller.specs.Core.{IsSoundRow, IsUndoing};
-ghost use Rattle.csi_controller.specs.AtRow.{RowAnswers, IsLeft, row_named};
-ghost use Rattle.csi_controller.specs.RowTable.{row_line};
-ghost use Rattle.csi_controller.specs.Step.{answer_frame};
+ghost use Rattle.csi_types.specs.Model.Call.{kind_of};
+ghost use Rattle.csi_types.specs.Public.Call.{is_party_of};
+ghost use Rattle.csi_fence.specs.Model.Fence.{verdict_of as verdict_by};
+ghost use Rattle.csi_types.specs.Public.Frame.{IsAllowed};
+ghost use Rattle.csi_types.specs.Public.Lent.{lent_call};
+ghost use Rattle.csi_types.specs.Model.Replies.{stale_reply};
+ghost use Rattle.csi_controller.specs.Public.Core.{IsSoundRow, IsUndoing};
+ghost use Rattle.csi_controller.specs.Private.AtRow.{RowAnswers, IsRowLeft, row_named};
+ghost use Rattle.csi_controller.specs.Private.RowTable.{row_line};
+ghost use Rattle.csi_controller.specs.Public.Step.{answer_frame};
 
 use super::changes::change;
 use super::counts::MAX_NODES;
@@ -23,15 +24,17 @@ use csi_fence::{Answer, CoreFault, Verdict, verdict_of};
 use csi_types::{Body, CallRef, Kind, NodeSlots, Number, Reply, Status};
 use std::alloc::Global;
 
-// Keeps a reply in a row, and answers with its kind and a copy of it. A refusal changes nothing. Without a detail it takes no memory.
+// Keeps a reply in the row at this place, and answers with its kind and a copy of it. A refusal changes nothing. Without a detail it takes no
+// memory.
 fn keep(
     row: &mut ControllerRow,
+    place: usize,
     alloc: Global,
     number: Number,
     kind: Kind,
     reply: Reply,
 ) -> Result<Answer, CoreFault>
-    ensures answer { IfOk result (λ answer. answer ≡ record { kind = kind; reply = reply; row = Some row.old.id }) }
+    ensures answer { IfOk result (λ answer. answer ≡ record { kind = kind; reply = reply; row = Some place }) }
     ensures kept { OnOk result (row.new ≡ record row.old { last = number; kind = kind; reply = reply }) }
     ensures err { OnErr result (row.new ≡ row.old) }
     ensures succeeds { reply.detail ≡ [] → IsOk result }
@@ -44,7 +47,7 @@ fn keep(
             Ok(Answer {
                 kind,
                 reply: copy,
-                row: Some(row.id),
+                row: Some(place),
             })
         }
         Err(fault) => Err(fault),
@@ -55,6 +58,7 @@ fn keep(
 // `Err` changes nothing. A DeleteVolume and a ControllerUnpublishVolume that are answered 0 take no memory.
 fn carry_out(
     row: &mut ControllerRow,
+    place: usize,
     nodes: &[NodeSlots],
     counts: &mut [u64; MAX_NODES],
     alloc: Global,
@@ -63,15 +67,16 @@ fn carry_out(
 ) -> Result<Answer, CoreFault>
     requires party { IsTrue (is_party_of (kind_of (lent_call call.now)) Controller) }
     requires few { length nodes.now ≤ 64 }
-    ensures ok { IfOk result (λ answer. RowAnswers nodes.now row.old row.new counts.old counts.new number (lent_call call.now) Fresh (answer_frame number answer)) }
-    ensures row { IfOk result (λ answer. answer.row ≡ Some row.old.id) }
+    ensures ok { IfOk result (λ answer. RowAnswers nodes.now row.old row.new counts.old counts.new number (lent_call call.now) Fresh
+        (answer_frame number answer)) }
+    ensures row { IfOk result (λ answer. answer.row ≡ Some place) }
     ensures allowed { IfOk result (λ answer. IsAllowed Controller (Body.Reply answer.kind answer.reply)) }
-    ensures err { OnErr result (IsLeft row.old row.new counts.old counts.new) }
+    ensures err { OnErr result (IsRowLeft row.old row.new counts.old counts.new) }
     ensures undone { IsUndoing (lent_call call.now) → (row_line nodes.now counts.old row.old (lent_call call.now)).reply.status ≡ OkStatus → IsOk result }
 {
     match line(row, nodes, counts, call) {
         Some(line) => match reply_of(alloc, &line) {
-            Ok(reply) => keep(row, alloc, number, call.kind(), reply),
+            Ok(reply) => keep(row, place, alloc, number, call.kind(), reply),
             Err(fault) => Err(fault),
         },
         None => match change(row, nodes, counts, alloc, call) {
@@ -83,7 +88,7 @@ fn carry_out(
                 Ok(Answer {
                     kind,
                     reply: done(alloc, None),
-                    row: Some(row.id),
+                    row: Some(place),
                 })
             }
             Err(fault) => Err(fault),
@@ -98,11 +103,12 @@ pub fn stale(alloc: Global, kind: Kind) -> Result<Answer, CoreFault>
     answer_of(alloc, kind, &refused(Status::Aborted, "stale"))
 }
 
-/// Answers a call of the row's volume: a refusal where a later call was answered, the kept kind and reply where this one was, and
-/// else what the table answers, and only then the answer names the row. An `Err` changes nothing. A kept reply without a detail takes no memory, nor does a DeleteVolume or
+/// Answers a call of the volume of the row at this place: a refusal where a later call was answered, the kept kind and reply where this one was, and
+/// else what the table answers, and only then the answer has the place. An `Err` changes nothing. A kept reply without a detail takes no memory, nor does a DeleteVolume or
 /// a ControllerUnpublishVolume that the table answers 0.
 pub fn answer_at_row(
     row: &mut ControllerRow,
+    place: usize,
     nodes: &[NodeSlots],
     counts: &mut [u64; MAX_NODES],
     alloc: Global,
@@ -112,16 +118,18 @@ pub fn answer_at_row(
     requires party { IsTrue (is_party_of (kind_of (lent_call call.now)) Controller) }
     requires few { length nodes.now ≤ 64 }
     requires sound { (next_id : ℕ) × IsSoundRow next_id row.old }
-    ensures ok { IfOk result (λ answer. RowAnswers nodes.now row.old row.new counts.old counts.new number (lent_call call.now) (verdict_by (Some row.old.last) number) (answer_frame number answer)) }
-    ensures row { IfOk result (λ answer. answer.row ≡ row_named (verdict_by (Some row.old.last) number) row.old.id) }
+    ensures ok { IfOk result (λ answer. RowAnswers nodes.now row.old row.new counts.old counts.new number (lent_call call.now) (verdict_by
+        (Some row.old.last) number) (answer_frame number answer)) }
+    ensures row { IfOk result (λ answer. answer.row ≡ row_named (verdict_by (Some row.old.last) number) place) }
     ensures allowed { IfOk result (λ answer. IsAllowed Controller (Body.Reply answer.kind answer.reply)) }
-    ensures err { OnErr result (IsLeft row.old row.new counts.old counts.new) }
-    ensures undone { IsUndoing (lent_call call.now) → verdict_by (Some row.old.last) number ≡ Fresh → (row_line nodes.now counts.old row.old (lent_call call.now)).reply.status ≡ OkStatus → IsOk result }
+    ensures err { OnErr result (IsRowLeft row.old row.new counts.old counts.new) }
+    ensures undone { IsUndoing (lent_call call.now) → verdict_by (Some row.old.last) number ≡ Fresh →
+        (row_line nodes.now counts.old row.old (lent_call call.now)).reply.status ≡ OkStatus → IsOk result }
     ensures repeated { verdict_by (Some row.old.last) number ≡ Repeated → row.old.reply.detail ≡ [] → IsOk result }
 {
     match verdict_of(Some(row.last), number) {
         Verdict::Stale => stale(alloc, call.kind()),
         Verdict::Repeated => answer_of(alloc, row.kind, &line_of(&row.reply)),
-        Verdict::Fresh => carry_out(row, nodes, counts, alloc, number, call),
+        Verdict::Fresh => carry_out(row, place, nodes, counts, alloc, number, call),
     }
 }

@@ -1,8 +1,8 @@
 //! Where volumes are held, as a list.
 ghost use Rattle.std.specs.Prelude.{◌≡◌, ◌++◌, IfOk, OnOk};
-ghost use Rattle.csi_controller.specs.Shown.{holdings_in_row};
-ghost use Rattle.csi_controller.specs.Views.{attached};
-ghost use Rattle.csi_controller.specs.Core.{held_by};
+ghost use Rattle.csi_controller.specs.Model.Shown.{holdings_in_row};
+ghost use Rattle.csi_controller.specs.Public.Views.{attached_holdings};
+ghost use Rattle.csi_controller.specs.Public.Core.{volume_holding};
 
 use crate::row::{ControllerRow, NodeHolding};
 use csi_fence::CoreFault;
@@ -11,7 +11,7 @@ use std::alloc::Global;
 
 // The holding of the volume of this id.
 fn holding_of(id: VolumeId, held: &NodeHolding) -> Result<Holding, CoreFault>
-    ensures { IfOk result (λ holding. holding ≡ held_by id held.now) }
+    ensures { IfOk result (λ holding. holding ≡ volume_holding id held.now) }
 {
     let node = held.node.clone()?;
     let capability = held.capability.clone()?;
@@ -35,7 +35,7 @@ pub fn add_holdings(row: &ControllerRow, all: &mut Vec<Holding>) -> Result<(), C
 
 /// The holdings of all rows, in order.
 pub fn attachments(rows: &[ControllerRow], alloc: Global) -> Result<Vec<Holding>, CoreFault>
-    ensures { IfOk result (λ all. all.items ≡ attached rows.now) }
+    ensures { IfOk result (λ all. all.items ≡ attached_holdings rows.now) }
 {
     let mut all = Vec::new(alloc);
     for row in rows {

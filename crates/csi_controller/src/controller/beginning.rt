@@ -1,11 +1,12 @@
 //! A call that begins a session: it is answered, and the volumes that were deleted before are forgotten. All that may fail comes before
 //! the first of them goes.
-ghost use Rattle.std.specs.Prelude.{◌≡◌, ◌==◌, ◌<◌, None, Some, filter, find, position, slice_get, IfOk, IfSome, IfNone, IsOk, IsTrue, OnErr, OnOk, true};
+ghost use Rattle.std.specs.Prelude.{◌≡◌, ◌==◌, ◌<◌, None, Some, filter, find, length, position, slice_get, IfOk, IfSome, IfNone, IsOk, IsTrue, OnErr, OnOk, true};
 ghost use Rattle.indexmap.specs.IndexMap.{index_map_len};
 ghost use Rattle.csi_types.specs.declared.call.Party.TheVariants.{Controller};
-ghost use Rattle.csi_types.specs.Call.{kind_of, is_party_of};
-ghost use Rattle.csi_types.specs.Lent.{lent_call};
-ghost use Rattle.csi_types.specs.Same.{same_text};
+ghost use Rattle.csi_types.specs.Model.Call.{kind_of};
+ghost use Rattle.csi_types.specs.Public.Call.{is_party_of};
+ghost use Rattle.csi_types.specs.Public.Lent.{lent_capabilities, lent_call};
+ghost use Rattle.csi_types.specs.Model.Same.{same_text};
 ghost use Rattle.csi_controller.specs.declared.row.ControllerRow.{ControllerRow as OneRow};
 
 use super::at_row::answer_at_row;
@@ -15,18 +16,20 @@ use super::new_row::new_row;
 use super::replies::answer_of;
 use super::without_row::line_without_row;
 use csi_fence::{Answer, CoreFault};
-use csi_types::{Call, CallRef, CapabilityList, Kind, Number, VolumeId};
+use csi_types::{Call, CallRef, CapabilitiesRef, Kind, Number, VolumeId};
 
 impl ControllerCore {
-    ghost use Rattle.csi_controller.specs.State.{ControllerState, is_row_for};
-    ghost use Rattle.csi_controller.specs.Shown.{volume_of_row};
-    ghost use Rattle.csi_controller.specs.Catalog.{rows_of, IsIndexed, HasRoom};
-    ghost use Rattle.csi_controller.specs.Core.{Shows, IsRising, IsAnsweredOk, IsUndoing};
-    ghost use Rattle.csi_controller.specs.CoreParts.{parts_of, IsSoundCore};
-    ghost use Rattle.csi_controller.specs.CoreAnswers.{IsAnswered, IsLeftSo};
-    ghost use Rattle.csi_controller.specs.Beginning.{live_rows, HasForgotten, HasMade};
-    ghost use Rattle.csi_controller.specs.Making.{made_answer};
-    ghost use Rattle.csi_controller.specs.Nowhere.{IsCreate};
+    ghost use Rattle.csi_controller.specs.Model.State.{ControllerState, is_row_for};
+    ghost use Rattle.csi_controller.specs.Model.Shown.{volume_of_row};
+    ghost use Rattle.csi_controller.specs.Public.Catalog.{rows_of, IsIndexed};
+    ghost use Rattle.csi_controller.specs.Private.Catalog.{HasRoomForRow};
+    ghost use Rattle.csi_controller.specs.Model.Core.{Shows};
+    ghost use Rattle.csi_controller.specs.Public.Core.{AreRisingRows, IsAnsweredOk, IsUndoing};
+    ghost use Rattle.csi_controller.specs.Public.CoreParts.{controller_parts_shown, IsSoundCore};
+    ghost use Rattle.csi_controller.specs.Private.CoreAnswers.{IsCallAnswered, IsLeftSo};
+    ghost use Rattle.csi_controller.specs.Private.Beginning.{live_rows, HasForgotten, HasMade};
+    ghost use Rattle.csi_controller.specs.Private.Making.{made_answer};
+    ghost use Rattle.csi_controller.specs.Private.Nowhere.{IsCreate};
 
     // Where the row of this call is, if its volume is live.
     fn live_place_for(&self, call: &CallRef<'_>) -> Option<usize>
@@ -51,7 +54,7 @@ impl ControllerCore {
     // The session begins, and the volumes that were deleted before are forgotten. It takes no memory.
     fn forget(&mut self, session: u64)
         requires indexed { IsIndexed self.old.catalog }
-        requires rising { IsRising (rows_of self.old.catalog) }
+        requires rising { AreRisingRows (rows_of self.old.catalog) }
         ensures { HasForgotten session self.old self.new }
     {
         self.session = session;
@@ -72,15 +75,18 @@ impl ControllerCore {
         requires place { Some place ≡ position (λ row. is_row_for (lent_call call.now) (volume_of_row row)) (rows_of self.old.catalog) }
         requires within { place < index_map_len self.old.catalog.rows }
         requires live { (row : OneRow) → slice_get (rows_of self.old.catalog) place ≡ Some row → row.live ≡ true }
-        ensures ok { IfOk result (λ answer. IsAnswered self.old self.new number (lent_call call.now) answer) }
+        ensures ok { IfOk result (λ answer. IsCallAnswered self.old self.new number (lent_call call.now) answer) }
         ensures err { OnErr result (IsLeftSo self.old self.new) }
-        ensures undone { (state : ControllerState) → Shows (parts_of self.old) state → IsUndoing (lent_call call.now) → IsAnsweredOk self.old.config state number (lent_call call.now) → IsOk result }
+        ensures undone { (state : ControllerState) → Shows (controller_parts_shown self.old) state → IsUndoing (lent_call call.now) →
+            IsAnsweredOk self.old.config state number (lent_call call.now) → IsOk result }
     {
         let alloc = self.alloc;
         let nodes = self.config.nodes();
         let row = &mut self.catalog.rows[place];
-        let answer = answer_at_row(row, nodes, &mut self.counts, alloc, number, call)?;
+        let id = row.id;
+        let mut answer = answer_at_row(row, place, nodes, &mut self.counts, alloc, number, call)?;
         self.forget(number.session);
+        answer.row = self.catalog.place_of_id(id);
         Ok(answer)
     }
 
@@ -91,23 +97,24 @@ impl ControllerCore {
         id: VolumeId,
         capacity: u64,
         name: &str,
-        capabilities: &CapabilityList,
+        capabilities: CapabilitiesRef<'_>,
     ) -> Result<Answer, CoreFault>
         requires kept { IsSoundCore self.old }
         requires begins { self.old.session < number.session }
         requires new_id { find (λ row. row.id == id) (rows_of self.old.catalog) ≡ None }
         requires new_name { find (λ row. same_text row.name name.now) (live_rows (rows_of self.old.catalog)) ≡ None }
-        ensures answer { IfOk result (λ answer. answer ≡ made_answer id) }
-        ensures made { OnOk result (HasMade self.old self.new number id name.now capacity capabilities.now) }
+        ensures answer { IfOk result (λ answer. answer ≡ made_answer id (length (live_rows (rows_of self.old.catalog)))) }
+        ensures made { OnOk result (HasMade self.old self.new number id name.now capacity (lent_capabilities capabilities.entry)) }
         ensures err { OnErr result (IsLeftSo self.old self.new) }
     {
         let alloc = self.alloc;
         let row = new_row(alloc, number, id, name, capacity, capabilities)?;
         let text = self.catalog.make_room(alloc, &row.name)?;
         self.forget(number.session);
+        let place = self.catalog.len();
         self.catalog.put(text, row);
         self.next_id = self.next_id.wrapping_add(1);
-        Ok(made(alloc, id))
+        Ok(made(alloc, id, place))
     }
 
     // CreateVolume, where it begins a session, of a name that no live volume has. A refusal changes nothing.
@@ -119,17 +126,17 @@ impl ControllerCore {
         name: &str,
         required: u64,
         limit: u64,
-        capabilities: &CapabilityList,
+        capabilities: CapabilitiesRef<'_>,
     ) -> Result<Answer, CoreFault>
         requires kept { IsSoundCore self.old }
         requires begins { self.old.session < number.session }
         requires new { find (λ row. same_text row.name name.now) (live_rows (rows_of self.old.catalog)) ≡ None }
-        ensures ok { IfOk result (λ answer. IsAnswered self.old self.new number (Call.CreateVolume name.now required limit capabilities.now) answer) }
+        ensures ok { IfOk result (λ answer. IsCallAnswered self.old self.new number (Call.CreateVolume name.now required limit
+            (lent_capabilities capabilities.entry)) answer) }
         ensures err { OnErr result (IsLeftSo self.old self.new) }
     {
         let alloc = self.alloc;
-        let wished = capabilities.as_slice();
-        match self.room_for(self.catalog.live(), required, limit, wished) {
+        match self.room_for(self.catalog.live(), required, limit, capabilities) {
             Ok(made) => self.make_first(number, made.0, made.1, name, capabilities),
             Err(line) => {
                 let answer = answer_of(alloc, Kind::CreateVolume, &line)?;
@@ -147,7 +154,7 @@ impl ControllerCore {
         requires begins { self.old.session < number.session }
         requires none { find (λ row. is_row_for (lent_call call.now) (volume_of_row row)) (live_rows (rows_of self.old.catalog)) ≡ None }
         requires other { IsCreate (lent_call call.now) → ⊥ }
-        ensures ok { IfOk result (λ answer. IsAnswered self.old self.new number (lent_call call.now) answer) }
+        ensures ok { IfOk result (λ answer. IsCallAnswered self.old self.new number (lent_call call.now) answer) }
         ensures err { OnErr result (IsLeftSo self.old self.new) }
         ensures undone { IsUndoing (lent_call call.now) → IsOk result }
     {
@@ -165,9 +172,10 @@ impl ControllerCore {
         requires party { IsTrue (is_party_of (kind_of (lent_call call.now)) Controller) }
         requires kept { IsSoundCore self.old }
         requires begins { self.old.session < number.session }
-        ensures ok { IfOk result (λ answer. IsAnswered self.old self.new number (lent_call call.now) answer) }
+        ensures ok { IfOk result (λ answer. IsCallAnswered self.old self.new number (lent_call call.now) answer) }
         ensures err { OnErr result (IsLeftSo self.old self.new) }
-        ensures undone { (state : ControllerState) → Shows (parts_of self.old) state → IsUndoing (lent_call call.now) → IsAnsweredOk self.old.config state number (lent_call call.now) → IsOk result }
+        ensures undone { (state : ControllerState) → Shows (controller_parts_shown self.old) state → IsUndoing (lent_call call.now) →
+            IsAnsweredOk self.old.config state number (lent_call call.now) → IsOk result }
     {
         match self.live_place_for(call) {
             Some(place) => self.begin_with_row(place, number, call),
@@ -177,7 +185,7 @@ impl ControllerCore {
                     required,
                     limit,
                     capabilities,
-                } => self.create_first(number, name, *required, *limit, capabilities),
+                } => self.create_first(number, name, *required, *limit, *capabilities),
                 _ => self.begin_nowhere(number, call),
             },
         }

@@ -1,13 +1,13 @@
 //! What a call changes in the row of its volume.
 ghost use Rattle.std.specs.Prelude.{◌≡◌, ◌≤◌, length, not, filter, OnOk, OnErr, IfOk, IsOk};
-ghost use Rattle.csi_types.specs.Lent.{lent_call};
-ghost use Rattle.csi_types.specs.Same.{same_text};
-ghost use Rattle.csi_controller.specs.AtRow.{IsLeft};
-ghost use Rattle.csi_controller.specs.Core.{IsUndoing};
-ghost use Rattle.csi_controller.specs.OneRow.{live_after, items_after, held_so, count_change_by};
-ghost use Rattle.csi_controller.specs.RowTable.{row_change};
-ghost use Rattle.csi_controller.specs.Counts.{recounted};
-ghost use Rattle.csi_controller.specs.Shown.{volume_of_row};
+ghost use Rattle.csi_types.specs.Public.Lent.{lent_call};
+ghost use Rattle.csi_types.specs.Model.Same.{same_text};
+ghost use Rattle.csi_controller.specs.Private.AtRow.{IsRowLeft};
+ghost use Rattle.csi_controller.specs.Public.Core.{IsUndoing};
+ghost use Rattle.csi_controller.specs.Private.OneRow.{live_after, items_after, held_so, count_change_by};
+ghost use Rattle.csi_controller.specs.Private.RowTable.{row_change};
+ghost use Rattle.csi_controller.specs.Private.Counts.{recounted};
+ghost use Rattle.csi_controller.specs.Model.Shown.{volume_of_row};
 
 use super::counts::{MAX_NODES, recount};
 use crate::row::{ControllerRow, NodeHolding};
@@ -50,10 +50,12 @@ pub fn change(
     call: &CallRef<'_>,
 ) -> Result<(), CoreFault>
     requires { length nodes.now ≤ 64 }
-    ensures volume { OnOk result (volume_of_row row.new ≡ record (volume_of_row row.old) { is_live = live_after (row_change (lent_call call.now)) row.old.live }) }
+    ensures volume { OnOk result (volume_of_row row.new ≡ record (volume_of_row row.old) {
+      is_live = live_after (row_change (lent_call call.now)) row.old.live;
+    }) }
     ensures items { OnOk result (row.new.holdings.items ≡ items_after (row_change (lent_call call.now)) row.old.holdings.items) }
     ensures counts { OnOk result (counts.new ≡ recounted nodes.now (count_change_by (row_change (lent_call call.now))) counts.old) }
-    ensures err { OnErr result (IsLeft row.old row.new counts.old counts.new) }
+    ensures err { OnErr result (IsRowLeft row.old row.new counts.old counts.new) }
     ensures undone { IsUndoing (lent_call call.now) → IsOk result }
 {
     match call {

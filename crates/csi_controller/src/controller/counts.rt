@@ -1,7 +1,9 @@
 //! How many volumes are held at each configured node.
 ghost use Rattle.std.specs.Prelude.{◌≡◌, ◌≤◌, false, length, is_some, Some, IfSome};
-ghost use Rattle.csi_types.specs.Config.{has_node as is_configured, has_same_node};
-ghost use Rattle.csi_controller.specs.Counts.{place_of, count_held, is_node_full, AreCounted, recounted};
+ghost use Rattle.csi_types.specs.Model.Config.{has_node as is_configured};
+ghost use Rattle.csi_types.specs.Public.Config.{has_same_node};
+ghost use Rattle.csi_controller.specs.Public.Counts.{place_of, count_held, AreCounted};
+ghost use Rattle.csi_controller.specs.Private.Counts.{is_node_full, recounted};
 
 use super::holdings::is_held_at;
 use crate::row::ControllerRow;

@@ -1,13 +1,14 @@
 //! The row of a call.
 ghost use Rattle.std.specs.Prelude.{◌≡◌, ◌<◌, position, IfSome};
-ghost use Rattle.csi_types.specs.Call.{kind_of, is_party_of};
-ghost use Rattle.csi_types.specs.Lent.{lent_call};
+ghost use Rattle.csi_types.specs.Model.Call.{kind_of};
+ghost use Rattle.csi_types.specs.Public.Call.{is_party_of};
+ghost use Rattle.csi_types.specs.Public.Lent.{lent_call};
 ghost use Rattle.csi_types.specs.declared.call.Party.TheVariants.{Controller};
 ghost use Rattle.indexmap.specs.IndexMap.{index_map_len};
-ghost use Rattle.csi_controller.specs.Catalog.{rows_of};
-ghost use Rattle.csi_controller.specs.CoreParts.{IsSoundCore};
-ghost use Rattle.csi_controller.specs.Shown.{volume_of_row};
-ghost use Rattle.csi_controller.specs.State.{is_row_for};
+ghost use Rattle.csi_controller.specs.Public.Catalog.{rows_of};
+ghost use Rattle.csi_controller.specs.Public.CoreParts.{IsSoundCore};
+ghost use Rattle.csi_controller.specs.Model.Shown.{volume_of_row};
+ghost use Rattle.csi_controller.specs.Model.State.{is_row_for};
 
 use super::core_parts::ControllerCore;
 use csi_types::CallRef;
@@ -40,7 +41,7 @@ impl ControllerCore {
             | CallRef::NodeStageVolume { id, .. }
             | CallRef::NodeUnstageVolume { id }
             | CallRef::NodePublishVolume { id, .. }
-            | CallRef::NodeUnpublishVolume { id, .. } => self.catalog.place_of_id(*id),
+            | CallRef::NodeUnpublishVolume { id, .. } => self.catalog.place_of_id(id.volume_id()),
         }
     }
 }

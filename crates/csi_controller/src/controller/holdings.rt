@@ -2,10 +2,10 @@
 ghost use Rattle.std.specs.Prelude.{◌≡◌, ℕ, not};
 ghost use Rattle.std.specs.List.{find, list_any};
 ghost use Rattle.std.specs.Option.{option_copied};
-ghost use Rattle.csi_types.specs.Holding.{same_holding, is_compatible};
-ghost use Rattle.csi_types.specs.Same.{same_text};
-ghost use Rattle.csi_controller.specs.Core.{held_by};
-ghost use Rattle.csi_controller.specs.OneRow.{held_so};
+ghost use Rattle.csi_types.specs.Model.Holding.{same_holding, is_compatible};
+ghost use Rattle.csi_types.specs.Model.Same.{same_text};
+ghost use Rattle.csi_controller.specs.Public.Core.{volume_holding};
+ghost use Rattle.csi_controller.specs.Private.OneRow.{held_so};
 
 use crate::row::{ControllerRow, NodeHolding};
 use csi_types::{NodeUse, can_use_both, same_way};
@@ -15,7 +15,7 @@ pub const MAX_HOLDINGS: usize = 64;
 
 /// Whether the volume is held so: at this node, with this capability and flag.
 pub fn is_held_so(held: &NodeHolding, wanted: NodeUse) -> bool
-    ensures { (id : ℕ) → result ≡ same_holding (held_by id held.now) (held_by id (held_so wanted.entry)) }
+    ensures { (id : ℕ) → result ≡ same_holding (volume_holding id held.now) (volume_holding id (held_so wanted.entry)) }
 {
     held.node.as_str() == wanted.node
         && same_way(
@@ -53,7 +53,8 @@ pub fn is_held_at(row: &ControllerRow, node: &str) -> bool
 
 /// The first holding that can't be held with this one.
 pub fn excluding<'a>(row: &'a ControllerRow, wanted: NodeUse) -> Option<&'a NodeHolding>
-    ensures { option_copied result ≡ find (λ other. not (is_compatible (held_by row.now.id (held_so wanted.entry)) (held_by row.now.id other))) row.now.holdings.items }
+    ensures { option_copied result ≡ find (λ other. not (is_compatible (volume_holding row.now.id (held_so wanted.entry))
+        (volume_holding row.now.id other))) row.now.holdings.items }
 {
     row.holdings
         .iter()

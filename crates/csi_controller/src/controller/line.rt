@@ -1,7 +1,7 @@
 //! What a line of the table answers, before memory is asked for it.
 ghost use Rattle.std.specs.Prelude.{◌≡◌, []};
-ghost use Rattle.csi_types.specs.Replies.{plain_reply};
-ghost use Rattle.csi_controller.specs.Line.{line_told};
+ghost use Rattle.csi_types.specs.Model.Replies.{plain_reply};
+ghost use Rattle.csi_controller.specs.Private.Line.{reply_shown};
 
 use csi_types::{Reply, Status, VolumeId};
 
@@ -15,7 +15,7 @@ pub struct Line<'a> {
 
 /// A status without an id, and a detail of at most 255 bytes.
 pub fn refused(status: Status, detail: &str) -> Line<'_>
-    ensures { line_told result ≡ plain_reply status detail.now }
+    ensures { reply_shown result ≡ plain_reply status detail.now }
 {
     Line {
         status,
@@ -26,7 +26,7 @@ pub fn refused(status: Status, detail: &str) -> Line<'_>
 
 /// Done, with this id.
 pub fn met(id: Option<VolumeId>) -> Line<'static>
-    ensures { line_told result ≡ record { status = Status.Ok; id = id; detail = [] } }
+    ensures { reply_shown result ≡ record { status = Status.Ok; id = id; detail = [] } }
 {
     Line {
         status: Status::Ok,
@@ -37,7 +37,7 @@ pub fn met(id: Option<VolumeId>) -> Line<'static>
 
 /// What a reply says.
 pub fn line_of(reply: &Reply) -> Line<'_>
-    ensures { line_told result ≡ reply.now }
+    ensures { reply_shown result ≡ reply.now }
 {
     Line {
         status: reply.status,

@@ -8,7 +8,7 @@ use csi_types::VolumeId;
 use std::alloc::Global;
 
 // The ids of the rows of deleted volumes, in order. Where there is none it takes no memory.
-fn empty_ids(rows: &[ControllerRow], alloc: Global) -> Result<Vec<VolumeId>, CoreFault>
+fn forgettable_ids(rows: &[ControllerRow], alloc: Global) -> Result<Vec<VolumeId>, CoreFault>
     ensures ids { IfOk result (λ ids. ids.items ≡ map (λ row. row.id) (filter (λ row. not row.live) rows.now)) }
     ensures none { filter (λ row. not row.live) rows.now ≡ [] → IsOk result }
 {
@@ -22,12 +22,12 @@ fn empty_ids(rows: &[ControllerRow], alloc: Global) -> Result<Vec<VolumeId>, Cor
 }
 
 impl Controller {
-    ghost use Rattle.csi_controller.specs.Core.{IsSound};
+    ghost use Rattle.csi_controller.specs.Public.Core.{AreSoundRows};
 
     /// The rows, each of a volume that is live, or was deleted and isn't forgotten, by rising id. It takes no memory.
     pub fn all_rows(&self) -> &[ControllerRow]
         ensures value { result.now ≡ self.now.rows }
-        ensures sound { IsSound self.now.next_id self.now.rows }
+        ensures sound { AreSoundRows self.now.next_id self.now.rows }
     {
         self.assert_sound();
         self.core.catalog.rows()
@@ -35,7 +35,7 @@ impl Controller {
 
     /// How many rows there are: at most as many as there are live volumes, and as there are whose last call is of the greatest session
     /// that came. It takes no memory.
-    pub fn rows(&self) -> usize
+    pub fn row_count(&self) -> usize
         ensures value { result ≡ length self.now.rows }
         ensures few { result ≤ count_by (λ row. row.live) self.now.rows + count_by (λ row. row.last.session == self.now.session) self.now.rows }
     {
@@ -45,10 +45,10 @@ impl Controller {
 
     /// The ids of the rows of volumes that were deleted, by rising id: those that are forgotten where a later session begins.
     /// Where there is none it takes no memory. An `Err` is an allocation that was refused.
-    pub fn empty(&self) -> Result<Vec<VolumeId>, CoreFault>
+    pub fn forgettable(&self) -> Result<Vec<VolumeId>, CoreFault>
         ensures ids { IfOk result (λ ids. ids.items ≡ map (λ row. row.id) (filter (λ row. not row.live) self.now.rows)) }
         ensures none { filter (λ row. not row.live) self.now.rows ≡ [] → IsOk result }
     {
-        empty_ids(self.core.catalog.rows(), self.core.alloc)
+        forgettable_ids(self.core.catalog.rows(), self.core.alloc)
     }
 }

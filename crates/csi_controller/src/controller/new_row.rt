@@ -1,12 +1,13 @@
 //! The row of a volume that is made.
 ghost use Rattle.std.specs.Prelude.{◌≡◌, [], IfOk};
-ghost use Rattle.csi_controller.specs.Shown.{volume_of_row};
-ghost use Rattle.csi_controller.specs.Making.{made_volume};
+ghost use Rattle.csi_types.specs.Public.Lent.{lent_capabilities};
+ghost use Rattle.csi_controller.specs.Model.Shown.{volume_of_row};
+ghost use Rattle.csi_controller.specs.Private.Making.{made_volume};
 
 use super::replies::done;
-use crate::row::{ControllerRow, copied_capabilities};
+use crate::row::ControllerRow;
 use csi_fence::CoreFault;
-use csi_types::{CapabilityList, Kind, Name, Number, VolumeId};
+use csi_types::{CapabilitiesRef, Kind, Name, Number, VolumeId};
 use std::alloc::Global;
 
 /// The row of a volume that is made.
@@ -17,15 +18,17 @@ pub fn new_row(
     id: VolumeId,
     name: &str,
     capacity: u64,
-    capabilities: &CapabilityList,
+    capabilities: CapabilitiesRef<'_>,
 ) -> Result<ControllerRow, CoreFault>
-    ensures volume { IfOk result (λ row. volume_of_row row ≡ made_volume number id name.now capacity capabilities.now) }
+    ensures volume { IfOk result (λ row. volume_of_row row ≡ made_volume number id name.now capacity (lent_capabilities capabilities.entry)) }
     ensures items { IfOk result (λ row. row.holdings.items ≡ []) }
 {
     let Ok(name) = Name::try_new(alloc, name) else {
         return Err(CoreFault::NoMemory);
     };
-    let capabilities = copied_capabilities(capabilities)?;
+    let Ok(capabilities) = capabilities.to_list(alloc) else {
+        return Err(CoreFault::NoMemory);
+    };
     Ok(ControllerRow {
         id,
         live: true,

@@ -1,6 +1,6 @@
 //! Replies of lines, and answers.
 ghost use Rattle.std.specs.Prelude.{◌≡◌, [], None, IsOk, IfOk};
-ghost use Rattle.csi_controller.specs.Line.{line_told};
+ghost use Rattle.csi_controller.specs.Private.Line.{reply_shown};
 
 use super::line::Line;
 use csi_fence::{Answer, CoreFault};
@@ -24,8 +24,8 @@ fn detail_of(alloc: Global, text: &str) -> Result<Detail, CoreFault>
 
 /// The reply of a line. Without a detail it takes no memory.
 pub fn reply_of(alloc: Global, line: &Line) -> Result<Reply, CoreFault>
-    ensures ok { IfOk result (λ reply. reply ≡ line_told line.now) }
-    ensures succeeds { (line_told line.now).detail ≡ [] → IsOk result }
+    ensures ok { IfOk result (λ reply. reply ≡ reply_shown line.now) }
+    ensures succeeds { (reply_shown line.now).detail ≡ [] → IsOk result }
 {
     match detail_of(alloc, line.detail) {
         Ok(detail) => Ok(Reply {
@@ -51,8 +51,8 @@ pub fn done(alloc: Global, id: Option<VolumeId>) -> Reply
 
 /// The answer of a line, where no row is changed. Without a detail it takes no memory.
 pub fn answer_of(alloc: Global, kind: Kind, line: &Line) -> Result<Answer, CoreFault>
-    ensures ok { IfOk result (λ answer. answer ≡ record { kind = kind; reply = line_told line.now; row = None }) }
-    ensures succeeds { (line_told line.now).detail ≡ [] → IsOk result }
+    ensures ok { IfOk result (λ answer. answer ≡ record { kind = kind; reply = reply_shown line.now; row = None }) }
+    ensures succeeds { (reply_shown line.now).detail ≡ [] → IsOk result }
 {
     match reply_of(alloc, line) {
         Ok(reply) => Ok(Answer {

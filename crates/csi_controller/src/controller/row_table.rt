@@ -2,15 +2,15 @@
 //! call is carried out.
 ghost use Rattle.std.specs.Prelude.{◌≡◌, ◌≤◌, ◌||◌, IsTrue, nat_le, length, IfSome, [], option_map};
 ghost use Rattle.csi_types.specs.declared.call.Kind.TheVariants.{DeleteVolume, ControllerPublishVolume, ControllerUnpublishVolume};
-ghost use Rattle.csi_types.specs.Call.{kind_of};
-ghost use Rattle.csi_types.specs.Config.{has_node as is_configured};
-ghost use Rattle.csi_types.specs.Lent.{lent_call};
-ghost use Rattle.csi_types.specs.Reply.{has_id_by_rule};
-ghost use Rattle.csi_controller.specs.Counts.{is_node_full};
-ghost use Rattle.csi_controller.specs.Line.{line_told};
-ghost use Rattle.csi_controller.specs.RowTable.{by_line, delete_line as delete_told, unpublish_line as unpublish_told, publish_line as publish_told, row_line, row_change};
-ghost use Rattle.csi_controller.specs.OneRow.{held_so};
-ghost use Rattle.csi_controller.specs.OneRow.RowChange.{RowEnds, RowAttaches, RowDetaches};
+ghost use Rattle.csi_types.specs.Model.Call.{kind_of};
+ghost use Rattle.csi_types.specs.Model.Config.{has_node as is_configured};
+ghost use Rattle.csi_types.specs.Public.Lent.{lent_call};
+ghost use Rattle.csi_types.specs.Public.Reply.{has_id_by_rule};
+ghost use Rattle.csi_controller.specs.Private.Counts.{is_node_full};
+ghost use Rattle.csi_controller.specs.Private.Line.{reply_shown};
+ghost use Rattle.csi_controller.specs.Private.RowTable.{by_line, delete_line as delete_told, unpublish_line as unpublish_told, publish_line as publish_told, row_line, row_change};
+ghost use Rattle.csi_controller.specs.Private.OneRow.{held_so};
+ghost use Rattle.csi_controller.specs.Private.OneRow.RowChange.{RowEnds, RowAttaches, RowDetaches};
 
 use super::counts::{MAX_NODES, is_full};
 use super::create_lines::create_line;
@@ -21,9 +21,9 @@ use csi_types::{CallRef, NodeSlots, NodeUse, Status, has_capability};
 
 // DeleteVolume of this row's volume.
 fn delete_line(row: &ControllerRow) -> Option<Line<'_>>
-    ensures ok { delete_told row.now ≡ by_line RowEnds (option_map line_told result) }
-    ensures id { IfSome result (λ line. IsTrue (has_id_by_rule DeleteVolume (line_told line))) }
-    ensures plain { IfSome result (λ line. (line_told line).status ≡ Status.Ok → (line_told line).detail ≡ []) }
+    ensures ok { delete_told row.now ≡ by_line RowEnds (option_map reply_shown result) }
+    ensures id { IfSome result (λ line. IsTrue (has_id_by_rule DeleteVolume (reply_shown line))) }
+    ensures plain { IfSome result (λ line. (reply_shown line).status ≡ Status.Ok → (reply_shown line).detail ≡ []) }
 {
     if !row.live {
         return Some(met(None));
@@ -44,9 +44,9 @@ fn publish_line<'a>(
     requires { length nodes.now ≤ 64 }
     ensures ok { publish_told row.now (held_so wanted.entry) (is_configured wanted.entry.node.now nodes.now)
         (is_node_full nodes.now counts.now wanted.entry.node.now || nat_le 64 (length row.now.holdings.items))
-        ≡ by_line (RowAttaches (held_so wanted.entry)) (option_map line_told result) }
-    ensures id { IfSome result (λ line. IsTrue (has_id_by_rule ControllerPublishVolume (line_told line))) }
-    ensures plain { IfSome result (λ line. (line_told line).status ≡ Status.Ok → (line_told line).detail ≡ []) }
+        ≡ by_line (RowAttaches (held_so wanted.entry)) (option_map reply_shown result) }
+    ensures id { IfSome result (λ line. IsTrue (has_id_by_rule ControllerPublishVolume (reply_shown line))) }
+    ensures plain { IfSome result (λ line. (reply_shown line).status ≡ Status.Ok → (reply_shown line).detail ≡ []) }
 {
     if !row.live {
         return Some(refused(Status::NotFound, "volume"));
@@ -74,9 +74,9 @@ fn publish_line<'a>(
 
 // ControllerUnpublishVolume of this row's volume.
 fn unpublish_line(row: &ControllerRow, node: &str) -> Option<Line<'static>>
-    ensures ok { unpublish_told row.now node.now ≡ by_line (RowDetaches node.now) (option_map line_told result) }
-    ensures id { IfSome result (λ line. IsTrue (has_id_by_rule ControllerUnpublishVolume (line_told line))) }
-    ensures plain { IfSome result (λ line. (line_told line).status ≡ Status.Ok → (line_told line).detail ≡ []) }
+    ensures ok { unpublish_told row.now node.now ≡ by_line (RowDetaches node.now) (option_map reply_shown result) }
+    ensures id { IfSome result (λ line. IsTrue (has_id_by_rule ControllerUnpublishVolume (reply_shown line))) }
+    ensures plain { IfSome result (λ line. (reply_shown line).status ≡ Status.Ok → (reply_shown line).detail ≡ []) }
 {
     if is_held_at(row, node) {
         return None;
@@ -93,9 +93,9 @@ pub fn line<'a>(
     call: &CallRef<'_>,
 ) -> Option<Line<'a>>
     requires { length nodes.now ≤ 64 }
-    ensures ok { row_line nodes.now counts.now row.now (lent_call call.now) ≡ by_line (row_change (lent_call call.now)) (option_map line_told result) }
-    ensures id { IfSome result (λ line. IsTrue (has_id_by_rule (kind_of (lent_call call.now)) (line_told line))) }
-    ensures plain { IfSome result (λ line. (line_told line).status ≡ Status.Ok → (line_told line).detail ≡ []) }
+    ensures ok { row_line nodes.now counts.now row.now (lent_call call.now) ≡ by_line (row_change (lent_call call.now)) (option_map reply_shown result) }
+    ensures id { IfSome result (λ line. IsTrue (has_id_by_rule (kind_of (lent_call call.now)) (reply_shown line))) }
+    ensures plain { IfSome result (λ line. (reply_shown line).status ≡ Status.Ok → (reply_shown line).detail ≡ []) }
 {
     match call {
         CallRef::CreateVolume {
@@ -103,7 +103,7 @@ pub fn line<'a>(
             limit,
             capabilities,
             ..
-        } => Some(create_line(row, *required, *limit, capabilities.as_slice())),
+        } => Some(create_line(row, *required, *limit, *capabilities)),
         CallRef::DeleteVolume { .. } => delete_line(row),
         CallRef::ControllerPublishVolume {
             node,

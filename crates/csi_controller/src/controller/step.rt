@@ -5,10 +5,11 @@ ghost use Rattle.csi_types.specs.declared.call.Call.{Call as OneCall};
 ghost use Rattle.csi_types.specs.declared.number.Number.{Number as OneNumber};
 ghost use Rattle.csi_types.specs.declared.call.Party.{Party as OneParty};
 ghost use Rattle.csi_types.specs.declared.call.Party.TheVariants.{Controller};
-ghost use Rattle.csi_types.specs.Call.{kind_of, is_party_of};
-ghost use Rattle.csi_types.specs.Frame.{IsAllowed};
-ghost use Rattle.csi_types.specs.Lent.{lent_call};
-ghost use Rattle.csi_types.specs.Replies.{call_frame, reply_frame};
+ghost use Rattle.csi_types.specs.Model.Call.{kind_of};
+ghost use Rattle.csi_types.specs.Public.Call.{is_party_of};
+ghost use Rattle.csi_types.specs.Public.Frame.{IsAllowed};
+ghost use Rattle.csi_types.specs.Public.Lent.{lent_call};
+ghost use Rattle.csi_types.specs.Model.Replies.{call_frame, reply_frame};
 
 use super::at_row::{answer_at_row, stale};
 use super::core_parts::ControllerCore;
@@ -27,17 +28,18 @@ fn frame_of(number: Number, kind: Kind, reply: Reply) -> Frame
 }
 
 impl ControllerCore {
-    ghost use Rattle.csi_controller.specs.State.{ControllerState, is_row_for};
-    ghost use Rattle.csi_controller.specs.Fenced.{fenced, kept_for};
-    ghost use Rattle.csi_controller.specs.Shown.{volume_of_row};
-    ghost use Rattle.csi_controller.specs.Catalog.{rows_of};
-    ghost use Rattle.csi_controller.specs.Core.{Shows, IsAnsweredOk, IsUndoing};
-    ghost use Rattle.csi_controller.specs.Step.{answer_frame};
-    ghost use Rattle.csi_controller.specs.CoreParts.{parts_of, IsSoundCore};
-    ghost use Rattle.csi_controller.specs.CoreAnswers.{IsAnswered, IsLeftSo};
-    ghost use Rattle.csi_controller.specs.Nowhere.{IsCreate};
-    ghost use Rattle.csi_controller.specs.Repeats.{IsPlainRepeat};
-    ghost use Rattle.csi_controller.specs.RowsLaw.{Changes};
+    ghost use Rattle.csi_controller.specs.Model.State.{ControllerState, is_row_for};
+    ghost use Rattle.csi_controller.specs.Model.Fenced.{fenced, kept_for};
+    ghost use Rattle.csi_controller.specs.Model.Shown.{volume_of_row};
+    ghost use Rattle.csi_controller.specs.Public.Catalog.{rows_of};
+    ghost use Rattle.csi_controller.specs.Model.Core.{Shows};
+    ghost use Rattle.csi_controller.specs.Public.Core.{IsAnsweredOk, IsUndoing};
+    ghost use Rattle.csi_controller.specs.Public.Step.{answer_frame};
+    ghost use Rattle.csi_controller.specs.Public.CoreParts.{controller_parts_shown, IsSoundCore};
+    ghost use Rattle.csi_controller.specs.Private.CoreAnswers.{IsCallAnswered, IsLeftSo};
+    ghost use Rattle.csi_controller.specs.Private.Nowhere.{IsCreate};
+    ghost use Rattle.csi_controller.specs.Public.Repeats.{IsPlainRepeat};
+    ghost use Rattle.csi_controller.specs.Public.RowsLaw.{ChangesAt};
 
     // Answers a call of the present session whose row is at this place. An `Err` changes nothing.
     fn answer_with_row(
@@ -51,15 +53,17 @@ impl ControllerCore {
         requires present { number.session ≡ self.old.session }
         requires place { Some place ≡ position (λ row. is_row_for (lent_call call.now) (volume_of_row row)) (rows_of self.old.catalog) }
         requires within { place < index_map_len self.old.catalog.rows }
-        ensures ok { IfOk result (λ answer. IsAnswered self.old self.new number (lent_call call.now) answer) }
+        ensures ok { IfOk result (λ answer. IsCallAnswered self.old self.new number (lent_call call.now) answer) }
         ensures err { OnErr result (IsLeftSo self.old self.new) }
-        ensures repeated { (state : ControllerState) → Shows (parts_of self.old) state → IsPlainRepeat state.session (kept_for (lent_call call.now) state) number → IsOk result }
-        ensures undone { (state : ControllerState) → Shows (parts_of self.old) state → IsUndoing (lent_call call.now) → IsAnsweredOk self.old.config state number (lent_call call.now) → IsOk result }
+        ensures repeated { (state : ControllerState) → Shows (controller_parts_shown self.old) state →
+            IsPlainRepeat state.session (kept_for (lent_call call.now) state) number → IsOk result }
+        ensures undone { (state : ControllerState) → Shows (controller_parts_shown self.old) state → IsUndoing (lent_call call.now) →
+            IsAnsweredOk self.old.config state number (lent_call call.now) → IsOk result }
     {
         let alloc = self.alloc;
         let nodes = self.config.nodes();
         let row = &mut self.catalog.rows[place];
-        answer_at_row(row, nodes, &mut self.counts, alloc, number, call)
+        answer_at_row(row, place, nodes, &mut self.counts, alloc, number, call)
     }
 
     // Answers a call of the present session and of an id that no volume has.
@@ -68,7 +72,8 @@ impl ControllerCore {
         requires kept { IsSoundCore self.now }
         requires none { None ≡ position (λ row. is_row_for (lent_call call.now) (volume_of_row row)) (rows_of self.now.catalog) }
         requires other { IsCreate (lent_call call.now) → ⊥ }
-        ensures ok { (number : OneNumber) → number.session ≡ self.now.session → IfOk result (λ answer. IsAnswered self.now self.now number (lent_call call.now) answer) }
+        ensures ok { (number : OneNumber) → number.session ≡ self.now.session →
+            IfOk result (λ answer. IsCallAnswered self.now self.now number (lent_call call.now) answer) }
         ensures undone { IsUndoing (lent_call call.now) → IsOk result }
     {
         answer_of(self.alloc, call.kind(), &line_without_row(call))
@@ -84,10 +89,12 @@ impl ControllerCore {
         requires kept { IsSoundCore self.old }
         requires present { number.session ≡ self.old.session }
         requires none { None ≡ position (λ row. is_row_for (lent_call call.now) (volume_of_row row)) (rows_of self.old.catalog) }
-        ensures ok { IfOk result (λ answer. IsAnswered self.old self.new number (lent_call call.now) answer) }
+        ensures ok { IfOk result (λ answer. IsCallAnswered self.old self.new number (lent_call call.now) answer) }
         ensures err { OnErr result (IsLeftSo self.old self.new) }
-        ensures repeated { (state : ControllerState) → Shows (parts_of self.old) state → IsPlainRepeat state.session (kept_for (lent_call call.now) state) number → IsOk result }
-        ensures undone { (state : ControllerState) → Shows (parts_of self.old) state → IsUndoing (lent_call call.now) → IsAnsweredOk self.old.config state number (lent_call call.now) → IsOk result }
+        ensures repeated { (state : ControllerState) → Shows (controller_parts_shown self.old) state →
+            IsPlainRepeat state.session (kept_for (lent_call call.now) state) number → IsOk result }
+        ensures undone { (state : ControllerState) → Shows (controller_parts_shown self.old) state → IsUndoing (lent_call call.now) →
+            IsAnsweredOk self.old.config state number (lent_call call.now) → IsOk result }
     {
         match call {
             CallRef::CreateVolume {
@@ -95,7 +102,7 @@ impl ControllerCore {
                 required,
                 limit,
                 capabilities,
-            } => self.create(number, name, *required, *limit, capabilities),
+            } => self.create(number, name, *required, *limit, *capabilities),
             _ => self.answer_nowhere(call),
         }
     }
@@ -104,10 +111,12 @@ impl ControllerCore {
     fn answer_own(&mut self, number: Number, call: &CallRef<'_>) -> Result<Answer, CoreFault>
         requires party { IsTrue (is_party_of (kind_of (lent_call call.now)) Controller) }
         requires kept { IsSoundCore self.old }
-        ensures ok { IfOk result (λ answer. IsAnswered self.old self.new number (lent_call call.now) answer) }
+        ensures ok { IfOk result (λ answer. IsCallAnswered self.old self.new number (lent_call call.now) answer) }
         ensures err { OnErr result (IsLeftSo self.old self.new) }
-        ensures repeated { (state : ControllerState) → Shows (parts_of self.old) state → IsPlainRepeat state.session (kept_for (lent_call call.now) state) number → IsOk result }
-        ensures undone { (state : ControllerState) → Shows (parts_of self.old) state → IsUndoing (lent_call call.now) → IsAnsweredOk self.old.config state number (lent_call call.now) → IsOk result }
+        ensures repeated { (state : ControllerState) → Shows (controller_parts_shown self.old) state →
+            IsPlainRepeat state.session (kept_for (lent_call call.now) state) number → IsOk result }
+        ensures undone { (state : ControllerState) → Shows (controller_parts_shown self.old) state → IsUndoing (lent_call call.now) →
+            IsAnsweredOk self.old.config state number (lent_call call.now) → IsOk result }
     {
         if number.session < self.session {
             return stale(self.alloc, call.kind());
@@ -128,19 +137,24 @@ impl ControllerCore {
         call: &CallRef<'_>,
     ) -> Result<Option<Answer>, CoreFault>
         requires kept { IsSoundCore self.old }
-        ensures reply { (state : ControllerState) (party : OneParty) → Shows (parts_of self.old) state → IsAllowed party (Body.Call (lent_call call.now))
+        ensures reply { (state : ControllerState) (party : OneParty) → Shows (controller_parts_shown self.old) state →
+            IsAllowed party (Body.Call (lent_call call.now))
             → IfOk result (λ answer. option_map (answer_frame number) answer ≡ (fenced self.old.config state (call_frame number party (lent_call call.now))).reply) }
-        ensures state { (state : ControllerState) (party : OneParty) → Shows (parts_of self.old) state → IsAllowed party (Body.Call (lent_call call.now))
-            → OnOk result (Shows (parts_of self.new) (fenced self.old.config state (call_frame number party (lent_call call.now))).state) }
-        ensures changes { IfOk result (λ answer. IfSome answer (λ own. Changes own.row number (parts_of self.old) (parts_of self.new))) }
-        ensures unanswered { result ≡ Ok None → parts_of self.new ≡ parts_of self.old }
+        ensures state { (state : ControllerState) (party : OneParty) → Shows (controller_parts_shown self.old) state →
+            IsAllowed party (Body.Call (lent_call call.now))
+            → OnOk result (Shows (controller_parts_shown self.new) (fenced self.old.config state (call_frame number party (lent_call call.now))).state) }
+        ensures changes { IfOk result (λ answer. IfSome answer (λ own. ChangesAt own.row number (controller_parts_shown self.old)
+            (controller_parts_shown self.new))) }
+        ensures unanswered { result ≡ Ok None → controller_parts_shown self.new ≡ controller_parts_shown self.old }
         ensures allowed { IfOk result (λ answer. IfSome answer (λ own. IsAllowed Controller (Body.Reply own.kind own.reply))) }
         ensures others { IsTrue (not (is_party_of (kind_of (lent_call call.now)) Controller)) → result ≡ Ok None }
-        ensures err { (state : ControllerState) → Shows (parts_of self.old) state → OnErr result (Shows (parts_of self.new) state) }
+        ensures err { (state : ControllerState) → Shows (controller_parts_shown self.old) state → OnErr result (Shows (controller_parts_shown self.new) state) }
         ensures kept { IsSoundCore self.new }
         ensures config { self.new.config ≡ self.old.config }
-        ensures repeated { (state : ControllerState) → Shows (parts_of self.old) state → IsPlainRepeat state.session (kept_for (lent_call call.now) state) number → IsOk result }
-        ensures undone { (state : ControllerState) → Shows (parts_of self.old) state → IsUndoing (lent_call call.now) → IsAnsweredOk self.old.config state number (lent_call call.now) → IsOk result }
+        ensures repeated { (state : ControllerState) → Shows (controller_parts_shown self.old) state →
+            IsPlainRepeat state.session (kept_for (lent_call call.now) state) number → IsOk result }
+        ensures undone { (state : ControllerState) → Shows (controller_parts_shown self.old) state → IsUndoing (lent_call call.now) →
+            IsAnsweredOk self.old.config state number (lent_call call.now) → IsOk result }
     {
         if !is_own(call) {
             return Ok(None);
@@ -153,15 +167,18 @@ impl ControllerCore {
     /// Answers a frame, as `Controller::step` says.
     pub fn step(&mut self, frame: &Frame) -> Result<Option<Frame>, CoreFault>
         requires kept { IsSoundCore self.old }
-        ensures reply { (state : ControllerState) → Shows (parts_of self.old) state → IfOk result (λ reply. reply ≡ (fenced self.old.config state frame.now).reply) }
-        ensures state { (state : ControllerState) → Shows (parts_of self.old) state → OnOk result (Shows (parts_of self.new) (fenced self.old.config state frame.now).state) }
-        ensures err { (state : ControllerState) → Shows (parts_of self.old) state → OnErr result (Shows (parts_of self.new) state) }
+        ensures reply { (state : ControllerState) → Shows (controller_parts_shown self.old) state →
+            IfOk result (λ reply. reply ≡ (fenced self.old.config state frame.now).reply) }
+        ensures state { (state : ControllerState) → Shows (controller_parts_shown self.old) state →
+            OnOk result (Shows (controller_parts_shown self.new) (fenced self.old.config state frame.now).state) }
+        ensures err { (state : ControllerState) → Shows (controller_parts_shown self.old) state → OnErr result (Shows (controller_parts_shown self.new) state) }
         ensures kept { IsSoundCore self.new }
         ensures config { self.new.config ≡ self.old.config }
         ensures silent { (state : ControllerState) → (fenced self.old.config state frame.now).reply ≡ None → IsOk result }
-        ensures undone { (state : ControllerState) (call : OneCall) → Shows (parts_of self.old) state → frame.now.body ≡ Body.Call call → IsUndoing call
+        ensures undone { (state : ControllerState) (call : OneCall) → Shows (controller_parts_shown self.old) state →
+            frame.now.body ≡ Body.Call call → IsUndoing call
             → IsAnsweredOk self.old.config state frame.now.number call → IsOk result }
-        ensures repeated { (state : ControllerState) (call : OneCall) → Shows (parts_of self.old) state → frame.now.body ≡ Body.Call call
+        ensures repeated { (state : ControllerState) (call : OneCall) → Shows (controller_parts_shown self.old) state → frame.now.body ≡ Body.Call call
             → IsPlainRepeat state.session (kept_for call state) frame.now.number → IsOk result }
     {
         let Body::Call(call) = frame.body() else {

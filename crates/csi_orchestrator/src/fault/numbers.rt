@@ -3,11 +3,11 @@ use crate::fault::OrchFault;
 
 impl OrchFault {
     ghost use Rattle.std.specs.Prelude.{◌≡◌};
-    ghost use Rattle.csi_orchestrator.specs.Refusals.{fault_number, fault_name};
+    ghost use Rattle.csi_orchestrator.specs.Public.Refusals.{refusal_number, fault_name};
 
     /// The refusal's number, from 1, in the order in which `OrchFault` names them. It takes no memory.
     pub fn number(self) -> u8
-        ensures { result ≡ fault_number self }
+        ensures { result ≡ refusal_number self }
     {
         match self {
             OrchFault::NameUsed => 1,

@@ -3,7 +3,7 @@
 use super::calls::Draws;
 use super::plain::{Answered, Held, NODES, Plain, PlainRow, answer, new_plain, row_of};
 use super::*;
-use crate::replies::{is_id, is_reply_to, tells};
+use crate::replies::{is_reply_to, tells};
 use csi_controller::{ControllerRow, NodeHolding};
 use csi_types::{Access, Capability, Number, VolumeId};
 
@@ -100,20 +100,43 @@ fn are_empty(found: &[VolumeId], rows: &[PlainRow]) -> bool {
 
 // Whether the controller tells the session, the number of rows, and which of them are empty.
 fn tells_rows(rt: &impl Abort, controller: &Controller, plain: &Plain) -> bool {
-    let empty = controller.empty().expect(rt, "memory");
+    let empty = controller.forgettable().expect(rt, "memory");
     let are_empty = are_empty(empty.as_slice(), &plain.rows);
     drop(empty);
-    are_empty && controller.session() == plain.session && controller.rows() == plain.rows.len()
+    are_empty && controller.session() == plain.session && controller.row_count() == plain.rows.len()
+}
+
+// The controller's row of this id, if it has one.
+fn row_with_id(controller: &Controller, id: u64) -> Option<&ControllerRow> {
+    for place in 0..controller.row_count() {
+        match controller.row_at(place) {
+            Some(row) if row.id.number() == id => return Some(row),
+            _ => {}
+        }
+    }
+    None
+}
+
+// Whether the row of this id is at the place, or there is none of either.
+fn is_at(controller: &Controller, place: Option<usize>, id: Option<u64>) -> bool {
+    match (place, id) {
+        (Some(place), Some(id)) => match controller.row_at(place) {
+            Some(row) => row.id.number() == id,
+            None => false,
+        },
+        (None, None) => true,
+        _ => false,
+    }
 }
 
 // Whether the row of the call's volume is the same, or there is none of this id, and the next id is the same.
-fn has_row(rt: &impl Abort, controller: &Controller, plain: &Plain, ask: Ask) -> bool {
+fn has_row(controller: &Controller, plain: &Plain, ask: Ask) -> bool {
     let is_same = match (row_of(&plain.rows, ask), id_of(ask)) {
-        (Some(row), _) => match controller.row_with_id(volume_id(rt, row.id)) {
+        (Some(row), _) => match row_with_id(controller, row.id) {
             Some(found) => is_row(found, row),
             None => false,
         },
-        (None, Some(id)) => controller.row_with_id(volume_id(rt, id)).is_none(),
+        (None, Some(id)) => row_with_id(controller, id).is_none(),
         (None, None) => true,
     };
     is_same && controller.next_id() == plain.next_id
@@ -129,9 +152,10 @@ fn answers_lent(
 ) -> bool {
     let answer = controller.answer(number, &call.lend());
     let answer = answer.expect(rt, "memory").expect(rt, "a reply");
-    let is_told = answer.kind == kind && tells(&answer.reply, told) && is_id(answer.row, row);
+    let is_told = answer.kind == kind && tells(&answer.reply, told);
+    let is_row = is_at(controller, answer.row, row);
     drop(answer);
-    is_told
+    is_told && is_row
 }
 
 // Whether the controller answers the call so, which comes in a frame.
@@ -188,7 +212,7 @@ fn a_plain_controller_answers_the_same(rt: HostRuntime) {
         let number = draws.number(new_number(call), row_of(&plain.rows, ask));
         let is_alike = answers_alike(&rt, &mut controller, &mut plain, number, ask);
         assert!(rt; is_alike, "call {call}");
-        assert!(rt; has_row(&rt, &controller, &plain, ask), "after call {call}");
+        assert!(rt; has_row(&controller, &plain, ask), "after call {call}");
         assert!(rt; tells_rows(&rt, &controller, &plain), "after call {call}");
         assert!(rt; has_record(&rt, &controller, &plain), "after call {call}");
     }

@@ -113,10 +113,10 @@ type Counts = (usize, usize);
 
 // Whether there are so many rows, of which these are empty.
 fn has_counts(rt: &impl Abort, controller: &Controller, session: u64, counts: Counts) -> bool {
-    let empty = controller.empty().expect(rt, "memory");
+    let empty = controller.forgettable().expect(rt, "memory");
     let is_gone = empty.len() == counts.1;
     drop(empty);
-    let is_all = controller.rows() == counts.0.saturating_add(counts.1);
+    let is_all = controller.row_count() == counts.0.saturating_add(counts.1);
     is_gone && is_all && controller.session() == session
 }
 
@@ -160,7 +160,7 @@ fn ten_thousand_volumes_are_made_in_three_sessions(rt: HostRuntime) {
         for volume in *first..*behind {
             counts = comes_and_goes(&rt, &mut controller, session, volume, counts);
             let most = counts.0.saturating_add(counts.1);
-            assert!(rt; controller.rows() == most, "{volume} volumes");
+            assert!(rt; controller.row_count() == most, "{volume} volumes");
         }
         assert!(rt;
             has_counts(&rt, &controller, session, counts),

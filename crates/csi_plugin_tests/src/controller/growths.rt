@@ -23,9 +23,9 @@ fn is_same_record(a: &ControllerRecord, b: &ControllerRecord) -> bool {
 
 // The ids of its empty rows, asked for once more where memory was refused.
 pub(super) fn empty_of(rt: &impl Abort, controller: &Controller) -> Vec<VolumeId> {
-    match controller.empty() {
+    match controller.forgettable() {
         Ok(ids) => ids,
-        Err(CoreFault::NoMemory) => controller.empty().expect(rt, "memory"),
+        Err(CoreFault::NoMemory) => controller.forgettable().expect(rt, "memory"),
     }
 }
 

@@ -222,7 +222,7 @@ fn deletes(rt: &(impl Abort + AllocGlobal), controller: &mut Controller) {
 
 // Whether all volumes are listed as empty, by rising id.
 fn are_all_empty(rt: &impl Abort, controller: &Controller) -> bool {
-    let empty = controller.empty().expect(rt, "memory");
+    let empty = controller.forgettable().expect(rt, "memory");
     let mut volume = 0u64;
     let mut are_ids = true;
     for id in empty.iter() {

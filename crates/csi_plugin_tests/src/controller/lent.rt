@@ -1,6 +1,6 @@
 //! Calls that are lent, with texts that no call has.
 use super::*;
-use csi_types::{CallRef, CapabilityRef};
+use csi_types::{CallRef, CapabilitiesRef, CapabilityRef};
 
 // One byte more than a name has.
 const LONG: &str =
@@ -26,7 +26,7 @@ fn a_lent_call_outside_its_limits_gets_no_answer(rt: HostRuntime) {
     let before = controller.record().expect(&rt, "memory");
     // The proof has to be told the types of a lent call's parts.
     let _parts: Option<CapabilityRef<'_>> = None;
-    let id = volume_id(&rt, 1);
+    let id = volume_id(&rt, 1).lend();
     let unstage = CallRef::NodeUnstageVolume { id };
     assert!(rt; is_unanswered(&rt, &mut controller, 2, &unstage));
     let detach = CallRef::ControllerUnpublishVolume { id, node: "" };
@@ -37,7 +37,7 @@ fn a_lent_call_outside_its_limits_gets_no_answer(rt: HostRuntime) {
         name: LONG,
         required: 10,
         limit: 0,
-        capabilities: &capabilities,
+        capabilities: CapabilitiesRef::Lent(&capabilities),
     };
     assert!(rt; is_unanswered(&rt, &mut controller, 2, &create));
     let after = controller.record().expect(&rt, "memory");

@@ -38,7 +38,7 @@ fn has_left(rt: &impl Abort, controller: &Controller, left: Left) -> bool {
     let empty = empty_of(rt, controller);
     let are_empty = are_ids(empty.as_slice(), left.2);
     drop(empty);
-    are_empty && controller.session() == left.0 && controller.rows() == left.1
+    are_empty && controller.session() == left.0 && controller.row_count() == left.1
 }
 
 // Whether the controller answers the call so, and this is there then.

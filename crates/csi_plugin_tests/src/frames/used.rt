@@ -83,14 +83,16 @@ fn is_volume(row: &ControllerRow) -> bool {
 }
 
 // Whether each volume that was made has a row that keeps the rules.
-fn are_volumes(rt: &impl Abort, controller: &Controller) -> bool {
-    for id in 1..controller.next_id() {
-        match controller.row_with_id(volume_id(rt, id)) {
-            Some(row) if is_volume(row) => {}
+fn are_volumes(controller: &Controller) -> bool {
+    let mut made = 1u64;
+    for place in 0..controller.row_count() {
+        match controller.row_at(place) {
+            Some(row) if row.id.number() == made && is_volume(row) => {}
             _ => return false,
         }
+        made = made.saturating_add(1);
     }
-    true
+    made == controller.next_id()
 }
 
 fn are_paths(targets: &[NodeTarget]) -> bool {
@@ -153,7 +155,7 @@ fn controller_bears(
     is_for: bool,
 ) -> bool {
     let answer = controller.step(frame).expect(rt, "memory");
-    is_answered(answer, frame, is_for) && are_volumes(rt, controller)
+    is_answered(answer, frame, is_for) && are_volumes(controller)
 }
 
 // Whether the node answers the frame, or doesn't, and keeps its rules.

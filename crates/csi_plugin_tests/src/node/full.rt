@@ -68,10 +68,10 @@ type Counts = (usize, usize);
 
 // Whether there are so many rows, of which these are empty.
 fn has_counts(rt: &impl Abort, node: &Node, session: u64, counts: Counts) -> bool {
-    let empty = node.empty().expect(rt, "memory");
+    let empty = node.forgettable().expect(rt, "memory");
     let is_gone = empty.len() == counts.1;
     drop(empty);
-    let is_all = node.rows() == counts.0.saturating_add(counts.1);
+    let is_all = node.row_count() == counts.0.saturating_add(counts.1);
     is_gone && is_all && node.session() == session
 }
 
@@ -118,7 +118,7 @@ fn ten_thousand_volumes_are_staged_in_three_sessions(rt: HostRuntime) {
         for volume in *first..*behind {
             counts = comes_and_goes(&rt, &mut node, session, volume, counts);
             let most = counts.0.saturating_add(counts.1);
-            assert!(rt; node.rows() == most, "{volume} volumes");
+            assert!(rt; node.row_count() == most, "{volume} volumes");
         }
         assert!(rt;
             has_counts(&rt, &node, session, counts),

@@ -22,9 +22,9 @@ fn is_same_record(a: &NodeRecord, b: &NodeRecord) -> bool {
 
 // The ids of its empty rows, asked for once more where memory was refused.
 pub(super) fn empty_of(rt: &impl Abort, node: &Node) -> Vec<VolumeId> {
-    match node.empty() {
+    match node.forgettable() {
         Ok(ids) => ids,
-        Err(CoreFault::NoMemory) => node.empty().expect(rt, "memory"),
+        Err(CoreFault::NoMemory) => node.forgettable().expect(rt, "memory"),
     }
 }
 

@@ -216,7 +216,7 @@ fn a_full_node_is_opened_again(rt: HostRuntime) {
 
 // Whether all volumes are listed as empty, by rising id.
 fn are_all_empty(rt: &impl Abort, node: &Node) -> bool {
-    let empty = node.empty().expect(rt, "memory");
+    let empty = node.forgettable().expect(rt, "memory");
     let mut volume = 0u64;
     let mut are_ids = true;
     for id in empty.iter() {

@@ -1,6 +1,6 @@
 //! Calls that are lent.
 use super::*;
-use crate::replies::{is_id, tells};
+use crate::replies::tells;
 use csi_types::{CallRef, CapabilityList, CapabilityRef};
 
 const LENT: &[Step] = &[
@@ -35,7 +35,14 @@ fn answers_lent(
     let answer = answer.expect(rt, "memory").expect(rt, "a reply");
     drop(lent);
     let is_told = answer.kind == kind && tells(&answer.reply, (status, None, detail));
-    let is_row = is_id(answer.row, row);
+    let is_row = match (answer.row, row) {
+        (Some(place), Some(id)) => match node.row_at(place) {
+            Some(found) => found.id.number() == id,
+            None => false,
+        },
+        (None, None) => true,
+        _ => false,
+    };
     drop(answer);
     is_told && is_row
 }
@@ -63,7 +70,7 @@ fn a_lent_call_without_a_target_gets_no_answer(rt: HostRuntime) {
     let mut node = new_answers(&rt, &[(1, Ask::Stage(1, ONE), Status::Ok, "")]);
     // The proof has to be told the types of a lent call's parts.
     let _parts: Option<(&CapabilityList, CapabilityRef<'_>)> = None;
-    let id = volume_id(&rt, 1);
+    let id = volume_id(&rt, 1).lend();
     let delete = CallRef::DeleteVolume { id };
     assert!(rt; is_unanswered(&rt, &mut node, 2, &delete));
     let outside = CallRef::NodeUnpublishVolume { id, target: "" };

@@ -23,7 +23,7 @@ fn has_left(rt: &impl Abort, node: &Node, left: Left) -> bool {
     let empty = empty_of(rt, node);
     let are_empty = are_ids(empty.as_slice(), left.2);
     drop(empty);
-    are_empty && node.session() == left.0 && node.rows() == left.1
+    are_empty && node.session() == left.0 && node.row_count() == left.1
 }
 
 // Whether the node answers the call so, and this is there then.

@@ -4,24 +4,25 @@ ghost use Rattle.sqlite.specs.Held.{Held, state};
 ghost use Rattle.sqlite.specs.State.{HasCleanDisk, Survives};
 ghost use Rattle.sqlite.specs.Steps.{FailsToCommit};
 ghost use Rattle.sqlite.specs.Tree.{Trees};
-ghost use Rattle.csi_stores.specs.Part.{StoredPart, change_of};
-ghost use Rattle.csi_stores.specs.Content.{changed_to, all_changed};
-ghost use Rattle.csi_sqlite.specs.Refusals.{MakesChange, RefusesChange, IsUndone, RefusesOneOf, RefusesChanges};
-ghost use Rattle.csi_sqlite.specs.Tables.{StoresParts, HasParts, HoldsParts};
+ghost use Rattle.csi_stores.specs.Public.Part.{StoredPart, part_change};
+ghost use Rattle.csi_stores.specs.Public.Content.{changed_to, all_changed};
+ghost use Rattle.csi_sqlite.specs.Public.Refusals.{MakesChange, RefusesChange, IsUndone, RefusesOneOf, RefusesChanges};
+ghost use Rattle.csi_sqlite.specs.Public.Tables.{StoresParts, HasParts, HoldsParts};
 
+use crate::rows::{put_row, remove_row};
 use csi_stores::Part;
-use csi_tables::{put_row, remove_row};
 use sqlite::{Alter, Connection, Error, ErrorCode, Transaction};
 
 // Makes one change. An error is SQLite's own at its statement.
 fn change<S: Alter>(transaction: &mut Transaction<'_, S>, part: &Part) -> Result<(), Error>
     ensures same_reference { transaction.new.conn.ghost_name ≡ transaction.old.conn.ghost_name }
-    ensures changed { HasCleanDisk (state S.Store transaction.new.conn.now) → (content : List StoredPart) → HasParts (state S.Store transaction.old.conn.now) content
-        → OnOk result (HasParts (state S.Store transaction.new.conn.now) (changed_to (change_of part.now).key (change_of part.now).value content)) }
+    ensures changed { HasCleanDisk (state S.Store transaction.new.conn.now) → (content : List StoredPart) →
+        HasParts (state S.Store transaction.old.conn.now) content
+        → OnOk result (HasParts (state S.Store transaction.new.conn.now) (changed_to (part_change part.now).key (part_change part.now).value content)) }
     ensures made { HasCleanDisk (state S.Store transaction.new.conn.now) → IsTrue (state S.Store transaction.old.conn.now).in_transaction
-        → OnOk result (MakesChange (change_of part.now).key (change_of part.now).value (state S.Store transaction.old.conn.now) (state S.Store transaction.new.conn.now)) }
+        → OnOk result (MakesChange (part_change part.now).key (part_change part.now).value (state S.Store transaction.old.conn.now) (state S.Store transaction.new.conn.now)) }
     ensures refused { HasCleanDisk (state S.Store transaction.new.conn.now) → IsTrue (state S.Store transaction.old.conn.now).in_transaction
-        → IfErr result (RefusesChange (change_of part.now).key (change_of part.now).value (state S.Store transaction.old.conn.now) (state S.Store transaction.new.conn.now)) }
+        → IfErr result (RefusesChange (part_change part.now).key (part_change part.now).value (state S.Store transaction.old.conn.now) (state S.Store transaction.new.conn.now)) }
     ensures survives { Survives (state S.Store transaction.old.conn.now) (state S.Store transaction.new.conn.now) (λ _. ⊥) }
 {
     let key = part.key.to_be_bytes();
@@ -34,12 +35,14 @@ fn change<S: Alter>(transaction: &mut Transaction<'_, S>, part: &Part) -> Result
 // Makes the changes, one after another. An error is SQLite's own at one of them, and one that follows at the commit is after them all.
 fn change_all<S: Alter>(transaction: &mut Transaction<'_, S>, parts: &[Part]) -> Result<(), Error>
     ensures same_reference { transaction.new.conn.ghost_name ≡ transaction.old.conn.ghost_name }
-    ensures changed { HasCleanDisk (state S.Store transaction.new.conn.now) → (content : List StoredPart) → HasParts (state S.Store transaction.old.conn.now) content
-        → OnOk result (HasParts (state S.Store transaction.new.conn.now) (all_changed (map change_of parts.now) content)) }
-    ensures made { HasCleanDisk (state S.Store transaction.new.conn.now) → IsTrue (state S.Store transaction.old.conn.now).in_transaction → (after : Held S) (error : Error)
-        → FailsToCommit (state S.Store transaction.new.conn.now) (state S.Store after) error → OnOk result (RefusesOneOf S.Store (map change_of parts.now) transaction.old.conn.now after error) }
+    ensures changed { HasCleanDisk (state S.Store transaction.new.conn.now) → (content : List StoredPart) →
+        HasParts (state S.Store transaction.old.conn.now) content
+        → OnOk result (HasParts (state S.Store transaction.new.conn.now) (all_changed (map part_change parts.now) content)) }
+    ensures made { HasCleanDisk (state S.Store transaction.new.conn.now) → IsTrue (state S.Store transaction.old.conn.now).in_transaction →
+        (after : Held S) (error : Error)
+        → FailsToCommit (state S.Store transaction.new.conn.now) (state S.Store after) error → OnOk result (RefusesOneOf S.Store (map part_change parts.now) transaction.old.conn.now after error) }
     ensures refused { HasCleanDisk (state S.Store transaction.new.conn.now) → IsTrue (state S.Store transaction.old.conn.now).in_transaction → (after : Held S)
-        → IsUndone S.Store transaction.new.conn.now after → IfErr result (RefusesOneOf S.Store (map change_of parts.now) transaction.old.conn.now after) }
+        → IsUndone S.Store transaction.new.conn.now after → IfErr result (RefusesOneOf S.Store (map part_change parts.now) transaction.old.conn.now after) }
     ensures survives { Survives (state S.Store transaction.old.conn.now) (state S.Store transaction.new.conn.now) (λ _. ⊥) }
 {
     for part in parts {
@@ -56,11 +59,12 @@ pub(crate) fn change_at_once<S: Alter>(
 ) -> Result<(), Error>
     ensures clean { HasCleanDisk (state S.Store connection.new) → HasCleanDisk (state S.Store connection.old) }
     ensures done { HasCleanDisk (state S.Store connection.new) → (content : List StoredPart) → HoldsParts (state S.Store connection.old) content
-        → OnOk result (HoldsParts (state S.Store connection.new) (all_changed (map change_of parts.now) content)) }
+        → OnOk result (HoldsParts (state S.Store connection.new) (all_changed (map part_change parts.now) content)) }
     ensures crash { HasCleanDisk (state S.Store connection.new) → (content : List StoredPart) → HoldsParts (state S.Store connection.old) content
         → (db : Trees) → (state S.Store connection.new).may_leave db
-        → (state S.Store connection.old).may_leave db ⊎ StoresParts db (all_changed (map change_of parts.now) content) }
-    ensures refused { HasCleanDisk (state S.Store connection.new) → (state S.Store connection.old).in_transaction ≡ false → IfErr result (RefusesChanges S.Store (map change_of parts.now) connection.old connection.new) }
+        → (state S.Store connection.old).may_leave db ⊎ StoresParts db (all_changed (map part_change parts.now) content) }
+    ensures refused { HasCleanDisk (state S.Store connection.new) → (state S.Store connection.old).in_transaction ≡ false →
+        IfErr result (RefusesChanges S.Store (map part_change parts.now) connection.old connection.new) }
     ensures outside { (state S.Store connection.old).in_transaction ≡ false → (state S.Store connection.new).in_transaction ≡ false }
 {
     if !connection.is_autocommit() {

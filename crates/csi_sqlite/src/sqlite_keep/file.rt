@@ -7,10 +7,10 @@ ghost use Rattle.sqlite_store.specs.FileStore.{view, recovers};
 ghost use Rattle.sqlite.specs.Held.{state};
 ghost use Rattle.sqlite.specs.State.{HasCleanDisk};
 ghost use Rattle.sqlite.specs.Files.{file_state, HoldsDatabase, FailsToClose};
-ghost use Rattle.csi_stores.specs.Part.{StoredPart};
-ghost use Rattle.csi_sqlite.specs.Tables.{StoresParts, HoldsParts, OpensOver};
-ghost use Rattle.csi_sqlite.specs.Refusals.{IsTold};
-ghost use Rattle.csi_sqlite.specs.Closing.{PutsBack, IsPutBack, IsNotPutBack};
+ghost use Rattle.csi_stores.specs.Public.Part.{StoredPart};
+ghost use Rattle.csi_sqlite.specs.Public.Tables.{StoresParts, HoldsParts, OpensOver};
+ghost use Rattle.csi_sqlite.specs.Public.Refusals.{IsToldFault};
+ghost use Rattle.csi_sqlite.specs.Public.Closing.{PutsBack, IsPutBack, IsNotPutBack};
 
 use crate::sqlite_keep::found::look_at;
 use crate::sqlite_keep::{SqliteKeep, is_memory};
@@ -24,7 +24,9 @@ fn kept<S: Alter + Drop>(
     alloc: Global,
     connection: Connection<S>,
 ) -> Result<SqliteKeep<S>, KeepFault>
-    ensures found { IfOk result (λ keep. OpensOver (state S.Store connection) (state S.Store keep.connection) × (HasCleanDisk (state S.Store keep.connection) → (content : List StoredPart) → IsTrue (state S.Store connection).is_open → StoresParts (state S.Store connection).now.trees content → HoldsParts (state S.Store keep.connection) content)) }
+    ensures found { IfOk result (λ keep. OpensOver (state S.Store connection) (state S.Store keep.connection)
+        × (HasCleanDisk (state S.Store keep.connection) → (content : List StoredPart) → IsTrue (state S.Store connection).is_open →
+        StoresParts (state S.Store connection).now.trees content → HoldsParts (state S.Store keep.connection) content)) }
     ensures faults { IfOk result (λ keep. keep.faults ≡ 0) }
     ensures cause { IfErr result (λ fault. (fault ≡ KeepFault.Device) ⊎ (fault ≡ KeepFault.NoMemory)) }
 {
@@ -44,7 +46,8 @@ impl<S: Start> SqliteKeep<FileStore<FileFrom<S>>> {
         path: &str,
         start: S,
     ) -> Result<SqliteKeep<FileStore<FileFrom<S>>>, KeepFault>
-        ensures found { IfOk result (λ keep. HasCleanDisk (file_state keep.connection) → (db : Trees) → (content : List StoredPart) → HoldsDatabase (image_at S.Start) db → StoresParts db content → HoldsParts (file_state keep.connection) content) }
+        ensures found { IfOk result (λ keep. HasCleanDisk (file_state keep.connection) → (db : Trees) → (content : List StoredPart) →
+            HoldsDatabase (image_at S.Start) db → StoresParts db content → HoldsParts (file_state keep.connection) content) }
         ensures faults { IfOk result (λ keep. keep.faults ≡ 0) }
         ensures cause { IfErr result (λ fault. (fault ≡ KeepFault.Device) ⊎ (fault ≡ KeepFault.NoMemory)) }
     {
@@ -65,7 +68,7 @@ impl<D: Disk + Drop> SqliteKeep<FileStore<D>> {
     pub fn close_files(self) -> Result<Files<D>, (KeepFault, FileStore<D>)>
         ensures whole { IfOk result (PutsBack self.connection) }
         ensures left { IfErr result (λ refusal. (db : Trees) → recovers refusal.1 db → (file_state self.connection).may_leave db) }
-        ensures told { IfErr result (λ refusal. IsClean (view refusal.1) → IsTold (FailsToClose self.connection refusal.1) refusal.0) }
+        ensures told { IfErr result (λ refusal. IsClean (view refusal.1) → IsToldFault (FailsToClose self.connection refusal.1) refusal.0) }
     {
         let SqliteKeep {
             alloc: _,

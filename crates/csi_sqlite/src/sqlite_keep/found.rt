@@ -5,13 +5,13 @@ ghost use Rattle.sqlite_trees.specs.Tree.{Trees};
 ghost use Rattle.sqlite.specs.Held.{state};
 ghost use Rattle.sqlite.specs.State.{HasCleanDisk};
 ghost use Rattle.sqlite.specs.Files.{file_state, image_of, Finds, HoldsDatabase};
-ghost use Rattle.csi_stores.specs.Part.{StoredPart};
-ghost use Rattle.csi_sqlite.specs.Looking.{IsTaken};
-ghost use Rattle.csi_sqlite.specs.Tables.{StoresParts, HoldsParts};
+ghost use Rattle.csi_stores.specs.Public.Part.{StoredPart};
+ghost use Rattle.csi_sqlite.specs.Private.Looking.{ListsTableAtMost};
+ghost use Rattle.csi_sqlite.specs.Public.Tables.{StoresParts, HoldsParts};
 
+use crate::rows::{has_other, has_table};
 use crate::sqlite_keep::{SqliteKeep, is_memory};
 use csi_stores::KeepFault;
-use csi_tables::{has_other, has_table};
 use csi_types::NoMemory;
 use sqlite::{Alter, Connection, FileStore, Files, Options};
 use sqlite_disk::{Disk, Memory};
@@ -25,7 +25,9 @@ fn listed<S: Alter + Drop>(
     alloc: Global,
     connection: Connection<S>,
 ) -> Result<SqliteKeep<S>, KeepFault>
-    ensures found { IfOk result (λ keep. (keep.connection ≡ connection) × (HasCleanDisk (state S.Store keep.connection) → (content : List StoredPart) → IsTrue (state S.Store connection).is_open → StoresParts (state S.Store connection).now.trees content → HoldsParts (state S.Store keep.connection) content)) }
+    ensures found { IfOk result (λ keep. (keep.connection ≡ connection)
+        × (HasCleanDisk (state S.Store keep.connection) → (content : List StoredPart) → IsTrue (state S.Store connection).is_open →
+        StoresParts (state S.Store connection).now.trees content → HoldsParts (state S.Store keep.connection) content)) }
     ensures faults { IfOk result (λ keep. keep.faults ≡ 0) }
     ensures cause { IfErr result (λ fault. (fault ≡ KeepFault.Device) ⊎ (fault ≡ KeepFault.NoMemory)) }
 {
@@ -45,7 +47,8 @@ impl<D: Disk + Drop> SqliteKeep<FileStore<D>> {
         requires log { IsTrue (D.Disk.is_usable files.log) }
         requires db { IsTrue (D.Disk.is_usable files.db) }
         ensures finds { IfOk result (λ keep. HasCleanDisk (file_state keep.connection) → Finds files keep.connection) }
-        ensures found { IfOk result (λ keep. HasCleanDisk (file_state keep.connection) → (db : Trees) → (content : List StoredPart) → HoldsDatabase (image_of D.Disk files) db → StoresParts db content → HoldsParts (file_state keep.connection) content) }
+        ensures found { IfOk result (λ keep. HasCleanDisk (file_state keep.connection) → (db : Trees) → (content : List StoredPart) →
+            HoldsDatabase (image_of D.Disk files) db → StoresParts db content → HoldsParts (file_state keep.connection) content) }
         ensures faults { IfOk result (λ keep. keep.faults ≡ 0) }
         ensures cause { IfErr result (λ fault. (fault ≡ KeepFault.Device) ⊎ (fault ≡ KeepFault.NoMemory)) }
     {
@@ -170,7 +173,7 @@ pub fn find_at(
 fn judge<D: Disk + Drop>(alloc: Global, files: Files<D>) -> Result<(), KeepFault>
     requires log { IsTrue (D.Disk.is_usable files.log) }
     requires db { IsTrue (D.Disk.is_usable files.db) }
-    ensures taken { OnOk result (IsTaken D.Disk files) }
+    ensures taken { OnOk result (ListsTableAtMost D.Disk files) }
     ensures cause { IfErr result (λ fault. (fault ≡ KeepFault.Device) ⊎ (fault ≡ KeepFault.NoMemory)) }
 {
     match Connection::open_files(alloc, files, Options::new(1)) {

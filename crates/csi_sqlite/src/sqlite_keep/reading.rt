@@ -3,8 +3,9 @@ ghost use Rattle.std.specs.Prelude.{◌≡◌, ◌⊎◌, ℕ, map, length, IfOk
 ghost use Rattle.byteorder.specs.Endian.{big_bytes};
 ghost use Rattle.sqlite_value.specs.Value.{owned};
 ghost use Rattle.sqlite_value.specs.Order.{column};
-ghost use Rattle.csi_stores.specs.Part.{change_of};
-ghost use Rattle.csi_sqlite.specs.Loading.{blob_in, IsReadAs, IsTaken, AreParts, IsFirstBad};
+ghost use Rattle.csi_stores.specs.Public.Part.{part_change};
+ghost use Rattle.csi_sqlite.specs.Private.Loading.{blob_in, IsReadAs, TakesRow, AreRowsOfParts};
+ghost use Rattle.csi_sqlite.specs.Public.Loading.{IsFirstBad};
 
 use byteorder::{BigEndian, ByteOrder};
 use csi_stores::{KeepFault, Part};
@@ -43,7 +44,7 @@ fn number_of(bytes: &[u8]) -> u64
 
 // The part that a row is: its key has eight bytes, the greatest first.
 fn part_of(alloc: Global, row: &Row) -> Result<Option<Part>, NoMemory>
-    ensures { IfOk result (λ found. IsReadAs row.now (option_map change_of found)) }
+    ensures { IfOk result (λ found. IsReadAs row.now (option_map part_change found)) }
 {
     let Some(key) = blob_of(value_at(row, 0)) else {
         return Ok(None);
@@ -63,7 +64,7 @@ fn part_of(alloc: Global, row: &Row) -> Result<Option<Part>, NoMemory>
 
 // Puts the part that a row is at the end, if it is one.
 fn take_row(alloc: Global, parts: &mut Vec<Part>, row: &Row) -> Result<bool, NoMemory>
-    ensures { IfOk result (λ taken. IsTaken row.now (map change_of parts.old.items) (map change_of parts.new.items) taken) }
+    ensures { IfOk result (λ taken. TakesRow row.now (map part_change parts.old.items) (map part_change parts.new.items) taken) }
 {
     match part_of(alloc, row)? {
         Some(part) => {
@@ -76,7 +77,7 @@ fn take_row(alloc: Global, parts: &mut Vec<Part>, row: &Row) -> Result<bool, NoM
 
 /// The parts that the rows are, or the position of the first row that is none.
 pub(crate) fn parts_of(alloc: Global, rows: &[Row]) -> Result<Vec<Part>, KeepFault>
-    ensures parts { IfOk result (λ parts. AreParts rows.now (map change_of parts.items)) }
+    ensures parts { IfOk result (λ parts. AreRowsOfParts rows.now (map part_change parts.items)) }
     ensures bad { IfErr result (λ fault. (fault ≡ KeepFault.NoMemory) ⊎ ((place : ℕ) × (fault ≡ KeepFault.BadRecord place) × IsFirstBad rows.now place)) }
 {
     let mut parts = Vec::new(alloc);

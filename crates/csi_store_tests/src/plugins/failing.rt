@@ -1,8 +1,8 @@
 //! A node's process over a store that fails once.
 use super::{Asked, UNSTAGE, UNSTAGED, ends};
 use csi_endings::Ending;
-use csi_failing::{FailingKeep, Left};
 use csi_service::{Keep, MemoryKeep};
+use csi_stores::{FailingKeep, Left};
 use std::process::Abort;
 
 // The load and the commit that fail.

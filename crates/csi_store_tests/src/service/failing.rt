@@ -5,12 +5,12 @@ use super::playing::{
 };
 use super::{config, room};
 use csi_endings::Ending;
-use csi_failing::{FailingKeep, FailingReader, FailingWriter, Left};
 use csi_plugins::{Plugin, plugin};
 use csi_service::{
     ControllerService, Counted, Keep, KeepFault, MemoryKeep, ServeFault, ServeFaultKind, Served,
     serve,
 };
+use csi_stores::{FailingKeep, FailingReader, FailingWriter, Left};
 use std::process::Abort;
 
 // The load and the commit that fail, and what that commit leaves; how many bytes a read gives at most, and the one that fails; the

@@ -12,14 +12,14 @@ use super::playing::{
 use super::records::{CREATE, FIRST_RECORD, NODE_RECORD, RECORD};
 use super::{CONTROLLER_HEAD, NEW_NODE_HEAD, NODE_HEAD, controller, node, part};
 use csi_controller::ControllerRecord;
-use csi_frames::decode;
+use csi_frames::Splitter;
 use csi_json::{ScheduleFault, read_config};
 use csi_node::NodeRecord;
 use csi_service::{
     ControllerService, Core, Keep, KeepFault, MemoryKeep, NodeService, Part, Record, read_record,
     write_record,
 };
-use csi_types::{Config, Frame, NoMemory};
+use csi_types::{Config, NoMemory};
 use std::alloc::Global;
 use std::process::Abort;
 
@@ -58,13 +58,13 @@ fn records_in_want_of_memory(rt: HostRuntime) {
     assert!(&rt; is_written(&rt, of_node, NODE_RECORD));
 }
 
-// The frame that these bytes begin with.
-fn frame_of(rt: &(impl Abort + AllocGlobal), bytes: &[u8]) -> Frame {
-    let decoded = match decode(rt.alloc(), bytes) {
-        Ok(decoded) => decoded,
-        Err(_) => decode(rt.alloc(), bytes).expect(rt, "a frame"),
-    };
-    decoded.0
+// A splitter that has these bytes.
+fn fed(rt: &(impl Abort + AllocGlobal), bytes: &[u8]) -> Splitter {
+    let mut splitter = Splitter::new(rt.alloc());
+    if splitter.feed(bytes).is_err() {
+        splitter.feed(bytes).expect(rt, "memory");
+    }
+    splitter
 }
 
 // The controller of a store. Where it isn't opened, memory was refused, and the store has what it had or is to have.
@@ -99,21 +99,28 @@ fn opened_node(
     }
 }
 
-// Whether the service answers the frame.
-fn replies<C: Core>(rt: &(impl Abort + AllocGlobal), service: &mut C, frame: Frame) -> bool {
-    let reply = match service.step(&frame) {
-        Ok(reply) => reply,
-        Err(NoMemory) => service.step(&frame).expect(rt, "memory"),
+// Whether the service replies to the frame that has these bytes. Where it isn't answered, memory was refused, and nothing is written of a
+// reply.
+fn replies<C: Core>(rt: &(impl Abort + AllocGlobal), service: &mut C, bytes: &[u8]) -> bool {
+    let mut splitter = fed(rt, bytes);
+    let mut out = Vec::new(rt.alloc());
+    let Ok(Some(frame)) = splitter.next() else {
+        return false;
     };
-    drop(frame);
-    let is_reply = reply.is_some();
-    drop(reply);
+    let is_reply = match service.answer_into(&frame, &mut out) {
+        Ok(is_reply) => is_reply,
+        Err(NoMemory) => {
+            assert!(rt; out.is_empty());
+            service.answer_into(&frame, &mut out).expect(rt, "memory")
+        }
+    };
+    drop((splitter, out));
     is_reply
 }
 
 // What the service tells that it changed after it answered the frame.
-fn changes<C: Core>(rt: &(impl Abort + AllocGlobal), service: &mut C, frame: Frame) -> Vec<Part> {
-    assert!(rt; replies(rt, service, frame));
+fn changes<C: Core>(rt: &(impl Abort + AllocGlobal), service: &mut C, bytes: &[u8]) -> Vec<Part> {
+    assert!(rt; replies(rt, service, bytes));
     match service.parts() {
         Ok(parts) => parts,
         Err(NoMemory) => service.parts().expect(rt, "memory"),
@@ -137,10 +144,10 @@ fn commits(
 const NEW: Content = (CONTROLLER_HEAD, &[], &[]);
 
 #[test]
-fn a_controller_steps_and_commits_in_want_of_memory(rt: HostRuntime) {
+fn a_controller_answers_and_commits_in_want_of_memory(rt: HostRuntime) {
     let mut keep = MemoryKeep::new(rt.alloc(), 1000);
     let mut service = opened(&rt, &mut keep, (NOTHING, NEW));
-    let parts = changes(&rt, &mut service, frame_of(&rt, CREATE));
+    let parts = changes(&rt, &mut service, CREATE);
     drop(service);
     assert!(&rt; are_parts(&parts, CREATED));
     commits(&rt, &mut keep, &parts, (NEW, CREATED));
@@ -153,9 +160,9 @@ fn a_controller_steps_and_commits_in_want_of_memory(rt: HostRuntime) {
 fn a_head_that_did_not_change_is_not_put_in_again(rt: HostRuntime) {
     let mut keep = MemoryKeep::new(rt.alloc(), 1000);
     let mut service = opened(&rt, &mut keep, (NOTHING, NEW));
-    drop(changes(&rt, &mut service, frame_of(&rt, CREATE)));
+    drop(changes(&rt, &mut service, CREATE));
     let delete = SCRIPT.get(152..183).expect(&rt, "a frame");
-    let parts = changes(&rt, &mut service, frame_of(&rt, delete));
+    let parts = changes(&rt, &mut service, delete);
     drop(service);
     drop(keep);
     assert!(&rt; parts.len() == 1 && parts[0].key == 1);
@@ -178,10 +185,10 @@ const STAGED: &[u8] = &[
 const NODE_CONTENTS: (Content, Content) = ((NEW_NODE_HEAD, &[], &[]), (NODE_HEAD, STAGED, &[]));
 
 #[test]
-fn a_node_steps_and_commits_in_want_of_memory(rt: HostRuntime) {
+fn a_node_answers_and_commits_in_want_of_memory(rt: HostRuntime) {
     let mut keep = MemoryKeep::new(rt.alloc(), 1000);
     let mut service = opened_node(&rt, &mut keep, (NOTHING, NODE_CONTENTS.0));
-    let parts = changes(&rt, &mut service, frame_of(&rt, STAGE));
+    let parts = changes(&rt, &mut service, STAGE);
     drop(service);
     assert!(&rt; are_parts(&parts, NODE_CONTENTS.1));
     commits(&rt, &mut keep, &parts, NODE_CONTENTS);

@@ -5,9 +5,9 @@ use super::playing::{
     played,
 };
 use super::{CONTROLLER_HEAD, NEW_NODE_HEAD, NODE_HEAD, controller_fault, node_fault, part};
-use csi_failing::{FailingKeep, Left};
 use csi_service::{Keep, KeepFault, MemoryKeep, Part};
 use csi_sqlite::SqliteKeep;
+use csi_stores::{FailingKeep, Left};
 use sqlite::Connection;
 use std::alloc::Global;
 use std::process::Abort;

@@ -1,11 +1,11 @@
 //! Serving a controller whose input comes in pieces, over readers, writers and a store that fail.
 use super::{controller, is_part};
 use Content::{Begun, Gone, Live, Nothing};
-use csi_failing::{FailingKeep, FailingReader, FailingWriter, Left};
 use csi_frames::FaultKind;
 use csi_service::{
     Counted, Keep, KeepFault, MemoryKeep, Part, ServeFault, ServeFaultKind, Served, serve,
 };
+use csi_stores::{FailingKeep, FailingReader, FailingWriter, Left};
 use std::process::Abort;
 
 // Creates `v`, deletes it, and asks for that once more under the same number.

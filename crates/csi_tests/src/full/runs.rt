@@ -189,8 +189,8 @@ fn is_empty(rt: &(impl Abort + AllocGlobal), system: &mut System) {
     let things = system.orchestrator.things().expect(rt, "memory");
     assert!(rt; things.is_empty());
     assert_eq!(rt; counts_of(rt, system), (0, 0, 0));
-    let empty = system.controller.empty().expect(rt, "memory");
-    assert!(rt; empty.len() == 4096 && system.controller.rows() == 4096);
+    let empty = system.controller.forgettable().expect(rt, "memory");
+    assert!(rt; empty.len() == 4096 && system.controller.row_count() == 4096);
     let capabilities = blocks(rt, &[MultiNodeMultiWriter]);
     let more = system
         .orchestrator

@@ -104,7 +104,7 @@ pub(super) fn has_node(rt: &(impl Abort + AllocGlobal), world: &World, at: &str)
 // Whether the controller's greatest session and the number of its rows are these.
 pub(super) fn remembers(world: &World, session: u64, rows: usize) -> bool {
     let controller = world.controller();
-    controller.session() == session && controller.rows() == rows
+    controller.session() == session && controller.row_count() == rows
 }
 
 // Whether this node's are.
@@ -118,7 +118,7 @@ pub(super) fn node_remembers(
     let id = node_id(rt, at);
     let node = world.node(&id).expect(rt, "a node");
     drop(id);
-    node.session() == session && node.rows() == rows
+    node.session() == session && node.row_count() == rows
 }
 
 // The orchestrator knows this of a thing.

@@ -114,7 +114,7 @@ fn knows_at(
 // Whether the world's frames are as the step says, where it speaks of frames.
 fn has_frames(world: &World, step: Step) -> bool {
     match step {
-        Step::Frames(count) => world.frames() == count,
+        Step::Frames(count) => world.frame_count() == count,
         Step::NoFrame(number) => world.frame(number).is_none(),
         Step::Calls(frame, number, kind) => is_call(world.frame(frame), number, kind),
         Step::Replies(frame, number, status, detail) => {

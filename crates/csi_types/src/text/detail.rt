@@ -2,8 +2,8 @@
 ghost use Rattle.std.specs.Prelude.{◌≡◌, ◌<◌, ◌≤◌, ◌↔◌, length, IfOk, IsOk, IsErrOf, nat_eq};
 ghost use Rattle.std.specs.Cmp.Lexicographic.{pointwise, nat_list_eq_equiv};
 ghost use Rattle.std.specs.Cmp.{partial_equiv_from_equiv};
-ghost use Rattle.csi_types.specs.Detail.{text_bytes};
-ghost use Rattle.csi_types.specs.Text.{IsDetail};
+ghost use Rattle.csi_types.specs.Public.Detail.{text_bytes};
+ghost use Rattle.csi_types.specs.Public.Text.{IsDetail};
 
 use super::{TextFault, copied};
 use arrayvec::ArrayString;
@@ -47,8 +47,8 @@ impl Drop for Detail {
 
 impl Model for Detail {
     ghost use Rattle.std.specs.Prelude.{ℕ, List};
-    ghost use Rattle.csi_types.specs.Detail.{text_bytes};
-    ghost use Rattle.csi_types.specs.Text.{IsDetail};
+    ghost use Rattle.csi_types.specs.Public.Detail.{text_bytes};
+    ghost use Rattle.csi_types.specs.Public.Text.{IsDetail};
 
     ghost Value = { List ℕ };
 

@@ -2,7 +2,7 @@
 ghost use Rattle.std.specs.Prelude.{◌≡◌, ◌<◌, ◌≤◌, ◌↔◌, [], length, IfOk, IsOk, IsErrOf, nat_eq};
 ghost use Rattle.std.specs.Cmp.Lexicographic.{pointwise, nat_list_eq_equiv};
 ghost use Rattle.std.specs.Cmp.{partial_equiv_from_equiv};
-ghost use Rattle.csi_types.specs.Text.{IsFsType};
+ghost use Rattle.csi_types.specs.Public.Text.{IsFsType};
 
 use super::{TextFault, copied};
 use std::alloc::Global;
@@ -24,7 +24,7 @@ impl Drop for FsType {
 impl Model for FsType {
     ghost use Rattle.std.specs.Prelude.{ℕ, List};
     ghost use Rattle.std.specs.String.{string_bytes};
-    ghost use Rattle.csi_types.specs.Text.{IsFsType};
+    ghost use Rattle.csi_types.specs.Public.Text.{IsFsType};
 
     ghost Value = { List ℕ };
 

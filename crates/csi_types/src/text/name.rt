@@ -5,7 +5,7 @@ ghost use Rattle.std.specs.Cmp.{partial_equiv_from_equiv};
 ghost use Rattle.std.specs.Cmp.Rules.{hashing};
 ghost use Rattle.std.specs.Hash as fed;
 ghost use Rattle.std.proofs.Common.{rules};
-ghost use Rattle.csi_types.specs.Text.{IsName};
+ghost use Rattle.csi_types.specs.Public.Text.{IsName};
 
 use super::{TextFault, copied};
 use std::alloc::Global;
@@ -28,7 +28,7 @@ impl Drop for Name {
 impl Model for Name {
     ghost use Rattle.std.specs.Prelude.{ℕ, List};
     ghost use Rattle.std.specs.String.{string_bytes};
-    ghost use Rattle.csi_types.specs.Text.{IsName};
+    ghost use Rattle.csi_types.specs.Public.Text.{IsName};
 
     ghost Value = { List ℕ };
 

@@ -1,8 +1,8 @@
 //! How an audit reads the plugins.
 ghost use Rattle.std.specs.Prelude.{map, IfOk};
-ghost use Rattle.csi_world.specs.World.{World};
-ghost use Rattle.csi_world.specs.Audited.{ArePlugins};
-ghost use Rattle.csi_world.specs.Listed.{node_listed, AreDistinct, IsListed, IsListOf};
+ghost use Rattle.csi_world.specs.Model.World.{World};
+ghost use Rattle.csi_world.specs.Public.Audited.{ArePlugins};
+ghost use Rattle.csi_world.specs.Private.Listed.{node_listed, AreDistinctTexts, IsListed, IsListOf};
 
 use super::lists::NodeLists;
 use csi_controller::Controller;
@@ -34,8 +34,9 @@ pub(crate) fn list_plugins(
     controller: &Controller,
     nodes: &[Node],
 ) -> Result<Vec<NodeLists>, NoMemory>
-    requires { AreDistinct (map (λ node. node.id) nodes.now) }
-    ensures { (world : World) → ArePlugins controller.now nodes.now world → IfOk result (λ lists. IsListed (record { rows = controller.now.rows; nodes = lists.items }) world) }
+    requires { AreDistinctTexts (map (λ node. node.id) nodes.now) }
+    ensures { (world : World) → ArePlugins controller.now nodes.now world →
+        IfOk result (λ lists. IsListed (record { rows = controller.now.rows; nodes = lists.items }) world) }
 {
     let _rows = controller.all_rows();
     let mut lists = Vec::new(alloc);

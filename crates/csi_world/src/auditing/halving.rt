@@ -1,9 +1,9 @@
 //! Searches of lists that are in order, by halving.
 ghost use Rattle.std.specs.Prelude.{◌≡◌, ◌==◌, find, position};
 ghost use Rattle.std.specs.Option.{option_copied};
-ghost use Rattle.csi_controller.specs.Core.{IsRising};
-ghost use Rattle.csi_orchestrator.specs.Listing.{IsInOrder};
-ghost use Rattle.csi_world.specs.Listed.{is_entry_of};
+ghost use Rattle.csi_controller.specs.Public.Core.{AreRisingRows};
+ghost use Rattle.csi_orchestrator.specs.Public.Listing.{IsInOrder};
+ghost use Rattle.csi_world.specs.Private.Listed.{is_entry_of};
 
 use csi_controller::ControllerRow;
 use csi_orchestrator::{Known, Thing};
@@ -11,7 +11,7 @@ use csi_types::VolumeId;
 
 // Where the row of this id is.
 fn place_of_row(rows: &[ControllerRow], id: VolumeId) -> Option<usize>
-    requires { IsRising rows.now }
+    requires { AreRisingRows rows.now }
     ensures { result ≡ position (λ row. row.id == id) rows.now }
 {
     rows.binary_search_by_key(&id.number(), |row| row.id.number())
@@ -20,7 +20,7 @@ fn place_of_row(rows: &[ControllerRow], id: VolumeId) -> Option<usize>
 
 /// The row of this id, of rows by rising id.
 pub(crate) fn find_row(rows: &[ControllerRow], id: VolumeId) -> Option<&ControllerRow>
-    requires { IsRising rows.now }
+    requires { AreRisingRows rows.now }
     ensures { option_copied result ≡ find (λ row. row.id == id) rows.now }
 {
     match place_of_row(rows, id) {

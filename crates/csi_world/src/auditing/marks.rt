@@ -1,12 +1,12 @@
 //! Whether what the orchestrator knows is so.
 ghost use Rattle.std.specs.Prelude.{◌≡◌, ◌↔◌, ◌&&◌, List, [], length, map, IfOk, IsTrue};
 ghost use Rattle.std.specs.List.{list_all};
-ghost use Rattle.csi_orchestrator.specs.Listing.{IsInOrder};
-ghost use Rattle.csi_orchestrator.specs.Shown.{view_of};
+ghost use Rattle.csi_orchestrator.specs.Public.Listing.{IsInOrder};
+ghost use Rattle.csi_orchestrator.specs.Model.Shown.{orchestrator_view};
 ghost use Rattle.csi_orchestrator.specs.declared.thing.Thing.{Thing as ThingParts};
-ghost use Rattle.csi_world.specs.World.{World};
-ghost use Rattle.csi_world.specs.Audited.{AreMarkedRight};
-ghost use Rattle.csi_world.specs.Listed.{AreRowsApart, IsListed, is_affirmed, is_entry_listed, is_noted};
+ghost use Rattle.csi_world.specs.Model.World.{World};
+ghost use Rattle.csi_world.specs.Public.Audited.{AreMarkedRight};
+ghost use Rattle.csi_world.specs.Private.Listed.{AreRowsApart, IsListed, is_affirmed, is_entry_listed, is_noted};
 
 use super::halving::place_of_noted;
 use super::lists::NodeLists;
@@ -65,7 +65,8 @@ pub(crate) fn is_marked_right(
     nodes: &[NodeLists],
 ) -> Result<bool, NoMemory>
     requires { AreRowsApart rows.now }
-    ensures { (world : World) → IsListed (record { rows = rows.now; nodes = nodes.now }) world → IfOk result (λ right. IsTrue right ↔ AreMarkedRight (view_of orchestrator.now).marks world) }
+    ensures { (world : World) → IsListed (record { rows = rows.now; nodes = nodes.now }) world →
+        IfOk result (λ right. IsTrue right ↔ AreMarkedRight (orchestrator_view orchestrator.now).marks world) }
 {
     let Ok(noted) = orchestrator.things() else {
         return Err(NoMemory);

@@ -1,7 +1,7 @@
 //! What the plugins' own contracts keep.
-ghost use Rattle.csi_world.specs.World.{World};
-ghost use Rattle.csi_world.specs.Audited.{ArePlugins};
-ghost use Rattle.csi_world.specs.Listed.{ArePluginsSafe};
+ghost use Rattle.csi_world.specs.Model.World.{World};
+ghost use Rattle.csi_world.specs.Public.Audited.{ArePlugins};
+ghost use Rattle.csi_world.specs.Private.Listed.{ArePluginsSafe};
 
 use csi_controller::{Controller, exclusive_law};
 use csi_node::{Node, publishing_law};

@@ -1,10 +1,10 @@
 //! Whether what is staged is attached.
 ghost use Rattle.std.specs.Prelude.{◌≡◌, ◌==◌, ◌↔◌, IsTrue};
 ghost use Rattle.std.specs.List.{list_any, list_all};
-ghost use Rattle.csi_controller.specs.Core.{IsRising};
-ghost use Rattle.csi_world.specs.World.{World};
-ghost use Rattle.csi_world.specs.Safe.{IsStagedWhereAttached};
-ghost use Rattle.csi_world.specs.Listed.{IsListed, is_held_as as is_held_so, is_staged_right, is_node_attached};
+ghost use Rattle.csi_controller.specs.Public.Core.{AreRisingRows};
+ghost use Rattle.csi_world.specs.Model.World.{World};
+ghost use Rattle.csi_world.specs.Model.Safe.{IsStagedWhereAttached};
+ghost use Rattle.csi_world.specs.Private.Listed.{IsListed, is_held_as as is_held_so, is_staged_right, is_node_attached};
 
 use super::halving::find_row;
 use super::lists::NodeLists;
@@ -33,7 +33,7 @@ fn is_held_in(node: &NodeId, capability: &Capability, holdings: &[NodeHolding]) 
 
 // Whether the staged volume is attached at the node, with its capability.
 fn is_attached_as(node: &NodeId, staged: &Staged, rows: &[ControllerRow]) -> bool
-    requires { IsRising rows.now }
+    requires { AreRisingRows rows.now }
     ensures { result ≡ is_staged_right rows.now node.now staged.now }
 {
     match find_row(rows, staged.id) {
@@ -44,7 +44,7 @@ fn is_attached_as(node: &NodeId, staged: &Staged, rows: &[ControllerRow]) -> boo
 
 // Whether all that is staged at the node is attached so.
 fn is_attached_at(node: &NodeLists, rows: &[ControllerRow]) -> bool
-    requires { IsRising rows.now }
+    requires { AreRisingRows rows.now }
     ensures { result ≡ is_node_attached rows.now node.now }
 {
     for staged in &node.staged {
@@ -57,7 +57,7 @@ fn is_attached_at(node: &NodeLists, rows: &[ControllerRow]) -> bool
 
 // The same at each node.
 fn are_attached(nodes: &[NodeLists], rows: &[ControllerRow]) -> bool
-    requires { IsRising rows.now }
+    requires { AreRisingRows rows.now }
     ensures { result ≡ list_all (is_node_attached rows.now) nodes.now }
 {
     for node in nodes {
@@ -71,7 +71,7 @@ fn are_attached(nodes: &[NodeLists], rows: &[ControllerRow]) -> bool
 /// Whether what is staged at a node is attached there, with the same capability, in every world of which this is the list.
 /// It takes no memory.
 pub(crate) fn is_staged_where_attached(rows: &[ControllerRow], nodes: &[NodeLists]) -> bool
-    requires { IsRising rows.now }
+    requires { AreRisingRows rows.now }
     ensures { (world : World) → IsListed (record { rows = rows.now; nodes = nodes.now }) world → IsTrue result ↔ IsStagedWhereAttached world }
 {
     are_attached(nodes, rows)

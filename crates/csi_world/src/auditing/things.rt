@@ -1,12 +1,12 @@
 //! Everything that holds, by what is listed.
 ghost use Rattle.std.specs.Prelude.{◌≡◌, ◌++◌, ◌↔◌, true, IfOk, OnOk};
 ghost use Rattle.std.specs.List.{flat_map};
-ghost use Rattle.csi_lists.specs.Members.{IsAmong};
-ghost use Rattle.csi_controller.specs.Core.{IsRising};
+ghost use Rattle.csi_lists.specs.Model.Members.{IsAmong};
+ghost use Rattle.csi_controller.specs.Public.Core.{AreRisingRows};
 ghost use Rattle.csi_orchestrator.specs.declared.thing.Thing.{Thing as ThingParts};
-ghost use Rattle.csi_world.specs.World.{World};
-ghost use Rattle.csi_world.specs.Safe.{holds};
-ghost use Rattle.csi_world.specs.Listed.{AreRowsApart, IsListed, things_of, staged_thing, published_thing, things_at, things_listed};
+ghost use Rattle.csi_world.specs.Model.World.{World};
+ghost use Rattle.csi_world.specs.Model.Safe.{holds};
+ghost use Rattle.csi_world.specs.Private.Listed.{AreRowsApart, IsListed, things_of, staged_thing, published_thing, things_at, things_listed};
 
 use super::halving::find_row;
 use super::lists::NodeLists;
@@ -49,7 +49,7 @@ fn add_staged(
     node: &NodeId,
     entry: &Staged,
 ) -> Result<(), NoMemory>
-    requires { IsRising rows.now }
+    requires { AreRisingRows rows.now }
     ensures { OnOk result (things.new.items ≡ things.old.items ++ staged_thing rows.now node.now entry.now) }
 {
     if let Some(row) = find_row(rows, entry.id) {
@@ -67,7 +67,7 @@ fn add_all_staged(
     node: &NodeId,
     list: &[Staged],
 ) -> Result<(), NoMemory>
-    requires { IsRising rows.now }
+    requires { AreRisingRows rows.now }
     ensures { OnOk result (things.new.items ≡ things.old.items ++ flat_map (staged_thing rows.now node.now) list.now) }
 {
     for entry in list {
@@ -83,7 +83,7 @@ fn add_published(
     node: &NodeId,
     entry: &Published,
 ) -> Result<(), NoMemory>
-    requires { IsRising rows.now }
+    requires { AreRisingRows rows.now }
     ensures { OnOk result (things.new.items ≡ things.old.items ++ published_thing rows.now node.now entry.now) }
 {
     if let Some(row) = find_row(rows, entry.id) {
@@ -102,7 +102,7 @@ fn add_all_published(
     node: &NodeId,
     list: &[Published],
 ) -> Result<(), NoMemory>
-    requires { IsRising rows.now }
+    requires { AreRisingRows rows.now }
     ensures { OnOk result (things.new.items ≡ things.old.items ++ flat_map (published_thing rows.now node.now) list.now) }
 {
     for entry in list {
@@ -117,7 +117,7 @@ fn add_nodes(
     rows: &[ControllerRow],
     nodes: &[NodeLists],
 ) -> Result<(), NoMemory>
-    requires { IsRising rows.now }
+    requires { AreRisingRows rows.now }
     ensures { OnOk result (things.new.items ≡ things.old.items ++ flat_map (things_at rows.now) nodes.now) }
 {
     for node in nodes {
@@ -133,7 +133,7 @@ fn gathered(
     rows: &[ControllerRow],
     nodes: &[NodeLists],
 ) -> Result<Vec<Thing>, NoMemory>
-    requires { IsRising rows.now }
+    requires { AreRisingRows rows.now }
     ensures { IfOk result (λ things. things.items ≡ things_listed rows.now nodes.now) }
 {
     let mut things = Vec::new(alloc);
@@ -149,7 +149,8 @@ pub(crate) fn list_things(
     nodes: &[NodeLists],
 ) -> Result<Vec<Thing>, NoMemory>
     requires { AreRowsApart rows.now }
-    ensures { (world : World) → IsListed (record { rows = rows.now; nodes = nodes.now }) world → IfOk result (λ things. (thing : ThingParts) → IsAmong thing things.items ↔ (holds world thing ≡ true)) }
+    ensures { (world : World) → IsListed (record { rows = rows.now; nodes = nodes.now }) world →
+        IfOk result (λ things. (thing : ThingParts) → IsAmong thing things.items ↔ (holds world thing ≡ true)) }
 {
     gathered(alloc, rows, nodes)
 }

@@ -3,7 +3,7 @@ use super::{AT_ONCE, BYTE_BY_BYTE, new_writer, reader_of};
 use crate::replay::running::bytes;
 use crate::replay::{CONTROLLER_PUBLISH, CREATE, CREATED, DELETE, NO_NODE};
 use csi_commands::{StreamFault, answer_from, show_from};
-use csi_counted::Counted;
+use csi_stores::Counted;
 use std::alloc::Global;
 use std::process::Abort;
 

@@ -1,6 +1,6 @@
 -- What was read is there, and the reader hasn't failed.
 use Rattle.std.proofs.Common.{◌≡◌, ◌-◌, ◌^◌, length}
-use Rattle.csi_commands.specs.Streaming.{HasRead}
+use Rattle.csi_commands.specs.Private.Streaming.{HasRead}
 use Rattle.csi_commands.proofs.streaming.read_whole.Given as goal
 
 abbrev pub invariant-pieces : goal.invariant-pieces

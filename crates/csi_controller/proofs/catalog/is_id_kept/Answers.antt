@@ -3,7 +3,7 @@ use Rattle.std.proofs.Common.{◌∙◌, ap}
 use Rattle.std.specs.Prelude.{◌==◌}
 use Rattle.indexmap.specs.IndexMap.{values}
 use Rattle.csi_controller.specs.declared.row.ControllerRow.{ControllerRow}
-use Rattle.csi_controller.specs.Catalog.{is_row_kept}
+use Rattle.csi_controller.specs.Private.Catalog.{is_row_kept}
 use Rattle.csi_controller.proofs.CatalogMaps.{id-turned}
 use Rattle.csi_controller.proofs.CatalogKept.{row-looked_up}
 use Rattle.csi_controller.proofs.catalog.is_id_kept.Goals as goal

@@ -1,6 +1,6 @@
 -- The law holds in every state that is orderly and safe and remembers no later session, and frames lead to no other.
-use Rattle.csi_controller.specs.State.{empty_controller}
-use Rattle.csi_controller.specs.Fenced.{after_frames}
+use Rattle.csi_controller.specs.Model.State.{empty_controller}
+use Rattle.csi_controller.specs.Public.Fenced.{after_frames}
 use Rattle.csi_controller.proofs.DeliveryLaw.{empty_view, closed_view, delivered}
 use Rattle.csi_controller.proofs.OrderlyStates.{reached_orderly}
 use Rattle.csi_controller.proofs.RememberedStates.{reached_recent}

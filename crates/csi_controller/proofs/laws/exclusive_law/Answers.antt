@@ -1,7 +1,7 @@
 -- By the rules of each row.
 use Rattle.csi_lists.proofs.Each.{each-weaker}
-use Rattle.csi_controller.specs.Core.{IsSoundRow}
-use Rattle.csi_controller.specs.Exclusive.{IsRowExclusive}
+use Rattle.csi_controller.specs.Public.Core.{IsSoundRow}
+use Rattle.csi_controller.specs.Public.Exclusive.{IsRowExclusive}
 use Rattle.csi_controller.proofs.Exclusive.{row-exclusive}
 use Rattle.csi_controller.proofs.laws.exclusive_law.Goals as goal
 

@@ -1,6 +1,6 @@
 -- Frames lead to orderly states alone, and each frame keeps names and ids.
-use Rattle.csi_controller.specs.State.{empty_controller}
-use Rattle.csi_controller.specs.Fenced.{after_frames}
+use Rattle.csi_controller.specs.Model.State.{empty_controller}
+use Rattle.csi_controller.specs.Public.Fenced.{after_frames}
 use Rattle.csi_controller.proofs.NamesLaw.{reached_named, keeps_names}
 use Rattle.csi_controller.proofs.OrderlyStates.{reached_orderly}
 use Rattle.csi_controller.proofs.laws.names_law.Goals as goal

@@ -1,6 +1,6 @@
 -- Each state that frames lead to has recent volumes alone.
-use Rattle.csi_controller.specs.State.{empty_controller}
-use Rattle.csi_controller.specs.Fenced.{after_frames}
+use Rattle.csi_controller.specs.Model.State.{empty_controller}
+use Rattle.csi_controller.specs.Public.Fenced.{after_frames}
 use Rattle.csi_controller.proofs.RememberedStates.{reached_recent, remembers}
 use Rattle.csi_controller.proofs.laws.sessions_law.Goals as goal
 

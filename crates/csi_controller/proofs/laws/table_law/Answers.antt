@@ -1,6 +1,6 @@
 -- The laws hold in every orderly state, and frames lead to no other.
-use Rattle.csi_controller.specs.State.{empty_controller}
-use Rattle.csi_controller.specs.Fenced.{after_frames}
+use Rattle.csi_controller.specs.Model.State.{empty_controller}
+use Rattle.csi_controller.specs.Public.Fenced.{after_frames}
 use Rattle.csi_controller.proofs.OrderlyStates.{reached_orderly}
 use Rattle.csi_controller.proofs.TableLaw.{is_lawful}
 use Rattle.csi_controller.proofs.laws.table_law.Goals as goal

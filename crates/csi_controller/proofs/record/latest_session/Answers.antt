@@ -3,7 +3,7 @@ use Rattle.std.proofs.Common.{◌≡◌, ◌∙◌, ap, sym, take, ℕ, arith}
 use Rattle.std.specs.Prelude.{max}
 use Rattle.std.specs.Ordering.{nat_cmp, ord_max}
 use Rattle.std.proofs.lemmas.Bool.Decides.{nat_tests}
-use Rattle.csi_controller.specs.WithoutSession.{latest_session}
+use Rattle.csi_controller.specs.Public.WithoutSession.{latest_session}
 use Rattle.csi_controller.proofs.FirstRefused.{one-more}
 use Rattle.csi_controller.proofs.FirstUnfit.{latest-append}
 use Rattle.csi_controller.proofs.record.latest_session.Goals as goal

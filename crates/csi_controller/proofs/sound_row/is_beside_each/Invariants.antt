@@ -1,7 +1,7 @@
 -- It is beside each that is left exactly where it is beside each.
 use Rattle.std.proofs.Common.{◌≡◌, drop}
 use Rattle.std.specs.List.{list_all}
-use Rattle.csi_controller.specs.SoundRow.{are_beside}
+use Rattle.csi_controller.specs.Private.SoundRow.{are_beside}
 use Rattle.csi_controller.proofs.sound_row.is_beside_each.Given as goal
 
 abbrev pub invariant-loop-other : goal.invariant-loop-other

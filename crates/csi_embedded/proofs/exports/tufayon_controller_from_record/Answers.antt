@@ -1,5 +1,5 @@
 use Rattle.std.proofs.Common.{rules}
-use Rattle.csi_embedded.specs.Making.{IsReadController, IsNoReadController}
+use Rattle.csi_embedded.specs.Public.Making.{IsReadController, IsNoReadController}
 use Rattle.csi_embedded.proofs.Handles.{full-made, put-made}
 use Rattle.csi_embedded.proofs.exports.tufayon_controller_from_record.Goals as goal
 

@@ -1,5 +1,5 @@
 use Rattle.std.proofs.Common.{rules}
-use Rattle.csi_embedded.specs.Making.{IsReadNode, IsNoReadNode}
+use Rattle.csi_embedded.specs.Public.Making.{IsReadNode, IsNoReadNode}
 use Rattle.csi_embedded.proofs.Handles.{full-made, put-made}
 use Rattle.csi_embedded.proofs.exports.tufayon_node_from_record.Goals as goal
 

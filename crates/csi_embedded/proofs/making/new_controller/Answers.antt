@@ -1,6 +1,6 @@
 use Rattle.std.proofs.Common.{◌∙◌, sym, ap, refl, Some, Ok}
-use Rattle.csi_records.specs.Spelling.{present, controller_head}
-use Rattle.csi_service.specs.Services.{controller_service_parts}
+use Rattle.csi_records.specs.Public.Spelling.{present, controller_head}
+use Rattle.csi_service.specs.Public.Services.{controller_service_parts}
 use Rattle.csi_embedded.proofs.MadePlugins.{told-head}
 use Rattle.csi_embedded.proofs.making.new_controller.Goals as goal
 

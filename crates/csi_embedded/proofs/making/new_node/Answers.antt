@@ -1,6 +1,6 @@
 use Rattle.std.proofs.Common.{◌∙◌, ℕ, List, [], ◌∷◌, ap, refl, Some}
-use Rattle.csi_records.specs.Spelling.{present, node_head}
-use Rattle.csi_service.specs.Services.{node_service_parts}
+use Rattle.csi_records.specs.Public.Spelling.{present, node_head}
+use Rattle.csi_service.specs.Public.Services.{node_service_parts}
 use Rattle.csi_embedded.proofs.MadePlugins.{told-head}
 use Rattle.csi_embedded.proofs.making.new_node.Goals as goal
 

@@ -1,7 +1,7 @@
 use Rattle.std.proofs.Common.{◌≡◌, ◌∙◌, sym, ap, subst, rules}
-use Rattle.csi_node.specs.Record.{NodeParts}
-use Rattle.csi_records.specs.Records.{node_layout, IsRecordOf, IsNodeOf}
-use Rattle.csi_records.specs.Places.{AreBytesOf}
+use Rattle.csi_node.specs.Model.Record.{NodeParts}
+use Rattle.csi_records.specs.Public.Records.{node_layout, IsRecordOf, IsNodeOf}
+use Rattle.csi_records.specs.Public.Places.{AreBytesOf}
 use Rattle.std.specs.Prelude.{None}
 use Rattle.csi_embedded.proofs.MadePlugins.{told-renewal}
 use Rattle.csi_embedded.proofs.making.read_node.Goals as goal

@@ -1,5 +1,5 @@
 use Rattle.std.proofs.Common.{rules}
-use Rattle.csi_frames.specs.Reading.{first_frame}
+use Rattle.csi_frames.specs.Public.Reading.{first_frame}
 use Rattle.csi_frames.proofs.body.first_frame.Goals as goal
 
 pub returns-then-bytes-size : goal.returns-then-bytes-size

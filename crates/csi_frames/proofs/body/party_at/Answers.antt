@@ -1,5 +1,5 @@
 use Rattle.std.proofs.Common.{rules}
-use Rattle.csi_frames.specs.Reading.{byte_at, party_at}
+use Rattle.csi_frames.specs.Public.Reading.{byte_at, party_at}
 use Rattle.csi_frames.proofs.body.party_at.Goals as goal
 
 pub returns-then-byte-eq0 : goal.returns-then-byte-eq0

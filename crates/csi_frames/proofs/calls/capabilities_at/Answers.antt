@@ -1,11 +1,9 @@
-use Rattle.std.proofs.Common.{List, ◌++◌, ◌∷◌, [], Ok, is_ok, sym, ap, ◌∙◌}
+use Rattle.std.proofs.Common.{List, ◌++◌, ◌∷◌, [], Ok, sym, ap, ◌∙◌}
 use Rattle.std.proofs.lemmas.Result.{err_from_is_err_and}
 use Rattle.csi_types.specs.declared.capability.Capability.{Capability}
-use Rattle.csi_types.specs.Lent.{lent_capability}
-use Rattle.csi_frames.specs.Borrowed.{list_in}
-use Rattle.csi_frames.specs.Reading.{capabilities_at}
-use Rattle.csi_frames.specs.Version.{owes_new_mode}
-use Rattle.csi_frames.proofs.KnownReaders.{list_again}
+use Rattle.csi_types.specs.Public.Lent.{lent_capability}
+use Rattle.csi_frames.specs.Public.Reading.{capabilities_at}
+use Rattle.csi_frames.specs.Public.Version.{owes_new_mode}
 use Rattle.csi_frames.proofs.Loop.{goes_on, ends, is_done}
 use Rattle.csi_frames.proofs.calls.capabilities_at.Goals as goal
 
@@ -20,12 +18,14 @@ loop-left-preserved c = (
   goes_on c.args.version c.loop-left.owed c.is_owed-here.result c.is_still_owed-owed.result c.loop-left.invariant.0 c.loop-left.left c.loop-left.fields.bytes.now (lent_capability c.in_ok-one.one) c.owed_capability_at.new.fields.bytes.now (capabilities_at c.args.version (owes_new_mode c.args.version) c.args.count c.args.fields.now.bytes.now) c.loop-left-test.true c.is_owed-here.ensures c.is_still_owed-owed.ensures c.in_ok-one.ensures c.loop-left.invariant.1,
 )
 
-pub invariant_of-result : goal.invariant_of-result
-invariant_of-result c =
-    let all = is_done c.args.version c.loop-left.owed c.loop-left.invariant.0 c.loop-left.left c.loop-left.fields.bytes.now (capabilities_at c.args.version (owes_new_mode c.args.version) c.args.count c.args.fields.now.bytes.now) c.loop-left-test.false c.loop-left.invariant.1 in
-    record { read = ap is_ok (list_again c.args.version (owes_new_mode c.args.version) c.args.count c.args.fields.now.bytes.now (ap is_ok all) ∙ all) }
+pub judged-requires : goal.judged-requires
+judged-requires c = record {
+  few = c.requires;
+  read = (c.args.version, owes_new_mode c.args.version, c.loop-left.invariant.0, c.loop-left.fields.bytes.now, is_done c.args.version c.loop-left.owed c.loop-left.invariant.0 c.loop-left.left c.loop-left.fields.bytes.now (capabilities_at c.args.version (owes_new_mode c.args.version) c.args.count c.args.fields.now.bytes.now) c.loop-left-test.false c.loop-left.invariant.1);
+}
 
 pub returns : goal.returns
 returns c =
     let all = is_done c.args.version c.loop-left.owed c.loop-left.invariant.0 c.loop-left.left c.loop-left.fields.bytes.now (capabilities_at c.args.version (owes_new_mode c.args.version) c.args.count c.args.fields.now.bytes.now) c.loop-left-test.false c.loop-left.invariant.1 in
-    all ∙ ap (λ (list : List Capability). Ok (list, c.loop-left.fields.bytes.now)) (sym (ap list_in (list_again c.args.version (owes_new_mode c.args.version) c.args.count c.args.fields.now.bytes.now (ap is_ok all) ∙ all)))
+    all ∙ ap (λ (list : List Capability). Ok (list, c.loop-left.fields.bytes.now))
+    (sym (c.judged.ensures c.args.version (owes_new_mode c.args.version) c.loop-left.invariant.0 c.loop-left.fields.bytes.now all))

@@ -1,7 +1,7 @@
 use Rattle.std.proofs.Common.{◌≡◌, List}
 use Rattle.csi_types.specs.declared.capability.Capability.{Capability}
-use Rattle.csi_frames.specs.Reading.{capabilities_at}
-use Rattle.csi_frames.specs.Version.{owes_new_mode}
+use Rattle.csi_frames.specs.Public.Reading.{capabilities_at}
+use Rattle.csi_frames.specs.Public.Version.{owes_new_mode}
 use Rattle.csi_frames.proofs.Loop.{with_front}
 use Rattle.csi_frames.proofs.calls.capabilities_at.Given as goal
 

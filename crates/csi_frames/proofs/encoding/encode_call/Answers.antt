@@ -1,9 +1,9 @@
 use Rattle.std.proofs.Common.{◌+◌, ◌++◌, ◌∙◌, ℕ, List, ap, arith}
 use Rattle.csi_types.specs.declared.call.Kind.{Kind}
-use Rattle.csi_types.specs.Replies.{call_frame}
-use Rattle.csi_types.specs.Same.{kind_number}
-use Rattle.csi_frames.specs.Spelling.{spelling}
-use Rattle.csi_frames.specs.Version.{version_with}
+use Rattle.csi_types.specs.Model.Replies.{call_frame}
+use Rattle.csi_types.specs.Model.Same.{kind_number}
+use Rattle.csi_frames.specs.Public.Spelling.{spelling}
+use Rattle.csi_frames.specs.Public.Version.{version_with}
 use Rattle.csi_frames.proofs.Written.{length-frame_body_is, length-spelling, Appends-frame}
 use Rattle.csi_frames.proofs.encoding.encode_call.Goals as goal
 

@@ -1,7 +1,7 @@
 use Rattle.std.proofs.Common.{◌+◌, ◌++◌, ◌∙◌, ℕ, List, refl, ap, arith}
-use Rattle.csi_types.specs.Replies.{reply_frame}
+use Rattle.csi_types.specs.Model.Replies.{reply_frame}
 use Rattle.csi_frames.specs.declared.version.Version.TheVariants.{One}
-use Rattle.csi_frames.specs.Spelling.{spelling}
+use Rattle.csi_frames.specs.Public.Spelling.{spelling}
 use Rattle.csi_frames.proofs.Written.{length-frame_body_is, length-spelling, Appends-frame}
 use Rattle.csi_frames.proofs.encoding.encode_reply.Goals as goal
 

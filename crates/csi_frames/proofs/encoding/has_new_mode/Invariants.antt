@@ -1,6 +1,6 @@
 -- None of those before is in a new mode.
 use Rattle.std.proofs.Common.{◌≡◌, false, take}
-use Rattle.csi_frames.specs.Spelling.{has_new_mode}
+use Rattle.csi_frames.specs.Public.Spelling.{has_new_mode}
 use Rattle.csi_frames.proofs.encoding.has_new_mode.Given as goal
 
 abbrev pub invariant-loop-one : goal.invariant-loop-one

@@ -1,6 +1,7 @@
 use Rattle.std.proofs.Common.{subst}
-use Rattle.csi_frames.specs.Appends.{Appends}
-use Rattle.csi_frames.specs.Spelling.{head, party}
+use Rattle.csi_frames.specs.Private.Appends.{Appends}
+use Rattle.csi_frames.specs.Private.Spelling.{head}
+use Rattle.csi_frames.specs.Public.Spelling.{party}
 use Rattle.csi_frames.proofs.Written.{Appends-then}
 use Rattle.csi_frames.proofs.encoding.put_head.Goals as goal
 

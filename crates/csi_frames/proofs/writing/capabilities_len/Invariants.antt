@@ -1,6 +1,6 @@
 use Rattle.std.proofs.Common.{◌≡◌, ◌*◌, ◌≤◌, length, take}
 use Rattle.std.specs.List.{flat_map}
-use Rattle.csi_frames.specs.Spelling.{capability}
+use Rattle.csi_frames.specs.Public.Spelling.{capability}
 use Rattle.csi_frames.proofs.writing.capabilities_len.Given as goal
 
 abbrev pub invariant-loop-one : goal.invariant-loop-one

@@ -1,6 +1,6 @@
 use Rattle.std.proofs.Common.{◌+◌, ◌≤◌, length, take, arith}
 use Rattle.std.specs.List.{flat_map}
-use Rattle.csi_frames.specs.Spelling.{capability}
+use Rattle.csi_frames.specs.Public.Spelling.{capability}
 use Rattle.std.proofs.lemmas.List.Folds.{length-flat_map-take}
 use Rattle.csi_frames.proofs.writing.put_capabilities.Goals as goal
 

@@ -1,8 +1,8 @@
 use Rattle.std.proofs.Common.{take}
 use Rattle.std.specs.List.{flat_map, AllByRecursion}
-use Rattle.csi_types.specs.Limits.{IsCapability}
-use Rattle.csi_frames.specs.Appends.{Appends}
-use Rattle.csi_frames.specs.Spelling.{capability}
+use Rattle.csi_types.specs.Public.Limits.{IsCapability}
+use Rattle.csi_frames.specs.Private.Appends.{Appends}
+use Rattle.csi_frames.specs.Public.Spelling.{capability}
 use Rattle.csi_frames.proofs.writing.put_capabilities.Given as goal
 
 abbrev pub invariant-loop-one : goal.invariant-loop-one

@@ -1,7 +1,7 @@
 use Rattle.std.proofs.Common.{ℕ, List, subst, ◌∙◌, [], ◌∷◌, ◌++◌, length, append_assoc}
-use Rattle.csi_types.specs.Status.{status_code}
-use Rattle.csi_frames.specs.Appends.{Appends}
-use Rattle.csi_frames.specs.Spelling.{reply_id}
+use Rattle.csi_types.specs.Public.Status.{status_code}
+use Rattle.csi_frames.specs.Private.Appends.{Appends}
+use Rattle.csi_frames.specs.Public.Spelling.{reply_id}
 use Rattle.csi_frames.proofs.Written.{Appends-then}
 use Rattle.csi_frames.proofs.writing.put_reply.Goals as goal
 

@@ -2,7 +2,7 @@
 use Rattle.std.proofs.Common.{Vec, Global}
 use Rattle.csi_types.specs.declared.capability.Capability.{Capability}
 use Rattle.std.proofs.lemmas.Result.{err_from_is_err_and}
-use Rattle.csi_json.specs.Capabilities.{capability_of}
+use Rattle.csi_json.specs.Public.Capabilities.{capability_of}
 use Rattle.csi_json.proofs.ReadLists.{goes_on, refuses}
 use Rattle.csi_json.proofs.lists.read_capabilities.Goals as goal
 

@@ -1,5 +1,5 @@
 -- Each item that is read goes on the list; the first that isn't ends the reading.
-use Rattle.csi_json.specs.Events.{event_of}
+use Rattle.csi_json.specs.Public.Events.{event_of}
 use Rattle.csi_json.proofs.ReadLists.{goes_on}
 use Rattle.csi_json.proofs.ReadEvents.{faulty}
 use Rattle.csi_json.proofs.lists.read_events.Goals as goal

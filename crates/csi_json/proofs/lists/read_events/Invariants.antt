@@ -2,8 +2,8 @@
 use Rattle.std.proofs.Common.{◌≡◌, map, take}
 use Rattle.std.specs.Prelude.{Ok}
 use Rattle.serde_json.specs.View.{view}
-use Rattle.csi_json.specs.Json.{read_all}
-use Rattle.csi_json.specs.Events.{event_of}
+use Rattle.csi_json.specs.Public.Json.{read_all}
+use Rattle.csi_json.specs.Public.Events.{event_of}
 use Rattle.csi_json.proofs.lists.read_events.Given as goal
 
 abbrev pub invariant-loop-index : goal.invariant-loop-index

@@ -2,7 +2,7 @@
 use Rattle.std.proofs.Common.{Vec, Global}
 use Rattle.csi_types.specs.declared.config.NodeSlots.{NodeSlots}
 use Rattle.std.proofs.lemmas.Result.{err_from_is_err_and}
-use Rattle.csi_json.specs.Configs.{node_of}
+use Rattle.csi_json.specs.Public.Configs.{node_of}
 use Rattle.csi_json.proofs.ReadLists.{goes_on, refuses, wants}
 use Rattle.csi_json.proofs.lists.read_nodes.Goals as goal
 

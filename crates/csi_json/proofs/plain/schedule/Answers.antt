@@ -2,7 +2,7 @@
 use Rattle.std.proofs.Common.{◌≡◌, ◌≤◌, length, map, true, sym, ap, ◌∙◌, arith}
 use Rattle.std.specs.Prelude.{Some, codes}
 use Rattle.std.specs.Str.{bytes_eq}
-use Rattle.csi_json.specs.Plain.{event_in}
+use Rattle.csi_json.specs.Private.Plain.{event_in}
 use Rattle.csi_json.proofs.PlainSchedules.{both}
 use Rattle.csi_json.proofs.plain.schedule.Goals as goal
 

@@ -1,6 +1,6 @@
 use Rattle.std.proofs.Common.{arith}
 use Rattle.std.proofs.lemmas.Grind.{common_steps}
-use Rattle.csi_json.specs.Schedule.{events_of}
+use Rattle.csi_json.specs.Public.Schedule.{events_of}
 use Rattle.csi_json.proofs.schedule.all_events.Goals as goal
 
 pub returns-clause-read : goal.returns-clause-read

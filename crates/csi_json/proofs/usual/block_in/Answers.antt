@@ -2,7 +2,7 @@
 use Rattle.std.proofs.Common.{◌≡◌, length, true, arith}
 use Rattle.std.specs.Prelude.{Some, codes}
 use Rattle.std.specs.Str.{bytes_eq}
-use Rattle.csi_types.specs.Mode.{mode_from_number}
+use Rattle.csi_types.specs.Public.Mode.{mode_from_number}
 use Rattle.csi_json.proofs.PlainTexts.{block_is}
 use Rattle.csi_json.proofs.usual.block_in.Goals as goal
 

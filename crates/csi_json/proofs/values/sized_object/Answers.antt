@@ -1,5 +1,5 @@
 use Rattle.std.proofs.Common.{arith}
-use Rattle.csi_json.specs.Json.{sized_object}
+use Rattle.csi_json.specs.Public.Json.{sized_object}
 use Rattle.csi_json.proofs.Items.{members_in_view}
 use Rattle.csi_json.proofs.values.sized_object.Goals as goal
 

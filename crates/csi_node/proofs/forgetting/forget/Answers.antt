@@ -1,6 +1,6 @@
 use Rattle.std.proofs.Common.{rules}
 use Rattle.std.proofs.lemmas.Fn.{filter_same}
-use Rattle.csi_node.specs.WithoutSession.{stays_in}
+use Rattle.csi_node.specs.Public.WithoutSession.{stays_in}
 use Rattle.csi_node.proofs.forgetting.forget.Goals as goal
 
 pub returns : goal.returns

@@ -1,6 +1,6 @@
 -- In every state that frames lead to, by what the fence and then the table make of the call.
-use Rattle.csi_node.specs.State.{empty_node}
-use Rattle.csi_node.specs.Fenced.{after_frames}
+use Rattle.csi_node.specs.Model.State.{empty_node}
+use Rattle.csi_node.specs.Public.Fenced.{after_frames}
 use Rattle.csi_node.proofs.DeliveryLaw.{empty, closed, delivered}
 use Rattle.csi_node.proofs.SessionsLaw.{all_current}
 use Rattle.csi_node.proofs.StagedOnce.{all_found}

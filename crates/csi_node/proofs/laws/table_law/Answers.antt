@@ -1,6 +1,6 @@
 -- The laws hold in every state, whether or not frames lead to it.
-use Rattle.csi_node.specs.State.{empty_node}
-use Rattle.csi_node.specs.Fenced.{after_frames}
+use Rattle.csi_node.specs.Model.State.{empty_node}
+use Rattle.csi_node.specs.Public.Fenced.{after_frames}
 use Rattle.csi_node.proofs.TableLaw.{is_lawful}
 use Rattle.csi_node.proofs.laws.table_law.Goals as goal
 

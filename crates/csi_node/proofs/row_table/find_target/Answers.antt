@@ -1,9 +1,9 @@
 -- What stands at the next place is found, or is passed over.
 use Rattle.std.proofs.Common.{◌≡◌, ◌∙◌, ◌+◌, ◌<◌, ℕ, Bool, true, false, cond, List, ◌∷◌, length, drop, get_or, ap, sym, Some, rules}
 use Rattle.std.proofs.lemmas.List.{at_drop_more}
-use Rattle.csi_types.specs.Same.{same_text}
+use Rattle.csi_types.specs.Model.Same.{same_text}
 use Rattle.csi_node.specs.declared.row.NodeTarget.{NodeTarget}
-use Rattle.csi_node.specs.OneRow.{target_among}
+use Rattle.csi_node.specs.Public.OneRow.{target_among}
 use Rattle.csi_node.proofs.row_table.find_target.Goals as goal
 
 -- by whether it is the target

@@ -1,6 +1,6 @@
 -- What is found among those that are left is what is found among all.
 use Rattle.std.proofs.Common.{◌≡◌, drop}
-use Rattle.csi_node.specs.OneRow.{target_among}
+use Rattle.csi_node.specs.Public.OneRow.{target_among}
 use Rattle.csi_node.proofs.row_table.find_target.Given as goal
 
 -- the target is found where it is found among those still to be looked at

@@ -1,6 +1,6 @@
 -- What is left is fit exactly where the whole list is.
 use Rattle.std.proofs.Common.{◌≡◌, drop}
-use Rattle.csi_node.specs.SoundRow.{are_fit}
+use Rattle.csi_node.specs.Private.SoundRow.{are_fit}
 use Rattle.csi_node.proofs.sound_row.are_fit.Given as goal
 
 -- the targets are fit where those still to be looked at are

@@ -1,8 +1,8 @@
 use Rattle.std.proofs.Common.{◌∙◌, ap, sym, Some}
 use Rattle.std.proofs.lemmas.Result.{IfOk-weaker, on_err_weaker}
 use Rattle.std.proofs.Math.Seq.{map-set_same}
-use Rattle.csi_types.specs.Lent.{lent_call}
-use Rattle.csi_node.specs.OneRow.{shown}
+use Rattle.csi_types.specs.Public.Lent.{lent_call}
+use Rattle.csi_node.specs.Model.OneRow.{node_row_shown}
 use Rattle.csi_node.proofs.AtRow.{there, answers-there, rules-there, current-there, kept_id}
 use Rattle.csi_node.proofs.step.answer_with_row.Goals as goal
 
@@ -27,7 +27,7 @@ pub returns-clause-rules : goal.returns-clause-rules
 returns-clause-rules c =
     let is = there c.args.rows.now.items c.args.id c.args.place c.index_mut.result.now c.index_mut.ensures.value c.requires.rules c.requires.place in
     rules-there c.args.id c.args.rows.now.items c.args.place c.index_mut.result.now c.answer_at_row.new.row c.requires.rules c.requires.place is c.answer_at_row.ensures.rules
-    (kept_id c.answer_at_row.result c.args.number (lent_call c.args.call.now) (shown c.index_mut.result.now) (shown c.answer_at_row.new.row) _ c.answer_at_row.ensures.ok c.answer_at_row.ensures.err)
+    (kept_id c.answer_at_row.result c.args.place c.args.number (lent_call c.args.call.now) (node_row_shown c.index_mut.result.now) (node_row_shown c.answer_at_row.new.row) _ c.answer_at_row.ensures.ok c.answer_at_row.ensures.err)
 
 pub returns-clause-current : goal.returns-clause-current
 returns-clause-current c =
@@ -37,5 +37,5 @@ returns-clause-current c =
 pub returns-clause-err : goal.returns-clause-err
 returns-clause-err c =
     on_err_weaker c.answer_at_row.result
-    (λ same. map-set_same shown c.args.rows.now.items c.args.place c.answer_at_row.new.row c.index_mut.result.now (same ∙ ap shown c.index_mut.ensures.value))
+    (λ same. map-set_same node_row_shown c.args.rows.now.items c.args.place c.answer_at_row.new.row c.index_mut.result.now (same ∙ ap node_row_shown c.index_mut.ensures.value))
     c.answer_at_row.ensures.err

@@ -1,9 +1,10 @@
 use Rattle.std.proofs.Common.{sym, subst, ap, arith, List}
 use Rattle.std.proofs.lemmas.Result.{IfOk-weaker, on_err_weaker}
-use Rattle.csi_types.specs.Lent.{lent_call}
+use Rattle.csi_types.specs.Public.Lent.{lent_call}
 use Rattle.csi_node.specs.declared.row.NodeRow.{NodeRow}
-use Rattle.csi_node.specs.Record.{parts, parts_of}
-use Rattle.csi_node.specs.Step.{Answers}
+use Rattle.csi_node.specs.Model.Record.{parts}
+use Rattle.csi_node.specs.Private.Record.{node_record_parts}
+use Rattle.csi_node.specs.Private.Step.{AnswersCall}
 use Rattle.csi_node.proofs.AtRow.{answers-first, answers-full, rules-answered, current-answered}
 use Rattle.csi_node.proofs.step.answer_without_row.Goals as goal
 
@@ -17,7 +18,7 @@ returns-then-len-ge-MAX_ROWS-clause-ok c = λ node.
 pub returns-clause-ok : goal.returns-clause-ok
 returns-clause-ok c = λ node.
     IfOk-weaker c.answer_with_new_row.result _ _
-    (λ answer first. subst (λ (rows : List NodeRow). Answers c.args.number (lent_call c.args.call.now) (parts_of node c.args.number.session c.args.rows.now.items) (parts_of node c.args.number.session rows) answer) (sym first.rows)
+    (λ answer first. subst (λ (rows : List NodeRow). AnswersCall c.args.number (lent_call c.args.call.now) (node_record_parts node c.args.number.session c.args.rows.now.items) (node_record_parts node c.args.number.session rows) answer) (sym first.rows)
     (answers-first node c.args.number (lent_call c.args.call.now) c.args.id c.requires.volume c.args.rows.now.items c.args.place first.row answer c.requires.rules c.requires.place (omega arith) first.answered first.after))
     c.answer_with_new_row.ensures.first
 

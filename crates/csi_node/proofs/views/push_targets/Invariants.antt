@@ -1,6 +1,6 @@
 use Rattle.std.proofs.Common.{◌≡◌, ◌++◌, take, map}
-use Rattle.csi_node.specs.OneRow.{published_so}
-use Rattle.csi_node.specs.Views.{published_shown}
+use Rattle.csi_node.specs.Public.OneRow.{published_so}
+use Rattle.csi_node.specs.Public.Views.{published_shown}
 use Rattle.csi_node.proofs.views.push_targets.Given as goal
 
 -- the targets so far were listed behind what was there

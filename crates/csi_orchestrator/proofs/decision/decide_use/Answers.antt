@@ -1,6 +1,6 @@
 -- By the entry of the node.
 use Rattle.std.proofs.Common.{Some, sym, ◌∙◌, rules}
-use Rattle.csi_orchestrator.specs.Shown.{row_shown, node_entry_shown}
+use Rattle.csi_orchestrator.specs.Public.Shown.{row_shown, node_entry_shown}
 use Rattle.csi_orchestrator.proofs.DecisionsTold.{use-decided}
 use Rattle.csi_orchestrator.proofs.decision.decide_use.Goals as goal
 

@@ -1,6 +1,6 @@
 -- The first one of it, or none.
 use Rattle.std.proofs.Common.{arith}
-use Rattle.csi_types.specs.Same.{same_text}
+use Rattle.csi_types.specs.Model.Same.{same_text}
 use Rattle.csi_orchestrator.specs.declared.row.NodeEntry.{NodeEntry}
 use Rattle.csi_orchestrator.proofs.EntriesShown.{placed-here, placed-nowhere}
 use Rattle.csi_orchestrator.proofs.entries.node_index.Goals as goal

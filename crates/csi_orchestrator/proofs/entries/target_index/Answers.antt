@@ -1,6 +1,6 @@
 -- The first one of it, or none.
 use Rattle.std.proofs.Common.{arith}
-use Rattle.csi_types.specs.Same.{same_text}
+use Rattle.csi_types.specs.Model.Same.{same_text}
 use Rattle.csi_orchestrator.specs.declared.row.TargetEntry.{TargetEntry}
 use Rattle.csi_orchestrator.proofs.EntriesShown.{placed-here, placed-nowhere}
 use Rattle.csi_orchestrator.proofs.entries.target_index.Goals as goal

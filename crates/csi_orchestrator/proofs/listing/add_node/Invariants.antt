@@ -2,7 +2,7 @@
 use Rattle.std.proofs.Common.{◌≡◌, ◌++◌, take}
 use Rattle.std.specs.List.{flat_map}
 use Rattle.csi_orchestrator.specs.declared.thing.Thing.TheVariants.{Attached, Staged}
-use Rattle.csi_orchestrator.specs.Listing.{noted, noted_of_target}
+use Rattle.csi_orchestrator.specs.Private.Listing.{noted, noted_of_target}
 use Rattle.csi_orchestrator.proofs.listing.add_node.Given as goal
 
 abbrev pub invariant-loop-target_entry : goal.invariant-loop-target_entry

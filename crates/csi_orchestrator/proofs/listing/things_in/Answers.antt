@@ -6,8 +6,9 @@ use Rattle.std.proofs.lemmas.List.Sorted.{ranks_by, answers_always}
 use Rattle.csi_lists.proofs.Members.{among-moved, among-back}
 use Rattle.csi_orchestrator.specs.declared.thing.Thing.{Thing}
 use Rattle.csi_orchestrator.specs.declared.thing.Known.{Known}
-use Rattle.csi_orchestrator.specs.Shown.{row_shown}
-use Rattle.csi_orchestrator.specs.Listing.{noted_in, thing_order}
+use Rattle.csi_orchestrator.specs.Public.Shown.{row_shown}
+use Rattle.csi_orchestrator.specs.Private.Listing.{noted_in}
+use Rattle.csi_orchestrator.specs.Public.Listing.{thing_order}
 use Rattle.csi_orchestrator.proofs.ThingsNoted.{rows-list, known-of}
 use Rattle.csi_orchestrator.proofs.ThingOrder.{order-total, sorted-in-order}
 use Rattle.csi_orchestrator.proofs.listing.things_in.Goals as goal

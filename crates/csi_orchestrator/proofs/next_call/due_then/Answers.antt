@@ -2,20 +2,21 @@
 use Rattle.std.proofs.Common.{Some, None, sym, ◌∙◌, ap}
 use Rattle.std.specs.Option.{option_map}
 use Rattle.csi_orchestrator.specs.declared.marks.Marks.{Marks}
-use Rattle.csi_orchestrator.specs.Found.{due_shown}
-use Rattle.csi_orchestrator.specs.RowSteps.{changed}
-use Rattle.csi_orchestrator.specs.Shown.{row_shown, use_due, due_in}
+use Rattle.csi_orchestrator.specs.Private.Found.{due_shown}
+use Rattle.csi_orchestrator.specs.Private.RowSteps.{row_before_call}
+use Rattle.csi_orchestrator.specs.Public.Shown.{row_shown}
+use Rattle.csi_orchestrator.specs.Public.RowDue.{use_due, due_in}
 use Rattle.csi_orchestrator.proofs.DueAfterStep.{due-used-by}
 use Rattle.csi_orchestrator.proofs.next_call.due_then.Goals as goal
 
 pub returns-in_err-row-in-Use : goal.returns-in_err-row-in-Use
 returns-in_err-row-in-Use c =
     let row = row_shown c.args.row.now in
-    ap (option_map due_shown) c.from_residual.ensures ∙ due-used-by c.in-Use.usage row None c.in_err-row-in-Use.was ∙ ap (λ step. due_in (changed step row)) (sym c.in-Use.is)
+    ap (option_map due_shown) c.from_residual.ensures ∙ due-used-by c.in-Use.usage row None c.in_err-row-in-Use.was ∙ ap (λ step. due_in (row_before_call step row)) (sym c.in-Use.is)
 
 pub returns-in_ok-row-in-Use : goal.returns-in_ok-row-in-Use
 returns-in_ok-row-in-Use c =
     let row = row_shown c.args.row.now in
     let id = c.in_ok-row-in-Use.field-0 in
     c.use_due.ensures ∙ ap (λ (marks : Marks). use_due c.in-Use.usage marks id) c.marks_in.ensures ∙ due-used-by c.in-Use.usage row (Some id) c.in_ok-row-in-Use.was
-    ∙ ap (λ step. due_in (changed step row)) (sym c.in-Use.is)
+    ∙ ap (λ step. due_in (row_before_call step row)) (sym c.in-Use.is)

@@ -1,7 +1,8 @@
 -- This entry is so.
 use Rattle.std.proofs.Common.{sym, not}
-use Rattle.csi_orchestrator.specs.Shown.{NodeEntryShown, node_entry_shown}
-use Rattle.csi_orchestrator.specs.Thing.{is_no}
+use Rattle.csi_orchestrator.specs.Model.Shown.{NodeEntryShown}
+use Rattle.csi_orchestrator.specs.Public.Shown.{node_entry_shown}
+use Rattle.csi_orchestrator.specs.Model.Thing.{is_no}
 use Rattle.csi_orchestrator.proofs.EntriesShown.{one-here}
 use Rattle.csi_orchestrator.proofs.sharing.is_attached_somewhere.Goals as goal
 

@@ -1,8 +1,8 @@
 -- This entry is so.
 use Rattle.std.proofs.Common.{sym}
-use Rattle.csi_orchestrator.specs.Commands.{is_for_one_node}
-use Rattle.csi_orchestrator.specs.RowRefusals.{is_so_elsewhere}
-use Rattle.csi_orchestrator.specs.Shown.{node_entry_shown}
+use Rattle.csi_orchestrator.specs.Model.Commands.{is_for_one_node}
+use Rattle.csi_orchestrator.specs.Public.RowRefusals.{is_so_elsewhere}
+use Rattle.csi_orchestrator.specs.Public.Shown.{node_entry_shown}
 use Rattle.csi_orchestrator.proofs.EntriesShown.{one-here}
 use Rattle.csi_orchestrator.proofs.sharing.is_held_elsewhere.Goals as goal
 

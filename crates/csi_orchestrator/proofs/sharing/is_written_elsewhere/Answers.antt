@@ -1,10 +1,10 @@
 -- This entry is so.
 use Rattle.std.proofs.Common.{sym}
-use Rattle.csi_orchestrator.specs.Commands.{is_second_writer}
-use Rattle.csi_orchestrator.specs.RowRefusals.{is_so_elsewhere}
-use Rattle.csi_orchestrator.specs.Shown.{node_entry_shown}
+use Rattle.csi_orchestrator.specs.Model.Commands.{uses_as_second_writer}
+use Rattle.csi_orchestrator.specs.Public.RowRefusals.{is_so_elsewhere}
+use Rattle.csi_orchestrator.specs.Public.Shown.{node_entry_shown}
 use Rattle.csi_orchestrator.proofs.EntriesShown.{one-here}
 use Rattle.csi_orchestrator.proofs.sharing.is_written_elsewhere.Goals as goal
 
 pub returns-then-writes_beside : goal.returns-then-writes_beside
-returns-then-writes_beside c = sym (one-here node_entry_shown (is_so_elsewhere (is_second_writer c.args.usage.now) c.args.usage.now.node) c.args.entries.now c.loop-entry.entry-index c.entry-item.result c.loop-entry-test.true c.entry-item.is (cc))
+returns-then-writes_beside c = sym (one-here node_entry_shown (is_so_elsewhere (uses_as_second_writer c.args.usage.now) c.args.usage.now.node) c.args.entries.now c.loop-entry.entry-index c.entry-item.result c.loop-entry-test.true c.entry-item.is (cc))

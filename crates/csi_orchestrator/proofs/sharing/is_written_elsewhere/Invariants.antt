@@ -1,10 +1,10 @@
 -- None of the first entries is so.
 use Rattle.std.proofs.Common.{◌≡◌, false, map, take}
 use Rattle.std.specs.List.{list_any}
-use Rattle.csi_orchestrator.specs.Commands.{is_second_writer}
-use Rattle.csi_orchestrator.specs.RowRefusals.{is_so_elsewhere}
-use Rattle.csi_orchestrator.specs.Shown.{node_entry_shown}
+use Rattle.csi_orchestrator.specs.Model.Commands.{uses_as_second_writer}
+use Rattle.csi_orchestrator.specs.Public.RowRefusals.{is_so_elsewhere}
+use Rattle.csi_orchestrator.specs.Public.Shown.{node_entry_shown}
 use Rattle.csi_orchestrator.proofs.sharing.is_written_elsewhere.Given as goal
 
 abbrev pub invariant-loop-entry : goal.invariant-loop-entry
-invariant-loop-entry l = list_any (is_so_elsewhere (is_second_writer l.usage) l.usage.node) (map node_entry_shown (take l.entry-index l.entries)) ≡ false
+invariant-loop-entry l = list_any (is_so_elsewhere (uses_as_second_writer l.usage) l.usage.node) (map node_entry_shown (take l.entry-index l.entries)) ≡ false

@@ -1,9 +1,9 @@
 -- By where the target's entry stands.
 use Rattle.std.proofs.Common.{sym, ap}
 use Rattle.csi_lists.proofs.Searches.{find-no_place}
-use Rattle.csi_types.specs.Same.{same_text}
+use Rattle.csi_types.specs.Model.Same.{same_text}
 use Rattle.csi_orchestrator.specs.declared.row.TargetEntry.{TargetEntry}
-use Rattle.csi_orchestrator.specs.Shown.{mark_in}
+use Rattle.csi_orchestrator.specs.Model.Shown.{mark_in}
 use Rattle.csi_orchestrator.proofs.ChangedEntries.{find-placed}
 use Rattle.csi_orchestrator.proofs.state.published_at.Goals as goal
 

@@ -3,12 +3,12 @@ use Rattle.std.proofs.Common.{◌≡◌, ◌∙◌, sym, ap, ℕ, ◌+◌, ◌<�
 use Rattle.std.proofs.lemmas.List.{get_or_default}
 use Rattle.csi_types.specs.declared.call.Call.{Call}
 use Rattle.csi_types.specs.declared.event.Event.{Event}
-use Rattle.csi_world.specs.Simulated.{WorldParts}
+use Rattle.csi_world.specs.Model.Simulated.{WorldParts}
 use Rattle.csi_pictures.specs.declared.bars.Bar.{Bar}
 use Rattle.csi_pictures.specs.declared.columns.Columns.{Columns}
 use Rattle.csi_pictures.specs.declared.bars.Lasting.{Lasting}
-use Rattle.csi_pictures.specs.Bars.{is_shown, free_among, end_row}
-use Rattle.csi_pictures.specs.Columns.{first_free, with_row, rows_at}
+use Rattle.csi_pictures.specs.Public.Bars.{is_shown, free_among, end_row}
+use Rattle.csi_pictures.specs.Private.Columns.{first_free, with_row, rows_at}
 use Rattle.csi_pictures.proofs.WaysNoted.{written-back}
 use Rattle.csi_pictures.proofs.BarsKept.{rows-of, marked-shown, lane-kept, column-is, kept-more, kept-as, bar-more, lasting-more, marked-as}
 use Rattle.csi_pictures.proofs.bars.add_call.Goals as goal

@@ -4,10 +4,10 @@ use Rattle.std.proofs.lemmas.List.{get_or_default}
 use Rattle.csi_types.specs.declared.call.Call.{Call}
 use Rattle.csi_types.specs.declared.event.Event.{Event}
 use Rattle.csi_types.specs.declared.event.Event.TheVariants as happens
-use Rattle.csi_world.specs.Simulated.{WorldParts}
-use Rattle.csi_pictures.specs.Bars.{end_row}
-use Rattle.csi_pictures.specs.Begun.{asks_again}
-use Rattle.csi_pictures.specs.Links.{volume_of, next_of}
+use Rattle.csi_world.specs.Model.Simulated.{WorldParts}
+use Rattle.csi_pictures.specs.Public.Bars.{end_row}
+use Rattle.csi_pictures.specs.Private.Begun.{asks_again}
+use Rattle.csi_pictures.specs.Private.Links.{volume_number, next_of}
 use Rattle.csi_pictures.proofs.BarsFollowed.{asks-not, goes-on, before-row, not-ended, more-marked, first-marked}
 use Rattle.csi_pictures.proofs.LinksFollowed.{same-event, next-from, next-own, others-between, next-within}
 use Rattle.csi_pictures.proofs.bars.follow.Goals as goal
@@ -20,7 +20,7 @@ loop-at-init c =
     let begun : Call = c.args.begun.now in
     let place : ℕ = c.args.place in
     let at : ℕ = c.link_at-at.result in
-    let own : ℕ = min (volume_of begun) (length events) in
+    let own : ℕ = min (volume_number begun) (length events) in
     let some : Event = get_or events place happens.RestartOrchestrator in
     let is : some ≡ get_or events place some = get_or_default events place happens.RestartOrchestrator some c.requires.place in
     let start : place + 1 ≤ length events = omega (arith, c.requires.place) in
@@ -47,7 +47,7 @@ loop-at-preserved c =
     let at : ℕ = c.loop-at.at in
     let next : ℕ = c.link_at-at-in-loop-at.result in
     let event : Event = c.index-events-at.result in
-    let own : ℕ = min (volume_of begun) (length events) in
+    let own : ℕ = min (volume_number begun) (length events) in
     let inside : at < length events = omega (arith, c.loop-at-test.true) in
     let start : at + 1 ≤ length events = omega (arith, inside) in
     let next-is : next ≡ next_of world.frames events own (at + 1)

@@ -1,7 +1,7 @@
 -- Nothing is marked, and no column is taken.
 use Rattle.std.proofs.Common.{◌+◌, List, length, subst}
-use Rattle.csi_node.specs.Record.{NodeParts}
-use Rattle.csi_pictures.specs.Columns.{AreBlank}
+use Rattle.csi_node.specs.Model.Record.{NodeParts}
+use Rattle.csi_pictures.specs.Private.Columns.{AreBlank}
 use Rattle.csi_pictures.proofs.BarsKept.{kept-new}
 use Rattle.csi_pictures.proofs.bars.none_begun.Goals as goal
 

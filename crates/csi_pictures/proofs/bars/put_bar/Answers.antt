@@ -1,7 +1,7 @@
 -- The pieces are one text.
 use Rattle.std.proofs.Common.{◌∙◌, ap, ℕ, List, ◌++◌, string_bytes, append_assoc}
 use Rattle.std.proofs.lemmas.Result.{on_ok_weaker}
-use Rattle.csi_pictures.specs.Bars.{bar_of_class}
+use Rattle.csi_pictures.specs.Public.Bars.{bar_of_class}
 use Rattle.csi_pictures.proofs.bars.put_bar.Goals as goal
 
 pub returns : goal.returns

@@ -1,7 +1,7 @@
 -- A lane more.
 use Rattle.std.proofs.Common.{◌∙◌, ap, List, [], ◌∷◌, length, length-append, arith}
 use Rattle.csi_pictures.specs.declared.columns.Columns.{Columns}
-use Rattle.csi_pictures.specs.Columns.{rows_at}
+use Rattle.csi_pictures.specs.Private.Columns.{rows_at}
 use Rattle.csi_pictures.proofs.BarsKept.{blank-more}
 use Rattle.csi_pictures.proofs.columns.blank_columns.Goals as goal
 

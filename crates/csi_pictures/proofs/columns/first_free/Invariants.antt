@@ -1,6 +1,6 @@
 -- The columns before this one are taken.
 use Rattle.std.proofs.Common.{◌≡◌, ◌+◌, drop}
-use Rattle.csi_pictures.specs.Columns.{first_free}
+use Rattle.csi_pictures.specs.Private.Columns.{first_free}
 use Rattle.csi_pictures.proofs.columns.first_free.Given as goal
 
 abbrev pub invariant-loop-to : goal.invariant-loop-to

@@ -1,7 +1,7 @@
 -- The pieces are one text.
 use Rattle.std.proofs.Common.{◌∙◌, ap, ℕ, List, ◌++◌, string_bytes, append_assoc}
 use Rattle.std.proofs.lemmas.Result.{on_ok_weaker}
-use Rattle.csi_pictures.specs.Front.{front_of, found, style, shapes}
+use Rattle.csi_pictures.specs.Public.Front.{front_of, found, style, shapes}
 use Rattle.csi_pictures.proofs.front.put_front.Goals as goal
 
 pub returns : goal.returns

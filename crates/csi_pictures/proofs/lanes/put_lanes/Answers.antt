@@ -1,6 +1,6 @@
 use Rattle.std.proofs.Common.{codes, [], length, string_bytes}
-use Rattle.csi_pictures.specs.Pieces.{each}
-use Rattle.csi_pictures.specs.Lanes.{part_of, node_part}
+use Rattle.csi_pictures.specs.Public.Pieces.{each}
+use Rattle.csi_pictures.specs.Public.Lanes.{part_of, node_part}
 use Rattle.csi_pictures.proofs.Joins.{three}
 use Rattle.csi_pictures.proofs.lanes.put_lanes.Goals as goal
 

@@ -1,7 +1,7 @@
 -- Of the nodes before this one it is drawn.
 use Rattle.std.proofs.Common.{◌≡◌, ◌++◌, string_bytes}
-use Rattle.csi_pictures.specs.Pieces.{each}
-use Rattle.csi_pictures.specs.Lanes.{node_part}
+use Rattle.csi_pictures.specs.Public.Pieces.{each}
+use Rattle.csi_pictures.specs.Public.Lanes.{node_part}
 use Rattle.csi_pictures.proofs.lanes.put_nodes.Given as goal
 
 abbrev pub invariant-loop-place : goal.invariant-loop-place

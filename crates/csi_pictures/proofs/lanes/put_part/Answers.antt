@@ -1,6 +1,6 @@
 -- The pieces of a band are one text.
 use Rattle.std.proofs.Common.{append_assoc}
-use Rattle.csi_pictures.specs.Lanes.{lane}
+use Rattle.csi_pictures.specs.Public.Lanes.{lane}
 use Rattle.csi_pictures.proofs.lanes.put_part.Goals as goal
 
 pub returns-in-Band : goal.returns-in-Band

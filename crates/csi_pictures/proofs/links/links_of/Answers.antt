@@ -1,9 +1,9 @@
 -- One event more, from the last one up.
 use Rattle.std.proofs.Common.{◌≡◌, ◌∙◌, ap, ℕ, ◌+◌, ◌-◌, ◌<◌, List, length, arith}
 use Rattle.std.proofs.lemmas.List.{get_or_default, length-set}
-use Rattle.csi_types.specs.Frame.{Frame}
+use Rattle.csi_types.specs.Model.Frame.{Frame}
 use Rattle.csi_types.specs.declared.event.Event.{Event}
-use Rattle.csi_pictures.specs.Links.{next_of}
+use Rattle.csi_pictures.specs.Private.Links.{next_of}
 use Rattle.csi_pictures.proofs.LinksFollowed.{heads-more, links-more}
 use Rattle.csi_pictures.proofs.links.links_of.Goals as goal
 

@@ -1,7 +1,7 @@
 -- From some place on each event has its link, and each chain its first event.
 use Rattle.std.proofs.Common.{◌≡◌, ℕ, ◌+◌, ◌-◌, ◌<◌, ◌≤◌, length, get_or}
 use Rattle.csi_types.specs.declared.event.Event.{Event}
-use Rattle.csi_pictures.specs.Links.{chain_of, next_of}
+use Rattle.csi_pictures.specs.Private.Links.{chain_of, next_of}
 use Rattle.csi_pictures.proofs.links.links_of.Given as goal
 
 abbrev pub invariant-loop-done : goal.invariant-loop-done

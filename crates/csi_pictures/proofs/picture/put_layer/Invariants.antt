@@ -1,7 +1,7 @@
 -- The events before this one are drawn.
 use Rattle.std.proofs.Common.{◌≡◌, ◌++◌, string_bytes}
-use Rattle.csi_pictures.specs.Pieces.{each}
-use Rattle.csi_pictures.specs.Picture.{layer_at}
+use Rattle.csi_pictures.specs.Public.Pieces.{each}
+use Rattle.csi_pictures.specs.Public.Picture.{layer_at}
 use Rattle.csi_pictures.proofs.picture.put_layer.Given as goal
 
 abbrev pub invariant-loop-place : goal.invariant-loop-place

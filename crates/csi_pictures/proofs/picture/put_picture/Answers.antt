@@ -1,9 +1,9 @@
 use Rattle.std.proofs.Common.{◌+◌, codes, length, rules, string_bytes}
 use Rattle.std.specs.List.{flat_map}
-use Rattle.csi_pictures.specs.Bars.{bar, bars_to}
-use Rattle.csi_pictures.specs.Lanes.{lanes, names_at}
-use Rattle.csi_pictures.specs.Pieces.{each}
-use Rattle.csi_pictures.specs.Picture.{world_front, under, over}
+use Rattle.csi_pictures.specs.Public.Bars.{bar, bars_to}
+use Rattle.csi_pictures.specs.Public.Lanes.{lanes, names_at}
+use Rattle.csi_pictures.specs.Public.Pieces.{each}
+use Rattle.csi_pictures.specs.Public.Picture.{world_front, under, over}
 use Rattle.csi_pictures.proofs.Joins.{seven}
 use Rattle.csi_pictures.proofs.picture.put_picture.Goals as goal
 

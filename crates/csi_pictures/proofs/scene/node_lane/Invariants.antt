@@ -1,6 +1,6 @@
 -- The nodes before this one have other ids.
 use Rattle.std.proofs.Common.{◌≡◌, ◌+◌, drop}
-use Rattle.csi_pictures.specs.Scene.{node_lane}
+use Rattle.csi_pictures.specs.Public.Scene.{node_lane}
 use Rattle.csi_pictures.proofs.scene.node_lane.Given as goal
 
 abbrev pub invariant-loop-node : goal.invariant-loop-node

@@ -1,7 +1,7 @@
 -- One event more, from the last one up.
 use Rattle.std.proofs.Common.{◌≡◌, ◌∙◌, ap, ℕ, suc, ◌+◌, ◌-◌, ◌<◌, Bool, true, false, if◌then◌else◌, List, ◌++◌, length, get_or, take, drop, slice_get, arith}
 use Rattle.csi_types.specs.declared.event.Event.{Event}
-use Rattle.csi_pictures.specs.Scene.{comes_by, delivered_from}
+use Rattle.csi_pictures.specs.Public.Scene.{comes_by, delivered_from}
 use Rattle.csi_pictures.proofs.WaysNoted.{written-back, delivered-more}
 use Rattle.csi_pictures.proofs.ways.deliveries.Goals as goal
 

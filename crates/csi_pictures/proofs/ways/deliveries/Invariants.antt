@@ -1,6 +1,6 @@
 -- Those frames are marked that are delivered from some place on.
 use Rattle.std.proofs.Common.{◌≡◌, ℕ, ◌+◌, ◌-◌, ◌≤◌, false, length, get_or, drop}
-use Rattle.csi_pictures.specs.Scene.{delivered_from}
+use Rattle.csi_pictures.specs.Public.Scene.{delivered_from}
 use Rattle.csi_pictures.proofs.ways.deliveries.Given as goal
 
 abbrev pub invariant-loop-done : goal.invariant-loop-done

@@ -1,6 +1,6 @@
 -- From some place on each frame that was sent has the row of the first event that sent it.
 use Rattle.std.proofs.Common.{◌≡◌, ℕ, ◌+◌, ◌-◌, ◌≤◌, length, get_or, drop}
-use Rattle.csi_pictures.specs.Scene.{sent_row}
+use Rattle.csi_pictures.specs.Public.Scene.{sent_row}
 use Rattle.csi_pictures.proofs.ways.sent_rows.Given as goal
 
 abbrev pub invariant-loop-done : goal.invariant-loop-done

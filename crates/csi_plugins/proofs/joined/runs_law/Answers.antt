@@ -1,22 +1,22 @@
 -- By the plugin that was asked for.
 use Rattle.std.proofs.Common.{◌≡◌, ◌∙◌, ℕ, [], None, Some, map, length, sym, ap, subst, arith}
 use Rattle.std.specs.Prelude.{List}
-use Rattle.csi_node.specs.OneRow.{shown}
-use Rattle.csi_stores.specs.Stores.{Store}
-use Rattle.csi_records.specs.Laws.{RecordLaws}
-use Rattle.csi_records.specs.Records.{node_layout, IsRecordOf}
-use Rattle.csi_records.specs.Spelling.{present, controller_head, node_head, volume_row}
-use Rattle.csi_service.specs.Opening.{controller_records, node_records}
-use Rattle.csi_service.specs.Services.{controller_service_parts, node_service_parts}
+use Rattle.csi_node.specs.Model.OneRow.{node_row_shown}
+use Rattle.csi_stores.specs.Public.Stores.{Store}
+use Rattle.csi_records.specs.Public.Laws.{RecordLaws}
+use Rattle.csi_records.specs.Public.Records.{node_layout, IsRecordOf}
+use Rattle.csi_records.specs.Public.Spelling.{present, controller_head, node_head, volume_row}
+use Rattle.csi_service.specs.Public.Opening.{controller_records, node_records}
+use Rattle.csi_service.specs.Public.Services.{controller_service_parts, node_service_parts}
 use Rattle.csi_service.proofs.RecordParts.{node-wanted}
-use Rattle.csi_stores.specs.Part.{StoredPart}
+use Rattle.csi_stores.specs.Public.Part.{StoredPart}
 use Rattle.csi_endings.specs.declared.ending.Ending.{Ending}
 use Rattle.csi_plugins.specs.declared.kind.Plugin.{Plugin}
 use Rattle.csi_plugins.specs.declared.kind.Plugin.TheVariants.{Controller, Node}
-use Rattle.csi_plugins.specs.Service.{Streams}
-use Rattle.csi_plugins.specs.Serving.{IsControllerUnder, ControllerServes, IsNodeNamed, NodeServes}
-use Rattle.csi_plugins.specs.Running.{PluginRuns}
-use Rattle.csi_plugins.specs.Joined.{Reopens, PluginJoins}
+use Rattle.csi_plugins.specs.Public.Service.{Streams}
+use Rattle.csi_plugins.specs.Public.Serving.{IsControllerUnder, ControllerServes, IsNodeNamed, NodeServes}
+use Rattle.csi_plugins.specs.Public.Running.{PluginRuns}
+use Rattle.csi_plugins.specs.Public.Joined.{Reopens, PluginJoins}
 use Rattle.csi_plugins.proofs.JoinedRuns.{one-run}
 use Rattle.csi_plugins.proofs.joined.runs_law.Goals as goal
 
@@ -38,8 +38,8 @@ either seen laws (Node id) before between again after content first second endin
     let next = answered.1 asked.1 in
     let kept = next.1.0 in
     let own : new.node.id ≡ id = answered.0.id ∙ asked.0 in
-    let is : IsRecordOf (node_layout present None) (node_service_parts new) = record { first = record { own = kept.id; session = Some kept.session }; rows = map shown kept.rows; spelled = next.1.1 } in
-    ((own, next.0), subst (λ (n : List ℕ). IsRecordOf (node_layout present (Some n)) (node_service_parts new)) own (node-wanted new.node.id (Some new.node.session) (map shown new.node.rows) is)))
+    let is : IsRecordOf (node_layout present None) (node_service_parts new) = record { first = record { own = kept.id; session = Some kept.session }; rows = map node_row_shown kept.rows; spelled = next.1.1 } in
+    ((own, next.0), subst (λ (n : List ℕ). IsRecordOf (node_layout present (Some n)) (node_service_parts new)) own (node-wanted new.node.id (Some new.node.session) (map node_row_shown new.node.rows) is)))
     (λ parts version is other. sym ((laws.node (Some id)).parts present version is.first other.first is.rows other.rows parts is.spelled other.spelled).0)
     (λ parts is none. omega (arith, ap length (sym none ∙ is.spelled.are)))
     (λ parts place is at. ((laws.node (Some id)).refusals parts).none place (record { version = present; there = is }) at)

@@ -1,8 +1,9 @@
 use Rattle.std.proofs.Common.{sym, subst, arith}
 use Rattle.std.proofs.lemmas.Bool.Decides.{nat_tests}
 use Rattle.std.proofs.lemmas.Result.{IfErr-weaker, IfOk-weaker}
-use Rattle.csi_stores.specs.Part.{all_stored_in}
-use Rattle.csi_plugins.specs.Recording.{IsLineOf, of_controller, HasNoLine}
+use Rattle.csi_stores.specs.Public.Part.{all_stored_in}
+use Rattle.csi_plugins.specs.Public.Recording.{IsLineOf, of_controller}
+use Rattle.csi_plugins.specs.Private.Recording.{HasNoLine}
 use Rattle.csi_plugins.proofs.NoRecords.{refused_at, refused_controller, for_node}
 use Rattle.csi_plugins.proofs.recording.line_of.Goals as goal
 

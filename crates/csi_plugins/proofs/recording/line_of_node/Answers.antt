@@ -1,7 +1,8 @@
 use Rattle.std.proofs.Common.{sym, subst}
 use Rattle.std.proofs.lemmas.Result.{IfErr-weaker, IfOk-weaker}
-use Rattle.csi_stores.specs.Part.{all_stored_in}
-use Rattle.csi_plugins.specs.Recording.{IsLineOf, of_node, HasNoNodeLine}
+use Rattle.csi_stores.specs.Public.Part.{all_stored_in}
+use Rattle.csi_plugins.specs.Public.Recording.{IsLineOf, of_node}
+use Rattle.csi_plugins.specs.Private.Recording.{HasNoNodeLine}
 use Rattle.csi_plugins.proofs.recording.line_of_node.Goals as goal
 
 pub returns-in-Ok-clause-line : goal.returns-in-Ok-clause-line

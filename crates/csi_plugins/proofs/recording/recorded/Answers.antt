@@ -1,7 +1,7 @@
 -- The parts that were loaded are those that the store has.
 use Rattle.std.proofs.Common.{string_bytes}
 use Rattle.std.proofs.lemmas.Result.{IfErr-weaker, IfOk-weaker}
-use Rattle.csi_stores.specs.Part.{all_stored_in}
+use Rattle.csi_stores.specs.Public.Part.{all_stored_in}
 use Rattle.csi_service.proofs.LoadedParts.{all-put}
 use Rattle.csi_plugins.proofs.Tellings.{is_told, not_told, load_refused, refuses_at}
 use Rattle.csi_plugins.proofs.recording.recorded.Goals as goal

@@ -1,9 +1,9 @@
 use Rattle.std.proofs.Common.{◌≡◌, ◌∙◌, ◌∷◌, ◌+◌, ◌-◌, ap, inr, refl, sym, subst, List, ℕ, map, take, drop, length, arith}
-use Rattle.csi_controller.specs.Judging.{IsFirstRefused, IsRecordRefusal}
-use Rattle.csi_stores.specs.Part.{StoredPart, all_stored_in}
-use Rattle.csi_records.specs.Spelling.{controller_head, volume_part, volume_row}
-use Rattle.csi_records.specs.Stopping.{AreRead}
-use Rattle.csi_records.specs.Records.{Head, AreControllerRows, controller_layout, IsVolumeRow, AreParts, IsRecordOf, IsRefusedAt}
+use Rattle.csi_controller.specs.Public.Judging.{IsFirstRefused, IsRecordRefusal}
+use Rattle.csi_stores.specs.Public.Part.{StoredPart, all_stored_in}
+use Rattle.csi_records.specs.Public.Spelling.{controller_head, volume_part, volume_row}
+use Rattle.csi_records.specs.Private.Stopping.{AreRead}
+use Rattle.csi_records.specs.Public.Records.{Head, AreControllerRows, controller_layout, IsVolumeRow, AreParts, IsRecordOf, IsRefusedAt}
 use Rattle.csi_records.proofs.Layouts.{all-read, rows-unread, rows-refused}
 use Rattle.csi_records.proofs.PluginLayouts.{controller_one, rules-shown, stored-split}
 use Rattle.csi_records.proofs.controller_record.controller_record.Goals as goal

@@ -1,6 +1,6 @@
 use Rattle.std.proofs.Common.{◌≡◌, ◌++◌, take}
 use Rattle.std.specs.List.{flat_map, AllByRecursion}
-use Rattle.csi_records.specs.Spelling.{present}
+use Rattle.csi_records.specs.Public.Spelling.{present}
 use Rattle.csi_records.proofs.items.put_list.Given as goal
 
 -- the items so far were written, and are within their limits

@@ -1,4 +1,4 @@
-use Rattle.csi_records.specs.Records.{controller_layout, node_layout}
+use Rattle.csi_records.specs.Public.Records.{controller_layout, node_layout}
 use Rattle.csi_records.proofs.Versions.{laws-of}
 use Rattle.csi_records.proofs.PluginLayouts.{controller_one, node_one, controller_plain, node_plain, controller_versioned, node_versioned}
 use Rattle.csi_records.proofs.laws.record_laws.Goals as goal

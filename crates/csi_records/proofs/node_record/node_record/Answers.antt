@@ -1,11 +1,11 @@
 use Rattle.std.proofs.Common.{◌≡◌, ◌∙◌, ◌∷◌, ◌+◌, ◌-◌, ap, inr, sym, subst, List, ℕ, map, take, drop, length, arith}
 use Rattle.std.specs.Option.{option_copied}
-use Rattle.csi_node.specs.OneRow.{shown}
-use Rattle.csi_node.specs.Judging.{IsFirstRefused, IsRecordRefusal}
-use Rattle.csi_stores.specs.Part.{StoredPart, all_stored_in}
-use Rattle.csi_records.specs.Spelling.{node_head, answered_part}
-use Rattle.csi_records.specs.Stopping.{AreRead}
-use Rattle.csi_records.specs.Records.{Head, IsHead, IsAskedNode, node_layout, IsAnsweredRow, AreParts, IsRecordOf, IsRefusedAt}
+use Rattle.csi_node.specs.Model.OneRow.{node_row_shown}
+use Rattle.csi_node.specs.Public.Judging.{IsFirstRefused, IsRecordRefusal}
+use Rattle.csi_stores.specs.Public.Part.{StoredPart, all_stored_in}
+use Rattle.csi_records.specs.Public.Spelling.{node_head, answered_part}
+use Rattle.csi_records.specs.Private.Stopping.{AreRead}
+use Rattle.csi_records.specs.Public.Records.{Head, IsHead, IsAskedNode, node_layout, IsAnsweredRow, AreParts, IsRecordOf, IsRefusedAt}
 use Rattle.csi_records.proofs.Layouts.{all-read, rows-unread, rows-refused}
 use Rattle.csi_records.proofs.PluginLayouts.{node_one, node-unasked, stored-split}
 use Rattle.csi_records.proofs.node_record.node_record.Goals as goal
@@ -31,9 +31,9 @@ returns-in-Ok-record_of c =
     let is : all_stored_in c.args.parts.now ≡ node_head c.args.version head.own head.session ∷ others = split ∙ ap (λ (h : StoredPart). h ∷ others) (sym c.in-Ok.ensures.head) in
     let read : AreRead (answered_part c.args.version) (IsAnsweredRow c.args.version) others _ _ = c.in_ok-rows.ensures in
     let all = subst (AreRead (answered_part c.args.version) (IsAnsweredRow c.args.version) others _) c.if-all.true read in
-    let spelled = all-read (node_layout c.args.version wanted) shown head rows others fits all c.in-Ok-record_of.ensures.rules in
-    let here = subst (AreParts (node_layout c.args.version wanted) head (map shown rows)) (sym is) spelled in
-    (record { first = head; rows = map shown rows; spelled = here }, record { head = head; rows = rows; spelled = here; is = c.in-Ok-record_of.ensures.made })
+    let spelled = all-read (node_layout c.args.version wanted) node_row_shown head rows others fits all c.in-Ok-record_of.ensures.rules in
+    let here = subst (AreParts (node_layout c.args.version wanted) head (map node_row_shown rows)) (sym is) spelled in
+    (record { first = head; rows = map node_row_shown rows; spelled = here }, record { head = head; rows = rows; spelled = here; is = c.in-Ok-record_of.ensures.made })
 
 pub returns-in-Err-BadRow : goal.returns-in-Err-BadRow
 returns-in-Err-BadRow c =
@@ -46,7 +46,7 @@ returns-in-Err-BadRow c =
     let is : all_stored_in c.args.parts.now ≡ node_head c.args.version head.own head.session ∷ others = split ∙ ap (λ (h : StoredPart). h ∷ others) (sym c.in-Ok.ensures.head) in
     let first : IsFirstRefused head.session rows c.in-Err-BadRow.bad = subst (IsRecordRefusal head.session rows) c.in-Err-BadRow.field-0-is c.in-Err-BadRow.ensures.refused in
     inr (subst (λ (ps : List StoredPart). IsRefusedAt (IsRecordOf (node_layout c.args.version wanted)) ps c.in-Err-BadRow.bad) (sym is)
-    (rows-refused (node_layout c.args.version wanted) (node_one c.args.version wanted) shown head rows others c.in_ok-rows.field-0.all c.in-Err-BadRow.bad fits c.in_ok-rows.ensures first.from first.to first.before first.refused))
+    (rows-refused (node_layout c.args.version wanted) (node_one c.args.version wanted) node_row_shown head rows others c.in_ok-rows.field-0.all c.in-Err-BadRow.bad fits c.in_ok-rows.ensures first.from first.to first.before first.refused))
 
 pub returns-in-Ok-2 : goal.returns-in-Ok-2
 returns-in-Ok-2 c =
@@ -61,4 +61,4 @@ returns-in-Ok-2 c =
     let place : length rows + 1 ≡ c.len.result + 1 = omega (arith, c.len.ensures) in
     inr (subst (λ (ps : List StoredPart). IsRefusedAt (IsRecordOf (node_layout c.args.version wanted)) ps (c.len.result + 1)) (sym is)
     (subst (λ (n : ℕ). IsRefusedAt (IsRecordOf (node_layout c.args.version wanted)) (node_head c.args.version head.own head.session ∷ others) n) place
-    (rows-unread (node_layout c.args.version wanted) shown head rows others fits (subst (AreRead (answered_part c.args.version) (IsAnsweredRow c.args.version) others _) c.if-all.false read) c.in-Ok-2.ensures.rules)))
+    (rows-unread (node_layout c.args.version wanted) node_row_shown head rows others fits (subst (AreRead (answered_part c.args.version) (IsAnsweredRow c.args.version) others _) c.if-all.false read) c.in-Ok-2.ensures.rules)))

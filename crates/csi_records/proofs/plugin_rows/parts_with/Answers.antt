@@ -1,4 +1,4 @@
-use Rattle.csi_records.specs.Spelling.{present}
+use Rattle.csi_records.specs.Public.Spelling.{present}
 use Rattle.csi_records.proofs.WritingPieces.{one_more_put, one_more_fit}
 use Rattle.csi_records.proofs.plugin_rows.parts_with.Goals as goal
 

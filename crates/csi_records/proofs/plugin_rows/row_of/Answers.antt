@@ -1,6 +1,6 @@
 use Rattle.std.proofs.Common.{◌≡◌, true, false, ap, arith}
 use Rattle.std.proofs.lemmas.Result.{IfOk-weaker}
-use Rattle.csi_stores.specs.Part.{StoredPart}
+use Rattle.csi_stores.specs.Public.Part.{StoredPart}
 use Rattle.csi_records.proofs.PartReaders.{read-of, unread-of}
 use Rattle.csi_records.proofs.plugin_rows.row_of.Goals as goal
 

@@ -1,4 +1,4 @@
-use Rattle.csi_stores.specs.Part.{stored_in}
+use Rattle.csi_stores.specs.Public.Part.{stored_in}
 use Rattle.csi_records.proofs.Layouts.{stops-here}
 use Rattle.csi_records.proofs.plugin_rows.rows_of.Goals as goal
 

@@ -1,6 +1,6 @@
 use Rattle.std.proofs.Common.{◌≡◌, map, take}
 use Rattle.std.specs.List.{AllByRecursion}
-use Rattle.csi_stores.specs.Part.{all_stored_in}
+use Rattle.csi_stores.specs.Public.Part.{all_stored_in}
 use Rattle.csi_records.proofs.plugin_rows.rows_of.Given as goal
 
 -- the parts so far are rows

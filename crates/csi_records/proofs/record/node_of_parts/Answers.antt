@@ -1,7 +1,7 @@
 use Rattle.std.proofs.Common.{sym}
 use Rattle.std.specs.Option.{option_copied}
-use Rattle.csi_stores.specs.Part.{all_stored_in}
-use Rattle.csi_records.specs.Records.{node_layout, IsNodeOf}
+use Rattle.csi_stores.specs.Public.Part.{all_stored_in}
+use Rattle.csi_records.specs.Public.Records.{node_layout, IsNodeOf}
 use Rattle.csi_records.proofs.Versions.{no-version, stopped-in}
 use Rattle.csi_records.proofs.PluginLayouts.{node_versioned}
 use Rattle.csi_records.proofs.record.node_of_parts.Goals as goal

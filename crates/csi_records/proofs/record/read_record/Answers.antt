@@ -1,9 +1,9 @@
 use Rattle.std.proofs.Common.{◌≡◌, List, ℕ, length, Err, inr, subst, arith}
 use Rattle.std.proofs.lemmas.List.{length-map}
 use Rattle.csi_stores.specs.declared.part.Part.{Part}
-use Rattle.csi_stores.specs.Part.{all_stored_in, stored_in}
-use Rattle.csi_records.specs.Places.{IsBadAt, no_head, ReadsParts}
-use Rattle.csi_records.specs.Stopping.{AreSplit}
+use Rattle.csi_stores.specs.Public.Part.{all_stored_in, stored_in}
+use Rattle.csi_records.specs.Public.Places.{IsBadAt, no_head, ReadsParts}
+use Rattle.csi_records.specs.Private.Stopping.{AreSplit}
 use Rattle.csi_records.proofs.SplittingBytes.{bad-end, err-bytes}
 use Rattle.csi_records.proofs.record.read_record.Goals as goal
 

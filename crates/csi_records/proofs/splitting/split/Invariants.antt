@@ -1,5 +1,5 @@
 use Rattle.std.proofs.Common.{◌≡◌, length}
-use Rattle.csi_stores.specs.Part.{all_stored_in}
+use Rattle.csi_stores.specs.Public.Part.{all_stored_in}
 use Rattle.csi_records.proofs.SplittingBytes.{IsSoFar}
 use Rattle.csi_records.proofs.splitting.split.Given as goal
 

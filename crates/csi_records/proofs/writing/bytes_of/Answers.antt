@@ -1,6 +1,6 @@
 use Rattle.std.proofs.Common.{arith}
 use Rattle.std.proofs.lemmas.Grind.{common_steps}
-use Rattle.csi_stores.specs.Part.{stored_in}
+use Rattle.csi_stores.specs.Public.Part.{stored_in}
 use Rattle.csi_records.proofs.WritingPieces.{one_more_part, part_at}
 use Rattle.csi_records.proofs.writing.bytes_of.Goals as goal
 

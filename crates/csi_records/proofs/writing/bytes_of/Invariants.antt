@@ -1,7 +1,7 @@
 use Rattle.std.proofs.Common.{◌≡◌, ◌++◌, map, take}
 use Rattle.std.specs.List.{flat_map}
-use Rattle.csi_stores.specs.Part.{stored_in}
-use Rattle.csi_records.specs.Spelling.{part_bytes}
+use Rattle.csi_stores.specs.Public.Part.{stored_in}
+use Rattle.csi_records.specs.Public.Spelling.{part_bytes}
 use Rattle.csi_records.proofs.writing.bytes_of.Given as goal
 
 -- the parts so far were written

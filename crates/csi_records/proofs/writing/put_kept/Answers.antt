@@ -1,7 +1,7 @@
 use Rattle.std.proofs.Common.{◌≡◌, ◌+◌, ◌++◌, [], ◌∷◌, ℕ, ap, ◌∙◌}
 use Rattle.std.proofs.lemmas.Result.{on_ok_weaker}
-use Rattle.csi_types.specs.Same.{kind_number}
-use Rattle.csi_frames.specs.Spelling.{word, reply_fields}
+use Rattle.csi_types.specs.Model.Same.{kind_number}
+use Rattle.csi_frames.specs.Public.Spelling.{word, reply_fields}
 use Rattle.csi_records.proofs.WritingPieces.{written4}
 use Rattle.csi_records.proofs.writing.put_kept.Goals as goal
 

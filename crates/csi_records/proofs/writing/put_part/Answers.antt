@@ -2,8 +2,8 @@ use Rattle.std.proofs.Common.{◌≡◌, ◌++◌, List, ℕ, length, subst}
 use Rattle.std.specs.Prelude.{OnOk}
 use Rattle.std.proofs.lemmas.Result.{on_ok_weaker}
 use Rattle.byteorder.specs.Endian.{big_bytes}
-use Rattle.csi_frames.specs.Spelling.{word}
-use Rattle.csi_records.specs.Spelling.{part_bytes}
+use Rattle.csi_frames.specs.Public.Spelling.{word}
+use Rattle.csi_records.specs.Public.Spelling.{part_bytes}
 use Rattle.csi_records.proofs.WritingPieces.{written3}
 use Rattle.csi_records.proofs.writing.put_part.Goals as goal
 

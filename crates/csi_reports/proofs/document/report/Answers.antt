@@ -1,7 +1,7 @@
 -- The text that is written is that of the tokens.
-use Rattle.csi_listings.proofs.WrittenSteps.{alone}
-use Rattle.csi_reports.specs.Found.{gathered_of}
-use Rattle.csi_reports.specs.Report.{report_of}
+use Rattle.csi_reports.proofs.WrittenSteps.{alone}
+use Rattle.csi_reports.specs.Private.Found.{gathered_of}
+use Rattle.csi_reports.specs.Public.Report.{report_of}
 use Rattle.csi_reports.proofs.document.report.Goals as goal
 
 pub returns : goal.returns

@@ -5,10 +5,10 @@ use Rattle.json.specs.Token.{begin_object, key}
 use Rattle.std.proofs.Math.Bool.{not-not}
 use Rattle.json.specs.Tree.{json_tokens}
 use Rattle.serde_json.specs.Written.{outline}
-use Rattle.csi_listings.specs.Entries.{entries, attached_entry, known_entry, published_entry, staged_entry, volume_entry}
-use Rattle.csi_listings.specs.Listed.{live_rows}
-use Rattle.csi_reports.specs.Outcomes.{outcome_entry}
-use Rattle.csi_listings.proofs.WrittenSteps.{next, of_number, of_flag, of_entries}
+use Rattle.csi_reports.specs.Public.Entries.{entries, attached_entry, known_entry, published_entry, staged_entry, volume_entry}
+use Rattle.csi_reports.specs.Public.Listed.{live_rows}
+use Rattle.csi_reports.specs.Public.Outcomes.{outcome_entry}
+use Rattle.csi_reports.proofs.WrittenSteps.{next, of_number, of_flag, of_entries}
 use Rattle.csi_reports.proofs.document.write_document.Goals as goal
 
 pub returns : goal.returns
@@ -18,7 +18,7 @@ returns c =
     (next _ _ _ _ _ _ c.in_ok-put_array.ensures (ap (of_entries (codes "attached") attached_entry) c.deref.ensures.value)
     (next _ _ _ _ (key (codes "events") ∷ []) _ c.in_ok-key.ensures refl
     (next _ _ _ _ _ _ c.in_ok-write_outcomes.ensures (ap (λ outcomes. json_tokens (outline (entries outcome_entry outcomes))) c.outcomes.ensures)
-    (next _ _ _ _ _ _ c.in_ok-put_number.ensures (ap (of_number (codes "frames")) c.frames.ensures)
+    (next _ _ _ _ _ _ c.in_ok-put_number.ensures (ap (of_number (codes "frames")) c.frame_count.ensures)
     (next _ _ _ _ _ _ c.in_ok-put_array-2.ensures (ap (of_entries (codes "known") known_entry) c.deref-2.ensures.value)
     (next _ _ _ _ _ _ c.in_ok-put_array-3.ensures (ap (of_entries (codes "published") published_entry) c.deref-3.ensures.value)
     (next _ _ _ _ _ _ c.in_ok-put_flag.ensures (ap (of_flag (codes "safe")) (sym (ap not c.is_none-safe.ensures ∙ not-not c.is_none-safe.result)))

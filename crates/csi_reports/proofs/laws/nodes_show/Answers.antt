@@ -2,9 +2,9 @@
 use Rattle.std.proofs.Common.{◌≡◌, ◌+◌, List, [], ◌∷◌, ◌++◌, take, ap, sym, ◌∙◌, subst}
 use Rattle.std.specs.List.{AllByRecursion}
 use Rattle.std.proofs.lemmas.List.{take_more}
-use Rattle.csi_node.specs.Record.{NodeParts}
+use Rattle.csi_node.specs.Model.Record.{NodeParts}
 use Rattle.csi_lists.proofs.Each.{each-append_one}
-use Rattle.csi_reports.specs.Laws.{ShowsAState}
+use Rattle.csi_reports.specs.Private.Laws.{ShowsAState}
 use Rattle.csi_reports.proofs.laws.nodes_show.Goals as goal
 
 pub loop-node-preserved : goal.loop-node-preserved

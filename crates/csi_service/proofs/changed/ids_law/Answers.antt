@@ -1,4 +1,4 @@
-use Rattle.csi_types.specs.VolumeId.{IsVolumeId}
+use Rattle.csi_types.specs.Public.VolumeId.{IsVolumeId}
 use Rattle.csi_service.proofs.SoFar.{each-more}
 use Rattle.csi_service.proofs.changed.ids_law.Goals as goal
 

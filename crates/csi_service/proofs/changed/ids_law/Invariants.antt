@@ -1,6 +1,6 @@
 use Rattle.std.proofs.Common.{take}
 use Rattle.std.specs.List.{AllByRecursion}
-use Rattle.csi_types.specs.VolumeId.{IsVolumeId}
+use Rattle.csi_types.specs.Public.VolumeId.{IsVolumeId}
 use Rattle.csi_service.proofs.changed.ids_law.Given as goal
 
 -- the ids so far are numbers from 1

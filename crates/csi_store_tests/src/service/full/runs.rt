@@ -6,9 +6,9 @@ use super::super::stops::{Disks, Image, NO_STOP, left_closed, new_image, opened}
 use super::are_same;
 use super::calls::{Calls, calls_in, no_calls, one_call};
 use super::content::{Content, Last, NODE, node_id, parts, places};
-use csi_failing::FailingReader;
 use csi_service::{ControllerService, Core, Counted, Keep, MemoryKeep, NodeService, Part, serve};
 use csi_sqlite::SqliteKeep;
+use csi_stores::FailingReader;
 use csi_types::NodeId;
 use std::alloc::Global;
 use std::process::Abort;

@@ -8,11 +8,10 @@ use super::super::sessions::{
     BEGUN, IN_SESSION_0, NODE_BEFORE, NODE_LATER, Turn, UNSTAGE_LATER, UNSTAGED_REPLY, taken,
 };
 use super::super::{NODE_HEAD, is_part, room};
-use super::{STAGE, changes, commits, count_of, frame_of, opened, opened_node, store_of};
-use csi_frames::Splitter;
+use super::{STAGE, changes, commits, count_of, fed, opened, opened_node, store_of};
 use csi_node::NodeRecord;
 use csi_service::{Core, MemoryKeep, NodeService, Part};
-use csi_types::{Frame, NoMemory};
+use csi_types::NoMemory;
 use std::alloc::Global;
 use std::process::Abort;
 
@@ -32,7 +31,7 @@ fn is_begun(parts: &[Part], head: &[u8], gone: u64, (key, row): (u64, &[u8])) ->
 fn a_controller_begins_a_session_in_want_of_memory(rt: HostRuntime) {
     let mut keep = store_of(&rt, PLAYED);
     let mut service = opened(&rt, &mut keep, (PLAYED, PLAYED));
-    let parts = changes(&rt, &mut service, frame_of(&rt, NEXT));
+    let parts = changes(&rt, &mut service, NEXT);
     drop(service);
     assert!(&rt; is_begun(&parts, PLAYED_NEXT.0, 1, (2, PLAYED_NEXT.2)));
     commits(&rt, &mut keep, &parts, (PLAYED, PLAYED_NEXT));
@@ -50,7 +49,7 @@ fn opened_later(rt: &(impl Abort + AllocGlobal), keep: &mut MemoryKeep) -> NodeS
 fn a_node_begins_a_session_in_want_of_memory(rt: HostRuntime) {
     let mut keep = store_of(&rt, NODE_BEFORE);
     let mut service = opened_later(&rt, &mut keep);
-    let parts = changes(&rt, &mut service, frame_of(&rt, UNSTAGE_LATER));
+    let parts = changes(&rt, &mut service, UNSTAGE_LATER);
     drop(service);
     assert!(&rt; is_begun(&parts, NODE_LATER.0, 1, (1, NODE_LATER.1)));
     commits(&rt, &mut keep, &parts, (NODE_BEFORE, NODE_LATER));
@@ -66,24 +65,39 @@ fn is_unchanged<C: Core>(rt: &impl Abort, service: &C) -> bool {
     is_unchanged
 }
 
-// Whether the frame changes nothing. It takes no memory.
-fn is_passed_over<C: Core>(rt: &impl Abort, service: &mut C, frame: Frame) -> bool {
-    let reply = service.step(&frame).expect(rt, "it takes no memory");
-    drop((frame, reply));
+// Whether the frame changes nothing. Where there is room for a reply it takes no memory, but for the capabilities of a CreateVolume.
+fn is_passed_over<C: Core>(
+    rt: &(impl Abort + AllocGlobal),
+    service: &mut C,
+    (bytes, is_create): (&[u8], bool),
+) -> bool {
+    let mut splitter = fed(rt, bytes);
+    let mut out = room(rt, 544);
+    let Ok(Some(frame)) = splitter.next() else {
+        return false;
+    };
+    if service.answer_into(&frame, &mut out).is_err() {
+        assert!(rt; is_create && out.is_empty());
+        service.answer_into(&frame, &mut out).expect(rt, "memory");
+    }
+    drop((splitter, out));
     is_unchanged(rt, service)
 }
 
-// A reply of session 2; a call that is stale by its number; and, where session 2 has begun, one that is over. Volumes that were deleted are
-// there each time.
+// A reply of session 2; and two calls that are stale by their numbers, which are over where session 2 has begun. Volumes that were deleted
+// are there each time.
 #[test]
 fn a_controller_passes_over_what_changes_nothing_without_memory(rt: HostRuntime) {
     let mut keep = store_of(&rt, PLAYED);
     let mut service = opened(&rt, &mut keep, (PLAYED, PLAYED));
     drop(keep);
-    assert!(&rt; is_passed_over(&rt, &mut service, frame_of(&rt, NEXT_REPLY)));
-    assert!(&rt; is_passed_over(&rt, &mut service, frame_of(&rt, CREATE)));
-    drop(changes(&rt, &mut service, frame_of(&rt, NEXT)));
-    assert!(&rt; is_passed_over(&rt, &mut service, frame_of(&rt, CREATE)));
+    let unpublish = SCRIPT.get(118..152).expect(&rt, "a frame");
+    assert!(&rt; is_passed_over(&rt, &mut service, (NEXT_REPLY, false)));
+    assert!(&rt; is_passed_over(&rt, &mut service, (CREATE, true)));
+    assert!(&rt; is_passed_over(&rt, &mut service, (unpublish, false)));
+    drop(changes(&rt, &mut service, NEXT));
+    assert!(&rt; is_passed_over(&rt, &mut service, (CREATE, true)));
+    assert!(&rt; is_passed_over(&rt, &mut service, (unpublish, false)));
     drop(service);
 }
 
@@ -104,42 +118,36 @@ fn has_record(rt: &impl Abort, service: &NodeService, before: &NodeRecord) -> bo
     is_same && is_its_own
 }
 
-// Whether the stale call changes nothing: where memory is refused, for the id of the node in the frame of its reply, the node is as it was,
-// and then answers.
-fn is_stale(rt: &impl Abort, service: &mut NodeService, frame: Frame) -> bool {
+// Whether the stale call changes nothing: where memory is refused, for room for its reply, the node is as it was, and then answers.
+fn is_stale(rt: &(impl Abort + AllocGlobal), service: &mut NodeService, bytes: &[u8]) -> bool {
     let before = record_of(rt, service);
-    let first = service.step(&frame);
-    assert!(rt; has_record(rt, service, &before));
-    let reply = match first {
-        Ok(reply) => reply,
-        Err(NoMemory) => service.step(&frame).expect(rt, "memory"),
+    let mut splitter = fed(rt, bytes);
+    let mut out = Vec::new(rt.alloc());
+    let Ok(Some(frame)) = splitter.next() else {
+        return false;
     };
-    drop((frame, reply));
+    let first = service.answer_into(&frame, &mut out);
+    assert!(rt; has_record(rt, service, &before));
+    if first.is_err() {
+        service.answer_into(&frame, &mut out).expect(rt, "memory");
+    }
+    drop((splitter, out));
     let is_left = has_record(rt, service, &before);
     drop(before);
     is_left && is_unchanged(rt, service)
 }
 
-// The same of a node, whose replies take memory.
+// The same of a node, whose stale call finds no room for a reply.
 #[test]
 fn a_node_passes_over_what_changes_nothing(rt: HostRuntime) {
     let mut keep = store_of(&rt, NODE_BEFORE);
     let mut service = opened_later(&rt, &mut keep);
     drop(keep);
-    assert!(&rt; is_passed_over(&rt, &mut service, frame_of(&rt, UNSTAGED_REPLY)));
-    assert!(&rt; is_stale(&rt, &mut service, frame_of(&rt, STAGE)));
-    drop(changes(&rt, &mut service, frame_of(&rt, UNSTAGE_LATER)));
-    assert!(&rt; is_stale(&rt, &mut service, frame_of(&rt, STAGE)));
+    assert!(&rt; is_passed_over(&rt, &mut service, (UNSTAGED_REPLY, false)));
+    assert!(&rt; is_stale(&rt, &mut service, STAGE));
+    drop(changes(&rt, &mut service, UNSTAGE_LATER));
+    assert!(&rt; is_stale(&rt, &mut service, STAGE));
     drop(service);
-}
-
-// A splitter that has these bytes.
-fn fed(rt: &(impl Abort + AllocGlobal), bytes: &[u8]) -> Splitter {
-    let mut splitter = Splitter::new(rt.alloc());
-    if splitter.feed(bytes).is_err() {
-        splitter.feed(bytes).expect(rt, "memory");
-    }
-    splitter
 }
 
 // A frame, whether it is for the plugin, and what it is replied, nothing where there is no reply.
@@ -155,18 +163,16 @@ fn is_passed_over_lent<C: Core>(
     let mut splitter = fed(rt, bytes);
     let is_replied = match splitter.next() {
         Ok(Some(frame)) => {
-            let answer = match service.answer(&frame) {
-                Ok(answer) => answer,
+            let mut out = Vec::new(rt.alloc());
+            let is_reply = match service.answer_into(&frame, &mut out) {
+                Ok(is_reply) => is_reply,
                 Err(NoMemory) => {
-                    assert!(rt; is_own);
-                    service.answer(&frame).expect(rt, "memory")
+                    assert!(rt; is_own && out.is_empty());
+                    service.answer_into(&frame, &mut out).expect(rt, "memory")
                 }
             };
-            let is_replied = match &answer {
-                Some(bytes) => bytes.as_slice() == reply,
-                None => reply.is_empty(),
-            };
-            drop(answer);
+            let is_replied = is_reply != reply.is_empty() && out.as_slice() == reply;
+            drop(out);
             is_replied
         }
         _ => false,

@@ -1,5 +1,5 @@
 use Rattle.std.proofs.Common.{◌≡◌, take}
-use Rattle.csi_stores.specs.Memory.{all_stored}
+use Rattle.csi_stores.specs.Public.Memory.{all_stored}
 use Rattle.csi_stores.proofs.entries.copies_of.Given as goal
 
 -- the entries so far were copied

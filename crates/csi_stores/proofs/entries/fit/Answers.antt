@@ -1,7 +1,7 @@
 use Rattle.std.proofs.Common.{◌<◌, ◌+◌, length, arith}
 use Rattle.std.proofs.lemmas.Bool.Decides.{nat_tests}
-use Rattle.csi_stores.specs.Content.{size_of}
-use Rattle.csi_stores.specs.Memory.{all_stored}
+use Rattle.csi_stores.specs.Public.Content.{size_of}
+use Rattle.csi_stores.specs.Public.Memory.{all_stored}
 use Rattle.csi_stores.proofs.EntrySizes.{size-over}
 use Rattle.csi_stores.proofs.entries.fit.Goals as goal
 use Rattle.csi_stores.proofs.entries.fit.Goals.{then-left-lt8-via-then-left-lt8, then-left-lt8-via-else-left-lt8+then-left-size}

@@ -1,6 +1,6 @@
 use Rattle.std.proofs.Common.{◌≡◌, ◌+◌, take}
-use Rattle.csi_stores.specs.Content.{size_of}
-use Rattle.csi_stores.specs.Memory.{all_stored}
+use Rattle.csi_stores.specs.Public.Content.{size_of}
+use Rattle.csi_stores.specs.Public.Memory.{all_stored}
 use Rattle.csi_stores.proofs.entries.fit.Given as goal
 
 -- what the entries so far take, and what is left, are the limit

@@ -1,6 +1,6 @@
 use Rattle.std.proofs.Common.{◌∙◌, ap, refl}
-use Rattle.csi_stores.specs.Part.{StoredPart}
-use Rattle.csi_stores.specs.Memory.{all_stored}
+use Rattle.csi_stores.specs.Public.Part.{StoredPart}
+use Rattle.csi_stores.specs.Public.Memory.{all_stored}
 use Rattle.csi_stores.proofs.EntryPlaces.{set-there, insert-there}
 use Rattle.csi_stores.proofs.entries.put_at.Goals as goal
 

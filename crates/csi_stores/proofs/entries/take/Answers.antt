@@ -2,9 +2,9 @@ use Rattle.std.proofs.Common.{◌≡◌, ◌∙◌, ap, refl, rules, Bool, true,
 use Rattle.std.specs.Prelude.{not, ◌==◌}
 use Rattle.std.proofs.lemmas.Fn.{filter_same}
 use Rattle.csi_stores.specs.declared.entries.Entry.{Entry}
-use Rattle.csi_stores.specs.Part.{StoredPart}
-use Rattle.csi_stores.specs.Content.{take_out}
-use Rattle.csi_stores.specs.Memory.{stored, all_stored}
+use Rattle.csi_stores.specs.Public.Part.{StoredPart}
+use Rattle.csi_stores.specs.Public.Content.{take_out}
+use Rattle.csi_stores.specs.Public.Memory.{stored, all_stored}
 use Rattle.csi_stores.proofs.entries.take.Goals as goal
 
 -- an entry that is kept, or not, is a part that is kept, or not

@@ -1,8 +1,8 @@
 -- The pieces are one line, behind what was there.
 use Rattle.std.proofs.Common.{◌∙◌, ap, rules, ℕ, List, [], ◌∷◌, ◌++◌}
 use Rattle.std.specs.Fmt.{decimal}
-use Rattle.csi_streams.specs.Shown.{frame_words}
-use Rattle.csi_streams.specs.Showing.{after_blanks}
+use Rattle.csi_streams.specs.Public.Shown.{frame_words}
+use Rattle.csi_streams.specs.Private.Showing.{after_blanks}
 use Rattle.csi_streams.proofs.ShownLines.{line-parts}
 use Rattle.csi_streams.proofs.lines.append_line.Goals as goal
 

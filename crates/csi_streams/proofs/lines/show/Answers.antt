@@ -1,5 +1,5 @@
 use Rattle.std.proofs.Common.{arith, sym}
-use Rattle.csi_streams.proofs.Streams.{frames_of}
+use Rattle.csi_driver.proofs.Streams.{frames_of}
 use Rattle.csi_streams.proofs.ShownLines.{lines-none}
 use Rattle.csi_streams.proofs.lines.show.Goals as goal
 
@@ -9,5 +9,5 @@ handle_slice-requires-clause-gave c = sym lines-none
 pub returns-in-Ok-clause-stream : goal.returns-in-Ok-clause-stream
 returns-in-Ok-clause-stream c = frames_of c.args.input.now (λ i. omega (arith, c.type_inv.input i))
 
-pub returns-clause-stream : goal.returns-clause-stream
-returns-clause-stream c = frames_of c.args.input.now (λ i. omega (arith, c.type_inv.input i))
+pub returns-in-Err-clause-stream : goal.returns-in-Err-clause-stream
+returns-in-Err-clause-stream c = frames_of c.args.input.now (λ i. omega (arith, c.type_inv.input i))

@@ -3,8 +3,7 @@ use Rattle.std.proofs.Common.{◌≡◌, ◌∙◌, ap, subst, ℕ, List, ◌∷
 use Rattle.std.specs.List.{flat_map}
 use Rattle.std.specs.Fmt.{HasWritten}
 use Rattle.csi_types.specs.declared.capability.Capability.{Capability}
-use Rattle.csi_streams.specs.Shown.{capability_word, capability_words}
-use Rattle.csi_streams.specs.Showing.{after_blanks}
+use Rattle.csi_streams.specs.Public.Shown.{capability_word}
 use Rattle.csi_streams.proofs.ShownLines.{each-capability}
 use Rattle.csi_streams.proofs.shown.write_list.Goals as goal
 

@@ -3,7 +3,7 @@ use Rattle.std.proofs.Common.{◌∷◌, take}
 use Rattle.std.specs.List.{flat_map}
 use Rattle.std.specs.Fmt.{HasWritten, IsPlainFormatter}
 use Rattle.csi_types.specs.declared.capability.Capability.{Capability}
-use Rattle.csi_streams.specs.Shown.{capability_word}
+use Rattle.csi_streams.specs.Public.Shown.{capability_word}
 use Rattle.csi_streams.proofs.shown.write_list.Given as goal
 
 abbrev pub invariant-loop-capability : goal.invariant-loop-capability

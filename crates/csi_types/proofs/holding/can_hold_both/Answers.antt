@@ -1,7 +1,7 @@
 -- The test tells which two can be held together.
 use Rattle.std.proofs.Common.{◌↔◌, sym, subst}
 use Rattle.std.specs.Prelude.{IsTrue}
-use Rattle.csi_types.specs.Holding.{CanHoldBoth}
+use Rattle.csi_types.specs.Public.Holding.{CanHoldBoth}
 use Rattle.csi_types.proofs.Holdings.{compatible-tells}
 use Rattle.csi_types.proofs.holding.can_hold_both.Goals as goal
 

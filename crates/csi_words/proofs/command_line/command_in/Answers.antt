@@ -1,6 +1,6 @@
 -- What the readers of the subcommand say is what was entered.
 use Rattle.std.proofs.Common.{◌∙◌, sym, ap}
-use Rattle.csi_words.specs.Words.{command_entered}
+use Rattle.csi_words.specs.Public.Words.{command_entered}
 use Rattle.csi_words.proofs.Entered.{paired}
 use Rattle.csi_words.proofs.command_line.command_in.Goals as goal
 

@@ -2,7 +2,8 @@
 use Rattle.std.proofs.Common.{◌≡◌, ◌∷◌, [], ◌∙◌, ap, codes, refl, rules}
 use Rattle.std.proofs.lemmas.Result.{IfOk-weaker}
 use Rattle.clap.specs.Words.{App, app_of}
-use Rattle.csi_words.specs.Words.{bare, on_files, with_file_commands, with_one_word, with_store_command}
+use Rattle.csi_words.specs.Public.Words.{bare, on_files, with_one_word, with_store_command}
+use Rattle.csi_words.specs.Private.Words.{with_file_commands}
 use Rattle.csi_words.proofs.command_line.with_all_commands.Goals as goal
 
 -- the commands on files are those of these names

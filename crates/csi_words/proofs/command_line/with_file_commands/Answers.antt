@@ -1,7 +1,7 @@
 -- One name more is one command more.
 use Rattle.std.proofs.Common.{arith, refl}
 use Rattle.clap.specs.Words.{app_of}
-use Rattle.csi_words.specs.Words.{with_file_commands}
+use Rattle.csi_words.specs.Private.Words.{with_file_commands}
 use Rattle.csi_words.proofs.FilesAdded.{added-next}
 use Rattle.csi_words.proofs.command_line.with_file_commands.Goals as goal
 

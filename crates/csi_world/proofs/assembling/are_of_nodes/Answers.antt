@@ -2,8 +2,8 @@
 use Rattle.std.proofs.Common.{◌≡◌, sym, ◌∙◌, ap, refl, arith, rules}
 use Rattle.std.proofs.lemmas.Bool.{false≢true}
 use Rattle.csi_types.specs.declared.config.NodeSlots.{NodeSlots}
-use Rattle.csi_node.specs.Record.{NodeParts}
-use Rattle.csi_world.specs.Assembled.{AreOfNodes}
+use Rattle.csi_node.specs.Model.Record.{NodeParts}
+use Rattle.csi_world.specs.Public.Assembled.{AreOfNodes}
 use Rattle.csi_world.proofs.AssembledNodes.{same-at, same-from}
 use Rattle.csi_world.proofs.assembling.are_of_nodes.Goals as goal
 

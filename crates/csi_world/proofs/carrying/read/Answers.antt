@@ -1,6 +1,6 @@
 -- By the decoder's promise of every frame.
 use Rattle.std.proofs.Common.{ℕ, length, ap}
-use Rattle.csi_types.specs.Frame.{Frame}
+use Rattle.csi_types.specs.Model.Frame.{Frame}
 use Rattle.csi_world.proofs.CarriedFrames.{begins-whole, only-memory, only-value}
 use Rattle.csi_world.proofs.carrying.read.Goals as goal
 

@@ -3,13 +3,13 @@ use Rattle.std.proofs.Common.{◌≡◌, Some, None, refl, sym, ◌∙◌}
 use Rattle.csi_lists.proofs.Options.{some_is_not_none}
 use Rattle.csi_orchestrator.specs.declared.thing.Thing.{Thing}
 use Rattle.csi_orchestrator.specs.declared.thing.Known.{Known}
-use Rattle.csi_orchestrator.specs.Readings.{known}
-use Rattle.csi_orchestrator.specs.Shown.{view_of}
+use Rattle.csi_orchestrator.specs.Model.Readings.{known}
+use Rattle.csi_orchestrator.specs.Model.Shown.{orchestrator_view}
 use Rattle.csi_world.specs.declared.violation.Violation.{Violation}
 use Rattle.csi_world.specs.declared.violation.Violation.TheVariants.{TwoNodes, StagedUnattached, PublishedUnstaged, DeletedAttached, RecordedWrong}
-use Rattle.csi_world.specs.World.{World}
-use Rattle.csi_world.specs.Safe.{Safe}
-use Rattle.csi_world.specs.Audited.{AreMarkedRight, Finds}
+use Rattle.csi_world.specs.Model.World.{World}
+use Rattle.csi_world.specs.Model.Safe.{Safe}
+use Rattle.csi_world.specs.Public.Audited.{AreMarkedRight, Finds}
 use Rattle.csi_world.proofs.laws.audit_law.Goals as goal
 
 -- in a safe world all is marked right, by marks that are what is known
@@ -40,8 +40,8 @@ unsafe marks world DeletedAttached same finds safe = finds.3 safe.attached_while
 unsafe marks world RecordedWrong same finds safe = finds.4 (marked marks world same safe)
 
 pub returns : goal.returns
-returns c parts world None agrees finds = (λ e. is_safe (view_of parts).marks world agrees.same_marks finds, λ safe. refl)
+returns c parts world None agrees finds = (λ e. is_safe (orchestrator_view parts).marks world agrees.same_marks finds, λ safe. refl)
 returns c parts world (Some violation) agrees finds = (
   λ e. absurd (some_is_not_none violation e),
-  λ safe. absurd (unsafe (view_of parts).marks world violation agrees.same_marks finds safe),
+  λ safe. absurd (unsafe (orchestrator_view parts).marks world violation agrees.same_marks finds safe),
 )

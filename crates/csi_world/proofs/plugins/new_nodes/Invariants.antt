@@ -1,6 +1,6 @@
 -- The first nodes were made.
 use Rattle.std.proofs.Common.{◌≡◌, map, take}
-use Rattle.csi_world.specs.Simulating.{new_node_parts}
+use Rattle.csi_world.specs.Private.Simulating.{new_node_parts}
 use Rattle.csi_world.proofs.plugins.new_nodes.Given as goal
 
 abbrev pub invariant-loop-one : goal.invariant-loop-one

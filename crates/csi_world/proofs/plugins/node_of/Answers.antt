@@ -1,7 +1,7 @@
 -- By where the node is.
 use Rattle.std.proofs.Common.{Bool, sym, ◌∙◌}
-use Rattle.csi_types.specs.Same.{same_text}
-use Rattle.csi_node.specs.Record.{NodeParts}
+use Rattle.csi_types.specs.Model.Same.{same_text}
+use Rattle.csi_node.specs.Model.Record.{NodeParts}
 use Rattle.csi_lists.proofs.Places.{FirstAt-position, FirstAt-find}
 use Rattle.csi_lists.proofs.Searches.{find-no_place}
 use Rattle.csi_world.proofs.plugins.node_of.Goals as goal

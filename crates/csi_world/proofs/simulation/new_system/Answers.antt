@@ -1,7 +1,7 @@
 -- Each part is new.
 use Rattle.std.proofs.Common.{◌∙◌, ap, map}
-use Rattle.csi_world.specs.After.{node_id}
-use Rattle.csi_world.specs.Simulating.{new_node_parts}
+use Rattle.csi_world.specs.Model.After.{node_id}
+use Rattle.csi_world.specs.Private.Simulating.{new_node_parts}
 use Rattle.csi_world.proofs.SimulatedRuns.{run-first}
 use Rattle.csi_world.proofs.simulation.new_system.Goals as goal
 

@@ -2,9 +2,9 @@
 use Rattle.std.proofs.Common.{◌≡◌, ◌+◌, ◌++◌, ◌∷◌, [], List, take, sym, ◌∙◌, ap, subst}
 use Rattle.std.proofs.lemmas.List.{take_more}
 use Rattle.csi_types.specs.declared.event.Event.{Event}
-use Rattle.csi_world.specs.After.{after}
-use Rattle.csi_world.specs.Simulating.{IsRun}
-use Rattle.csi_world.specs.System.{parts_of}
+use Rattle.csi_world.specs.Model.After.{after}
+use Rattle.csi_world.specs.Private.Simulating.{IsRun}
+use Rattle.csi_world.specs.Public.System.{world_parts}
 use Rattle.csi_world.proofs.SimulatedRuns.{run-more}
 use Rattle.csi_world.proofs.simulation.occur_all.Goals as goal
 
@@ -16,5 +16,5 @@ loop-event-preserved c = λ config began.
     let before = c.loop-event.invariant config began in
     let more : take (index + 1) events ≡ take index events ++ event ∷ []
     = take_more events index event c.loop-event-test.true ∙ ap (λ (e : Event). take index events ++ e ∷ []) (sym c.event-item.is) in
-    subst (λ (es : List Event). IsRun config es (parts_of c.occur.new.self)) (sym more)
-    (run-more config (take index events) event (parts_of c.loop-event.system) (parts_of c.occur.new.self) before (c.in_ok-occur.ensures (after config (take index events)).world before.own before.shows.world))
+    subst (λ (es : List Event). IsRun config es (world_parts c.occur.new.self)) (sym more)
+    (run-more config (take index events) event (world_parts c.loop-event.system) (world_parts c.occur.new.self) before (c.in_ok-occur.ensures (after config (take index events)).world before.own before.shows.world))

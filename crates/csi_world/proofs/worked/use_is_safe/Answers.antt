@@ -1,5 +1,5 @@
 -- By the law of runs; the four things are some of all.
-use Rattle.csi_world.specs.Worked.{config, using, made, attached, staged, published}
+use Rattle.csi_world.specs.Private.Worked.{config, using, made, attached, staged, published}
 use Rattle.csi_world.proofs.worked.use_is_safe.Goals as goal
 
 pub returns : goal.returns

@@ -1,7 +1,7 @@
 -- Where there is room for it, the maps have the entries that they had.
 use Rattle.std.proofs.Common.{◌≡◌, List, None, ◌++◌, ◌∷◌, [], ◌∙◌, ap, subst, sym}
 use Rattle.std.specs.Prelude.{◌==◌, find}
-use Rattle.csi_types.specs.Same.{same_text}
+use Rattle.csi_types.specs.Model.Same.{same_text}
 use Rattle.csi_controller.specs.declared.row.ControllerRow.{ControllerRow}
 use Rattle.std.specs.Map.{values_of}
 use Rattle.csi_controller.proofs.CatalogMaps.{indexed-same}

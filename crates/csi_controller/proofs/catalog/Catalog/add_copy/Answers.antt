@@ -1,8 +1,8 @@
 -- The copy is new, as every copy of the row is.
 use Rattle.std.proofs.Common.{[], ◌∷◌, ◌++◌, sym, subst}
 use Rattle.std.proofs.lemmas.Result.{on_ok_weaker}
-use Rattle.csi_controller.specs.Catalog.{rows_of}
-use Rattle.csi_controller.specs.Views.{AreSameRows}
+use Rattle.csi_controller.specs.Public.Catalog.{rows_of}
+use Rattle.csi_controller.specs.Public.Views.{AreSameRows}
 use Rattle.csi_controller.proofs.Copies.{AreSameRows-append}
 use Rattle.csi_controller.proofs.catalog.Catalog.add_copy.Goals as goal
 

@@ -2,10 +2,10 @@
 use Rattle.std.proofs.Common.{◌≡◌, ◌<◌, ◌+◌, ◌++◌, ◌∷◌, [], List, take, get_or, length, sym, ◌∙◌, ap, subst, arith}
 use Rattle.std.proofs.lemmas.List.{take_more}
 use Rattle.csi_lists.proofs.Places.{at-index}
-use Rattle.csi_lists.specs.Places.{IsAt}
+use Rattle.csi_lists.specs.Public.Places.{IsAt}
 use Rattle.csi_controller.specs.declared.row.ControllerRow.{ControllerRow}
-use Rattle.csi_controller.specs.Catalog.{rows_of}
-use Rattle.csi_controller.specs.Views.{AreSameRows}
+use Rattle.csi_controller.specs.Public.Catalog.{rows_of}
+use Rattle.csi_controller.specs.Public.Views.{AreSameRows}
 use Rattle.csi_controller.proofs.Copies.{copied_id-before, copied_name-before}
 use Rattle.csi_controller.proofs.catalog.Catalog.copied.Goals as goal
 

@@ -1,7 +1,7 @@
 -- The copies are those of the first rows.
 use Rattle.std.proofs.Common.{take}
-use Rattle.csi_controller.specs.Catalog.{rows_of, IsIndexed}
-use Rattle.csi_controller.specs.Views.{AreSameRows}
+use Rattle.csi_controller.specs.Public.Catalog.{rows_of, IsIndexed}
+use Rattle.csi_controller.specs.Public.Views.{AreSameRows}
 use Rattle.csi_controller.proofs.catalog.Catalog.copied.Given as goal
 
 abbrev pub invariant-loop-row : goal.invariant-loop-row

@@ -2,8 +2,9 @@
 use Rattle.std.proofs.Common.{rules, ℕ}
 use Rattle.indexmap.proofs.CallerLemmas.{filter-RetainsPairs}
 use Rattle.csi_controller.specs.declared.row.ControllerRow.{ControllerRow}
-use Rattle.csi_controller.specs.Catalog.{rows_of, is_kept}
-use Rattle.csi_controller.specs.WithoutSession.{stays_in}
+use Rattle.csi_controller.specs.Public.Catalog.{rows_of}
+use Rattle.csi_controller.specs.Private.Catalog.{is_kept}
+use Rattle.csi_controller.specs.Public.WithoutSession.{stays_in}
 use Rattle.csi_controller.proofs.CatalogKept.{rows-kept, indexed-kept}
 use Rattle.csi_controller.proofs.catalog.Catalog.forget.Goals as goal
 

@@ -3,7 +3,7 @@ use Rattle.std.proofs.Common.{take, arith}
 use Rattle.std.proofs.lemmas.Grind.{common_steps}
 use Rattle.std.proofs.lemmas.List.Sums.{length-filter}
 use Rattle.csi_controller.specs.declared.row.ControllerRow.{ControllerRow}
-use Rattle.csi_controller.specs.Catalog.{rows_of}
+use Rattle.csi_controller.specs.Public.Catalog.{rows_of}
 use Rattle.csi_controller.proofs.catalog.Catalog.live.Goals as goal
 
 pub overflow_add-live : goal.overflow_add-live

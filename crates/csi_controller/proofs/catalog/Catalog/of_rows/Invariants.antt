@@ -1,7 +1,7 @@
 -- The first rows were added; the others are left.
 use Rattle.std.proofs.Common.{◌≡◌, ◌++◌, length}
 use Rattle.std.specs.Vec.Iter.{into_iter_items, into_iter_len}
-use Rattle.csi_controller.specs.Catalog.{rows_of, IsIndexed}
+use Rattle.csi_controller.specs.Public.Catalog.{rows_of, IsIndexed}
 use Rattle.csi_controller.proofs.catalog.Catalog.of_rows.Given as goal
 
 abbrev pub invariant-loop-row : goal.invariant-loop-row

@@ -2,7 +2,7 @@
 use Rattle.std.proofs.Common.{◌∙◌}
 use Rattle.std.specs.Prelude.{◌==◌}
 use Rattle.csi_controller.specs.declared.row.ControllerRow.{ControllerRow}
-use Rattle.csi_controller.specs.Catalog.{rows_of, by_id}
+use Rattle.csi_controller.specs.Public.Catalog.{rows_of, by_id}
 use Rattle.csi_controller.proofs.CatalogMaps.{position-keys, id-turned}
 use Rattle.csi_controller.proofs.catalog.Catalog.place_of_id.Goals as goal
 

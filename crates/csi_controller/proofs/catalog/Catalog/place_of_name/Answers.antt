@@ -1,8 +1,8 @@
 -- By the keys.
 use Rattle.std.proofs.Common.{◌∙◌}
-use Rattle.csi_types.specs.Same.{same_text}
+use Rattle.csi_types.specs.Model.Same.{same_text}
 use Rattle.csi_controller.specs.declared.row.ControllerRow.{ControllerRow}
-use Rattle.csi_controller.specs.Catalog.{rows_of}
+use Rattle.csi_controller.specs.Public.Catalog.{rows_of}
 use Rattle.csi_controller.proofs.SameText.{text-turned}
 use Rattle.csi_controller.proofs.CatalogMaps.{position-texts, within-both}
 use Rattle.csi_controller.proofs.catalog.Catalog.place_of_name.Goals as goal

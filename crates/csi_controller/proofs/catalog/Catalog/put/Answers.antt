@@ -2,9 +2,9 @@
 use Rattle.std.proofs.Common.{◌∙◌, ℕ, List, ap}
 use Rattle.std.specs.Prelude.{◌==◌, nat_eq}
 use Rattle.std.specs.Cmp.Lexicographic.{pointwise}
-use Rattle.csi_types.specs.Same.{same_text}
+use Rattle.csi_types.specs.Model.Same.{same_text}
 use Rattle.csi_controller.specs.declared.row.ControllerRow.{ControllerRow}
-use Rattle.csi_controller.specs.Catalog.{rows_of, by_id}
+use Rattle.csi_controller.specs.Public.Catalog.{rows_of, by_id}
 use Rattle.csi_controller.proofs.SameText.{text-turned}
 use Rattle.csi_controller.proofs.CatalogMaps.{id-turned, new-entries, new-name, of-ok, rows-added, indexed-added}
 use Rattle.csi_controller.proofs.catalog.Catalog.put.Goals as goal

@@ -1,8 +1,8 @@
 -- The copies show what the rows show.
 use Rattle.std.proofs.Common.{sym, subst}
-use Rattle.csi_controller.specs.Catalog.{rows_of}
-use Rattle.csi_controller.specs.Core.{Parts, Shows}
-use Rattle.csi_controller.specs.Views.{RecordParts}
+use Rattle.csi_controller.specs.Public.Catalog.{rows_of}
+use Rattle.csi_controller.specs.Model.Core.{ControllerParts, Shows}
+use Rattle.csi_controller.specs.Public.Views.{RecordParts}
 use Rattle.csi_controller.proofs.Copies.{shown-copies, sound-copies}
 use Rattle.csi_controller.proofs.Sessions.{current-copies}
 use Rattle.csi_controller.proofs.controller.Controller.record.Goals as goal
@@ -22,5 +22,5 @@ returns c = λ state shown.
     let core = c.self.inside.core in
     let copies = rows_of c.in_ok-catalog.catalog in
     subst (λ (k : RecordParts). Shows (record { config = c.args.self.now.config; next_id = k.next_id; session = k.session; rows = k.rows }) state) (sym c.new.ensures)
-    (subst (λ (k : Parts). Shows (record { config = k.config; next_id = core.next_id; session = core.session; rows = copies }) state) c.self.view_is
-    (shown-copies core.config core.next_id core.session (rows_of core.catalog) copies state c.in_ok-catalog.ensures.rows (subst (λ (k : Parts). Shows k state) (sym c.self.view_is) shown)))
+    (subst (λ (k : ControllerParts). Shows (record { config = k.config; next_id = core.next_id; session = core.session; rows = copies }) state) c.self.view_is
+    (shown-copies core.config core.next_id core.session (rows_of core.catalog) copies state c.in_ok-catalog.ensures.rows (subst (λ (k : ControllerParts). Shows k state) (sym c.self.view_is) shown)))

@@ -1,17 +1,17 @@
 -- By the core's parts, which are what a contract sees of the controller.
 use Rattle.std.proofs.Common.{◌≡◌, subst}
 use Rattle.std.specs.Prelude.{IfOk, OnOk}
-use Rattle.csi_controller.specs.Core.{Parts, Shows}
-use Rattle.csi_controller.specs.CoreParts.{parts_of}
-use Rattle.csi_controller.specs.Fenced.{fenced}
+use Rattle.csi_controller.specs.Model.Core.{ControllerParts, Shows}
+use Rattle.csi_controller.specs.Public.CoreParts.{controller_parts_shown}
+use Rattle.csi_controller.specs.Model.Fenced.{fenced}
 use Rattle.csi_controller.proofs.controller.Controller.step.Goals as goal
 
 pub returns-clause-reply : goal.returns-clause-reply
 returns-clause-reply c = λ state shown.
-    subst (λ (parts : Parts). Shows parts state → IfOk c.step.result (λ reply. reply ≡ (fenced parts.config state c.args.frame.now).reply)) c.self.view_is
+    subst (λ (parts : ControllerParts). Shows parts state → IfOk c.step.result (λ reply. reply ≡ (fenced parts.config state c.args.frame.now).reply)) c.self.view_is
     (λ own. c.step.ensures.reply state own) shown
 
 pub returns-clause-state : goal.returns-clause-state
 returns-clause-state c = λ state shown.
-    subst (λ (parts : Parts). Shows parts state → OnOk c.step.result (Shows (parts_of c.step.new.self) (fenced parts.config state c.args.frame.now).state)) c.self.view_is
+    subst (λ (parts : ControllerParts). Shows parts state → OnOk c.step.result (Shows (controller_parts_shown c.step.new.self) (fenced parts.config state c.args.frame.now).state)) c.self.view_is
     (λ own. c.step.ensures.state state own) shown

@@ -1,6 +1,6 @@
 -- One more row.
 use Rattle.std.proofs.Common.{◌≡◌, ◌<◌, ◌++◌, List, get_or, length, ◌∙◌, ap, arith}
-use Rattle.csi_controller.specs.Shown.{holdings_in_row}
+use Rattle.csi_controller.specs.Model.Shown.{holdings_in_row}
 use Rattle.csi_types.specs.declared.holding.Holding.{Holding}
 use Rattle.csi_controller.proofs.Attached.{one_more_row}
 use Rattle.csi_controller.proofs.controller.attached.attachments.Goals as goal

@@ -1,7 +1,7 @@
 -- One more row is counted, or isn't.
 use Rattle.std.proofs.Common.{◌∙◌, ◌+◌, ap, sym, rules}
 use Rattle.std.proofs.lemmas.List.Sums.{count_by_more_yes, count_by_more_no}
-use Rattle.csi_controller.specs.Counts.{is_held}
+use Rattle.csi_controller.specs.Public.Counts.{is_held}
 use Rattle.csi_controller.proofs.controller.counts.count_in.Goals as goal
 use Rattle.csi_controller.proofs.controller.counts.count_in.Goals.{then-is_held_at, else-is_held_at}
 

@@ -1,7 +1,7 @@
 -- One more node has its count.
 use Rattle.std.proofs.Common.{◌≡◌, ◌∙◌, ℕ, List, subst, arith}
 use Rattle.std.proofs.lemmas.List.{length-set}
-use Rattle.csi_controller.specs.Counts.{count_held}
+use Rattle.csi_controller.specs.Public.Counts.{count_held}
 use Rattle.csi_controller.proofs.Counts.{counted-more, all-counted}
 use Rattle.csi_controller.proofs.controller.counts.counted.Goals as goal
 

@@ -1,7 +1,7 @@
 -- The first nodes have their counts.
 use Rattle.std.proofs.Common.{◌≡◌, ◌<◌, ℕ, List, length, slice_index}
 use Rattle.std.specs.Prelude.{Some}
-use Rattle.csi_controller.specs.Counts.{place_of, count_held}
+use Rattle.csi_controller.specs.Public.Counts.{place_of, count_held}
 use Rattle.csi_controller.proofs.controller.counts.counted.Given as goal
 
 abbrev pub invariant-loop-place : goal.invariant-loop-place

@@ -3,8 +3,8 @@ use Rattle.std.proofs.Common.{◌≡◌, ◌∙◌, subst, ℕ, true, refl}
 use Rattle.std.specs.Prelude.{Bool, ◌==◌, ◌&&◌}
 use Rattle.std.proofs.lemmas.Bool.{eq-eqb}
 use Rattle.csi_types.specs.declared.capability.Capability.{Capability}
-use Rattle.csi_types.specs.Lent.{lent_capability}
-use Rattle.csi_types.specs.Same.{same_text, same_capability, same_flag}
+use Rattle.csi_types.specs.Public.Lent.{lent_capability}
+use Rattle.csi_types.specs.Model.Same.{same_text, same_capability, same_flag}
 use Rattle.csi_controller.proofs.controller.holdings.is_held_so.Goals as goal
 
 of-one : (id : ℕ) (at capability flag : Bool) → at ≡ true → (capability && flag) ≡ ((id == id) && at && capability && flag)

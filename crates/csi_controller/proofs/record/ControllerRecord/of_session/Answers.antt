@@ -2,16 +2,16 @@
 use Rattle.std.proofs.Common.{◌≤◌, ℕ, sym, subst}
 use Rattle.std.specs.List.{AllByRecursion}
 use Rattle.csi_controller.specs.declared.row.ControllerRow.{ControllerRow}
-use Rattle.csi_controller.specs.Catalog.{rows_of}
-use Rattle.csi_controller.specs.Core.{IsCurrent, IsSound}
-use Rattle.csi_controller.specs.WithoutSession.{stays_in}
+use Rattle.csi_controller.specs.Public.Catalog.{rows_of}
+use Rattle.csi_controller.specs.Public.Core.{IsCurrent, AreSoundRows}
+use Rattle.csi_controller.specs.Public.WithoutSession.{stays_in}
 use Rattle.csi_controller.proofs.FirstUnfit.{staying-current, up_to_latest}
 use Rattle.csi_controller.proofs.Forgetting.{sound-filter}
 use Rattle.csi_controller.proofs.record.ControllerRecord.of_session.Goals as goal
 
 pub new-requires-clause-sound : goal.new-requires-clause-sound
 new-requires-clause-sound c =
-    subst (IsSound c.args.next_id) (sym c.forget.ensures.rows) (sound-filter c.args.next_id (stays_in c.args.session) (rows_of c.args.catalog) c.requires.sound)
+    subst (AreSoundRows c.args.next_id) (sym c.forget.ensures.rows) (sound-filter c.args.next_id (stays_in c.args.session) (rows_of c.args.catalog) c.requires.sound)
 
 pub new-requires-clause-current : goal.new-requires-clause-current
 new-requires-clause-current c =

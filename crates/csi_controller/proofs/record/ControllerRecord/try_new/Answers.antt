@@ -1,6 +1,6 @@
 -- Rows that are a record's have no first one that is refused.
 use Rattle.std.proofs.Common.{sym, subst}
-use Rattle.csi_controller.specs.Judging.{AreRecorded}
+use Rattle.csi_controller.specs.Public.Judging.{AreRecorded}
 use Rattle.csi_controller.proofs.FirstUnfit.{none-refused, recorded-copies, recorded-fronts}
 use Rattle.csi_controller.proofs.record.ControllerRecord.try_new.Goals as goal
 

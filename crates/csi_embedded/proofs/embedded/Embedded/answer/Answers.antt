@@ -1,5 +1,5 @@
 use Rattle.std.proofs.Common.{◌∙◌, ℕ, List, subst}
-use Rattle.csi_embedded.specs.Calls.{IsNoFrame}
+use Rattle.csi_embedded.specs.Public.Calls.{IsNoFrame}
 use Rattle.csi_embedded.proofs.Handles.{answered-next}
 use Rattle.csi_embedded.proofs.embedded.Embedded.answer.Goals as goal
 

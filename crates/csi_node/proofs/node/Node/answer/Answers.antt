@@ -1,8 +1,8 @@
 use Rattle.std.proofs.Common.{◌∙◌, sym, subst, ap}
-use Rattle.csi_types.specs.Lent.{lent_call}
-use Rattle.csi_fence.specs.Fenced.{Fenced}
-use Rattle.csi_node.specs.Record.{Shows}
-use Rattle.csi_node.specs.State.{NodeState}
+use Rattle.csi_types.specs.Public.Lent.{lent_call}
+use Rattle.csi_fence.specs.Model.Fenced.{Fenced}
+use Rattle.csi_node.specs.Model.Record.{Shows}
+use Rattle.csi_node.specs.Model.State.{NodeState}
 use Rattle.csi_node.proofs.CopiedRows.{shows-copy, err_holds}
 use Rattle.csi_node.proofs.OwnFrames.{for_own}
 use Rattle.csi_node.proofs.node.Node.answer.Goals as goal

@@ -1,6 +1,6 @@
 use Rattle.std.proofs.lemmas.Result.{IfOk-weaker}
 use Rattle.std.specs.Prelude.{map}
-use Rattle.csi_node.specs.Views.{published_shown}
+use Rattle.csi_node.specs.Public.Views.{published_shown}
 use Rattle.csi_node.proofs.Readers.{lists-published}
 use Rattle.csi_node.proofs.node.Node.published.Goals as goal
 

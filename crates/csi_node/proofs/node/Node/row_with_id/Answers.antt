@@ -2,7 +2,7 @@
 use Rattle.std.proofs.Common.{sym}
 use Rattle.csi_node.proofs.AtRow.{there}
 use Rattle.csi_node.proofs.RecordRules.{absent-gap}
-use Rattle.csi_node.specs.Record.{parts}
+use Rattle.csi_node.specs.Model.Record.{parts}
 use Rattle.csi_node.proofs.node.Node.row_with_id.Goals as goal
 
 pub returns-in-Ok-clause-row : goal.returns-in-Ok-clause-row

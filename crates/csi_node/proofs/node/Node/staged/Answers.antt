@@ -1,6 +1,6 @@
 use Rattle.std.proofs.lemmas.Result.{IfOk-weaker}
 use Rattle.std.specs.Prelude.{map}
-use Rattle.csi_node.specs.Views.{staged_shown}
+use Rattle.csi_node.specs.Public.Views.{staged_shown}
 use Rattle.csi_node.proofs.Readers.{lists-staged}
 use Rattle.csi_node.proofs.node.Node.staged.Goals as goal
 

@@ -1,6 +1,7 @@
 -- A call that doesn't go to an earlier or a later session is of the present one; one that begins a session comes after the last calls of all rows.
 use Rattle.std.proofs.Common.{◌≡◌, ℕ, arith, subst}
-use Rattle.csi_node.specs.Record.{parts, IsCurrent}
+use Rattle.csi_node.specs.Model.Record.{parts}
+use Rattle.csi_node.specs.Public.Record.{IsCurrent}
 use Rattle.csi_node.proofs.record.NodeRecord.answer.Goals as goal
 
 pub answer-requires-clause-current : goal.answer-requires-clause-current

@@ -1,8 +1,8 @@
 -- Rows that are a record's have no first one that is refused.
 use Rattle.std.proofs.Common.{List, sym, subst, Some}
 use Rattle.csi_node.specs.declared.row.NodeRow.{NodeRow}
-use Rattle.csi_node.specs.Judging.{KeepRules}
-use Rattle.csi_node.specs.Record.{parts}
+use Rattle.csi_node.specs.Public.Judging.{KeepRules}
+use Rattle.csi_node.specs.Model.Record.{parts}
 use Rattle.csi_node.proofs.FirstRefused.{not-both}
 use Rattle.csi_node.proofs.record.NodeRecord.try_new.Goals as goal
 

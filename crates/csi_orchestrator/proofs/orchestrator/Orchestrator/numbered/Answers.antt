@@ -1,16 +1,17 @@
 -- No rows, and no call is noted; what is shown agrees with the history of an orchestrator that did nothing.
 use Rattle.std.proofs.Common.{List, map, refl, sym, subst, arith}
 use Rattle.csi_orchestrator.specs.declared.row.Row.{Row}
-use Rattle.csi_orchestrator.specs.History.{history_after}
-use Rattle.csi_orchestrator.specs.Sound.{IsKept}
-use Rattle.csi_orchestrator.specs.Steps.{Begins}
-use Rattle.csi_orchestrator.specs.Shown.{Parts, row_shown}
+use Rattle.csi_orchestrator.specs.Model.History.{history_after}
+use Rattle.csi_orchestrator.specs.Public.Sound.{AreSoundParts}
+use Rattle.csi_orchestrator.specs.Public.Steps.{Begins}
+use Rattle.csi_orchestrator.specs.Model.Shown.{OrchestratorParts}
+use Rattle.csi_orchestrator.specs.Public.Shown.{row_shown}
 use Rattle.csi_orchestrator.proofs.orchestrator.Orchestrator.numbered.Goals as goal
 
 pub invariant_of-result : goal.invariant_of-result
 invariant_of-result c =
-    let none : List Row → Parts = λ rows. record { nodes = c.args.nodes.items; last = c.args.last; rows = map row_shown rows } in (
-      subst (λ rows. IsKept (none rows)) (sym c.new.ensures.rows) (record {
+    let none : List Row → OrchestratorParts = λ rows. record { nodes = c.args.nodes.items; last = c.args.last; rows = map row_shown rows } in (
+      subst (λ rows. AreSoundParts (none rows)) (sym c.new.ensures.rows) (record {
         sound = record { names = tt; each = tt };
         within = record { rows = omega arith; entries = tt };
         told =

@@ -1,6 +1,6 @@
 -- By the rows.
 use Rattle.std.proofs.Common.{None, refl}
-use Rattle.csi_orchestrator.specs.Moves.{ToUse, Sends}
+use Rattle.csi_orchestrator.specs.Model.Moves.{ToUse, Sends}
 use Rattle.csi_orchestrator.proofs.PromisesTold.{ok-promised, err-promised, kept-promised, nodes-promised, answered-promised}
 use Rattle.csi_orchestrator.proofs.orchestrator.Orchestrator.use_at.Goals as goal
 

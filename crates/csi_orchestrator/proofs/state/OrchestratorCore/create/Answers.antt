@@ -2,11 +2,12 @@
 use Rattle.std.proofs.Common.{◌≡◌, sym, subst}
 use Rattle.std.specs.Prelude.{Option, Result, IfOk, IfErr}
 use Rattle.csi_orchestrator.specs.declared.fault.OrchFault.{OrchFault}
-use Rattle.csi_orchestrator.specs.Catalog.{rows_of}
-use Rattle.csi_orchestrator.specs.CoreParts.{parts_of}
-use Rattle.csi_orchestrator.specs.Moves.{Sends}
-use Rattle.csi_orchestrator.specs.RowMoves.{MovedRows, moved_rows, creates, IsRefusal}
-use Rattle.csi_orchestrator.specs.Shown.{RowShown}
+use Rattle.csi_orchestrator.specs.Public.Catalog.{rows_of}
+use Rattle.csi_orchestrator.specs.Public.CoreParts.{orchestrator_parts_shown}
+use Rattle.csi_orchestrator.specs.Model.Moves.{Sends}
+use Rattle.csi_orchestrator.specs.Public.RowMoves.{MovedRows, moved_rows, IsRefusal}
+use Rattle.csi_orchestrator.specs.Private.RowMoves.{creates}
+use Rattle.csi_orchestrator.specs.Model.Shown.{RowShown}
 use Rattle.csi_orchestrator.proofs.RowsByName.{shown-nowhere, create-asked}
 use Rattle.csi_orchestrator.proofs.state.OrchestratorCore.create.Goals as goal
 
@@ -15,7 +16,7 @@ returns-in-Some-clause-told c =
     let at = sym c.in-Some.ensures.index in
     let same = create-asked c.args.self.now c.args.name c.args.arguments c.in-Some.index at in
     record {
-      ok = subst (λ (t : Result MovedRows OrchFault). IfOk c.step.result (λ sent. t ≡ moved_rows (parts_of c.step.new.self) (Sends sent))) same (c.step.ensures.ok c.args.name Sends at);
+      ok = subst (λ (t : Result MovedRows OrchFault). IfOk c.step.result (λ sent. t ≡ moved_rows (orchestrator_parts_shown c.step.new.self) (Sends sent))) same (c.step.ensures.ok c.args.name Sends at);
       err = subst (λ (t : Result MovedRows OrchFault). IfErr c.step.result (IsRefusal t)) same (c.step.ensures.err c.args.name Sends at);
       stays = c.step.ensures.stays;
     }
@@ -25,8 +26,8 @@ returns-in-None-clause-told c =
     let core = c.args.self.now in
     let new = sym (shown-nowhere (rows_of core.catalog) c.args.name (sym c.in-None.ensures.index)) in
     record {
-      ok = subst (λ (row : Option RowShown). IfOk c.create_first.result (λ sent. creates (parts_of core) c.args.name c.args.arguments row ≡ moved_rows (parts_of c.create_first.new.self)
+      ok = subst (λ (row : Option RowShown). IfOk c.create_first.result (λ sent. creates (orchestrator_parts_shown core) c.args.name c.args.arguments row ≡ moved_rows (orchestrator_parts_shown c.create_first.new.self)
           (Sends sent))) new c.create_first.ensures.ok;
-      err = subst (λ (row : Option RowShown). IfErr c.create_first.result (IsRefusal (creates (parts_of core) c.args.name c.args.arguments row))) new c.create_first.ensures.err;
+      err = subst (λ (row : Option RowShown). IfErr c.create_first.result (IsRefusal (creates (orchestrator_parts_shown core) c.args.name c.args.arguments row))) new c.create_first.ensures.err;
       stays = c.create_first.ensures.stays;
     }

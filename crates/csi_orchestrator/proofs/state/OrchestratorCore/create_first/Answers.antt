@@ -5,13 +5,16 @@ use Rattle.std.proofs.lemmas.List.{length-map}
 use Rattle.csi_types.specs.declared.number.Number.{Number}
 use Rattle.csi_orchestrator.specs.declared.row.Row.{Row}
 use Rattle.csi_orchestrator.specs.declared.sending.Outgoing.{Outgoing}
-use Rattle.csi_orchestrator.specs.Catalog.{rows_of, IsReady, call_in}
-use Rattle.csi_orchestrator.specs.Commands.{next_number}
-use Rattle.csi_orchestrator.specs.CoreParts.{parts_of}
-use Rattle.csi_orchestrator.specs.RowSteps.{MovedRow, outgoing_by, sent_or_dropped, row_after, row_sends_due}
-use Rattle.csi_orchestrator.specs.RowChanges.{new_row}
-use Rattle.csi_orchestrator.specs.RowMoves.{last_after}
-use Rattle.csi_orchestrator.specs.Shown.{RowShown, Parts, row_shown, due_in}
+use Rattle.csi_orchestrator.specs.Public.Catalog.{rows_of}
+use Rattle.csi_orchestrator.specs.Private.Catalog.{IsReady, outgoing_call_number}
+use Rattle.csi_orchestrator.specs.Model.Commands.{next_number}
+use Rattle.csi_orchestrator.specs.Public.CoreParts.{orchestrator_parts_shown}
+use Rattle.csi_orchestrator.specs.Private.RowSteps.{MovedRow, outgoing_by, sent_or_dropped, row_moved, row_sends_due}
+use Rattle.csi_orchestrator.specs.Private.RowChanges.{new_row}
+use Rattle.csi_orchestrator.specs.Private.RowMoves.{last_after}
+use Rattle.csi_orchestrator.specs.Model.Shown.{RowShown, OrchestratorParts}
+use Rattle.csi_orchestrator.specs.Public.Shown.{row_shown}
+use Rattle.csi_orchestrator.specs.Public.RowDue.{due_in}
 use Rattle.csi_orchestrator.proofs.RowsByName.{first-told}
 use Rattle.csi_orchestrator.proofs.OpenCalls.{next-created}
 use Rattle.csi_orchestrator.proofs.state.OrchestratorCore.create_first.Goals as goal
@@ -21,7 +24,7 @@ sends-due : (last : Number) (row made sent : RowShown) (next : Option Outgoing) 
     → sent ≡ sent_or_dropped next made
     → row_sends_due last row ≡ Ok (record { outgoing = next; row = sent })
 sends-due last row made sent next same found then =
-    ap (row_after row) (ap (λ d. outgoing_by d (next_number last)) (ap due_in (sym same)) ∙ found)
+    ap (row_moved row) (ap (λ d. outgoing_by d (next_number last)) (ap due_in (sym same)) ∙ found)
     ∙ ap (λ r. let moved_row : MovedRow = record { outgoing = next; row = r } in Ok moved_row) (ap (sent_or_dropped next) (sym same) ∙ sym then)
 
 pub issue-requires-clause-ready : goal.issue-requires-clause-ready
@@ -32,8 +35,8 @@ issue-requires-clause-ready c =
     let on = sends-due core.last (new_row c.args.name c.args.arguments) (row_shown c.new_row-row.result) (row_shown sent) next
     c.new_row-row.ensures c.in-Ok.ensures.ok c.note_sent_or_drop.ensures in
     let long : length (rows_of core.catalog) ≡ c.len-index.result = length-map core.catalog.rows.entries (λ (e : List ℕ × Row). e.1) ∙ sym c.len-index.ensures.len in
-    subst (λ (n : ℕ). IsReady c.add.new.self n (call_in next)) long
-    (c.in-Ok-add.ensures.ready (call_in next) (next-created core.catalog core.last c.args.name c.args.arguments sent next c.requires.filed.known on).0)
+    subst (λ (n : ℕ). IsReady c.add.new.self n (outgoing_call_number next)) long
+    (c.in-Ok-add.ensures.ready (outgoing_call_number next) (next-created core.catalog core.last c.args.name c.args.arguments sent next c.requires.filed.known on).0)
 
 pub returns-in-Ok-add-clause-ok : goal.returns-in-Ok-add-clause-ok
 returns-in-Ok-add-clause-ok c =
@@ -43,8 +46,8 @@ returns-in-Ok-add-clause-ok c =
     let on = sends-due core.last (new_row c.args.name c.args.arguments) (row_shown c.new_row-row.result) (row_shown sent) next
     c.new_row-row.ensures c.in-Ok.ensures.ok c.note_sent_or_drop.ensures in
     let made = next-created core.catalog core.last c.args.name c.args.arguments sent next c.requires.filed.known on in
-    first-told core.nodes.items core.last (rows_of core.catalog) c.args.name c.args.arguments sent next c.issue.result (parts_of c.issue.new.self)
+    first-told core.nodes.items core.last (rows_of core.catalog) c.args.name c.args.arguments sent next c.issue.result (orchestrator_parts_shown c.issue.new.self)
     c.requires.new_name c.in-Ok.ensures.fits on made.1 c.issue.ensures.frame
     (c.issue.ensures.parts
-    ∙ ap (λ (rows : List Row). let parts : Parts = record { nodes = core.nodes.items; last = last_after core.last next; rows = map row_shown rows } in parts)
+    ∙ ap (λ (rows : List Row). let parts : OrchestratorParts = record { nodes = core.nodes.items; last = last_after core.last next; rows = map row_shown rows } in parts)
     c.in-Ok-add.ensures.added)

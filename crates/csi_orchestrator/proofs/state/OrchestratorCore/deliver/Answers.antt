@@ -1,10 +1,11 @@
 -- The row that the reply is to takes a step.
 use Rattle.std.proofs.Common.{◌≡◌, Some, None, sym, ◌∙◌, subst}
-use Rattle.csi_types.specs.Frame.{Frame}
+use Rattle.csi_types.specs.Model.Frame.{Frame}
 use Rattle.csi_orchestrator.specs.declared.fault.Heard.TheVariants.{Ignored}
-use Rattle.csi_orchestrator.specs.CoreParts.{parts_of}
-use Rattle.csi_orchestrator.specs.Moves.{Comes, Hears, hears}
-use Rattle.csi_orchestrator.specs.RowMoves.{IsRefusal, RowsAnswer}
+use Rattle.csi_orchestrator.specs.Public.CoreParts.{orchestrator_parts_shown}
+use Rattle.csi_orchestrator.specs.Model.Moves.{Comes, Hears, hears}
+use Rattle.csi_orchestrator.specs.Public.RowMoves.{IsRefusal}
+use Rattle.csi_orchestrator.specs.Private.RowMoves.{RowsAnswer}
 use Rattle.csi_orchestrator.proofs.RepliedPlaces.{delivered, undelivered, told-at_err, never-ignored}
 use Rattle.csi_orchestrator.proofs.state.OrchestratorCore.deliver.Goals as goal
 
@@ -32,7 +33,7 @@ returns-in_err-sent-clause-told c =
     let of =
     delivered core c.args.frame.now c.number.result c.party.result.now c.in-Reply.kind c.in-Reply.reply c.in-Some.index c.step_of.result c.number.ensures c.party.ensures
     (sym c.body.ensures.value ∙ c.in-Reply.is) c.requires.sound (sym c.in-Some.ensures.index) c.step_of.ensures in
-    told-at_err (parts_of core) (parts_of c.step.new.self) (Comes c.args.frame.now) Hears c.from_residual.result c.in_err-sent.field-0.0 c.from_residual.ensures.1
+    told-at_err (orchestrator_parts_shown core) (orchestrator_parts_shown c.step.new.self) (Comes c.args.frame.now) Hears c.from_residual.result c.in_err-sent.field-0.0 c.from_residual.ensures.1
     (subst (λ t. IsRefusal t c.in_err-sent.field-0.0) (sym of.told) (c.in_err-sent.ensures.err of.name hears of.named)) c.in_err-sent.ensures.stays
 
 pub returns-in_err-sent-clause-ignored : goal.returns-in_err-sent-clause-ignored
@@ -41,7 +42,7 @@ returns-in_err-sent-clause-ignored c = λ told.
     let of =
     delivered core c.args.frame.now c.number.result c.party.result.now c.in-Reply.kind c.in-Reply.reply c.in-Some.index c.step_of.result c.number.ensures c.party.ensures
     (sym c.body.ensures.value ∙ c.in-Reply.is) c.requires.sound (sym c.in-Some.ensures.index) c.step_of.ensures in
-    absurd (never-ignored (parts_of core) c.step_of.result _ (subst (RowsAnswer (Hears Ignored)) of.told told))
+    absurd (never-ignored (orchestrator_parts_shown core) c.step_of.result _ (subst (RowsAnswer (Hears Ignored)) of.told told))
 
 pub returns-in_err-sent-clause-quiet : goal.returns-in_err-sent-clause-quiet
 returns-in_err-sent-clause-quiet c = λ told.

@@ -1,9 +1,9 @@
 -- By the row at the index.
 use Rattle.std.proofs.Common.{ℕ, List, sym, ◌∙◌, ap, subst}
-use Rattle.csi_orchestrator.specs.CoreParts.{parts_of}
-use Rattle.csi_orchestrator.specs.RowSteps.{row_step, SendsNothing}
-use Rattle.csi_orchestrator.specs.RowMoves.{IsRefusal}
-use Rattle.csi_orchestrator.specs.Shown.{row_shown}
+use Rattle.csi_orchestrator.specs.Public.CoreParts.{orchestrator_parts_shown}
+use Rattle.csi_orchestrator.specs.Private.RowSteps.{row_step, SendsNothing}
+use Rattle.csi_orchestrator.specs.Public.RowMoves.{IsRefusal}
+use Rattle.csi_orchestrator.specs.Public.Shown.{row_shown}
 use Rattle.csi_orchestrator.proofs.RowsByName.{step-refused, step-told, step-quiet, rows-stay}
 use Rattle.csi_orchestrator.proofs.RowsUnderNames.{within-set, indexed-refused}
 use Rattle.csi_orchestrator.proofs.OpenCalls.{ready-told}
@@ -62,6 +62,6 @@ pub returns-clause-ok : goal.returns-clause-ok
 returns-clause-ok c = λ name answer at.
     let core = c.args.self.now in
     let row = c.index_mut-row.result.now in
-    step-told core answer c.args.step name c.args.index row c.take.new.row c.in_ok-next.next c.issue.result (parts_of c.issue.new.self) c.index_mut-row.ensures.value
+    step-told core answer c.args.step name c.args.index row c.take.new.row c.in_ok-next.next c.issue.result (orchestrator_parts_shown c.issue.new.self) c.index_mut-row.ensures.value
     (ap (λ (nodes : List (List ℕ)). row_step nodes core.last c.args.step (row_shown row)) (sym c.deref.ensures.value)
     ∙ c.in_ok-next.ensures.ok) c.issue.ensures.frame c.issue.ensures.parts at

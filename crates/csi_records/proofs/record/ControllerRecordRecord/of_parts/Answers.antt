@@ -1,6 +1,6 @@
 use Rattle.std.proofs.Common.{sym}
-use Rattle.csi_stores.specs.Part.{all_stored_in}
-use Rattle.csi_records.specs.Records.{controller_layout, IsControllerOf}
+use Rattle.csi_stores.specs.Public.Part.{all_stored_in}
+use Rattle.csi_records.specs.Public.Records.{controller_layout, IsControllerOf}
 use Rattle.csi_records.proofs.Versions.{no-version, stopped-in}
 use Rattle.csi_records.proofs.PluginLayouts.{controller_versioned}
 use Rattle.csi_records.proofs.record.ControllerRecordRecord.of_parts.Goals as goal

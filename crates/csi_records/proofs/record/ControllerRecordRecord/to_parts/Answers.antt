@@ -1,7 +1,7 @@
 use Rattle.std.proofs.Common.{◌≡◌, ◌∙◌, ap, arith, ℕ, Some}
 use Rattle.std.proofs.lemmas.Result.{IfOk-weaker}
-use Rattle.csi_records.specs.Spelling.{present, controller_head, volume_part, volume_row}
-use Rattle.csi_records.specs.Records.{controller_layout}
+use Rattle.csi_records.specs.Public.Spelling.{present, controller_head, volume_part, volume_row}
+use Rattle.csi_records.specs.Public.Records.{controller_layout}
 use Rattle.csi_records.proofs.WritingPieces.{put_same, stored_put}
 use Rattle.csi_records.proofs.PluginLayouts.{controller_is, controller_plain, writable}
 use Rattle.csi_records.proofs.record.ControllerRecordRecord.to_parts.Goals as goal

@@ -2,8 +2,8 @@
 use Rattle.std.proofs.Common.{ap, map, refl, arith}
 use Rattle.std.proofs.lemmas.Option.{same_Some}
 use Rattle.std.specs.Prelude.{ℕ}
-use Rattle.csi_records.specs.Spelling.{present, volume_row}
-use Rattle.csi_records.specs.Records.{Head, controller_layout}
+use Rattle.csi_records.specs.Public.Spelling.{present, volume_row}
+use Rattle.csi_records.specs.Public.Records.{Head, controller_layout}
 use Rattle.csi_records.proofs.Layouts.{parts-same}
 use Rattle.csi_records.proofs.PluginLayouts.{controller_one}
 use Rattle.csi_service.proofs.controller_service.ControllerServiceCore.record_law.Goals as goal

@@ -4,12 +4,13 @@ use Rattle.std.specs.Prelude.{option_map}
 use Rattle.csi_types.specs.declared.call.Party.{Party}
 use Rattle.csi_types.specs.declared.call.Party.TheVariants.{Node as OfNode}
 use Rattle.csi_types.specs.declared.frame.Body.TheVariants as bodies
-use Rattle.csi_types.specs.Frame.{IsAllowed}
-use Rattle.csi_types.specs.Lent.{lent_call}
-use Rattle.csi_types.specs.Replies.{call_frame}
-use Rattle.csi_node.specs.Changes.{Changes}
-use Rattle.csi_node.specs.Fenced.{node_at, answer_frame, fenced}
-use Rattle.csi_node.specs.Record.{Shows}
+use Rattle.csi_types.specs.Public.Frame.{IsAllowed}
+use Rattle.csi_types.specs.Public.Lent.{lent_call}
+use Rattle.csi_types.specs.Model.Replies.{call_frame}
+use Rattle.csi_node.specs.Public.Changes.{ChangesAt}
+use Rattle.csi_node.specs.Model.Fenced.{node_at, fenced}
+use Rattle.csi_node.specs.Public.Fenced.{answer_frame}
+use Rattle.csi_node.specs.Model.Record.{Shows}
 use Rattle.csi_service.proofs.AnsweredFrames.{has-reply, some-answer, told-answer}
 use Rattle.csi_service.proofs.NodeChanges.{parts-changed, all-differ, same-session, other-session, carries-reply}
 use Rattle.csi_service.proofs.FitRows.{node-fit}
@@ -40,15 +41,15 @@ pub returns-clause-parts : goal.returns-clause-parts
 returns-clause-parts c =
     let old = c.args.self.now.node in
     let new = c.answer.new.self in
-    let changes = told-answer (λ a. Changes a.row c.args.number old new) c.in-Ok.answer c.unwrap-answer.result c.unwrap-answer.ensures c.in-Ok.ensures.changes in
-    parts-changed old new c.unwrap-answer.result.row c.args.number c.record_law.ensures.rules.rising changes _ c.in_ok-forgotten.forgotten.items c.in-Ok.ensures.id
+    let changes = told-answer (λ a. ChangesAt a.row c.args.number old new) c.in-Ok.answer c.unwrap-answer.result c.unwrap-answer.ensures c.in-Ok.ensures.changes in
+    parts-changed old new c.unwrap-answer.result.row c.args.number c.record_law.ensures.rules.rising changes _ c.in_ok-forgotten.forgotten.items c.record_law-2.ensures.rules.rising c.in-Ok.ensures.id
     (same-session c.session.result c.session-session.result new.session old.session c.session.ensures c.session-session.ensures) c.in_ok-forgotten.ensures.ids c.in_ok-forgotten.ensures.limits c.id_law.ensures
 
 pub returns-clause-differs : goal.returns-clause-differs
 returns-clause-differs c =
     let old = c.args.self.now.node in
     let new = c.answer.new.self in
-    let changes = told-answer (λ a. Changes a.row c.args.number old new) c.in-Ok.answer c.unwrap-answer.result c.unwrap-answer.ensures c.in-Ok.ensures.changes in
+    let changes = told-answer (λ a. ChangesAt a.row c.args.number old new) c.in-Ok.answer c.unwrap-answer.result c.unwrap-answer.ensures c.in-Ok.ensures.changes in
     all-differ old new c.unwrap-answer.result.row c.args.number c.record_law.ensures.rules.rising changes _ refl
     (other-session c.session.result c.session-session.result new.session old.session c.session.ensures c.session-session.ensures) c.in_ok-forgotten.ensures.ids
 
@@ -72,5 +73,5 @@ pub returns-clause-fit : goal.returns-clause-fit
 returns-clause-fit c = λ fit named.
     let old = c.args.self.now.node in
     let new = c.answer.new.self in
-    let changes = told-answer (λ a. Changes a.row c.args.number old new) c.in-Ok.answer c.unwrap-answer.result c.unwrap-answer.ensures c.in-Ok.ensures.changes in
-    node-fit old new c.unwrap-answer.result.row c.args.number changes fit named
+    let changes = told-answer (λ a. ChangesAt a.row c.args.number old new) c.in-Ok.answer c.unwrap-answer.result c.unwrap-answer.ensures c.in-Ok.ensures.changes in
+    node-fit old new c.unwrap-answer.result.row c.args.number c.record_law-2.ensures.rules.rising changes fit named

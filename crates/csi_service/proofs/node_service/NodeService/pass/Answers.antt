@@ -1,11 +1,11 @@
 -- A frame that is no call for the node gets nothing.
 use Rattle.std.proofs.Common.{sym, ap, subst, refl}
 use Rattle.csi_types.specs.declared.call.Party.{Party}
-use Rattle.csi_fence.specs.Fenced.{Fenced}
-use Rattle.csi_node.specs.State.{NodeState}
-use Rattle.csi_node.specs.Fenced.{node_at}
-use Rattle.csi_node.specs.Record.{Shows}
-use Rattle.csi_service.specs.Calls.{IsNoCallFor}
+use Rattle.csi_fence.specs.Model.Fenced.{Fenced}
+use Rattle.csi_node.specs.Model.State.{NodeState}
+use Rattle.csi_node.specs.Model.Fenced.{node_at}
+use Rattle.csi_node.specs.Model.Record.{Shows}
+use Rattle.csi_service.specs.Private.Calls.{IsNoCallFor}
 use Rattle.csi_service.proofs.AnsweredFrames.{passed}
 use Rattle.csi_service.proofs.node_service.NodeService.pass.Goals as goal
 

@@ -2,17 +2,17 @@
 use Rattle.std.proofs.Common.{ap, map, None, List, refl, subst, arith}
 use Rattle.std.proofs.lemmas.Option.{same_Some}
 use Rattle.std.specs.Prelude.{ℕ}
-use Rattle.csi_types.specs.Text.{IsNodeId}
-use Rattle.csi_node.specs.OneRow.{shown}
-use Rattle.csi_records.specs.Spelling.{present}
-use Rattle.csi_records.specs.Records.{Head, node_layout}
+use Rattle.csi_types.specs.Public.Text.{IsNodeId}
+use Rattle.csi_node.specs.Model.OneRow.{node_row_shown}
+use Rattle.csi_records.specs.Public.Spelling.{present}
+use Rattle.csi_records.specs.Public.Records.{Head, node_layout}
 use Rattle.csi_records.proofs.Layouts.{parts-same}
 use Rattle.csi_records.proofs.PluginLayouts.{node_one}
 use Rattle.csi_service.proofs.node_service.NodeServiceCore.record_law.Goals as goal
 
 pub returns-clause-alone : goal.returns-clause-alone
 returns-clause-alone c = λ parts one other spelled also.
-    let same = parts-same (node_layout present None) (node_one present None) _ _ (map shown one.rows) (map shown other.rows) parts spelled also in
+    let same = parts-same (node_layout present None) (node_one present None) _ _ (map node_row_shown one.rows) (map node_row_shown other.rows) parts spelled also in
     (ap (λ (head : Head (List ℕ)). head.own) same.0, same_Some one.session other.session (ap (λ (head : Head (List ℕ)). head.session) same.0), same.1)
 
 pub returns-clause-there : goal.returns-clause-there

@@ -2,9 +2,9 @@ use Rattle.std.proofs.Common.{◌≡◌, ◌⊎◌, inl, inr, List, [], IsTrue, 
 use Rattle.sqlite.specs.Tree.{Trees}
 use Rattle.sqlite.specs.State.{State, HasCleanDisk}
 use Rattle.sqlite.specs.Held.{state}
-use Rattle.csi_tables.specs.Rows.{KeyedRow, StoresRows, IsBlank, IsAtRest}
-use Rattle.csi_tables.specs.Statements.{RefusesToMake}
-use Rattle.csi_sqlite.specs.Tables.{row_of, OpensOver}
+use Rattle.csi_sqlite.specs.Public.Rows.{KeyedRow, StoresRows, IsBlank, IsAtRest}
+use Rattle.csi_sqlite.specs.Public.Statements.{RefusesToMake}
+use Rattle.csi_sqlite.specs.Public.Tables.{keyed_row, OpensOver}
 use Rattle.csi_sqlite.proofs.sqlite_keep.SqliteKeep.new.Goals as goal
 
 -- where a test is passed that denies a flag, the flag is off
@@ -23,7 +23,7 @@ pub returns-in-Ok-clause-found : goal.returns-in-Ok-clause-found
 returns-in-Ok-clause-found g c clean content is_open parts =
     let rest : IsAtRest (state g.S.Store c.args.connection) =
     record { autocommit = off _ _ c.is_autocommit.ensures.value c.if-not-is_autocommit.false; committed = c.is_autocommit.ensures.settled c.if-not-is_autocommit.false is_open } in
-    let found = c.in-Ok.ensures.found clean (map row_of content) is_open parts.rows rest in
+    let found = c.in-Ok.ensures.found clean (map keyed_row content) is_open parts.rows rest in
     (record { rows = found.0; rising = parts.rising; keys = parts.keys }, found.1)
 
 -- what making the table leaves of rows is what it leaves of parts
@@ -33,7 +33,7 @@ opens : (before after : State) → (HasCleanDisk after → HasCleanDisk before)
 opens before after honest made found = record {
   honest = honest;
   blank = λ clean blank db may. elim (made clean blank db may) [ inl was ↦ inl was | inr rows ↦ inr (record { rows = rows; rising = tt; keys = tt }) ];
-  found = λ clean content is_open parts db may. found clean (map row_of content) is_open parts.rows db may;
+  found = λ clean content is_open parts db may. found clean (map keyed_row content) is_open parts.rows db may;
 }
 
 pub returns-in-Ok-clause-there : goal.returns-in-Ok-clause-there

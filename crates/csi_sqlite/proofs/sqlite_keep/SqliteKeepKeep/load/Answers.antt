@@ -1,15 +1,15 @@
 use Rattle.std.proofs.Common.{◌≡◌, ◌⊎◌, inl, inr, ℕ, List, [], Result, Ok, Err, IfErr, OnOk, map, sym, subst}
 use Rattle.sqlite.specs.Order.{Row}
 use Rattle.sqlite.specs.Held.{state}
-use Rattle.csi_tables.specs.Rows.{cells, AreByKey}
+use Rattle.csi_sqlite.specs.Public.Rows.{cells, AreByKey}
 use Rattle.csi_stores.specs.declared.keep.KeepFault.{KeepFault}
 use Rattle.csi_stores.specs.declared.keep.KeepFault.TheVariants.{NoMemory, BadRecord}
-use Rattle.csi_stores.specs.Part.{StoredPart}
-use Rattle.csi_stores.specs.Stores.{Store, IsOnly, IsLoadFault}
-use Rattle.csi_stores.specs.Stores.Found.{Parts}
-use Rattle.csi_sqlite.specs.Tables.{row_of}
-use Rattle.csi_sqlite.specs.Kept.{sqlite_store}
-use Rattle.csi_sqlite.specs.Loading.{IsFirstBad}
+use Rattle.csi_stores.specs.Public.Part.{StoredPart}
+use Rattle.csi_stores.specs.Public.Stores.{Store, IsOnly, IsLoadFault}
+use Rattle.csi_stores.specs.Public.Stores.Found.{Parts}
+use Rattle.csi_sqlite.specs.Public.Tables.{keyed_row}
+use Rattle.csi_sqlite.specs.Public.Kept.{sqlite_store}
+use Rattle.csi_sqlite.specs.Public.Loading.{IsFirstBad}
 use Rattle.csi_sqlite.proofs.Tabled.{still_holds}
 use Rattle.csi_sqlite.proofs.Loading.{loaded, loaded_content, none_refused}
 use Rattle.csi_sqlite.proofs.ForeignRows.{refuses_at}
@@ -36,14 +36,14 @@ returns-in-Ok-clause-judged g c clean columns has =
 
 pub returns-in-Ok-clause-parts : goal.returns-in-Ok-clause-parts
 returns-in-Ok-clause-parts g c clean content has =
-    loaded_content (state g.S.Store c.args.self.now.connection) (map cells (map row_of content)) content c.parts_of.result has.0
-    (returns-in-Ok-clause-judged g c clean (map cells (map row_of content)) has.0.rows)
+    loaded_content (state g.S.Store c.args.self.now.connection) (map cells (map keyed_row content)) content c.parts_of.result has.0
+    (returns-in-Ok-clause-judged g c clean (map cells (map keyed_row content)) has.0.rows)
 
 pub returns-in-Ok-clause-stays : goal.returns-in-Ok-clause-stays
 returns-in-Ok-clause-stays g c clean content has =
     let old = state g.S.Store c.args.self.now.connection in
     let new = state g.S.Store c.all_rows.new.connection in
-    let holds = still_holds old new content (c.in-Ok.ensures.same clean (map cells (map row_of content)) has.0.rows) has in
+    let holds = still_holds old new content (c.in-Ok.ensures.same clean (map cells (map keyed_row content)) has.0.rows) has in
     let is_open = holds.0.rows.is_open in
     let alone = only_found new c.args.self.now.faults (Parts content) holds (g.met.S.Store.stays c.all_rows.new.connection.store is_open) (λ db may. g.met.S.Store.settled c.all_rows.new.connection.store db is_open may) in
     done (IsOnly (sqlite_store new c.args.self.now.faults) (Parts content)) c.parts_of.result alone
@@ -51,12 +51,12 @@ returns-in-Ok-clause-stays g c clean content has =
 pub returns-in-Ok-clause-cause : goal.returns-in-Ok-clause-cause
 returns-in-Ok-clause-cause g c =
     refused c.parts_of.result (sqlite_store (state g.S.Store c.args.self.now.connection) c.args.self.now.faults) (sqlite_store (state g.S.Store c.all_rows.new.connection) c.args.self.now.faults) c.deref.result.now c.parts_of.ensures.bad (λ clean content has place bad.
-    let columns = map cells (map row_of content) in
+    let columns = map cells (map keyed_row content) in
     none_refused content place has.0.keys (c.deref.result.now, subst (AreByKey columns) (sym c.deref.ensures.value) (c.in-Ok.ensures.by_key clean columns has.0.rows), bad))
 
 pub returns-in-Err-SqlInputError-clause-cause : goal.returns-in-Err-SqlInputError-clause-cause
 returns-in-Err-SqlInputError-clause-cause g c clean content has =
-    c.in-Err-SqlInputError.ensures.known clean (map cells (map row_of content)) has.0.rows (c.in-Err-SqlInputError.field-0-0, c.in-Err-SqlInputError.field-0-is)
+    c.in-Err-SqlInputError.ensures.known clean (map cells (map keyed_row content)) has.0.rows (c.in-Err-SqlInputError.field-0-0, c.in-Err-SqlInputError.field-0-is)
 
 pub returns-in-Err-SqlInputError-clause-judged : goal.returns-in-Err-SqlInputError-clause-judged
 returns-in-Err-SqlInputError-clause-judged g c clean columns has =

@@ -3,10 +3,10 @@ use Rattle.std.specs.Option.{option_map}
 use Rattle.std.proofs.lemmas.Result.{on_ok_weaker}
 use Rattle.sqlite.specs.Held.{state}
 use Rattle.byteorder.specs.Endian.{big_bytes}
-use Rattle.csi_tables.specs.Rows.{HasRows, without}
-use Rattle.csi_stores.specs.Part.{StoredPart, bytes_in}
-use Rattle.csi_stores.specs.Content.{changed_to}
-use Rattle.csi_sqlite.specs.Tables.{row_of, HasParts}
+use Rattle.csi_sqlite.specs.Public.Rows.{HasRows, without}
+use Rattle.csi_stores.specs.Public.Part.{StoredPart, value_bytes}
+use Rattle.csi_stores.specs.Public.Content.{changed_to}
+use Rattle.csi_sqlite.specs.Public.Tables.{keyed_row, HasParts}
 use Rattle.csi_sqlite.proofs.Tabled.{put_has, removed_has}
 use Rattle.csi_sqlite.proofs.sqlite_keep.changing.change.Goals as goal
 
@@ -16,11 +16,11 @@ returns-in-Some-clause-changed g c clean content has =
     let part : StoredPart = record { key = c.args.part.now.key; value = c.in-Some.value.items } in
     let fits : part.key < 2 ^ 64 = omega arith in
     on_ok_weaker c.put_row.result
-    (λ h. subst (λ v. HasParts new (changed_to part.key (option_map bytes_in v) content)) (sym c.in-Some.is)
+    (λ h. subst (λ v. HasParts new (changed_to part.key (option_map value_bytes v) content)) (sym c.in-Some.is)
     (put_has new part content fits has.rising has.keys
-    (subst (λ v. HasRows new (record { key = big_bytes 8 part.key; value = v } ∷ without (big_bytes 8 part.key) (map row_of content))) c.deref.ensures.value
-    (subst (λ k. HasRows new (record { key = k; value = c.deref.result.now } ∷ without k (map row_of content))) c.to_be_bytes-key.ensures h))))
-    (c.put_row.ensures.put clean (map row_of content) has.rows)
+    (subst (λ v. HasRows new (record { key = big_bytes 8 part.key; value = v } ∷ without (big_bytes 8 part.key) (map keyed_row content))) c.deref.ensures.value
+    (subst (λ k. HasRows new (record { key = k; value = c.deref.result.now } ∷ without k (map keyed_row content))) c.to_be_bytes-key.ensures h))))
+    (c.put_row.ensures.put clean (map keyed_row content) has.rows)
 
 pub returns-in-None-clause-changed : goal.returns-in-None-clause-changed
 returns-in-None-clause-changed g c clean content has =
@@ -28,6 +28,6 @@ returns-in-None-clause-changed g c clean content has =
     let key = c.args.part.now.key in
     let fits : key < 2 ^ 64 = omega arith in
     on_ok_weaker c.remove_row.result
-    (λ h. subst (λ v. HasParts new (changed_to key (option_map bytes_in v) content)) (sym c.in-None.is) (removed_has new key content fits has.rising has.keys
-    (subst (λ k. HasRows new (without k (map row_of content))) c.to_be_bytes-key.ensures h)))
-    (c.remove_row.ensures.removed clean (map row_of content) has.rows)
+    (λ h. subst (λ v. HasParts new (changed_to key (option_map value_bytes v) content)) (sym c.in-None.is) (removed_has new key content fits has.rising has.keys
+    (subst (λ k. HasRows new (without k (map keyed_row content))) c.to_be_bytes-key.ensures h)))
+    (c.remove_row.ensures.removed clean (map keyed_row content) has.rows)

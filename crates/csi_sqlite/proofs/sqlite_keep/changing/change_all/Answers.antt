@@ -3,9 +3,9 @@ use Rattle.std.proofs.Common.{◌≡◌, ◌+◌, ℕ, Err, List, ◌∷◌, map
 use Rattle.sqlite.specs.Held.{state}
 use Rattle.sqlite.specs.State.{HasCleanDisk}
 use Rattle.csi_stores.specs.declared.part.Part.{Part}
-use Rattle.csi_stores.specs.Part.{change_of}
-use Rattle.csi_stores.specs.Content.{all_changed, changed_to}
-use Rattle.csi_sqlite.specs.Refusals.{RefusesOneOf}
+use Rattle.csi_stores.specs.Public.Part.{part_change}
+use Rattle.csi_stores.specs.Public.Content.{all_changed, changed_to}
+use Rattle.csi_sqlite.specs.Public.Refusals.{RefusesOneOf}
 use Rattle.csi_sqlite.proofs.Refusals.{still_inside, from_place, if_err}
 use Rattle.csi_sqlite.proofs.sqlite_keep.changing.change_all.Goals as goal
 
@@ -20,8 +20,8 @@ returns-in_err-change-clause-refused g c clean inside after undone =
     let so_far = c.loop-part.invariant.3 early inside in
     let whole = from_place parts c.loop-part.part-index c.part-item.result c.loop-part-test.true c.part-item.is in
     let is : c.from_residual.result ≡ Err error = search rules in
-    if_err (RefusesOneOf g.S.Store (map change_of parts) start after) c.from_residual.result error is
-    (so_far.1 after error (subst (λ (l : List Part). RefusesOneOf g.S.Store (map change_of l) now after error) (sym whole) (inl (left, c.in_err-change.ensures.refused clean so_far.0, undone))))
+    if_err (RefusesOneOf g.S.Store (map part_change parts) start after) c.from_residual.result error is
+    (so_far.1 after error (subst (λ (l : List Part). RefusesOneOf g.S.Store (map part_change l) now after error) (sym whole) (inl (left, c.in_err-change.ensures.refused clean so_far.0, undone))))
 
 pub loop-part-preserved : goal.loop-part-preserved
 loop-part-preserved g c =
@@ -38,17 +38,17 @@ loop-part-preserved g c =
       search rules,
       λ clean content has.
           let before = invariant.2 (early clean) content has in
-          let change = change_of part in (
+          let change = part_change part in (
             changed_to change.key change.value before.0,
             c.in_ok-change.ensures.changed clean before.0 before.1,
-            sym (ap (λ (l : List Part). all_changed (map change_of l) before.0) whole) ∙ before.2,
+            sym (ap (λ (l : List Part). all_changed (map part_change l) before.0) whole) ∙ before.2,
           ),
       λ clean inside.
           let so_far = invariant.3 (early clean) inside in
-          let change = change_of part in
+          let change = part_change part in
           let made = c.in_ok-change.ensures.made clean so_far.0 in (
             still_inside change.key change.value (state g.S.Store now) (state g.S.Store next) made,
             λ after error refuses. so_far.1 after error
-                (subst (λ (l : List Part). RefusesOneOf g.S.Store (map change_of l) now after error) (sym whole) (inr (next, record { made = made; survives = c.change.ensures.survives }, refuses))),
+                (subst (λ (l : List Part). RefusesOneOf g.S.Store (map part_change l) now after error) (sym whole) (inr (next, record { made = made; survives = c.change.ensures.survives }, refuses))),
           ),
     )

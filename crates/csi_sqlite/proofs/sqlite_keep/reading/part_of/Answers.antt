@@ -1,5 +1,5 @@
 use Rattle.std.proofs.Common.{ap, ◌∙◌, Some, arith, ℕ, List}
-use Rattle.csi_sqlite.specs.Loading.{blob_in}
+use Rattle.csi_sqlite.specs.Private.Loading.{blob_in}
 use Rattle.csi_sqlite.proofs.Loading.{eight_bytes}
 use Rattle.csi_sqlite.proofs.sqlite_keep.reading.part_of.Goals as goal
 

@@ -2,7 +2,7 @@
 use Rattle.std.proofs.Common.{take}
 use Rattle.std.specs.List.{flat_map}
 use Rattle.std.specs.Fmt.{HasWritten, IsPlainFormatter}
-use Rattle.csi_streams.specs.Shown.{shown_byte}
+use Rattle.csi_streams.specs.Public.Shown.{shown_byte}
 use Rattle.csi_streams.proofs.shown.QuotedDisplay.fmt.Given as goal
 
 abbrev pub invariant-loop-byte : goal.invariant-loop-byte

@@ -1,9 +1,9 @@
 -- One node's lists more, by what each reader says.
 use Rattle.std.proofs.Common.{◌≡◌, ◌+◌, List, [], ◌∷◌, ◌++◌, map, take, ap, sym, ◌∙◌, subst}
 use Rattle.std.proofs.lemmas.List.{take_more, map-append}
-use Rattle.csi_node.specs.Record.{NodeParts}
-use Rattle.csi_world.specs.World.{NodeAt}
-use Rattle.csi_world.specs.Listed.{AreDistinct, node_listed, AreListsOf}
+use Rattle.csi_node.specs.Model.Record.{NodeParts}
+use Rattle.csi_world.specs.Model.World.{NodeAt}
+use Rattle.csi_world.specs.Private.Listed.{AreDistinctTexts, node_listed, AreListsOf}
 use Rattle.csi_world.proofs.ListedNodes.{lists-alike, lists-more, shown-ids}
 use Rattle.csi_world.proofs.WholeLists.{take-whole}
 use Rattle.csi_world.proofs.auditing.gathering.list_plugins.Goals as goal
@@ -30,5 +30,5 @@ returns c world plugins =
       volumes = shows.volumes;
       holdings = shows.holdings;
       nodes = lists-alike c.args.nodes.now (map node_listed c.loop-node.lists.items) world.nodes lists plugins.nodes;
-      apart = subst AreDistinct (shown-ids c.args.nodes.now world.nodes plugins.nodes) c.requires;
+      apart = subst AreDistinctTexts (shown-ids c.args.nodes.now world.nodes plugins.nodes) c.requires;
     }

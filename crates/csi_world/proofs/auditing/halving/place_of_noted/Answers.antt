@@ -3,7 +3,7 @@ use Rattle.std.proofs.Common.{rules, ◌∙◌}
 use Rattle.std.proofs.lemmas.Fn.{always_returns_same}
 use Rattle.csi_orchestrator.specs.declared.thing.Thing.{Thing}
 use Rattle.csi_orchestrator.specs.declared.thing.Known.{Known}
-use Rattle.csi_orchestrator.specs.Listing.{thing_order}
+use Rattle.csi_orchestrator.specs.Public.Listing.{thing_order}
 use Rattle.csi_world.proofs.FoundByHalving.{noted-place}
 use Rattle.csi_world.proofs.auditing.halving.place_of_noted.Goals as goal
 

@@ -2,7 +2,7 @@
 use Rattle.std.proofs.Common.{◌≡◌, List, map, take, true}
 use Rattle.std.specs.List.{list_all}
 use Rattle.csi_orchestrator.specs.declared.thing.Thing.{Thing}
-use Rattle.csi_world.specs.Listed.{is_entry_listed, is_affirmed}
+use Rattle.csi_world.specs.Private.Listed.{is_entry_listed, is_affirmed}
 use Rattle.csi_world.proofs.auditing.marks.are_affirmed.Given as goal
 
 abbrev pub invariant-loop-place : goal.invariant-loop-place

@@ -3,8 +3,8 @@ use Rattle.std.proofs.Common.{◌≡◌, ◌+◌, List, [], ◌∷◌, ◌++◌,
 use Rattle.std.specs.List.{AllByRecursion}
 use Rattle.std.proofs.lemmas.List.{take_more}
 use Rattle.csi_lists.proofs.Each.{each-append_one}
-use Rattle.csi_node.specs.Record.{NodeParts}
-use Rattle.csi_world.specs.Listed.{IsPublishing}
+use Rattle.csi_node.specs.Model.Record.{NodeParts}
+use Rattle.csi_world.specs.Private.Listed.{IsPublishing}
 use Rattle.csi_world.proofs.PartsSafe.{plugins-safe}
 use Rattle.csi_world.proofs.WholeLists.{take-whole}
 use Rattle.csi_world.proofs.auditing.safety.plugins_are_safe.Goals as goal

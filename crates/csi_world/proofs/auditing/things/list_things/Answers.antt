@@ -2,8 +2,8 @@
 use Rattle.std.proofs.Common.{List, sym, subst}
 use Rattle.std.proofs.lemmas.Result.{IfOk-weaker}
 use Rattle.csi_orchestrator.specs.declared.thing.Thing.{Thing}
-use Rattle.csi_lists.specs.Members.{IsAmong}
-use Rattle.csi_world.specs.Listed.{Lists}
+use Rattle.csi_lists.specs.Model.Members.{IsAmong}
+use Rattle.csi_world.specs.Private.Listed.{Lists}
 use Rattle.csi_world.proofs.ThingsHeld.{listed-then-holds, holds-then-listed}
 use Rattle.csi_world.proofs.auditing.things.list_things.Goals as goal
 

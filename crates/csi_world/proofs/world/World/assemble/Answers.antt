@@ -1,7 +1,7 @@
 -- The records are of the configuration's nodes, and so are the parts.
 use Rattle.std.proofs.Common.{◌≡◌, None, rules, subst, sym}
-use Rattle.csi_types.specs.Config.{config_fault}
-use Rattle.csi_world.specs.Assembled.{AreOfNodes}
+use Rattle.csi_types.specs.Public.Config.{config_fault}
+use Rattle.csi_world.specs.Public.Assembled.{AreOfNodes}
 use Rattle.csi_world.proofs.world.World.assemble.Goals as goal
 
 pub of-requires : goal.of-requires

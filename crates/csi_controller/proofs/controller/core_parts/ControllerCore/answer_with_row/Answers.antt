@@ -3,14 +3,14 @@ use Rattle.std.proofs.Common.{◌∙◌, List, Bool, subst}
 use Rattle.std.proofs.lemmas.Result.{on_err_weaker}
 use Rattle.std.specs.Prelude.{Some, IfOk}
 use Rattle.csi_types.specs.declared.config.NodeSlots.{NodeSlots}
-use Rattle.csi_fence.specs.Fence.{verdict_of}
-use Rattle.csi_types.specs.Lent.{lent_call}
+use Rattle.csi_fence.specs.Model.Fence.{verdict_of}
+use Rattle.csi_types.specs.Public.Lent.{lent_call}
 use Rattle.csi_controller.specs.declared.row.ControllerRow.{ControllerRow}
-use Rattle.csi_controller.specs.Catalog.{rows_of}
-use Rattle.csi_controller.specs.AtRow.{RowAnswers}
-use Rattle.csi_controller.specs.Shown.{volume_of_row}
-use Rattle.csi_controller.specs.State.{is_row_for}
-use Rattle.csi_controller.specs.Step.{answer_frame}
+use Rattle.csi_controller.specs.Public.Catalog.{rows_of}
+use Rattle.csi_controller.specs.Private.AtRow.{RowAnswers}
+use Rattle.csi_controller.specs.Model.Shown.{volume_of_row}
+use Rattle.csi_controller.specs.Model.State.{is_row_for}
+use Rattle.csi_controller.specs.Public.Step.{answer_frame}
 use Rattle.csi_controller.proofs.AtRow.{at-place, sound-at, let_through, repeat-there}
 use Rattle.csi_controller.proofs.CatalogMaps.{read-at}
 use Rattle.csi_controller.proofs.RowReplaced.{all-ok, answered-there, left-there}

@@ -2,12 +2,12 @@
 use Rattle.std.proofs.Common.{◌≡◌, subst, None}
 use Rattle.std.specs.Prelude.{position}
 use Rattle.csi_types.specs.declared.lent.CallRef.{CallRef}
-use Rattle.csi_types.specs.Lent.{lent_call}
-use Rattle.csi_types.specs.Same.{same_text}
+use Rattle.csi_types.specs.Public.Lent.{lent_call}
+use Rattle.csi_types.specs.Model.Same.{same_text}
 use Rattle.csi_controller.specs.declared.row.ControllerRow.{ControllerRow}
-use Rattle.csi_controller.specs.Catalog.{rows_of}
-use Rattle.csi_controller.specs.Shown.{volume_of_row}
-use Rattle.csi_controller.specs.State.{is_row_for}
+use Rattle.csi_controller.specs.Public.Catalog.{rows_of}
+use Rattle.csi_controller.specs.Model.Shown.{volume_of_row}
+use Rattle.csi_controller.specs.Model.State.{is_row_for}
 use Rattle.csi_controller.proofs.AtRow.{nowhere, repeat-nowhere}
 use Rattle.csi_controller.proofs.CoreAnswered.{same-left}
 use Rattle.csi_controller.proofs.CoreBegun.{on-err}

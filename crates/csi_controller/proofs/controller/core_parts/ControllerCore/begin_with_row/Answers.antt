@@ -3,14 +3,15 @@ use Rattle.std.proofs.Common.{Bool, List, subst}
 use Rattle.std.proofs.lemmas.Bool.{false≢true}
 use Rattle.std.specs.Prelude.{Some}
 use Rattle.csi_types.specs.declared.config.NodeSlots.{NodeSlots}
-use Rattle.csi_fence.specs.Fence.{verdict_of}
-use Rattle.csi_types.specs.Lent.{lent_call}
+use Rattle.csi_fence.specs.declared.answer.Answer.{Answer}
+use Rattle.csi_fence.specs.Model.Fence.{verdict_of}
+use Rattle.csi_types.specs.Public.Lent.{lent_call}
 use Rattle.csi_controller.specs.declared.row.ControllerRow.{ControllerRow}
-use Rattle.csi_controller.specs.AtRow.{RowAnswers}
-use Rattle.csi_controller.specs.Catalog.{rows_of}
-use Rattle.csi_controller.specs.Shown.{volume_of_row}
-use Rattle.csi_controller.specs.State.{is_row_for}
-use Rattle.csi_controller.specs.Step.{answer_frame}
+use Rattle.csi_controller.specs.Private.AtRow.{RowAnswers}
+use Rattle.csi_controller.specs.Public.Catalog.{rows_of}
+use Rattle.csi_controller.specs.Model.Shown.{volume_of_row}
+use Rattle.csi_controller.specs.Model.State.{is_row_for}
+use Rattle.csi_controller.specs.Public.Step.{answer_frame}
 use Rattle.csi_controller.proofs.AtRow.{sound-at}
 use Rattle.csi_controller.proofs.CatalogMaps.{read-at}
 use Rattle.csi_controller.proofs.CoreBegun.{begun-there, begun-undone, on-err, put-indexed, put-rising}
@@ -67,8 +68,8 @@ returns-clause-ok c =
     let new = c.answer_at_row.new.row in
     let counts = c.answer_at_row.new.counts in
     let call = lent_call c.args.call.now in
-    let answer = c.in_ok-answer.answer in
+    let answer : Answer = record c.in_ok-answer.answer { row = c.place_of_id-answer.result } in
     begun-there core c.forget.new.self c.args.place row new counts c.args.number call answer c.requires.kept c.requires.begins c.requires.place c.index_mut-row.ensures.value
     (c.requires.live row c.index_mut-row.ensures.value) c.requires.party
     (subst (λ (nodes : List NodeSlots). RowAnswers nodes row new core.counts counts c.args.number call (verdict_of (Some row.last) c.args.number) (answer_frame c.args.number answer)) c.nodes-nodes.ensures c.in_ok-answer.ensures.ok)
-    c.in_ok-answer.ensures.row c.in_ok-answer.ensures.allowed c.forget.ensures
+    c.place_of_id-answer.ensures.place c.in_ok-answer.ensures.allowed c.forget.ensures

@@ -1,16 +1,16 @@
 -- CreateVolume of a name that has no row: refused, or made.
-use Rattle.std.proofs.Common.{◌≡◌, subst, sym, ℕ, List}
+use Rattle.std.proofs.Common.{◌≡◌, subst, sym, ℕ}
 use Rattle.std.proofs.lemmas.Result.{IfOk-weaker, on_err_weaker}
 use Rattle.csi_types.specs.declared.call.Call.TheVariants.{CreateVolume}
-use Rattle.csi_types.specs.declared.capability.Capability.{Capability}
-use Rattle.csi_types.specs.Replies.{ok_reply_with}
-use Rattle.csi_controller.specs.Catalog.{rows_of}
-use Rattle.csi_controller.specs.Core.{next_shown}
-use Rattle.csi_controller.specs.CoreAnswers.{IsAnswered}
-use Rattle.csi_controller.specs.Line.{line_told}
-use Rattle.csi_controller.specs.Making.{made_line, new_line}
-use Rattle.csi_controller.specs.RowTable.{argument_fault}
-use Rattle.csi_controller.specs.Table.{Makes, Stays}
+use Rattle.csi_types.specs.Public.Lent.{lent_capabilities}
+use Rattle.csi_types.specs.Model.Replies.{ok_reply_with}
+use Rattle.csi_controller.specs.Public.Catalog.{rows_of}
+use Rattle.csi_controller.specs.Public.Core.{next_shown}
+use Rattle.csi_controller.specs.Private.CoreAnswers.{IsCallAnswered}
+use Rattle.csi_controller.specs.Private.Line.{reply_shown}
+use Rattle.csi_controller.specs.Private.Making.{made_line, new_line}
+use Rattle.csi_controller.specs.Private.RowTable.{argument_fault}
+use Rattle.csi_controller.specs.Model.Table.{Makes, Stays}
 use Rattle.csi_controller.proofs.CoreAnswered.{parts-left}
 use Rattle.csi_controller.proofs.CoreMade.{good-where_made, made-now, unmade-now}
 use Rattle.csi_controller.proofs.Making.{fresh-id, ok-both}
@@ -27,17 +27,15 @@ returns-in-Ok-clause-ok c =
     let name = c.args.name.now in
     let required = c.args.required in
     let limit = c.args.limit in
-    let line = subst
-    (λ (wished : List Capability). made_line (argument_fault required limit wished) (new_line core.config.greatest c.len.result (next_shown core.next_id) name required limit wished)
-    ≡ record { reply = ok_reply_with c.in-Ok.made.0; change = Makes name c.in-Ok.made.1 wished })
-    c.as_slice-wished.ensures.value (c.in-Ok.ensures.line name) in
-    let good = good-where_made (argument_fault required limit c.args.capabilities.now) _ _ name c.in-Ok.made.1 c.args.capabilities.now line in
+    let wished = lent_capabilities c.args.capabilities in
+    let told = new_line core.config.greatest c.len.result (next_shown core.next_id) name required limit wished in
+    let good = good-where_made (argument_fault required limit wished) told (ok_reply_with c.in-Ok.made.0) name c.in-Ok.made.1 wished (c.in-Ok.ensures.line name) in
     let new = subst
-    (λ (count : ℕ). new_line core.config.greatest count (next_shown core.next_id) name required limit c.args.capabilities.now ≡ record { reply = ok_reply_with c.in-Ok.made.0; change = Makes name c.in-Ok.made.1 c.args.capabilities.now })
+    (λ (count : ℕ). new_line core.config.greatest count (next_shown core.next_id) name required limit wished ≡ record { reply = ok_reply_with c.in-Ok.made.0; change = Makes name c.in-Ok.made.1 wished })
     c.len.ensures good.1 in
     ok-both c.make.result _ _ _
-    (λ answer is made. subst (IsAnswered core c.make.new.self c.args.number (CreateVolume name required limit c.args.capabilities.now)) (sym is)
-    (made-now core c.make.new.self c.args.number c.in-Ok.made.0 name required limit c.in-Ok.made.1 c.args.capabilities.now c.requires.kept c.requires.present c.requires.new good.0 new
+    (λ answer is made. subst (IsCallAnswered core c.make.new.self c.args.number (CreateVolume name required limit wished)) (sym is)
+    (made-now core c.make.new.self c.args.number c.in-Ok.made.0 name required limit c.in-Ok.made.1 wished c.requires.kept c.requires.present c.requires.new good.0 new
     c.in-Ok.ensures.id c.in-Ok.ensures.from made c.make.ensures.indexed c.make.ensures.counts))
     c.make.ensures.answer c.make.ensures.made
 
@@ -51,15 +49,12 @@ returns-in-Err-clause-ok c =
     let name = c.args.name.now in
     let required = c.args.required in
     let limit = c.args.limit in
-    let told = subst
-    (λ (wished : List Capability). made_line (argument_fault required limit wished) (new_line core.config.greatest c.len.result (next_shown core.next_id) name required limit wished)
-    ≡ record { reply = line_told c.in-Err.line; change = Stays })
-    c.as_slice-wished.ensures.value (c.in-Err.ensures.line name) in
+    let wished = lent_capabilities c.args.capabilities in
     let line = subst
-    (λ (count : ℕ). made_line (argument_fault required limit c.args.capabilities.now) (new_line core.config.greatest count (next_shown core.next_id) name required limit c.args.capabilities.now)
-    ≡ record { reply = line_told c.in-Err.line; change = Stays })
-    c.len.ensures told in
+    (λ (count : ℕ). made_line (argument_fault required limit wished) (new_line core.config.greatest count (next_shown core.next_id) name required limit wished)
+    ≡ record { reply = reply_shown c.in-Err.line; change = Stays })
+    c.len.ensures (c.in-Err.ensures.line name) in
     IfOk-weaker c.answer_of.result _ _
-    (λ answer is. subst (IsAnswered core core c.args.number (CreateVolume name required limit c.args.capabilities.now)) (sym is)
-    (unmade-now core c.args.number name required limit c.args.capabilities.now (line_told c.in-Err.line) c.requires.kept c.requires.present c.requires.new line c.in-Err.ensures.no_id))
+    (λ answer is. subst (IsCallAnswered core core c.args.number (CreateVolume name required limit wished)) (sym is)
+    (unmade-now core c.args.number name required limit wished (reply_shown c.in-Err.line) c.requires.kept c.requires.present c.requires.new line c.in-Err.ensures.no_id))
     c.answer_of.ensures.ok

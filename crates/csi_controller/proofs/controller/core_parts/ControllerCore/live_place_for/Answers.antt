@@ -1,11 +1,11 @@
 -- The row at its place, live or not.
 use Rattle.std.proofs.Common.{Bool}
 use Rattle.csi_lists.proofs.Searches.{find-none_in_filter}
-use Rattle.csi_types.specs.Lent.{lent_call}
+use Rattle.csi_types.specs.Public.Lent.{lent_call}
 use Rattle.csi_controller.specs.declared.row.ControllerRow.{ControllerRow}
-use Rattle.csi_controller.specs.Catalog.{rows_of}
-use Rattle.csi_controller.specs.Shown.{volume_of_row}
-use Rattle.csi_controller.specs.State.{is_row_for}
+use Rattle.csi_controller.specs.Public.Catalog.{rows_of}
+use Rattle.csi_controller.specs.Model.Shown.{volume_of_row}
+use Rattle.csi_controller.specs.Model.State.{is_row_for}
 use Rattle.csi_controller.proofs.AtRow.{at-place, nowhere, one-row}
 use Rattle.csi_controller.proofs.CatalogMaps.{read-at}
 use Rattle.csi_controller.proofs.Forgetting.{none-live}

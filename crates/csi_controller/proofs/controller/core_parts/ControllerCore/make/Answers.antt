@@ -1,10 +1,10 @@
 -- The new row has the id and the name that none has.
 use Rattle.std.proofs.Common.{◌≡◌, None, List, ℕ, ap, subst, sym}
 use Rattle.std.specs.Prelude.{find, ◌==◌}
-use Rattle.csi_types.specs.Same.{same_text}
+use Rattle.csi_types.specs.Model.Same.{same_text}
 use Rattle.csi_controller.specs.declared.row.ControllerRow.{ControllerRow}
-use Rattle.csi_controller.specs.Catalog.{rows_of}
-use Rattle.csi_controller.specs.State.{Volume}
+use Rattle.csi_controller.specs.Public.Catalog.{rows_of}
+use Rattle.csi_controller.specs.Model.State.{Volume}
 use Rattle.csi_controller.proofs.controller.core_parts.ControllerCore.make.Goals as goal
 
 pub add-requires-clause-new_id : goal.add-requires-clause-new_id

@@ -4,8 +4,8 @@ use Rattle.std.specs.Prelude.{Option, ◌==◌}
 use Rattle.csi_lists.proofs.Options.{some_is_not_none}
 use Rattle.csi_lists.proofs.Places.{FirstAt-find}
 use Rattle.csi_controller.specs.declared.row.ControllerRow.{ControllerRow}
-use Rattle.csi_controller.specs.Catalog.{rows_of}
-use Rattle.csi_controller.specs.Views.{IsCopyOf}
+use Rattle.csi_controller.specs.Public.Catalog.{rows_of}
+use Rattle.csi_controller.specs.Public.Views.{IsCopyOf}
 use Rattle.csi_controller.proofs.AtRow.{at-place, nowhere}
 use Rattle.csi_controller.proofs.CatalogMaps.{read-at}
 use Rattle.csi_controller.proofs.controller.core_parts.ControllerCore.row.Goals as goal

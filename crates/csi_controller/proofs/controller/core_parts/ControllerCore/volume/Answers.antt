@@ -1,10 +1,10 @@
 -- The row at the place of the name.
 use Rattle.std.proofs.Common.{ap, sym, refl}
 use Rattle.csi_lists.proofs.Places.{FirstAt-find}
-use Rattle.csi_types.specs.Same.{same_text}
+use Rattle.csi_types.specs.Model.Same.{same_text}
 use Rattle.csi_controller.specs.declared.row.ControllerRow.{ControllerRow}
-use Rattle.csi_controller.specs.Catalog.{rows_of}
-use Rattle.csi_controller.specs.Views.{row_if_live}
+use Rattle.csi_controller.specs.Public.Catalog.{rows_of}
+use Rattle.csi_controller.specs.Private.Views.{row_if_live}
 use Rattle.csi_controller.proofs.AtRow.{at-place, nowhere}
 use Rattle.csi_controller.proofs.CatalogMaps.{read-at}
 use Rattle.csi_controller.proofs.controller.core_parts.ControllerCore.volume.Goals as goal

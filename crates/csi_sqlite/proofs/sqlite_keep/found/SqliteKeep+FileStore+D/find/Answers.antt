@@ -5,7 +5,7 @@ use Rattle.sqlite_trees.specs.Tree.{Trees}
 use Rattle.sqlite.specs.Effect.{Database}
 use Rattle.sqlite.specs.State.{HasCleanDisk}
 use Rattle.sqlite.specs.Files.{file_state, Finds}
-use Rattle.csi_sqlite.specs.Tables.{StoresParts}
+use Rattle.csi_sqlite.specs.Public.Tables.{StoresParts}
 use Rattle.csi_sqlite.proofs.sqlite_keep.found.SqliteKeep+FileStore+D.find.Goals as goal
 
 pub returns-clause-finds : goal.returns-clause-finds

@@ -1,0 +1,3 @@
+pub mod Running
+pub mod Ending
+pub mod Streaming

@@ -1,0 +1,6 @@
+pub mod State
+pub mod Table
+pub mod Fenced
+pub mod Shown
+pub mod Core
+pub mod Safe

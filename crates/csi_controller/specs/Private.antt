@@ -1,0 +1,17 @@
+pub mod Fenced
+pub mod Worked
+pub mod Laws
+pub mod OneRow
+pub mod RowTable
+pub mod AtRow
+pub mod Making
+pub mod Nowhere
+pub mod Step
+pub mod Line
+pub mod Catalog
+pub mod Counts
+pub mod Views
+pub mod SoundRow
+pub mod Judging
+pub mod CoreAnswers
+pub mod Beginning

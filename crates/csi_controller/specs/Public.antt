@@ -1,0 +1,16 @@
+pub mod State
+pub mod Fenced
+pub mod Laws
+pub mod Core
+pub mod Step
+pub mod Catalog
+pub mod Counts
+pub mod CoreParts
+pub mod Views
+pub mod WithoutSession
+pub mod Exclusive
+pub mod Safe
+pub mod View
+pub mod Judging
+pub mod Repeats
+pub mod RowsLaw

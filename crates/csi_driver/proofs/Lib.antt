@@ -1,0 +1,4 @@
+pub mod FaultPlaces
+pub mod Streams
+pub mod Reaching
+pub mod Ending

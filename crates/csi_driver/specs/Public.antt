@@ -1,0 +1,4 @@
+pub mod State
+pub mod Driving
+pub mod Framing
+pub mod Frames

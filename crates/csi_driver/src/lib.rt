@@ -1,0 +1,13 @@
+//! The one driver of streams: a reader's bytes are taken in pieces, what they are split into is handled item by item, and how that ends
+//! is told. What is split, and what is done with an item, is a type that implements a trait. This profile's own.
+#![tactic(auto)]
+
+mod consumer;
+mod driver;
+mod frames;
+mod handler;
+
+pub use consumer::Consumer;
+pub use driver::{Stop, drive, drive_slice};
+pub use frames::{Frames, FramesFault};
+pub use handler::FrameHandler;

@@ -1,0 +1,4 @@
+pub mod Endings
+pub mod Plugins
+pub mod Calls
+pub mod Making

@@ -1,0 +1,4 @@
+pub mod Fence
+pub mod Fenced
+pub mod Delivery
+pub mod Lawful

@@ -1,0 +1,4 @@
+pub mod Spelling
+pub mod Gives
+pub mod Appends
+pub mod Progress

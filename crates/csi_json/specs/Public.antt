@@ -1,0 +1,6 @@
+pub mod Json
+pub mod Capabilities
+pub mod Configs
+pub mod Faults
+pub mod Events
+pub mod Schedule

@@ -1,4 +1,0 @@
-pub mod Order
-pub mod Entries
-pub mod Listed
-pub mod Records

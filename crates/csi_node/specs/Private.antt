@@ -1,0 +1,9 @@
+pub mod Fenced
+pub mod OneRow
+pub mod Line
+pub mod Record
+pub mod Laws
+pub mod Worked
+pub mod SoundRow
+pub mod Judging
+pub mod Step

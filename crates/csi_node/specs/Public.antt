@@ -1,0 +1,10 @@
+pub mod Fenced
+pub mod OneRow
+pub mod Record
+pub mod WithoutSession
+pub mod Views
+pub mod Laws
+pub mod Safe
+pub mod View
+pub mod Judging
+pub mod Changes

@@ -1,0 +1,9 @@
+pub mod Thing
+pub mod History
+pub mod Readings
+pub mod WellFormed
+pub mod Due
+pub mod Commands
+pub mod Moves
+pub mod Agrees
+pub mod Shown

@@ -1,0 +1,16 @@
+pub mod Thing
+pub mod Following
+pub mod Shown
+pub mod RowDue
+pub mod Keyed
+pub mod RowChanges
+pub mod RowMoves
+pub mod RowRefusals
+pub mod Sound
+pub mod Listing
+pub mod Catalog
+pub mod Found
+pub mod Hearing
+pub mod Worked
+pub mod RowSteps
+pub mod Decisions

@@ -1,0 +1,15 @@
+pub mod Guards
+pub mod Moves
+pub mod Shown
+pub mod RowDue
+pub mod RowMoves
+pub mod RowRefusals
+pub mod Bounds
+pub mod Sound
+pub mod Steps
+pub mod Listing
+pub mod Promises
+pub mod Catalog
+pub mod CoreParts
+pub mod Laws
+pub mod Refusals

@@ -1,0 +1,37 @@
+-- How much an orchestrator keeps at most. This profile's own.
+use Rattle.std.specs.Prelude.{◌≡◌, ℕ, ◌+◌, ◌*◌, ◌≤◌, List, length, true}
+use Rattle.std.specs.List.{AllByRecursion, list_any}
+use Rattle.csi_types.specs.Model.Same.{same_text}
+use Rattle.csi_orchestrator.specs.Model.Shown.{NodeEntryShown, RowShown, OrchestratorParts}
+
+-- at a node's entry: at most 16 targets
+abbrev pub HasFewTargets : NodeEntryShown → Type 0
+HasFewTargets entry = length entry.target_entries ≤ 16
+
+-- for a volume: no more entries than there are nodes
+abbrev pub HasFewNodes : List (List ℕ) → RowShown → Type 0
+HasFewNodes nodes row = length row.node_entries ≤ length nodes
+
+-- in all: at most 4,096 names, and for each of them an entry for each node at most, with 16 targets at most
+pub record IsBounded (parts : OrchestratorParts) : Type 0 where
+  pub rows : length parts.rows ≤ 4096
+  pub nodes : AllByRecursion (HasFewNodes parts.nodes) parts.rows
+  pub targets : AllByRecursion (λ (row : RowShown). AllByRecursion HasFewTargets row.node_entries) parts.rows
+
+-- an entry is of one of these nodes, and has few targets
+pub record IsEntryWithin (nodes : List (List ℕ)) (entry : NodeEntryShown) : Type 0 where
+  pub among : list_any (same_text entry.node) nodes ≡ true
+  pub targets : HasFewTargets entry
+
+-- each entry of a row is so
+abbrev pub AreWithin : List (List ℕ) → RowShown → Type 0
+AreWithin nodes row = AllByRecursion (IsEntryWithin nodes) row.node_entries
+
+-- what an orchestrator's type keeps of this
+pub record IsWithin (parts : OrchestratorParts) : Type 0 where
+  pub rows : length parts.rows ≤ 4096
+  pub entries : AllByRecursion (AreWithin parts.nodes) parts.rows
+
+-- the calls that are noted: at most one more than twice as many as there are rows
+abbrev pub AreFew : ℕ → ℕ → Type 0
+AreFew noted rows = noted ≤ 2 * rows + 1

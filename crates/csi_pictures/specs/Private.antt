@@ -1,0 +1,4 @@
+pub mod Ways
+pub mod Links
+pub mod Columns
+pub mod Begun

@@ -1,0 +1,4 @@
+pub mod Version
+pub mod Reading
+pub mod Stopping
+pub mod Worked

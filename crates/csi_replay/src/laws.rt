@@ -1,0 +1,16 @@
+//! What holds of two runs over the store in a file.
+ghost use Rattle.sqlite.specs.Held.{state};
+ghost use Rattle.csi_replay.specs.Public.Laws.{SqliteRunsLaw};
+
+use csi_plugins::runs_law;
+use csi_sqlite::SqliteKeep;
+use sqlite::Alter;
+use std::io::{Read, Write};
+
+/// A law, and nothing that runs: `runs_law` of a store in SQLite. Two runs of one plugin over it, one after another, however each ended, are
+/// one run, where the disk gave back what was written until the end of each. This profile's own.
+pub fn sqlite_runs_law<S: Alter, R: Read, W: Write>()
+    ensures { SqliteRunsLaw (state S.Store) R.remaining W.contents }
+{
+    runs_law::<SqliteKeep<S>, R, W>();
+}

@@ -1,0 +1,97 @@
+//! What a process does with the store in a file.
+ghost use Rattle.std.specs.Prelude.{◌≡◌};
+ghost use Rattle.csi_replay.specs.Private.Closing.{ending_done, ending_closed};
+
+use csi_endings::Ending;
+use csi_plugins::{Plugin, ending_unopened, plugin, record};
+use csi_sqlite::{SqliteKeep, close_file, close_found, find_at};
+use csi_stores::{Counted, KeepFault};
+use sqlite::{Alter, Unknown};
+use std::rt::Files;
+use std::{fs, io};
+
+// Serves standard input to standard output, by the plugin of this store.
+fn serve<S: Alter>(rt: &HostRuntime, asked: Plugin, keep: &mut SqliteKeep<S>) -> Ending {
+    let mut reader = Counted::new(rt.stdin());
+    let mut writer = Counted::new(rt.stdout());
+    plugin(rt.alloc(), asked, keep, &mut reader, &mut writer)
+}
+
+// How a process ends that did all, once its store was closed so.
+fn done(closing: Result<(), KeepFault>) -> Ending
+    ensures { result ≡ ending_done closing }
+{
+    match closing {
+        Ok(()) => Ending::Done,
+        Err(KeepFault::NoMemory) => Ending::Memory,
+        Err(_) => Ending::Device,
+    }
+}
+
+// How a process ends whose store was closed so: that the log couldn't be put back is told where nothing else is.
+fn closed(ending: Ending, closing: Result<(), KeepFault>) -> Ending
+    ensures { result ≡ ending_closed ending closing }
+{
+    match ending {
+        Ending::Done => done(closing),
+        other => other,
+    }
+}
+
+// Serves by the plugin of the store in this file. After a crash it is read as SQLite reads it: a write that was cut short left each
+// byte old or new.
+fn serve_from(rt: &HostRuntime, path: &str, asked: Plugin) -> Ending {
+    let mut keep = match SqliteKeep::open_file(rt, path, Unknown) {
+        Ok(keep) => keep,
+        Err(fault) => return asked.unopened(fault),
+    };
+    let ending = serve(rt, asked, &mut keep);
+    closed(ending, close_file(keep))
+}
+
+// The controller plugin under the configuration in this file.
+fn controller_of(rt: &(impl Files + AllocGlobal), path: &str) -> Result<Plugin, Ending> {
+    match fs::read(rt, path) {
+        Ok(input) => Plugin::of_config(rt.alloc(), input.as_slice()),
+        Err(error) => Err(Ending::of_device(error.kind())),
+    }
+}
+
+/// Serves standard input to standard output, by the controller plugin under the configuration in the file at `config`, over the store
+/// in the SQLite file at `store`, which is made where there is none. The answer is how the process ends: `Device` or `Memory` where
+/// that file can't be read, or as `Plugin::of_config` says; `StoreNotOpened`, or `Memory` where that was the cause; and then
+/// as `plugin` says, but `Device` in place of `Done`, or `Memory`, where the log couldn't be put back: then each commit is in the
+/// file and its log, and not in the file alone. The store is opened after the configuration was taken, and standard input is read after that. This profile's own.
+pub fn serve_controller(rt: &HostRuntime, store: &str, config: &str) -> Ending {
+    match controller_of(rt, config) {
+        Ok(asked) => serve_from(rt, store, asked),
+        Err(ending) => ending,
+    }
+}
+
+/// Serves by the plugin of the node that has this id, as `serve_controller` does, or ends as `Plugin::of_id` says. This profile's own.
+pub fn serve_node(rt: &HostRuntime, store: &str, id: &str) -> Ending {
+    match Plugin::of_id(rt.alloc(), id) {
+        Ok(asked) => serve_from(rt, store, asked),
+        Err(ending) => ending,
+    }
+}
+
+// Tells what this store has.
+fn tell_of<S: Alter>(rt: &HostRuntime, keep: &mut SqliteKeep<S>) -> Ending {
+    let mut out = Counted::new(io::writer(rt));
+    record(rt.alloc(), keep, &mut out)
+}
+
+/// Writes what the store in the SQLite file at this path has to standard output, and answers how the process ends: as `record` says,
+/// or `StoreNotOpened` where there is no store, or `Memory` where that was the cause. The file and the log beside it are only read.
+/// This profile's own.
+pub fn tell(rt: &HostRuntime, path: &str) -> Ending {
+    let mut keep = match find_at(rt, path) {
+        Ok(keep) => keep,
+        Err(fault) => return ending_unopened(fault),
+    };
+    let ending = tell_of(rt, &mut keep);
+    close_found(keep);
+    ending
+}

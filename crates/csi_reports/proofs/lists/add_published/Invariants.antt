@@ -1,0 +1,8 @@
+-- What was published before this one is on the list.
+use Rattle.std.proofs.Common.{◌≡◌, ◌++◌, map, take}
+use Rattle.csi_node.specs.Public.Views.{published_shown}
+use Rattle.csi_reports.specs.Public.Listed.{volume_published_at}
+use Rattle.csi_reports.proofs.lists.add_published.Given as goal
+
+abbrev pub invariant-loop-volume : goal.invariant-loop-volume
+invariant-loop-volume l = l.list.items ≡ l.fn.list.items ++ map (volume_published_at l.node.id) (map published_shown (take l.volume-index l.volume-items))

@@ -1,0 +1,84 @@
+//! Serving: each frame of the input is answered, what it changed is committed, and then its reply is written.
+ghost use Rattle.std.specs.Prelude.{◌≤◌, ◌^◌, ℕ, List, length};
+ghost use Rattle.std.specs.Io.KnownBytes.{Consumes, IsAtEnd};
+ghost use Rattle.csi_stores.specs.Public.Counting.{HasRisen};
+ghost use Rattle.csi_service.specs.Public.Answering.{AnswersInRecord};
+ghost use Rattle.csi_service.specs.Public.Failing.{Stays, ReaderStaysAt, WriterStaysAt};
+ghost use Rattle.csi_stores.specs.Public.Stores.{FollowsStore};
+ghost use Rattle.csi_service.specs.Public.Serving.{Serves};
+
+mod answering;
+mod fault;
+mod handling;
+
+use crate::plugin_core::Core;
+use csi_driver::Frames;
+use csi_stores::{Counted, Keep};
+pub use fault::{ServeFault, ServeFaultKind, Served};
+use handling::{Answering, stopped};
+use std::alloc::Global;
+use std::io::{Read, Write};
+
+/// The most bytes that are read at once.
+const PIECE: usize = 4096;
+
+/// Serves the frames that the reader has: each is answered by the core, what it changed is committed, and then its reply is
+/// written and flushed. At most 4,096 bytes are read at once, and all frames that are there are answered before more is read;
+/// nothing is read once serving stops. What is kept of the input is a rest that waits, so memory doesn't grow with the number of
+/// frames. The core is spent at an `Err`: the store is opened again.
+///
+/// Some bytes were read, which are frames and a rest; as many of the first frames were answered, one after another, as the
+/// result counts, and each led to the parts of a record, which can be opened again, where all in the
+/// first core was within its limits. Where the store had the first core's parts alone:
+/// - at `Ok` these are all frames, nothing is left over nor unread, the store has the last core's parts, and all replies are
+///   written;
+/// - at `Input`, `Frame` and `Endless` too all frames are answered, committed and written; the reader failed in this call, the
+///   rest is at fault, or 2^63 bytes were read (at `Input` and `Endless` nothing is left over but what may begin a frame); where
+///   the fault is `Short` nothing is left unread;
+/// - at `Output` the frames that are counted are committed, and of the last one's reply a front is written;
+/// - at `Keep` opening the store again finds the parts of the last core or those that the next frame would have led to, whose
+///   reply isn't written, and nothing else; the device failed in this call, or those parts don't fit;
+/// - at `NoMemory` what is counted is committed and written, and nothing of the next frame.
+///
+/// The reader failed at no end but `Input`, the writer at none but `Output`. A store that is honest after the call was before.
+pub fn serve<C: Core, K: Keep, R: Read, W: Write>(
+    alloc: Global,
+    core: C,
+    keep: &mut K,
+    reader: &mut Counted<R>,
+    writer: &mut Counted<W>,
+) -> Result<Served, ServeFault>
+    ensures serves { (bytes : List ℕ) × Consumes (R.remaining reader.old.inner) (R.remaining reader.new.inner) bytes
+        × Serves (record {
+          answers = AnswersInRecord C.is_fit C.spells C.parts_of C.answers;
+          parts_of = C.parts_of;
+          core = core;
+          before = K.store keep.old;
+          after = K.store keep.new;
+          written_before = W.contents writer.old.inner;
+          written_after = W.contents writer.new.inner;
+          at_end = IsAtEnd (R.remaining reader.new.inner);
+          reader_failed = HasRisen reader.old.faults reader.new.faults;
+          writer_failed = HasRisen writer.old.faults writer.new.faults;
+          endless = 2 ^ 63 ≤ length bytes;
+        }) bytes result }
+    ensures reader { Stays ReaderStaysAt reader.old.faults reader.new.faults result }
+    ensures writer { Stays WriterStaysAt writer.old.faults writer.new.faults result }
+    ensures follows { FollowsStore (K.store keep.old) (K.store keep.new) }
+{
+    let out = Vec::new(alloc);
+    let handler = Answering {
+        core,
+        out,
+        replies: 0,
+    };
+    let mut frames = Frames::new(alloc, handler);
+    let mut piece = [0; PIECE];
+    match frames.read(keep, writer, reader, &mut piece) {
+        Ok(()) => Ok(Served {
+            frames: frames.count(),
+            replies: frames.handler().replies,
+        }),
+        Err(stop) => Err(stopped(stop, frames.count())),
+    }
+}

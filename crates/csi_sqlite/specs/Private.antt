@@ -1,0 +1,4 @@
+pub mod Listed
+pub mod Loading
+pub mod Looking
+pub mod Tables

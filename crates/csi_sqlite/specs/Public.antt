@@ -1,0 +1,9 @@
+pub mod Declared
+pub mod Listed
+pub mod Rows
+pub mod Statements
+pub mod Loading
+pub mod Refusals
+pub mod Tables
+pub mod Closing
+pub mod Kept

@@ -1,0 +1,9 @@
+pub mod FailingCalls
+pub mod FailingKeep
+pub mod Counting
+pub mod Writing
+pub mod Part
+pub mod Content
+pub mod Keeping
+pub mod Memory
+pub mod Stores

@@ -1,0 +1,4 @@
+pub mod Answering
+pub mod Showing
+pub mod Handling
+pub mod Worked

@@ -1,0 +1,5 @@
+pub mod Replay
+pub mod Shown
+pub mod Lines
+pub mod Streaming
+pub mod Failing

@@ -1,4 +1,0 @@
-pub mod Declared
-pub mod Listed
-pub mod Rows
-pub mod Statements

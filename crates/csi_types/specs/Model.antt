@@ -1,0 +1,11 @@
+pub mod Mode
+pub mod Call
+pub mod Reply
+pub mod Frame
+pub mod Capacity
+pub mod Same
+pub mod Sharing
+pub mod Number
+pub mod Holding
+pub mod Config
+pub mod Replies

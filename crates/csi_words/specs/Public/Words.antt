@@ -1,0 +1,99 @@
+-- The words of the command line, over what `clap` reads of them. This profile's own.
+use Rattle.std.specs.Prelude.{ℕ, List, Option, None, option_map, option_and_then, codes, bytes_eq, if◌then◌else◌, true}
+use Rattle.clap.specs.Words.{App, Row, first_of, new_app, new_rule, subcommand_of, with_rule, with_subcommand}
+use Rattle.csi_endings.specs.declared.command.FileCommand.{FileCommand}
+use Rattle.csi_endings.specs.declared.command.FileCommand.TheVariants.{Answer, Show, Schedule}
+use Rattle.csi_endings.specs.declared.command.ScheduleCommand.TheVariants.{Run, Frames, Draw}
+use Rattle.csi_endings.specs.declared.ending.Ending.{Ending}
+use Rattle.csi_endings.specs.declared.ending.Ending.TheVariants.{Usage, Memory}
+use Rattle.csi_words.specs.declared.command_line.CommandLine.{CommandLine}
+use Rattle.csi_words.specs.declared.command_line.CommandLine.TheVariants as lines
+
+-- a command, and the texts behind it
+pub data Named : Type 0 where
+  File : FileCommand → List ℕ → Named
+  Controller : (store config : List ℕ) → Named
+  Node : (store id : List ℕ) → Named
+  Record : (store : List ℕ) → Named
+
+-- what a command line has
+abbrev pub named_by : CommandLine → Named
+named_by (lines.File command path) = File command path.now
+named_by (lines.Controller store config) = Controller store.now config.now
+named_by (lines.Node store id) = Node store.now id.now
+named_by (lines.Record store) = Record store.now
+
+-- one word more, which has to be there
+abbrev pub with_word : App → List ℕ → App
+with_word app id = with_rule app (record (new_rule id) { required = true })
+
+-- a command of this name, with one word more, which is called so
+abbrev pub with_one_word : App → List ℕ → List ℕ → App
+with_one_word app name word = with_subcommand app (with_word (new_app name) word).top
+
+-- a command on a file
+abbrev pub with_file_command : App → List ℕ → App
+with_file_command app name = with_one_word app name (codes "FILE")
+
+-- a command of this name, with two words more, of which the second is called so
+abbrev pub with_store_command : App → List ℕ → List ℕ → App
+with_store_command app name second = with_subcommand app (with_word (with_word (new_app name) (codes "DB")) second).top
+
+-- the program, of whose commands one has to be there
+abbrev pub bare : App
+bare = record (new_app (codes "csi-replay")) { top = record (new_app (codes "csi-replay")).top { subcommand_required = true } }
+
+-- its commands on a file
+abbrev pub on_files : App
+on_files = with_file_command (with_file_command (with_file_command (with_file_command (with_file_command bare (codes "answer")) (codes "show")) (codes "run")) (codes "frames")) (codes "draw")
+
+-- all commands
+abbrev pub program : App
+program = with_one_word (with_store_command (with_store_command on_files (codes "controller") (codes "CONFIG")) (codes "node") (codes "ID")) (codes "record") (codes "DB")
+
+-- the first values of the words of each command
+abbrev pub on_file_in : FileCommand → List Row → Option Named
+on_file_in command rows = option_map (λ path. File command path) (first_of (codes "FILE") rows)
+
+-- a command of two words, where both are there
+abbrev pub both : (List ℕ → List ℕ → Named) → Option (List ℕ) → Option (List ℕ) → Option Named
+both command first second = option_and_then (λ a. option_map (λ b. command a b) second) first
+
+-- the controller's process
+abbrev pub controller_in : List Row → Option Named
+controller_in rows = both Controller (first_of (codes "DB") rows) (first_of (codes "CONFIG") rows)
+
+-- a node's process
+abbrev pub node_in : List Row → Option Named
+node_in rows = both Node (first_of (codes "DB") rows) (first_of (codes "ID") rows)
+
+-- the line of a record
+abbrev pub record_in : List Row → Option Named
+record_in rows = option_map (λ store. Record store) (first_of (codes "DB") rows)
+
+-- the command of a name, with its words
+abbrev pub command_in : List ℕ → List Row → Option Named
+command_in name rows =
+    if bytes_eq name (codes "answer") then on_file_in Answer rows
+    else if bytes_eq name (codes "show") then on_file_in Show rows
+    else if bytes_eq name (codes "run") then on_file_in (Schedule Run) rows
+    else if bytes_eq name (codes "frames") then on_file_in (Schedule Frames) rows
+    else if bytes_eq name (codes "draw") then on_file_in (Schedule Draw) rows
+    else if bytes_eq name (codes "controller") then controller_in rows
+    else if bytes_eq name (codes "node") then node_in rows
+    else if bytes_eq name (codes "record") then record_in rows
+    else None
+
+-- of a command that was entered
+abbrev pub command_entered : Option (List ℕ × List Row) → Option Named
+command_entered entered = option_and_then (λ found. command_in found.0 found.1) entered
+
+-- what these words name; the first word is the program's own name
+abbrev pub read : List (List ℕ) → Option Named
+read words = command_entered (subcommand_of program words)
+
+-- how words end that name no command: as a wrong use, or where memory ran out
+abbrev pub EndsWords : Ending → Type 0
+EndsWords Usage = Unit {0}
+EndsWords Memory = Unit {0}
+EndsWords _ = ⊥

@@ -1,0 +1,5 @@
+pub mod World
+pub mod Step
+pub mod Safe
+pub mod After
+pub mod Simulated

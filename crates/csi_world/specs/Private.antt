@@ -1,0 +1,5 @@
+pub mod Step
+pub mod Simulating
+pub mod Listed
+pub mod Laws
+pub mod Worked

@@ -1,0 +1,27 @@
+-- What each part of a simulated world does with an event. This profile's own.
+use Rattle.std.specs.Prelude.{◌≡◌, ℕ, zero, suc, List, map, slice_get, Option, Some, None}
+use Rattle.csi_types.specs.Public.Config.{config_fault}
+use Rattle.csi_types.specs.Model.Frame.{Frame}
+use Rattle.csi_node.specs.Model.Record.{NodeParts}
+use Rattle.csi_node.specs.Model.Record.{Shows as NodeShows}
+use Rattle.csi_node.specs.Model.State.{NodeState}
+use Rattle.csi_node.specs.Public.Fenced as node
+use Rattle.csi_world.specs.Model.After.{node_id}
+use Rattle.csi_world.specs.Model.Simulated.{WorldParts}
+
+-- the frame of a number, from 1
+abbrev pub numbered : List Frame → ℕ → Option Frame
+numbered frames zero = None
+numbered frames (suc place) = slice_get frames place
+
+-- its nodes are the configuration's, which has no fault
+pub record IsSoundWorld (shown : WorldParts) : Type 0 where
+  pub ids : map (λ node. node.id) shown.nodes ≡ map node_id (shown.config).nodes
+  pub fit : config_fault (shown.config).greatest (shown.config).nodes ≡ None
+
+-- what is shown of a node is this state, if there is one
+abbrev pub ShowsNode : Option NodeParts → Option NodeState → Type 0
+ShowsNode None None = Unit {0}
+ShowsNode None (Some state) = ⊥
+ShowsNode (Some parts) None = ⊥
+ShowsNode (Some parts) (Some state) = NodeShows parts state
