@@ -226,7 +226,8 @@ def line_after(count):
 
 
 def while_committing(box):
-    """Beside a plugin that commits: each line is that of a state, no earlier than the one before, or the log changed meanwhile."""
+    """Beside a plugin that commits: each line is that of a state, no earlier than the one before, or the log changed meanwhile. At first the store
+    may be there without its head."""
     count = 400
     box.put("config", PLAIN)
     lines = {line_after(made): made for made in range(count + 1)}
@@ -238,7 +239,7 @@ def while_committing(box):
     last, seen = 0, 0
     while serving.is_alive():
         came = box.run("record", "db")
-        if came == NOT_OPENED:
+        if came == NOT_OPENED or (seen == 0 and came == ended(1, "record fault at 0")):
             continue
         wanted("a record", (came.status, came.error, came.out in lines), (0, b"", True))
         wanted("the state isn't an earlier one", lines[came.out] >= last, True)
