@@ -12,26 +12,26 @@ use Rattle.csi_types.specs.declared.status.Status.TheVariants.{Ok}
 use Rattle.csi_types.specs.Model.Config.{Config}
 use Rattle.csi_fence.proofs.Views.{IsLater}
 use Rattle.csi_fence.specs.Model.Fence.{Kept, is_spent}
-use Rattle.csi_types.specs.Public.Key.{Key, Exists, Attached, Staged, Published}
+use Rattle.csi_types.specs.Public.PluginThing.{PluginThing, Exists, Attached, Staged, Published}
 use Rattle.csi_types.specs.Model.Same.{same_text}
 use Rattle.csi_controller.specs.Model.State.{Volume, ControllerState, volume_named, is_row_for, row_for}
 use Rattle.csi_controller.specs.Public.State.{volume_with_id}
 use Rattle.csi_controller.specs.Model.Table.{Outcome, Change, Stays, Makes, Ends, Attaches, Detaches, changed, ended_volume}
 use Rattle.csi_controller.specs.Model.Fenced.{kept_in, keep}
-use Rattle.csi_controller.specs.Public.View.{kept_in_row, key_of}
+use Rattle.csi_controller.specs.Public.View.{kept_in_row, thing_of}
 use Rattle.csi_controller.proofs.TableOutcomes.{IsOutcome, was_refused, was_found, was_made, was_ended, was_ended_before, was_attached, was_attached_before, was_detached, was_detached_before}
 use Rattle.csi_controller.proofs.OrderlyStates.{IsOrderly, LeavesNames, keep_leaves, end_leaves, same_row, with_id_by_name}
-use Rattle.csi_controller.proofs.ThingOutcomes.{at_key, by_volume}
+use Rattle.csi_controller.proofs.ThingOutcomes.{at_thing, by_volume}
 
 -- the row of a thing's volume
-abbrev pub row_of : ControllerState → Key → Option Volume
+abbrev pub row_of : ControllerState → PluginThing → Option Volume
 row_of state (Exists name) = volume_named name state
 row_of state (Attached id node) = volume_with_id id state
 row_of state (Staged id node) = None
 row_of state (Published id node target) = None
 
 -- what is kept for a thing is what its row keeps
-pub kept_of_row : (state : ControllerState) (key : Key) → kept_in_row state key ≡ option_map (λ volume. volume.kept) (row_of state key)
+pub kept_of_row : (state : ControllerState) (thing : PluginThing) → kept_in_row state thing ≡ option_map (λ volume. volume.kept) (row_of state thing)
 kept_of_row state (Exists name) = refl
 kept_of_row state (Attached id node) = refl
 kept_of_row state (Staged id node) = refl
@@ -91,14 +91,14 @@ found_comes p test state kept (Attaches holding) = itself_comes kept (find p sta
 found_comes p test state kept (Detaches id node) = itself_comes kept (find p state.volumes)
 
 -- so comes the row of each thing
-row_comes : (state : ControllerState) (kept : Kept) (change : Change) (key : Key) → Comes kept (row_of state key) (row_of (changed state kept change) key)
+row_comes : (state : ControllerState) (kept : Kept) (change : Change) (thing : PluginThing) → Comes kept (row_of state thing) (row_of (changed state kept change) thing)
 row_comes state kept change (Exists name) = found_comes (λ v. same_text v.name name) (by_name name) state kept change
 row_comes state kept change (Attached id node) = found_comes (λ v. v.id == id) (by_id id) state kept change
 row_comes state kept change (Staged id node) = none_comes
 row_comes state kept change (Published id node target) = none_comes
 
 -- the row of a thing once a call is kept: what it was, with the call kept in it if it is the call's
-row_of-keep : (call : Call) (kept : Kept) (state : ControllerState) (key : Key) → row_of (keep call kept state) key ≡ option_map (kept_in call kept) (row_of state key)
+row_of-keep : (call : Call) (kept : Kept) (state : ControllerState) (thing : PluginThing) → row_of (keep call kept state) thing ≡ option_map (kept_in call kept) (row_of state thing)
 row_of-keep call kept state (Exists name) = find-map (λ v. same_text v.name name) (kept_in call kept) state.volumes (by_name name (kept_in call kept) (keep_leaves call kept))
 row_of-keep call kept state (Attached id node) = find-map (λ v. v.id == id) (kept_in call kept) state.volumes (by_id id (kept_in call kept) (keep_leaves call kept))
 row_of-keep call kept state (Staged id node) = refl
@@ -136,13 +136,13 @@ comes_later call kept o next (same_comes v w ids names same) fresh = by (is_row_
     by false h = inl (ap Some (left call kept w (same_row call v w ids names ∙ h) ∙ same))
 
 -- after a call that was fresh for a thing's row, what was kept for the thing is kept, or the call
-pub kept_later : (call : Call) (kept : Kept) (state : ControllerState) (change : Change) (key : Key) → IsFreshFor call kept (row_of state key)
-    → IsLater kept (kept_in_row state key) (kept_in_row (keep call kept (changed state kept change)) key)
-kept_later call kept state change key fresh =
+pub kept_later : (call : Call) (kept : Kept) (state : ControllerState) (change : Change) (thing : PluginThing) → IsFreshFor call kept (row_of state thing)
+    → IsLater kept (kept_in_row state thing) (kept_in_row (keep call kept (changed state kept change)) thing)
+kept_later call kept state change thing fresh =
     let next : ControllerState = changed state kept change in
-    subst (λ (o : Option Kept). IsLater kept o (kept_in_row (keep call kept next) key)) (sym (kept_of_row state key))
-    (subst (IsLater kept (option_map (λ v. v.kept) (row_of state key))) (sym (kept_of_row (keep call kept next) key ∙ ap (option_map (λ (v : Volume). v.kept)) (row_of-keep call kept next key)))
-    (comes_later call kept (row_of state key) (row_of next key) (row_comes state kept change key) fresh))
+    subst (λ (o : Option Kept). IsLater kept o (kept_in_row (keep call kept next) thing)) (sym (kept_of_row state thing))
+    (subst (IsLater kept (option_map (λ v. v.kept) (row_of state thing))) (sym (kept_of_row (keep call kept next) thing ∙ ap (option_map (λ (v : Volume). v.kept)) (row_of-keep call kept next thing)))
+    (comes_later call kept (row_of state thing) (row_of next thing) (row_comes state kept change thing) fresh))
 
 -- where the row before was the call's or there was none, the row that comes so keeps the call
 comes_kept : (call : Call) (kept : Kept) (o next : Option Volume) → Comes kept o next → ((v : Volume) → o ≡ Some v → is_row_for call v ≡ true) → (next ≡ None → ⊥)
@@ -158,46 +158,46 @@ stays_there kept o next v (new_comes w k) is gone = none-some v is
 stays_there kept o next v (same_comes u w ids names same) is gone = none-some w (sym gone)
 
 -- the row of a call's thing is the call's row
-pub row_known : (state : ControllerState) (call : Call) (key : Key) → IsOrderly state → key_of state call ≡ Some key → row_of state key ≡ row_for call state
-row_known state (calls.CreateVolume name required limit capabilities) key orderly is = at_key (λ k. row_of state k ≡ volume_named name state) (Exists name) key is refl
-row_known state (calls.DeleteVolume id) key orderly is =
-    by_volume (λ k. row_of state k ≡ volume_with_id id state) (λ (v : Volume). Exists v.name) (volume_with_id id state) key is (λ v own. with_id_by_name state id v orderly own ∙ sym own)
-row_known state (calls.ControllerPublishVolume id node capability readonly) key orderly is =
-    by_volume (λ k. row_of state k ≡ volume_with_id id state) (λ v. Attached id node) (volume_with_id id state) key is (λ v own. refl)
-row_known state (calls.ControllerUnpublishVolume id node) key orderly is =
-    by_volume (λ k. row_of state k ≡ volume_with_id id state) (λ v. Attached id node) (volume_with_id id state) key is (λ v own. refl)
-row_known state (calls.NodeStageVolume id capability) key orderly is = absurd (none-some key is)
-row_known state (calls.NodeUnstageVolume id) key orderly is = absurd (none-some key is)
-row_known state (calls.NodePublishVolume id target capability readonly) key orderly is = absurd (none-some key is)
-row_known state (calls.NodeUnpublishVolume id target) key orderly is = absurd (none-some key is)
+pub row_known : (state : ControllerState) (call : Call) (thing : PluginThing) → IsOrderly state → thing_of state call ≡ Some thing → row_of state thing ≡ row_for call state
+row_known state (calls.CreateVolume name required limit capabilities) thing orderly is = at_thing (λ k. row_of state k ≡ volume_named name state) (Exists name) thing is refl
+row_known state (calls.DeleteVolume id) thing orderly is =
+    by_volume (λ k. row_of state k ≡ volume_with_id id state) (λ (v : Volume). Exists v.name) (volume_with_id id state) thing is (λ v own. with_id_by_name state id v orderly own ∙ sym own)
+row_known state (calls.ControllerPublishVolume id node capability readonly) thing orderly is =
+    by_volume (λ k. row_of state k ≡ volume_with_id id state) (λ v. Attached id node) (volume_with_id id state) thing is (λ v own. refl)
+row_known state (calls.ControllerUnpublishVolume id node) thing orderly is =
+    by_volume (λ k. row_of state k ≡ volume_with_id id state) (λ v. Attached id node) (volume_with_id id state) thing is (λ v own. refl)
+row_known state (calls.NodeStageVolume id capability) thing orderly is = absurd (none-some thing is)
+row_known state (calls.NodeUnstageVolume id) thing orderly is = absurd (none-some thing is)
+row_known state (calls.NodePublishVolume id target capability readonly) thing orderly is = absurd (none-some thing is)
+row_known state (calls.NodeUnpublishVolume id target) thing orderly is = absurd (none-some thing is)
 
 -- a call that gets an OK, and has a thing, has a row then
-there_after : (config : Config) (state : ControllerState) (key : Key) (call : Call) (outcome : Outcome) (kept : Kept) → IsOrderly state → key_of state call ≡ Some key → IsOutcome config state call outcome
-    → outcome.reply.status ≡ Ok → row_of (changed state kept outcome.change) key ≡ None → ⊥
-there_after config state key call outcome kept orderly is (was_refused _ status detail not_ok) ok = absurd (not_ok ok)
-there_after config state key call outcome kept orderly is (was_found name required limit first others volume range named live serving) ok =
-    at_key (λ k. row_of state k ≡ None → ⊥) (Exists name) key is (λ gone. none-some volume (sym gone ∙ named))
-there_after config state key call outcome kept orderly is (was_made name required limit first others range unnamed) ok =
-    at_key (λ k. row_of (changed state kept outcome.change) k ≡ None → ⊥) (Exists name) key is
+there_after : (config : Config) (state : ControllerState) (thing : PluginThing) (call : Call) (outcome : Outcome) (kept : Kept) → IsOrderly state → thing_of state call ≡ Some thing → IsOutcome config state call outcome
+    → outcome.reply.status ≡ Ok → row_of (changed state kept outcome.change) thing ≡ None → ⊥
+there_after config state thing call outcome kept orderly is (was_refused _ status detail not_ok) ok = absurd (not_ok ok)
+there_after config state thing call outcome kept orderly is (was_found name required limit first others volume range named live serving) ok =
+    at_thing (λ k. row_of state k ≡ None → ⊥) (Exists name) thing is (λ gone. none-some volume (sym gone ∙ named))
+there_after config state thing call outcome kept orderly is (was_made name required limit first others range unnamed) ok =
+    at_thing (λ k. row_of (changed state kept outcome.change) k ≡ None → ⊥) (Exists name) thing is
     (λ gone. none-some _ (sym gone ∙ find-append_one (λ (v : Volume). same_text v.name name) state.volumes _ ((same_text-tells name name).1 refl) unnamed))
-there_after config state key call outcome kept orderly is (was_ended id volume live free) ok =
-    by_volume (λ k. row_of (changed state kept outcome.change) k ≡ None → ⊥) (λ (v : Volume). Exists v.name) (volume_with_id id state) key is
+there_after config state thing call outcome kept orderly is (was_ended id volume live free) ok =
+    by_volume (λ k. row_of (changed state kept outcome.change) k ≡ None → ⊥) (λ (v : Volume). Exists v.name) (volume_with_id id state) thing is
     (λ v own. stays_there kept _ _ v (row_comes state kept outcome.change (Exists v.name)) (with_id_by_name state id v orderly own))
-there_after config state key call outcome kept orderly is (was_ended_before id none) ok =
-    by_volume (λ k. row_of state k ≡ None → ⊥) (λ (v : Volume). Exists v.name) (volume_with_id id state) key is (λ v own gone. none-some v (sym gone ∙ with_id_by_name state id v orderly own))
-there_after config state key call outcome kept orderly is (was_attached holding volume can free fits) ok =
-    by_volume (λ k. row_of state k ≡ None → ⊥) (λ v. Attached holding.volume holding.node) (volume_with_id holding.volume state) key is (λ v own gone. none-some v (sym gone ∙ own))
-there_after config state key call outcome kept orderly is (was_attached_before holding volume can held) ok =
-    by_volume (λ k. row_of state k ≡ None → ⊥) (λ v. Attached holding.volume holding.node) (volume_with_id holding.volume state) key is (λ v own gone. none-some v (sym gone ∙ own))
-there_after config state key call outcome kept orderly is (was_detached id node held there) ok =
-    by_volume (λ k. row_of state k ≡ None → ⊥) (λ v. Attached id node) (volume_with_id id state) key is (λ v own gone. none-some v (sym gone ∙ own))
-there_after config state key call outcome kept orderly is (was_detached_before id node none) ok =
-    by_volume (λ k. row_of state k ≡ None → ⊥) (λ v. Attached id node) (volume_with_id id state) key is (λ v own gone. none-some v (sym gone ∙ own))
+there_after config state thing call outcome kept orderly is (was_ended_before id none) ok =
+    by_volume (λ k. row_of state k ≡ None → ⊥) (λ (v : Volume). Exists v.name) (volume_with_id id state) thing is (λ v own gone. none-some v (sym gone ∙ with_id_by_name state id v orderly own))
+there_after config state thing call outcome kept orderly is (was_attached holding volume can free fits) ok =
+    by_volume (λ k. row_of state k ≡ None → ⊥) (λ v. Attached holding.volume holding.node) (volume_with_id holding.volume state) thing is (λ v own gone. none-some v (sym gone ∙ own))
+there_after config state thing call outcome kept orderly is (was_attached_before holding volume can held) ok =
+    by_volume (λ k. row_of state k ≡ None → ⊥) (λ v. Attached holding.volume holding.node) (volume_with_id holding.volume state) thing is (λ v own gone. none-some v (sym gone ∙ own))
+there_after config state thing call outcome kept orderly is (was_detached id node held there) ok =
+    by_volume (λ k. row_of state k ≡ None → ⊥) (λ v. Attached id node) (volume_with_id id state) thing is (λ v own gone. none-some v (sym gone ∙ own))
+there_after config state thing call outcome kept orderly is (was_detached_before id node none) ok =
+    by_volume (λ k. row_of state k ≡ None → ⊥) (λ v. Attached id node) (volume_with_id id state) thing is (λ v own gone. none-some v (sym gone ∙ own))
 
 -- then that row keeps the call
-pub kept_after : (config : Config) (state : ControllerState) (key : Key) (call : Call) (outcome : Outcome) (kept : Kept) → IsOrderly state → key_of state call ≡ Some key → IsOutcome config state call outcome
-    → outcome.reply.status ≡ Ok → ((v : Volume) → row_of state key ≡ Some v → is_row_for call v ≡ true) → kept_in_row (keep call kept (changed state kept outcome.change)) key ≡ Some kept
-kept_after config state key call outcome kept orderly is given ok rows =
+pub kept_after : (config : Config) (state : ControllerState) (thing : PluginThing) (call : Call) (outcome : Outcome) (kept : Kept) → IsOrderly state → thing_of state call ≡ Some thing → IsOutcome config state call outcome
+    → outcome.reply.status ≡ Ok → ((v : Volume) → row_of state thing ≡ Some v → is_row_for call v ≡ true) → kept_in_row (keep call kept (changed state kept outcome.change)) thing ≡ Some kept
+kept_after config state thing call outcome kept orderly is given ok rows =
     let next : ControllerState = changed state kept outcome.change in
-    kept_of_row (keep call kept next) key ∙ ap (option_map (λ (v : Volume). v.kept)) (row_of-keep call kept next key)
-    ∙ comes_kept call kept (row_of state key) (row_of next key) (row_comes state kept outcome.change key) rows (there_after config state key call outcome kept orderly is given ok)
+    kept_of_row (keep call kept next) thing ∙ ap (option_map (λ (v : Volume). v.kept)) (row_of-keep call kept next thing)
+    ∙ comes_kept call kept (row_of state thing) (row_of next thing) (row_comes state kept outcome.change thing) rows (there_after config state thing call outcome kept orderly is given ok)

@@ -17,26 +17,26 @@ use Rattle.csi_types.specs.declared.reply.Reply.{Reply}
 use Rattle.csi_types.specs.Model.Capacity.{capacity_wanted}
 use Rattle.csi_types.specs.Model.Config.{Config}
 use Rattle.csi_fence.specs.Model.Fence.{Kept}
-use Rattle.csi_types.specs.Public.Key.{Key, Exists, Attached, Staged, Published, Form, HasId, AttachedAs, same_key, asked}
+use Rattle.csi_types.specs.Public.PluginThing.{PluginThing, Exists, Attached, Staged, Published, ThingForm, HasId, AttachedAs, same_plugin_thing, asked}
 use Rattle.csi_types.specs.Model.Replies.{ok_reply, ok_reply_with}
 use Rattle.csi_types.specs.Model.Same.{same_text}
 use Rattle.csi_controller.specs.Model.State.{Volume, ControllerState, volume_named, live_volume, is_held_at, holding_at}
 use Rattle.csi_controller.specs.Public.State.{volume_with_id}
 use Rattle.csi_controller.specs.Model.Table.{Outcome, Makes, Ends, Attaches, Detaches, changed, ended_volume}
-use Rattle.csi_controller.specs.Public.View.{live_named, held_in, key_of}
+use Rattle.csi_controller.specs.Public.View.{live_named, held_in, thing_of}
 use Rattle.csi_controller.proofs.SameText.{text-turned}
 use Rattle.csi_controller.proofs.TableOutcomes.{IsOutcome, publish_call, was_refused, was_found, was_made, was_ended, was_ended_before, was_attached, was_attached_before, was_detached, was_detached_before}
 use Rattle.csi_controller.proofs.OrderlyStates.{IsOrderly, is_named, is_with_id, with_id_by_name, end_leaves}
 
 -- after an OK the thing is as asked, after a refusal as it was, and other things are as they were
-pub record Does (key : Key) (call : Call) (reply : Reply) (old new : ControllerState) : Type 0 where
-  pub done : reply.status ≡ Ok → held_in new key ≡ asked call reply
-  pub refused : reply.status ≢ Ok → held_in new key ≡ held_in old key
-  pub others : (other : Key) → same_key other key ≡ false → held_in new other ≡ held_in old other
+pub record Does (thing : PluginThing) (call : Call) (reply : Reply) (old new : ControllerState) : Type 0 where
+  pub done : reply.status ≡ Ok → held_in new thing ≡ asked call reply
+  pub refused : reply.status ≢ Ok → held_in new thing ≡ held_in old thing
+  pub others : (other : PluginThing) → same_plugin_thing other thing ≡ false → held_in new other ≡ held_in old other
 
 -- nothing changed
-same_things : (key : Key) (call : Call) (reply : Reply) (state : ControllerState) → (reply.status ≡ Ok → held_in state key ≡ asked call reply) → Does key call reply state state
-same_things key call reply state done = record { done = done; refused = λ h. refl; others = λ other h. refl }
+same_things : (thing : PluginThing) (call : Call) (reply : Reply) (state : ControllerState) → (reply.status ≡ Ok → held_in state thing ≡ asked call reply) → Does thing call reply state state
+same_things thing call reply state done = record { done = done; refused = λ h. refl; others = λ other h. refl }
 
 -- the live volume of a name
 live_with_name : (state : ControllerState) (name : List ℕ) (volume : Volume) → volume_named name state ≡ Some volume → volume.is_live ≡ true → live_named name state ≡ Some volume
@@ -65,7 +65,7 @@ made_things config state name required limit capabilities capacity kept unnamed 
       others = others volume;
     }
   where
-    others : (volume : Volume) (other : Key) → same_key other (Exists name) ≡ false
+    others : (volume : Volume) (other : PluginThing) → same_plugin_thing other (Exists name) ≡ false
         → held_in (changed state kept (Makes name capacity capabilities)) other ≡ held_in state other
     others volume (Exists else) h = ap (option_map (λ (v : Volume). HasId v.id))
         (find-append_other (λ (v : Volume). same_text v.name else && v.is_live) state.volumes _ (and_left (same_text name else) true (text-turned name else ∙ h)))
@@ -130,7 +130,7 @@ ended_things state id volume kept orderly is = record { done = λ h. ap (option_
         and_left (same_text (ended_volume id v).name name) (ended_volume id v).is_live (ap (λ n. same_text n name) ((end_leaves id).names v) ∙ e) ∙ sym (and_left (same_text v.name name) v.is_live e))
         (λ differ. refl)
 
-    others : (other : Key) → same_key other (Exists volume.name) ≡ false → held_in (changed state kept (Ends id)) other ≡ held_in state other
+    others : (other : PluginThing) → same_plugin_thing other (Exists volume.name) ≡ false → held_in (changed state kept (Ends id)) other ≡ held_in state other
     others (Exists name) h =
         ap (option_map (λ (v : Volume). HasId v.id)) (find-map_among (λ (v : Volume). same_text v.name name && v.is_live) (ended_volume id) state.volumes (unmoved name h))
         ∙ option_map-map (λ (v : Volume). HasId v.id) (ended_volume id) (live_named name state) (λ v. ap HasId ((end_leaves id).ids v))
@@ -171,7 +171,7 @@ itself_at : (holding : Holding) → is_held_at holding.volume holding.node holdi
 itself_at holding = and_from _ _ (eq-eqb holding.volume holding.volume refl) ((same_text-tells holding.node holding.node).1 refl)
 
 -- how a holding is there
-abbrev form_of : Holding → Form
+abbrev form_of : Holding → ThingForm
 form_of holding = AttachedAs holding.capability holding.readonly
 
 -- where ControllerPublishVolume attaches a volume, it does what it asks
@@ -183,7 +183,7 @@ attached_things state holding kept none = record {
   others = others;
 }
   where
-    others : (other : Key) → same_key other (Attached holding.volume holding.node) ≡ false → held_in (changed state kept (Attaches holding)) other ≡ held_in state other
+    others : (other : PluginThing) → same_plugin_thing other (Attached holding.volume holding.node) ≡ false → held_in (changed state kept (Attaches holding)) other ≡ held_in state other
     others (Exists name) h = refl
     others (Attached id node) h = ap (option_map form_of) (find-append_other (is_held_at id node) state.holdings holding (held_elsewhere holding id node h))
     others (Staged id node) h = refl
@@ -211,43 +211,43 @@ detached_things state id node kept = record {
   others = others;
 }
   where
-    others : (other : Key) → same_key other (Attached id node) ≡ false → held_in (changed state kept (Detaches id node)) other ≡ held_in state other
+    others : (other : PluginThing) → same_plugin_thing other (Attached id node) ≡ false → held_in (changed state kept (Detaches id node)) other ≡ held_in state other
     others (Exists name) h = refl
     others (Attached other there) h = ap (option_map form_of)
         (find-filter (is_held_at other there) (λ (k : Holding). not (is_held_at id node k)) state.holdings (λ k at. at_both id node other there k h at))
     others (Staged other there) h = refl
     others (Published other there target) h = refl
 
--- the key that a call has
-pub at_key : (P : Key → Type 0) (k key : Key) → Some k ≡ Some key → P k → P key
-at_key P k key e p = subst P (same_Some k key e) p
+-- the thing that a call has
+pub at_thing : (P : PluginThing → Type 0) (k thing : PluginThing) → Some k ≡ Some thing → P k → P thing
+at_thing P k thing e p = subst P (same_Some k thing e) p
 
--- what is so of the key of the volume that is found is so of the key that comes of it
-pub by_volume : (P : Key → Type 0) (f : Volume → Key) (o : Option Volume) (key : Key) → option_map f o ≡ Some key → ((v : Volume) → o ≡ Some v → P (f v)) → P key
-by_volume P f None key e g = absurd (none-some key e)
-by_volume P f (Some v) key e g = at_key P (f v) key e (g v refl)
+-- what is so of the thing of the volume that is found is so of the thing that comes of it
+pub by_volume : (P : PluginThing → Type 0) (f : Volume → PluginThing) (o : Option Volume) (thing : PluginThing) → option_map f o ≡ Some thing → ((v : Volume) → o ≡ Some v → P (f v)) → P thing
+by_volume P f None thing e g = absurd (none-some thing e)
+by_volume P f (Some v) thing e g = at_thing P (f v) thing e (g v refl)
 
 -- each outcome does what the call asks
-pub does : (config : Config) (state : ControllerState) (key : Key) (call : Call) (outcome : Outcome) (kept : Kept) → IsOrderly state → key_of state call ≡ Some key → IsOutcome config state call outcome
-    → Does key call outcome.reply state (changed state kept outcome.change)
-does config state key call outcome kept orderly is (was_refused _ status detail not_ok) = same_things key call outcome.reply state (λ h. absurd (not_ok h))
-does config state key call outcome kept orderly is (was_found name required limit first others volume range named live serving) =
-    at_key (λ k. Does k call outcome.reply state state) (Exists name) key is
+pub does : (config : Config) (state : ControllerState) (thing : PluginThing) (call : Call) (outcome : Outcome) (kept : Kept) → IsOrderly state → thing_of state call ≡ Some thing → IsOutcome config state call outcome
+    → Does thing call outcome.reply state (changed state kept outcome.change)
+does config state thing call outcome kept orderly is (was_refused _ status detail not_ok) = same_things thing call outcome.reply state (λ h. absurd (not_ok h))
+does config state thing call outcome kept orderly is (was_found name required limit first others volume range named live serving) =
+    at_thing (λ k. Does k call outcome.reply state state) (Exists name) thing is
     (same_things (Exists name) call outcome.reply state (λ h. ap (option_map (λ (v : Volume). HasId v.id)) (live_with_name state name volume named live)))
-does config state key call outcome kept orderly is (was_made name required limit first others range unnamed) =
-    at_key (λ k. Does k call outcome.reply state (changed state kept outcome.change)) (Exists name) key is (made_things config state name required limit (first ∷ others) (capacity_wanted required limit) kept unnamed)
-does config state key call outcome kept orderly is (was_ended id volume live free) =
-    by_volume (λ k. Does k call outcome.reply state (changed state kept outcome.change)) (λ (v : Volume). Exists v.name) (volume_with_id id state) key is (λ v own. ended_things state id v kept orderly own)
-does config state key call outcome kept orderly is (was_ended_before id none) =
-    by_volume (λ k. Does k call outcome.reply state state) (λ (v : Volume). Exists v.name) (volume_with_id id state) key is (λ v own. ended_before_things state id v orderly own none)
-does config state key call outcome kept orderly is (was_attached holding volume can free fits) =
-    by_volume (λ k. Does k call outcome.reply state (changed state kept outcome.change)) (λ v. Attached holding.volume holding.node) (volume_with_id holding.volume state) key is
+does config state thing call outcome kept orderly is (was_made name required limit first others range unnamed) =
+    at_thing (λ k. Does k call outcome.reply state (changed state kept outcome.change)) (Exists name) thing is (made_things config state name required limit (first ∷ others) (capacity_wanted required limit) kept unnamed)
+does config state thing call outcome kept orderly is (was_ended id volume live free) =
+    by_volume (λ k. Does k call outcome.reply state (changed state kept outcome.change)) (λ (v : Volume). Exists v.name) (volume_with_id id state) thing is (λ v own. ended_things state id v kept orderly own)
+does config state thing call outcome kept orderly is (was_ended_before id none) =
+    by_volume (λ k. Does k call outcome.reply state state) (λ (v : Volume). Exists v.name) (volume_with_id id state) thing is (λ v own. ended_before_things state id v orderly own none)
+does config state thing call outcome kept orderly is (was_attached holding volume can free fits) =
+    by_volume (λ k. Does k call outcome.reply state (changed state kept outcome.change)) (λ v. Attached holding.volume holding.node) (volume_with_id holding.volume state) thing is
     (λ v own. attached_things state holding kept free)
-does config state key call outcome kept orderly is (was_attached_before holding volume can held) =
-    by_volume (λ k. Does k call outcome.reply state state) (λ v. Attached holding.volume holding.node) (volume_with_id holding.volume state) key is
+does config state thing call outcome kept orderly is (was_attached_before holding volume can held) =
+    by_volume (λ k. Does k call outcome.reply state state) (λ v. Attached holding.volume holding.node) (volume_with_id holding.volume state) thing is
     (λ v own. same_things (Attached holding.volume holding.node) call outcome.reply state (λ h. ap (option_map form_of) held))
-does config state key call outcome kept orderly is (was_detached id node held there) =
-    by_volume (λ k. Does k call outcome.reply state (changed state kept outcome.change)) (λ v. Attached id node) (volume_with_id id state) key is (λ v own. detached_things state id node kept)
-does config state key call outcome kept orderly is (was_detached_before id node none) =
-    by_volume (λ k. Does k call outcome.reply state state) (λ v. Attached id node) (volume_with_id id state) key is
+does config state thing call outcome kept orderly is (was_detached id node held there) =
+    by_volume (λ k. Does k call outcome.reply state (changed state kept outcome.change)) (λ v. Attached id node) (volume_with_id id state) thing is (λ v own. detached_things state id node kept)
+does config state thing call outcome kept orderly is (was_detached_before id node none) =
+    by_volume (λ k. Does k call outcome.reply state state) (λ v. Attached id node) (volume_with_id id state) thing is
     (λ v own. same_things (Attached id node) call outcome.reply state (λ h. ap (option_map form_of) none))

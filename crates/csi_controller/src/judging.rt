@@ -11,12 +11,9 @@ ghost use Rattle.csi_controller.specs.Private.Judging.{earlier_of, may_follow as
 use crate::catalog::stays;
 use crate::row::ControllerRow;
 use crate::sound_row::is_sound_row;
-use csi_types::NoMemory;
+use csi_types::{MAX_ROWS, NoMemory};
 use std::alloc::Global;
 use std::collections::BTreeSet;
-
-/// The most rows that a record has.
-const MAX_ROWS: usize = 4096;
 
 // Whether the row may follow so many others, the last of which has this id, whatever their names are.
 fn may_follow(next_id: u64, count: usize, last: u64, row: &ControllerRow) -> bool

@@ -6,7 +6,7 @@ use Rattle.csi_types.specs.declared.number.Number.{Number}
 use Rattle.csi_types.specs.declared.call.Call.{Call}
 use Rattle.csi_types.specs.declared.status.Status.TheVariants.{Ok}
 use Rattle.csi_types.specs.Model.Call.{kind_of}
-use Rattle.csi_types.specs.Public.Key.{Key, Form}
+use Rattle.csi_types.specs.Public.PluginThing.{PluginThing, ThingForm}
 use Rattle.csi_types.specs.Model.Replies.{stale_reply}
 use Rattle.csi_fence.specs.Public.Delivery.{PluginView, view_by, Delivery, kept_of, last_of, CallBecomes, IsDelivered}
 use Rattle.csi_fence.specs.Model.Fence.{Kept, is_spent, is_over, begins}
@@ -16,26 +16,26 @@ use Rattle.csi_fence.proofs.Views.{aborted, spent-rests, over-becomes}
 use Rattle.csi_fence.proofs.Begun.{HasBegun, delivered-in_session}
 
 -- what is kept for a call is what is kept for its thing; where it has none, nothing is
-abbrev pub IsKeptFor : Option Key → (Key → Option Kept) → Option Kept → Type 0
+abbrev pub IsKeptFor : Option PluginThing → (PluginThing → Option Kept) → Option Kept → Type 0
 IsKeptFor None kept own = own ≡ None
-IsKeptFor (Some key) kept own = kept key ≡ own
+IsKeptFor (Some thing) kept own = kept thing ≡ own
 
 -- what is kept is the same under its own number
 renumbered : (kept : Kept) (number : Number) → number ≡ kept.number → kept ≡ record { number = number; kind = kept.kind; reply = kept.reply }
 renumbered kept number same = let back = sym same in λ i. record { number = back i; kind = kept.kind; reply = kept.reply }
 
 -- a call whose number is spent, and that changes nothing, rests
-pub spent-becomes : (session : ℕ) (held : Key → Option Form) (kept : Key → Option Kept) (o : Option Key) (own : Option Kept) (delivery : Delivery) → IsKeptFor o kept own
+pub spent-becomes : (session : ℕ) (held : PluginThing → Option ThingForm) (kept : PluginThing → Option Kept) (o : Option PluginThing) (own : Option Kept) (delivery : Delivery) → IsKeptFor o kept own
     → is_spent (last_of own) delivery.number ≡ true → (delivery.reply.status ≡ Ok → own ≡ Some (kept_of delivery)) → CallBecomes o delivery (view_by session held kept) (view_by session held kept)
 spent-becomes session held kept None own delivery is spent was_kept = absurd (false≢true (sym (ap (λ (k : Option Kept). is_spent (last_of k) delivery.number) is) ∙ spent))
-spent-becomes session held kept (Some key) own delivery is spent was_kept =
-    inr (spent-rests session held kept key delivery (ap (λ (k : Option Kept). is_spent (last_of k) delivery.number) is ∙ spent) (λ ok. is ∙ was_kept ok))
+spent-becomes session held kept (Some thing) own delivery is spent was_kept =
+    inr (spent-rests session held kept thing delivery (ap (λ (k : Option Kept). is_spent (last_of k) delivery.number) is ∙ spent) (λ ok. is ∙ was_kept ok))
 
 -- the state by its things
-abbrev pub view_in : {State : Type 0} → Machine State → (State → Key → Option Form) → (State → Key → Option Kept) → State → PluginView
+abbrev pub view_in : {State : Type 0} → Machine State → (State → PluginThing → Option ThingForm) → (State → PluginThing → Option Kept) → State → PluginView
 view_in machine held kept state = view_by (machine.session state) (held state) (kept state)
 
-module _ {State : Type 0} (machine : Machine State) (held : State → Key → Option Form) (kept : State → Key → Option Kept) (state : State) (number : Number) (call : Call) (o : Option Key) where
+module _ {State : Type 0} (machine : Machine State) (held : State → PluginThing → Option ThingForm) (kept : State → PluginThing → Option Kept) (state : State) (number : Number) (call : Call) (o : Option PluginThing) where
   -- the state in which the call is judged, unless it is over
   abbrev now : State
   now = in_session machine number state

@@ -137,7 +137,7 @@ fn whole_body(bytes: &[u8]) -> Result<BorrowedFrame<'_>, Stop>
 }
 
 /// The most bytes that a body has.
-const MAX_BODY: usize = 1280;
+pub const MAX_BODY: usize = 1280;
 
 /// The frame at the front of the bytes and how many bytes it takes, or the first fault. It takes no memory.
 #[inline(always)]

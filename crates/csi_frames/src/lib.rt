@@ -17,7 +17,7 @@ mod splitter;
 mod version;
 mod writing;
 
-pub use body::number_at;
+pub use body::{MAX_BODY, number_at};
 pub use body_kind::{reply_kind, reply_kind_number};
 pub use calls::{capability_at, status_at};
 pub use cutting::any_cutting;

@@ -3,14 +3,14 @@ use Rattle.std.proofs.Common.{◌≡◌, ◌⊎◌, ℕ, List, Bool, true, false
 use Rattle.std.specs.Prelude.{Option, Some, None, option_map, is_some, ◌==◌}
 use Rattle.std.proofs.lemmas.Bool.{eqb-true, true≢false, false_from_ne_true}
 use Rattle.csi_lists.proofs.Searches.{find-filter, find-filtered}
-use Rattle.csi_types.specs.Public.Key.{Key, Exists, Attached, Staged, Published}
+use Rattle.csi_types.specs.Public.PluginThing.{PluginThing, Exists, Attached, Staged, Published}
 use Rattle.csi_node.specs.Model.State.{NodeState, AnsweredVolume, row_with_id, staged_of}
 use Rattle.csi_node.specs.Model.Fenced.{begun}
 use Rattle.csi_node.specs.Public.View.{held_on, kept_on}
 use Rattle.csi_node.proofs.ThingRows.{row_id, kept_at, kept_on-at}
 
 -- how each thing is stays
-pub begun-held : (node : List ℕ) (session : ℕ) (state : NodeState) (key : Key) → held_on node (begun session state) key ≡ held_on node state key
+pub begun-held : (node : List ℕ) (session : ℕ) (state : NodeState) (thing : PluginThing) → held_on node (begun session state) thing ≡ held_on node state thing
 begun-held node session state (Exists name) = refl
 begun-held node session state (Attached id there) = refl
 begun-held node session state (Staged id there) = refl
@@ -44,16 +44,16 @@ module _ (session id : ℕ) (state : NodeState) where
       by false unstaged = inr (begun-unstaged unstaged)
 
 -- and what is kept for each thing
-pub begun-kept : (node : List ℕ) (session : ℕ) (state : NodeState) (key : Key) → (kept_on node (begun session state) key ≡ kept_on node state key) ⊎ (kept_on node (begun session state) key ≡ None)
-begun-kept node session state key = by (row_id node key) (kept_on-at node (begun session state) key) (kept_on-at node state key)
+pub begun-kept : (node : List ℕ) (session : ℕ) (state : NodeState) (thing : PluginThing) → (kept_on node (begun session state) thing ≡ kept_on node state thing) ⊎ (kept_on node (begun session state) thing ≡ None)
+begun-kept node session state thing = by (row_id node thing) (kept_on-at node (begun session state) thing) (kept_on-at node state thing)
   where
     of_row : (id : ℕ) → (row_with_id id (begun session state) ≡ row_with_id id state) ⊎ (row_with_id id (begun session state) ≡ None)
-        → kept_on node (begun session state) key ≡ kept_at (Some id) (begun session state) → kept_on node state key ≡ kept_at (Some id) state
-        → (kept_on node (begun session state) key ≡ kept_on node state key) ⊎ (kept_on node (begun session state) key ≡ None)
+        → kept_on node (begun session state) thing ≡ kept_at (Some id) (begun session state) → kept_on node state thing ≡ kept_at (Some id) state
+        → (kept_on node (begun session state) thing ≡ kept_on node state thing) ⊎ (kept_on node (begun session state) thing ≡ None)
     of_row id (inl same) now before = inl (now ∙ ap (option_map (λ (row : AnsweredVolume). row.kept)) same ∙ sym before)
     of_row id (inr none) now before = inr (now ∙ ap (option_map (λ (row : AnsweredVolume). row.kept)) none)
 
-    by : (o : Option ℕ) → kept_on node (begun session state) key ≡ kept_at o (begun session state) → kept_on node state key ≡ kept_at o state
-        → (kept_on node (begun session state) key ≡ kept_on node state key) ⊎ (kept_on node (begun session state) key ≡ None)
+    by : (o : Option ℕ) → kept_on node (begun session state) thing ≡ kept_at o (begun session state) → kept_on node state thing ≡ kept_at o state
+        → (kept_on node (begun session state) thing ≡ kept_on node state thing) ⊎ (kept_on node (begun session state) thing ≡ None)
     by None now before = inr now
     by (Some id) now before = of_row id (begun-row session id state) now before

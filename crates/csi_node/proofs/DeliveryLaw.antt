@@ -13,7 +13,7 @@ use Rattle.csi_types.specs.declared.status.Status.TheVariants.{Ok, ResourceExhau
 use Rattle.csi_types.specs.declared.reply.Reply.{Reply}
 use Rattle.csi_types.specs.Model.Call.{kind_of}
 use Rattle.csi_types.specs.Public.Call.{is_party_of}
-use Rattle.csi_types.specs.Public.Key.{Key}
+use Rattle.csi_types.specs.Public.PluginThing.{PluginThing}
 use Rattle.csi_types.specs.Public.Reply.{has_id_by_rule}
 use Rattle.csi_types.specs.Model.Replies.{plain_reply}
 use Rattle.csi_fence.specs.Public.Delivery.{PluginView, view_by, Delivery, Acts, CallBecomes, IsDelivered, IsEmpty, IsClosed, last_of}
@@ -28,7 +28,7 @@ use Rattle.csi_node.specs.Model.State.{NodeState, AnsweredVolume, empty_node, ro
 use Rattle.csi_node.specs.Model.Table.{Outcome, lifecycle_row, node_row, changed}
 use Rattle.csi_node.specs.Private.Fenced.{answered_in, in_session}
 use Rattle.csi_node.specs.Model.Fenced.{begun, carried_out, keep, kept_for, node_at}
-use Rattle.csi_node.specs.Public.View.{held_on, kept_on, view_of, key_of, IsDeliveredTo}
+use Rattle.csi_node.specs.Public.View.{held_on, kept_on, view_of, thing_of, IsDeliveredTo}
 use Rattle.csi_node.proofs.BegunSessions.{begun-held, begun-kept}
 use Rattle.csi_node.proofs.CarriedOut.{Carried, no_room, has_room, was_carried, kept_of, state_then}
 use Rattle.csi_node.proofs.LastCalls.{keep-own, keep-session, changed-rows, changed-session}
@@ -43,8 +43,8 @@ exhausted : ResourceExhausted ≡ Ok → ⊥
 exhausted h = cc
 
 -- where there is no thing, there isn't one
-no_key : (key : Key) → None ≡ Some key → ⊥
-no_key key h = cc
+no_thing : (thing : PluginThing) → None ≡ Some thing → ⊥
+no_thing thing h = cc
 
 -- no call of a node's is answered with an id
 reply_id : (state : NodeState) (call : Call) (outcome : Outcome) → IsOutcome state call outcome → outcome.reply.id ≡ None
@@ -58,26 +58,26 @@ reply_id state _ _ (was_unpublished id target none) = refl
 reply_id state _ _ (unpublishes id target there is) = refl
 
 -- for a node's call, a reply without an id is as the rule asks
-without_id : (node : List ℕ) (call : Call) (key : Key) (reply : Reply) → key_of node call ≡ Some key → reply.id ≡ None → IsTrue (has_id_by_rule (kind_of call) reply)
-without_id node (calls.NodeStageVolume id capability) key reply is none = ap (λ (o : Option ℕ). not (is_some o)) none
-without_id node (calls.NodeUnstageVolume id) key reply is none = ap (λ (o : Option ℕ). not (is_some o)) none
-without_id node (calls.NodePublishVolume id target capability readonly) key reply is none = ap (λ (o : Option ℕ). not (is_some o)) none
-without_id node (calls.NodeUnpublishVolume id target) key reply is none = ap (λ (o : Option ℕ). not (is_some o)) none
-without_id node (calls.CreateVolume name required limit capabilities) key reply is none = absurd (no_key key is)
-without_id node (calls.DeleteVolume id) key reply is none = absurd (no_key key is)
-without_id node (calls.ControllerPublishVolume id there capability readonly) key reply is none = absurd (no_key key is)
-without_id node (calls.ControllerUnpublishVolume id there) key reply is none = absurd (no_key key is)
+without_id : (node : List ℕ) (call : Call) (thing : PluginThing) (reply : Reply) → thing_of node call ≡ Some thing → reply.id ≡ None → IsTrue (has_id_by_rule (kind_of call) reply)
+without_id node (calls.NodeStageVolume id capability) thing reply is none = ap (λ (o : Option ℕ). not (is_some o)) none
+without_id node (calls.NodeUnstageVolume id) thing reply is none = ap (λ (o : Option ℕ). not (is_some o)) none
+without_id node (calls.NodePublishVolume id target capability readonly) thing reply is none = ap (λ (o : Option ℕ). not (is_some o)) none
+without_id node (calls.NodeUnpublishVolume id target) thing reply is none = ap (λ (o : Option ℕ). not (is_some o)) none
+without_id node (calls.CreateVolume name required limit capabilities) thing reply is none = absurd (no_thing thing is)
+without_id node (calls.DeleteVolume id) thing reply is none = absurd (no_thing thing is)
+without_id node (calls.ControllerPublishVolume id there capability readonly) thing reply is none = absurd (no_thing thing is)
+without_id node (calls.ControllerUnpublishVolume id there) thing reply is none = absurd (no_thing thing is)
 
 -- what the table answers to a call has its effect on the call's thing, and none on others
-effect_for : (node : List ℕ) (state : NodeState) (call : Call) (key : Key) → key_of node call ≡ Some key → Effect node state call (lifecycle_row state call) key
-effect_for node state call key is = subst (EffectAt node state call (lifecycle_row state call)) is (effect node state call (lifecycle_row state call) (lifecycle_outcomes state call))
+effect_for : (node : List ℕ) (state : NodeState) (call : Call) (thing : PluginThing) → thing_of node call ≡ Some thing → Effect node state call (lifecycle_row state call) thing
+effect_for node state call thing is = subst (EffectAt node state call (lifecycle_row state call)) is (effect node state call (lifecycle_row state call) (lifecycle_outcomes state call))
 
 -- the thing of a call
-module _ (node : List ℕ) (state : NodeState) (number : Number) (call : Call) (key : Key) (for : IsFor node call key) where
+module _ (node : List ℕ) (state : NodeState) (number : Number) (call : Call) (thing : PluginThing) (for : IsFor node call thing) where
   -- what the row of the call's volume keeps is what is kept for its thing
-  is_kept : kept_on node state key ≡ kept_for call state
+  is_kept : kept_on node state thing ≡ kept_for call state
   is_kept =
-      kept_on-at node state key ∙ ap (λ (o : Option ℕ). kept_at o state) for.is_row
+      kept_on-at node state thing ∙ ap (λ (o : Option ℕ). kept_at o state) for.is_row
       ∙ sym (ap (λ (o : Option ℕ). option_map (λ row. row.kept) (row_of_volume o state)) for.is_volume)
 
   -- the call with the reply that it got
@@ -89,12 +89,12 @@ module _ (node : List ℕ) (state : NodeState) (number : Number) (call : Call) (
   spent_by earlier same = ap (λ (o : Option Kept). is_spent (last_of o) earlier) same
 
   -- by the call's thing
-  becomes : (kind : Kind) (reply : Reply) (new : PluginView) → Acts key (replied kind reply) (view_of node state) new → CallBecomes (key_of node call) (replied kind reply) (view_of node state) new
-  becomes kind reply new acts = subst (λ (o : Option Key). CallBecomes o (replied kind reply) (view_of node state) new) (sym for.is_key) (inl acts)
+  becomes : (kind : Kind) (reply : Reply) (new : PluginView) → Acts thing (replied kind reply) (view_of node state) new → CallBecomes (thing_of node call) (replied kind reply) (view_of node state) new
+  becomes kind reply new acts = subst (λ (o : Option PluginThing). CallBecomes o (replied kind reply) (view_of node state) new) (sym for.is_thing) (inl acts)
 
   -- what is kept for the call is what is kept for its thing
-  is_kept_for : IsKeptFor (key_of node call) (kept_on node state) (kept_for call state)
-  is_kept_for = subst (λ (o : Option Key). IsKeptFor o (kept_on node state) (kept_for call state)) (sym for.is_key) is_kept
+  is_kept_for : IsKeptFor (thing_of node call) (kept_on node state) (kept_for call state)
+  is_kept_for = subst (λ (o : Option PluginThing). IsKeptFor o (kept_on node state) (kept_for call state)) (sym for.is_thing) is_kept
 
   -- carried out in a state of its session
   module _ (now : number.session ≡ state.session) where
@@ -104,9 +104,9 @@ module _ (node : List ℕ) (state : NodeState) (number : Number) (call : Call) (
 
     module _ (fresh : is_spent (last_of (kept_for call state)) number ≡ false) where
       -- where there is no room, it is refused, and all is as it was
-      full_acts : (reply : Reply) → (reply.status ≡ Ok → ⊥) → Acts key (replied (kind_of call) reply) (view_of node state) (view_of node state)
+      full_acts : (reply : Reply) → (reply.status ≡ Ok → ⊥) → Acts thing (replied (kind_of call) reply) (view_of node state) (view_of node state)
       full_acts reply not_ok =
-          carried-acts state.session key (replied (kind_of call) reply) (held_on node state) (held_on node state) (kept_on node state) (kept_on node state) not_over
+          carried-acts state.session thing (replied (kind_of call) reply) (held_on node state) (held_on node state) (kept_on node state) (kept_on node state) not_over
           (record {
             of_its_kind = refl;
             with_id = λ ok. absurd (not_ok ok);
@@ -128,7 +128,7 @@ module _ (node : List ℕ) (state : NodeState) (number : Number) (call : Call) (
       abbrev after : NodeState
       after = keep (Some for.volume) kept changes
 
-      held_after : (other : Key) → held_on node after other ≡ held_on node changes other
+      held_after : (other : PluginThing) → held_on node after other ≡ held_on node changes other
       held_after other = keep-held node (Some for.volume) kept changes other
 
       kept_before : (o : Option ℕ) → kept_at o changes ≡ kept_at o state
@@ -138,53 +138,53 @@ module _ (node : List ℕ) (state : NodeState) (number : Number) (call : Call) (
       own_kept : kept_at (Some for.volume) after ≡ Some kept
       own_kept = keep-own for.volume kept changes
 
-      own : kept_on node after key ≡ Some kept
-      own = kept_on-at node after key ∙ ap (λ (o : Option ℕ). kept_at o after) for.is_row ∙ own_kept
+      own : kept_on node after thing ≡ Some kept
+      own = kept_on-at node after thing ∙ ap (λ (o : Option ℕ). kept_at o after) for.is_row ∙ own_kept
 
       -- what is kept for a thing was kept before; or it is this call, and the thing is of the call's volume
-      later : (other : Key) → IsLater kept (kept_on node state other) (kept_on node after other)
+      later : (other : PluginThing) → IsLater kept (kept_on node state other) (kept_on node after other)
       later other = by (kept_either for.volume kept changes (row_id node other))
         where
           by : (kept_at (row_id node other) after ≡ kept_at (row_id node other) changes) ⊎ (row_id node other ≡ Some for.volume) → IsLater kept (kept_on node state other) (kept_on node after other)
           by (inl same) = inl (kept_on-at node after other ∙ same ∙ kept_before (row_id node other) ∙ sym (kept_on-at node state other))
           by (inr e) = inr (
             kept_on-at node after other ∙ ap (λ (o : Option ℕ). kept_at o after) e ∙ own_kept,
-            spent_by number (kept_on-at node state other ∙ ap (λ (o : Option ℕ). kept_at o state) (e ∙ sym for.is_row) ∙ sym (kept_on-at node state key) ∙ is_kept) ∙ fresh,
+            spent_by number (kept_on-at node state other ∙ ap (λ (o : Option ℕ). kept_at o state) (e ∙ sym for.is_row) ∙ sym (kept_on-at node state thing) ∙ is_kept) ∙ fresh,
           )
 
       -- the session stays
       same_session : after.session ≡ state.session
       same_session = keep-session (Some for.volume) kept changes ∙ changed-session state (lifecycle_row state call).change
 
-      in_its_session : Acts key (replied (kind_of call) (lifecycle_row state call).reply) (view_of node state) (view_by state.session (held_on node after) (kept_on node after))
+      in_its_session : Acts thing (replied (kind_of call) (lifecycle_row state call).reply) (view_of node state) (view_by state.session (held_on node after) (kept_on node after))
       in_its_session =
-          let does = effect_for node state call key for.is_key in
-          carried-acts state.session key (replied (kind_of call) (lifecycle_row state call).reply) (held_on node state) (held_on node after) (kept_on node state) (kept_on node after) not_over
+          let does = effect_for node state call thing for.is_thing in
+          carried-acts state.session thing (replied (kind_of call) (lifecycle_row state call).reply) (held_on node state) (held_on node after) (kept_on node state) (kept_on node after) not_over
           (record {
             of_its_kind = refl;
-            with_id = λ ok. without_id node call key (lifecycle_row state call).reply for.is_key (reply_id state call (lifecycle_row state call) (lifecycle_outcomes state call));
+            with_id = λ ok. without_id node call thing (lifecycle_row state call).reply for.is_thing (reply_id state call (lifecycle_row state call) (lifecycle_outcomes state call));
             was_fresh = spent_by number is_kept ∙ fresh;
-            done = λ ok. held_after key ∙ does.done ok;
-            refused = λ not_ok. held_after key ∙ does.refused not_ok;
+            done = λ ok. held_after thing ∙ does.done ok;
+            refused = λ not_ok. held_after thing ∙ does.refused not_ok;
             others = λ other differ. held_after other ∙ does.others other differ;
             own = λ _. own;
             later = later;
           })
 
-      acts : Acts key (replied (kind_of call) (lifecycle_row state call).reply) (view_of node state) (view_of node after)
+      acts : Acts thing (replied (kind_of call) (lifecycle_row state call).reply) (view_of node state) (view_of node after)
       acts =
-          subst (λ (session : ℕ). Acts key (replied (kind_of call) (lifecycle_row state call).reply) (view_of node state) (view_by session (held_on node after) (kept_on node after)))
+          subst (λ (session : ℕ). Acts thing (replied (kind_of call) (lifecycle_row state call).reply) (view_of node state) (view_by session (held_on node after) (kept_on node after)))
           (sym same_session) in_its_session
 
-      carried_acts : Acts key (replied (kind_of call) (lifecycle_row state call).reply) (view_of node state) (view_of node (state_then state number call))
+      carried_acts : Acts thing (replied (kind_of call) (lifecycle_row state call).reply) (view_of node state) (view_of node (state_then state number call))
       carried_acts =
           subst
-          (λ (v : Option ℕ). Acts key (replied (kind_of call) (lifecycle_row state call).reply) (view_of node state) (view_of node (keep v (kept_of state number call) (changed state (lifecycle_row state call).change))))
+          (λ (v : Option ℕ). Acts thing (replied (kind_of call) (lifecycle_row state call).reply) (view_of node state) (view_of node (keep v (kept_of state number call) (changed state (lifecycle_row state call).change))))
           (sym for.is_volume) acts
 
     -- a call whose number is fresh
     delivered_fresh : (after : Fenced NodeState) → Carried node state number call after → is_spent (last_of (kept_for call state)) number ≡ false
-        → IsDelivered (Node node) number call (key_of node call) (view_of node state) (view_of node after.state) after.reply
+        → IsDelivered (Node node) number call (thing_of node call) (view_of node state) (view_of node after.state) after.reply
     delivered_fresh _ (no_room full) fresh = record {
       kind = kind_of call;
       reply = plain_reply ResourceExhausted (codes "rows");
@@ -201,8 +201,8 @@ module _ (node : List ℕ) (state : NodeState) (number : Number) (call : Call) (
 
 module _ (node : List ℕ) (state : NodeState) (current : AreCurrent state) where
   -- what is kept for a thing is of no later session than the greatest that came
-  up_to : (key : Key) → IsUpTo state.session (kept_on node state key)
-  up_to key this is = by (row_id node key) (sym (kept_on-at node state key) ∙ is)
+  up_to : (thing : PluginThing) → IsUpTo state.session (kept_on node state thing)
+  up_to thing this is = by (row_id node thing) (sym (kept_on-at node state thing) ∙ is)
     where
       by : (o : Option ℕ) → kept_at o state ≡ Some this → this.number.session ≤ state.session
       by None none = absurd (none-some this none)
@@ -216,27 +216,27 @@ module _ (node : List ℕ) (state : NodeState) (current : AreCurrent state) wher
       has-begun state.session number (held_on node state) (held_on node (begun number.session state)) (kept_on node state) (kept_on node (begun number.session state)) later
       (begun-held node number.session state) (begun-kept node number.session state) up_to
 
-  module _ (number : Number) (call : Call) (key : Key) (for : IsFor node call key) where
+  module _ (number : Number) (call : Call) (thing : PluginThing) (for : IsFor node call thing) where
     -- the state in which the call is judged, unless it is over
     abbrev now : NodeState
     now = in_session node number state
 
     -- carried out there
     carried : is_over state.session number ≡ false → is_spent (last_of (kept_for call now)) number ≡ false
-        → IsDelivered (Node node) number call (key_of node call) (view_of node now) (view_of node (carried_out node now number call (node_row now call)).state) (carried_out node now number call (node_row now call)).reply
+        → IsDelivered (Node node) number call (thing_of node call) (view_of node now) (view_of node (carried_out node now number call (node_row now call)).state) (carried_out node now number call (node_row now call)).reply
     carried not_over fresh =
-        delivered_fresh node now number call key for (own_session (node_at node) (λ session state. refl) state number not_over)
+        delivered_fresh node now number call thing for (own_session (node_at node) (λ session state. refl) state number not_over)
         (carried_out node now number call (node_row now call)) (was_carried node now number call) fresh
 
     -- whatever the fence makes of it
-    delivered_by : IsDelivered (Node node) number call (key_of node call) (view_of node state) (view_of node (answered_in node state number call).state) (answered_in node state number call).reply
-    delivered_by = answered-delivered (node_at node) (held_on node) (kept_on node) state number call (key_of node call) (has_begun number) (is_kept_for node now number call key for) carried
+    delivered_by : IsDelivered (Node node) number call (thing_of node call) (view_of node state) (view_of node (answered_in node state number call).state) (answered_in node state number call).reply
+    delivered_by = answered-delivered (node_at node) (held_on node) (kept_on node) state number call (thing_of node call) (has_begun number) (is_kept_for node now number call thing for) carried
 
 -- in each state of which the rows are of no later session
 pub delivered : (node : List ℕ) (state : NodeState) (number : Number) (call : Call) → AreCurrent state → IsTrue (is_party_of (kind_of call) (Node node)) → IsDeliveredTo node state number call
 delivered node state number call current party =
     let for = is_for node call party in
-    subst (λ (after : Fenced NodeState). IsDelivered (Node node) number call (key_of node call) (view_of node state) (view_of node after.state) after.reply) (sym (for_own node state number call))
+    subst (λ (after : Fenced NodeState). IsDelivered (Node node) number call (thing_of node call) (view_of node state) (view_of node after.state) after.reply) (sym (for_own node state number call))
     (delivered_by node state current number call for.0 for.1)
 
 -- a node that has answered nothing holds nothing, has no number spent, and keeps nothing

@@ -3,42 +3,42 @@ use Rattle.std.proofs.Common.{◌≡◌, ◌≢◌, ℕ, List, Bool, true, false
 use Rattle.std.specs.Prelude.{Option, Some, None, option_map, find, ◌==◌}
 use Rattle.std.proofs.lemmas.Bool.{and_parts, eqb-true, eq-eqb, false_from_ne_true}
 use Rattle.csi_lists.proofs.Searches.{find-filter}
-use Rattle.csi_types.proofs.Equality.{same_text-tells, same_key-tells}
+use Rattle.csi_types.proofs.Equality.{same_text-tells, same_plugin_thing-tells}
 use Rattle.csi_lists.proofs.Searches.{find-append_one, find-filter_not}
 use Rattle.csi_types.specs.declared.call.Call.{Call}
 use Rattle.csi_types.specs.declared.call.Call.TheVariants as calls
 use Rattle.csi_types.specs.declared.status.Status.TheVariants.{Ok}
-use Rattle.csi_types.specs.Public.Key.{Key, Exists, Attached, Staged, Published, Form, StagedAs, PublishedAs, same_key, asked}
+use Rattle.csi_types.specs.Public.PluginThing.{PluginThing, Exists, Attached, Staged, Published, ThingForm, StagedAs, PublishedAs, same_plugin_thing, asked}
 use Rattle.csi_types.specs.Model.Same.{same_text}
 use Rattle.csi_lists.proofs.Options.{none-from_map}
 use Rattle.csi_lists.proofs.Searches.{find-append_other}
 use Rattle.csi_lists.proofs.Tests.{not-where}
 use Rattle.csi_node.specs.Model.State.{NodeState, StagedVolume, PublishedVolume, is_published_at}
 use Rattle.csi_node.specs.Model.Table.{Outcome, Change, Stays, Stages, Unstages, Publishes, Unpublishes, refused, met, done, changed}
-use Rattle.csi_node.specs.Public.View.{held_on, key_of}
+use Rattle.csi_node.specs.Public.View.{held_on, thing_of}
 use Rattle.csi_node.proofs.ThingRows.{here}
 use Rattle.csi_node.proofs.TableOutcomes.{IsOutcome, at_itself, refuses, was_staged, stages, unstages, was_published, publishes, was_unpublished, unpublishes, stage_call, publish_call}
 
 -- after an OK the thing is as asked, after a refusal as it was, and other things are as they were
-pub record Effect (node : List ℕ) (state : NodeState) (call : Call) (outcome : Outcome) (key : Key) : Type 0 where
-  pub done : outcome.reply.status ≡ Ok → held_on node (changed state outcome.change) key ≡ asked call outcome.reply
-  pub refused : outcome.reply.status ≢ Ok → held_on node (changed state outcome.change) key ≡ held_on node state key
-  pub others : (other : Key) → same_key other key ≡ false → held_on node (changed state outcome.change) other ≡ held_on node state other
+pub record Effect (node : List ℕ) (state : NodeState) (call : Call) (outcome : Outcome) (thing : PluginThing) : Type 0 where
+  pub done : outcome.reply.status ≡ Ok → held_on node (changed state outcome.change) thing ≡ asked call outcome.reply
+  pub refused : outcome.reply.status ≢ Ok → held_on node (changed state outcome.change) thing ≡ held_on node state thing
+  pub others : (other : PluginThing) → same_plugin_thing other thing ≡ false → held_on node (changed state outcome.change) other ≡ held_on node state other
 
 -- the same for the thing of a call, if it has one
-abbrev pub EffectAt : List ℕ → NodeState → Call → Outcome → Option Key → Type 0
+abbrev pub EffectAt : List ℕ → NodeState → Call → Outcome → Option PluginThing → Type 0
 EffectAt node state call outcome None = Unit {0}
-EffectAt node state call outcome (Some key) = Effect node state call outcome key
+EffectAt node state call outcome (Some thing) = Effect node state call outcome thing
 
 -- things that the test tells apart aren't equal
-is_not : (a b : Key) → same_key a b ≡ false → a ≡ b → ⊥
-is_not a b other same = clash (sym ((same_key-tells a b).1 same) ∙ other)
+is_not : (a b : PluginThing) → same_plugin_thing a b ≡ false → a ≡ b → ⊥
+is_not a b other same = clash (sym ((same_plugin_thing-tells a b).1 same) ∙ other)
   where
     clash : true ≡ false → ⊥
     clash h = cc
 
 -- a place is this node, or nothing is there
-by_place : (b : Bool) (x y : Option Form) → (b ≡ true → x ≡ y) → cond b x None ≡ cond b y None
+by_place : (b : Bool) (x y : Option ThingForm) → (b ≡ true → x ≡ y) → cond b x None ≡ cond b y None
 by_place true x y f = f refl
 by_place false x y f = refl
 
@@ -49,32 +49,32 @@ is_at id target p h =
     (eqb-true p.volume id parts.0, (same_text-tells p.target target).0 parts.1)
 
 -- how what is found is held
-abbrev staged_form : Option StagedVolume → Option Form
+abbrev staged_form : Option StagedVolume → Option ThingForm
 staged_form found = option_map StagedAs (option_map (λ staged. staged.capability) found)
 
 -- how what is found published is held
-abbrev published_form : Option PublishedVolume → Option Form
+abbrev published_form : Option PublishedVolume → Option ThingForm
 published_form found = option_map (λ published. PublishedAs published.capability published.readonly) found
 
 module _ (node : List ℕ) (state : NodeState) where
   -- a refusal has no effect
-  refused_effect : (call : Call) (outcome : Outcome) (o : Option Key) → (outcome.reply.status ≡ Ok → ⊥) → outcome.change ≡ Stays → EffectAt node state call outcome o
+  refused_effect : (call : Call) (outcome : Outcome) (o : Option PluginThing) → (outcome.reply.status ≡ Ok → ⊥) → outcome.change ≡ Stays → EffectAt node state call outcome o
   refused_effect call outcome None not_ok stays = tt
-  refused_effect call outcome (Some key) not_ok stays =
-      let same : (other : Key) → held_on node (changed state outcome.change) other ≡ held_on node state other = λ other. ap (λ change. held_on node (changed state change) other) stays in
-      record { done = λ ok. absurd (not_ok ok); refused = λ _. same key; others = λ other _. same other }
+  refused_effect call outcome (Some thing) not_ok stays =
+      let same : (other : PluginThing) → held_on node (changed state outcome.change) other ≡ held_on node state other = λ other. ap (λ change. held_on node (changed state change) other) stays in
+      record { done = λ ok. absurd (not_ok ok); refused = λ _. same thing; others = λ other _. same other }
 
   -- an OK that changes nothing has its effect where what is asked is so already
-  met_effect : (call : Call) (key : Key) → held_on node state key ≡ asked call met.reply → Effect node state call met key
-  met_effect call key is = record { done = λ _. is; refused = λ h. absurd (h refl); others = λ other _. refl }
+  met_effect : (call : Call) (thing : PluginThing) → held_on node state thing ≡ asked call met.reply → Effect node state call met thing
+  met_effect call thing is = record { done = λ _. is; refused = λ h. absurd (h refl); others = λ other _. refl }
 
   -- an OK with a change has its effect where what is asked is so then
-  done_effect : (call : Call) (change : Change) (key : Key) → held_on node (changed state change) key ≡ asked call (done change).reply
-      → ((other : Key) → same_key other key ≡ false → held_on node (changed state change) other ≡ held_on node state other) → Effect node state call (done change) key
-  done_effect call change key is others = record { done = λ _. is; refused = λ h. absurd (h refl); others = others }
+  done_effect : (call : Call) (change : Change) (thing : PluginThing) → held_on node (changed state change) thing ≡ asked call (done change).reply
+      → ((other : PluginThing) → same_plugin_thing other thing ≡ false → held_on node (changed state change) other ≡ held_on node state other) → Effect node state call (done change) thing
+  done_effect call change thing is others = record { done = λ _. is; refused = λ h. absurd (h refl); others = others }
 
   -- to stage a volume leaves every other thing
-  stages_others : (s : StagedVolume) (other : Key) → same_key other (Staged s.volume node) ≡ false → held_on node (changed state (Stages s)) other ≡ held_on node state other
+  stages_others : (s : StagedVolume) (other : PluginThing) → same_plugin_thing other (Staged s.volume node) ≡ false → held_on node (changed state (Stages s)) other ≡ held_on node state other
   stages_others s (Exists name) differ = refl
   stages_others s (Attached id there) differ = refl
   stages_others s (Published id there target) differ = refl
@@ -85,7 +85,7 @@ module _ (node : List ℕ) (state : NodeState) where
       ap staged_form (find-append_other (λ (s : StagedVolume). s.volume == id) state.staged s fails))
 
   -- to unstage one leaves every other thing
-  unstages_others : (id : ℕ) (other : Key) → same_key other (Staged id node) ≡ false → held_on node (changed state (Unstages id)) other ≡ held_on node state other
+  unstages_others : (id : ℕ) (other : PluginThing) → same_plugin_thing other (Staged id node) ≡ false → held_on node (changed state (Unstages id)) other ≡ held_on node state other
   unstages_others id (Exists name) differ = refl
   unstages_others id (Attached volume there) differ = refl
   unstages_others id (Published volume there target) differ = refl
@@ -96,7 +96,7 @@ module _ (node : List ℕ) (state : NodeState) where
       let number = sym (eqb-true s.volume volume found) ∙ eqb-true s.volume id h in is_not (Staged volume there) (Staged id node) differ (λ i. Staged (number i) (place i))))))
 
   -- to publish one leaves every other thing
-  publishes_others : (p : PublishedVolume) (other : Key) → same_key other (Published p.volume node p.target) ≡ false → held_on node (changed state (Publishes p)) other ≡ held_on node state other
+  publishes_others : (p : PublishedVolume) (other : PluginThing) → same_plugin_thing other (Published p.volume node p.target) ≡ false → held_on node (changed state (Publishes p)) other ≡ held_on node state other
   publishes_others p (Exists name) differ = refl
   publishes_others p (Attached id there) differ = refl
   publishes_others p (Staged id there) differ = refl
@@ -107,7 +107,7 @@ module _ (node : List ℕ) (state : NodeState) where
       ap published_form (find-append_other (is_published_at id target) state.published p fails))
 
   -- to unpublish one leaves every other thing
-  unpublishes_others : (id : ℕ) (target : List ℕ) (other : Key) → same_key other (Published id node target) ≡ false → held_on node (changed state (Unpublishes id target)) other ≡ held_on node state other
+  unpublishes_others : (id : ℕ) (target : List ℕ) (other : PluginThing) → same_plugin_thing other (Published id node target) ≡ false → held_on node (changed state (Unpublishes id target)) other ≡ held_on node state other
   unpublishes_others id target (Exists name) differ = refl
   unpublishes_others id target (Attached volume there) differ = refl
   unpublishes_others id target (Staged volume there) differ = refl
@@ -122,8 +122,8 @@ module _ (node : List ℕ) (state : NodeState) where
       is_not (Published volume there aim) (Published id node target) differ (λ i. Published (number i) (place i) (end i))))))
 
   -- each outcome of the table has its effect on the call's thing
-  pub effect : (call : Call) (outcome : Outcome) → IsOutcome state call outcome → EffectAt node state call outcome (key_of node call)
-  effect _ _ (refuses call status detail not_ok) = refused_effect call (refused status detail) (key_of node call) not_ok refl
+  pub effect : (call : Call) (outcome : Outcome) → IsOutcome state call outcome → EffectAt node state call outcome (thing_of node call)
+  effect _ _ (refuses call status detail not_ok) = refused_effect call (refused status detail) (thing_of node call) not_ok refl
   effect _ _ (was_staged s is) = met_effect (stage_call s) (Staged s.volume node) (rw (here node) (ap (option_map StagedAs) is))
   effect _ _ (stages s none) =
       let free = none-from_map (λ (s : StagedVolume). s.capability) (find (λ (t : StagedVolume). t.volume == s.volume) state.staged) none in

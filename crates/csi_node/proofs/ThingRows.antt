@@ -8,11 +8,11 @@ use Rattle.csi_types.specs.declared.call.Party.TheVariants.{Node}
 use Rattle.csi_types.specs.Model.Call.{kind_of}
 use Rattle.csi_types.specs.Public.Call.{is_party_of}
 use Rattle.csi_fence.specs.Model.Fence.{Kept}
-use Rattle.csi_types.specs.Public.Key.{Key, Exists, Attached, Staged, Published}
+use Rattle.csi_types.specs.Public.PluginThing.{PluginThing, Exists, Attached, Staged, Published}
 use Rattle.csi_types.specs.Model.Same.{same_text}
 use Rattle.csi_node.specs.Model.State.{NodeState, empty_node, volume_of}
 use Rattle.csi_node.specs.Model.Fenced.{keep}
-use Rattle.csi_node.specs.Public.View.{held_on, kept_in_row, kept_on, key_of}
+use Rattle.csi_node.specs.Public.View.{held_on, kept_in_row, kept_on, thing_of}
 use Rattle.csi_node.proofs.LastCalls.{keep-either}
 
 -- a node is itself
@@ -20,7 +20,7 @@ pub here : (node : List ℕ) → same_text node node ≡ true
 here node = (same_text-tells node node).1 refl
 
 -- the volume whose row tells what is kept for a thing, if the thing is on this node
-abbrev pub row_id : List ℕ → Key → Option ℕ
+abbrev pub row_id : List ℕ → PluginThing → Option ℕ
 row_id node (Exists name) = None
 row_id node (Attached id there) = None
 row_id node (Staged id there) = cond (same_text there node) (Some id) None
@@ -32,7 +32,7 @@ kept_at None state = None
 kept_at (Some id) state = kept_in_row id state
 
 -- what is kept for a thing is what the row that tells it keeps
-pub kept_on-at : (node : List ℕ) (state : NodeState) (key : Key) → kept_on node state key ≡ kept_at (row_id node key) state
+pub kept_on-at : (node : List ℕ) (state : NodeState) (thing : PluginThing) → kept_on node state thing ≡ kept_at (row_id node thing) state
 kept_on-at node state (Exists name) = refl
 kept_on-at node state (Attached id there) = refl
 kept_on-at node state (Staged id there) = by (same_text there node)
@@ -47,26 +47,26 @@ kept_on-at node state (Published id there target) = by (same_text there node)
     by false = refl
 
 -- a call to a node is about a thing there, and a volume whose row tells what is kept for both
-pub record IsFor (node : List ℕ) (call : Call) (key : Key) : Type 0 where
-  pub is_key : key_of node call ≡ Some key
+pub record IsFor (node : List ℕ) (call : Call) (thing : PluginThing) : Type 0 where
+  pub is_thing : thing_of node call ≡ Some thing
   pub volume : ℕ
   pub is_volume : volume_of call ≡ Some volume
-  pub is_row : row_id node key ≡ Some volume
+  pub is_row : row_id node thing ≡ Some volume
 
 -- a call about a staging is for that thing, and the row of its volume tells what is kept for both
-staged_for : (node : List ℕ) (call : Call) (id : ℕ) → key_of node call ≡ Some (Staged id node) → volume_of call ≡ Some id → IsFor node call (Staged id node)
-staged_for node call id is_key is_volume = record { is_key = is_key; volume = id; is_volume = is_volume; is_row = rw (here node) refl }
+staged_for : (node : List ℕ) (call : Call) (id : ℕ) → thing_of node call ≡ Some (Staged id node) → volume_of call ≡ Some id → IsFor node call (Staged id node)
+staged_for node call id is_thing is_volume = record { is_thing = is_thing; volume = id; is_volume = is_volume; is_row = rw (here node) refl }
 
 -- a call about a target is for that thing, and the row of its volume tells what is kept for both
-published_for : (node : List ℕ) (call : Call) (id : ℕ) (target : List ℕ) → key_of node call ≡ Some (Published id node target) → volume_of call ≡ Some id → IsFor node call (Published id node target)
-published_for node call id target is_key is_volume = record { is_key = is_key; volume = id; is_volume = is_volume; is_row = rw (here node) refl }
+published_for : (node : List ℕ) (call : Call) (id : ℕ) (target : List ℕ) → thing_of node call ≡ Some (Published id node target) → volume_of call ≡ Some id → IsFor node call (Published id node target)
+published_for node call id target is_thing is_volume = record { is_thing = is_thing; volume = id; is_volume = is_volume; is_row = rw (here node) refl }
 
 -- a call that isn't for the node has no case: anything follows
 not_its_party : {A : Type 0} → false ≡ true → A
 not_its_party h = cc
 
 -- a controller's call isn't for a node
-pub is_for : (node : List ℕ) (call : Call) → IsTrue (is_party_of (kind_of call) (Node node)) → (key : Key) × IsFor node call key
+pub is_for : (node : List ℕ) (call : Call) → IsTrue (is_party_of (kind_of call) (Node node)) → (thing : PluginThing) × IsFor node call thing
 is_for node (calls.CreateVolume name required limit capabilities) party = not_its_party party
 is_for node (calls.DeleteVolume id) party = not_its_party party
 is_for node (calls.ControllerPublishVolume id there capability readonly) party = not_its_party party
@@ -78,8 +78,8 @@ is_for node (calls.NodePublishVolume id target capability readonly) party =
 is_for node (calls.NodeUnpublishVolume id target) party = (Published id node target, published_for node (calls.NodeUnpublishVolume id target) id target refl refl)
 
 -- what is kept of a call isn't one of the things
-pub keep-held : (node : List ℕ) (volume : Option ℕ) (kept : Kept) (state : NodeState) (key : Key) → held_on node (keep volume kept state) key ≡ held_on node state key
-keep-held node None kept state key = refl
+pub keep-held : (node : List ℕ) (volume : Option ℕ) (kept : Kept) (state : NodeState) (thing : PluginThing) → held_on node (keep volume kept state) thing ≡ held_on node state thing
+keep-held node None kept state thing = refl
 keep-held node (Some id) kept state (Exists name) = refl
 keep-held node (Some id) kept state (Attached volume there) = refl
 keep-held node (Some id) kept state (Staged volume there) = refl
@@ -95,8 +95,8 @@ kept_either volume kept state (Some id) = by (keep-either volume id kept state)
     by (inr e) = inr (ap Some e)
 
 -- a node that has answered nothing keeps nothing for any thing
-pub kept_none : (node : List ℕ) (key : Key) → kept_on node empty_node key ≡ None
-kept_none node key = kept_on-at node empty_node key ∙ by (row_id node key)
+pub kept_none : (node : List ℕ) (thing : PluginThing) → kept_on node empty_node thing ≡ None
+kept_none node thing = kept_on-at node empty_node thing ∙ by (row_id node thing)
   where
     by : (o : Option ℕ) → kept_at o empty_node ≡ None
     by None = refl
@@ -108,7 +108,7 @@ either_way true x = refl
 either_way false x = refl
 
 -- a node that has answered nothing holds no thing
-pub held_none : (node : List ℕ) (key : Key) → held_on node empty_node key ≡ None
+pub held_none : (node : List ℕ) (thing : PluginThing) → held_on node empty_node thing ≡ None
 held_none node (Exists name) = refl
 held_none node (Attached id there) = refl
 held_none node (Staged id there) = either_way (same_text there node) None

@@ -15,9 +15,9 @@ ghost use Rattle.csi_node.specs.Private.Step.{AnswersCall, IsEarlierRow};
 use crate::at_row::{answer_with_new_row, carry_out, refusal};
 use crate::forgetting::forget;
 use crate::row::NodeRow;
-use crate::step::{MAX_ROWS, place_of};
+use crate::step::place_of;
 use csi_fence::{Answer, CoreFault};
-use csi_types::{CallRef, Number, Status, VolumeId};
+use csi_types::{CallRef, MAX_ROWS, Number, Status, VolumeId};
 use std::alloc::Global;
 
 // Answers a call of a volume that has the row in this place: a row of a volume that isn't staged answers as a new one would. An
@@ -51,7 +51,7 @@ fn begin_with_row(
 
 // Whether there is no room for a row, and no row would be forgotten.
 fn is_full(rows: &[NodeRow]) -> bool
-    ensures { result ≡ (nat_le 4096 (length rows.now) && list_all (λ row. is_some row.staged) rows.now) }
+    ensures { result ≡ (nat_le MAX_ROWS (length rows.now) && list_all (λ row. is_some row.staged) rows.now) }
 {
     if rows.len() < MAX_ROWS {
         return false;

@@ -8,7 +8,7 @@ ghost use Rattle.csi_node.specs.Model.Record.{parts};
 
 use crate::row::NodeRow;
 use crate::sound_row::is_sound_row;
-use crate::step::MAX_ROWS;
+use csi_types::MAX_ROWS;
 
 // Whether the row's last call is of a session that a record may have there, of which this is the greatest session, if one is told.
 fn is_current(session: Option<u64>, row: &NodeRow) -> bool

@@ -13,11 +13,8 @@ ghost use Rattle.csi_node.specs.Private.Step.{AnswersCall};
 use crate::at_row::{answer_at_row, answer_with_new_row, refusal};
 use crate::row::NodeRow;
 use csi_fence::{Answer, CoreFault};
-use csi_types::{CallRef, Number, Status, VolumeId};
+use csi_types::{CallRef, MAX_ROWS, Number, Status, VolumeId};
 use std::alloc::Global;
-
-/// The most rows that a node has.
-pub(crate) const MAX_ROWS: usize = 4096;
 
 /// Where the row of this id is, or where it would go.
 pub(crate) fn place_of(rows: &[NodeRow], id: VolumeId) -> Result<usize, usize>

@@ -16,10 +16,7 @@ use crate::sharing::{
 };
 use crate::state::{node_entry_at, published_at};
 use crate::step::Step;
-use csi_types::{NodeId, Number, Target, VolumeId, allows_one_target, has_capability};
-
-/// The most volumes that an orchestrator has rows of.
-pub(crate) const MAX_ROWS: usize = 4096;
+use csi_types::{MAX_ROWS, NodeId, Number, Target, VolumeId, allows_one_target, has_capability};
 
 /// The most other targets of a node at which a volume may be published when it is to be published there.
 pub(crate) const MAX_OTHERS: usize = 16;

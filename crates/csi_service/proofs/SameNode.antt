@@ -1,4 +1,4 @@
--- A step of a node that leaves its state tells no change.
+-- An answer of a node that leaves its state tells no change.
 use Rattle.std.proofs.Common.{◌≡◌, ◌∙◌, sym, ap, refl, inl, inr, ℕ, Bool, true, false, List, [], ◌∷◌, ◌++◌}
 use Rattle.std.specs.Prelude.{Option, Some, None, filter, option_map, option_to_list, ◌==◌}
 use Rattle.csi_lists.proofs.Searches.{find-of_map}

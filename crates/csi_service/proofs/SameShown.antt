@@ -1,4 +1,4 @@
--- Two controllers that show one state have the same parts, and tell the same changes; and a step that leaves the state tells none.
+-- Two controllers that show one state have the same parts, and tell the same changes; and an answer that leaves the state tells none.
 use Rattle.std.proofs.Common.{◌≡◌, ◌∙◌, sym, ap, refl, inl, inr, ℕ, Bool, true, false, List, [], ◌∷◌, ◌++◌, map}
 use Rattle.std.specs.Prelude.{Option, Some, None, find, option_map, slice_get, ◌==◌}
 use Rattle.std.proofs.lemmas.Option.{slice_get-map}

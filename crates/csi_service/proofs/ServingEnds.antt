@@ -21,11 +21,12 @@ use Rattle.csi_driver.proofs.Streams.{frames_few}
 use Rattle.csi_stores.specs.Public.Part.{StoredPart}
 use Rattle.csi_stores.specs.Public.Stores.{Store, FollowsStore}
 use Rattle.csi_service.specs.declared.serving.fault.Served.{Served}
+use Rattle.csi_service.specs.declared.serving.fault.ServeFault.{ServeFault}
 use Rattle.csi_service.specs.declared.serving.answering.FrameStop.{FrameStop}
 use Rattle.csi_service.specs.declared.serving.answering.FrameStop.TheVariants as why
 use Rattle.csi_service.specs.Public.Failing.{Stays, ReaderStaysAt, WriterStaysAt}
 use Rattle.csi_service.specs.Private.Handling.{stopped_by}
-use Rattle.csi_service.specs.Public.Serving.{Setting, AnswersEach, reply_bytes, output_of, reply_count, AllDone, Waits, Serves}
+use Rattle.csi_service.specs.Public.Serving.{Setting, AnswersEach, reply_bytes, output_of, reply_count, AllDone, Waits, frames_counted, EndsBy, Serves}
 use Rattle.csi_service.proofs.StoreCalls.{follows-more, only-more, left-more, refusal-more}
 use Rattle.csi_service.proofs.GrowingAnswers.{answers-push, answers-length}
 use Rattle.csi_service.proofs.Progress.{same-written, Serving, handles, flushes, stops, Progress, progress_of}
@@ -106,75 +107,58 @@ module _ {C K W : Type 0} (answers : C → Frame → Option Frame → C → Type
     few_replies bytes frames rest p of few =
         omega (arith, p.replied, count_by-le-length is_some p.replies, answers-length answers first.own.core frames p.replies now.own.core p.runs, frames_few frames, ap length of.whole, length-append (flat_map spelling frames) rest)
 
+    -- some frames were handled, as many as are counted, and then it ended so
+    serves_some : {end : Result (Unit {0}) (Stop (FramesFault FrameStop))} (r : Read end) (to : Serving C K W) (p : Came to (take count r.frames)) (result : Result Served ServeFault) → frames_counted result ≡ count → count ≤ length r.frames
+        → EndsBy (Full P Q E) r.frames r.rest p.replies to.own.core result → Serves (Full P Q E) r.read result
+    serves_some r to p result counted within ends = record {
+      frames = r.frames;
+      rest = r.rest;
+      stream = r.stream;
+      within = omega (arith, counted, within);
+      replies = p.replies;
+      now = to.own.core;
+      runs = subst (λ (k : ℕ). AnswersEach answers first.own.core (take k r.frames) p.replies to.own.core) (sym counted) p.runs;
+      ends = ends;
+    }
+
+    -- all frames were handled, and then it ended so
+    serves_all : {end : Result (Unit {0}) (Stop (FramesFault FrameStop))} (r : Read end) (p : Came now r.frames) (result : Result Served ServeFault) → frames_counted result ≡ count → count ≡ length r.frames
+        → EndsBy (Full P Q E) r.frames r.rest p.replies now.own.core result → Serves (Full P Q E) r.read result
+    serves_all r p result counted all ends = record {
+      frames = r.frames;
+      rest = r.rest;
+      stream = r.stream;
+      within = omega (arith, counted, all);
+      replies = p.replies;
+      now = now.own.core;
+      runs = subst (λ (k : ℕ). AnswersEach answers first.own.core (take k r.frames) p.replies now.own.core) (sym counted) (counted_all r.frames p all);
+      ends = ends;
+    }
+
     -- the reader has ended
     pub served : (done : Unit {0}) (r : Read (Ok done)) → (IsAtEnd left' → P) → Serves (Full P Q E) r.read (Ok (record { frames = count; replies = now.own.replies }))
     served _ r at_end =
         let all = r.ends.2 in
         let p = came now r.frames all.runs in
-        record {
-          frames = r.frames;
-          rest = r.rest;
-          stream = r.stream;
-          within = omega (arith, all.counted);
-          replies = p.replies;
-          now = now.own.core;
-          runs = counted_all r.frames p all.counted;
-          ends = (all.counted, r.ends.1, few_replies r.read r.frames r.rest p r.stream r.few, at_end r.ends.0, done r.frames p);
-        }
+        serves_all r p (Ok (record { frames = count; replies = now.own.replies })) refl all.counted (all.counted, r.ends.1, few_replies r.read r.frames r.rest p r.stream r.few, at_end r.ends.0, done r.frames p)
 
     -- it stopped before
     pub halted : (s : Stop (FramesFault FrameStop)) (r : Read (Err s)) → (IsAtEnd left' → P) → (s ≡ stop.Input → Q) → (2 ^ 63 ≤ length r.read → E) → Serves (Full P Q E) r.read (Err (stopped_by s count))
     halted stop.Input r at_end failed endless =
         let all = r.ends.1 in
         let p = came now r.frames all.runs in
-        record {
-          frames = r.frames;
-          rest = r.rest;
-          stream = r.stream;
-          within = omega (arith, all.counted);
-          replies = p.replies;
-          now = now.own.core;
-          runs = counted_all r.frames p all.counted;
-          ends = (all.counted, failed refl, waits_so r.rest r.ends.0, done r.frames p);
-        }
+        serves_all r p (Err (stopped_by stop.Input count)) refl all.counted (all.counted, failed refl, waits_so r.rest r.ends.0, done r.frames p)
     halted stop.Endless r at_end failed endless =
         let all = r.ends.2 in
         let p = came now r.frames all.runs in
-        record {
-          frames = r.frames;
-          rest = r.rest;
-          stream = r.stream;
-          within = omega (arith, all.counted);
-          replies = p.replies;
-          now = now.own.core;
-          runs = counted_all r.frames p all.counted;
-          ends = (all.counted, endless r.ends.0, waits_so r.rest r.ends.1, done r.frames p);
-        }
+        serves_all r p (Err (stopped_by stop.Endless count)) refl all.counted (all.counted, endless r.ends.0, waits_so r.rest r.ends.1, done r.frames p)
     halted (stop.Consumer (frames_faults.Frame kind place)) r at_end failed endless =
         let all = r.ends.2 in
         let p = came now r.frames all.runs in
-        record {
-          frames = r.frames;
-          rest = r.rest;
-          stream = r.stream;
-          within = omega (arith, all.counted);
-          replies = p.replies;
-          now = now.own.core;
-          runs = counted_all r.frames p all.counted;
-          ends = (all.counted, r.ends.1, λ short. at_end (r.ends.0 short), done r.frames p);
-        }
+        serves_all r p (Err (stopped_by (stop.Consumer (frames_faults.Frame kind place)) count)) refl all.counted (all.counted, r.ends.1, λ short. at_end (r.ends.0 short), done r.frames p)
     halted (stop.Consumer frames_faults.NoMemory) r at_end failed endless =
         let p = came now (take count r.frames) r.ends.runs in
-        record {
-          frames = r.frames;
-          rest = r.rest;
-          stream = r.stream;
-          within = r.ends.within;
-          replies = p.replies;
-          now = now.own.core;
-          runs = p.runs;
-          ends = record { kept = p.kept; written = p.written };
-        }
+        serves_some r now p (Err (stopped_by (stop.Consumer frames_faults.NoMemory) count)) refl r.ends.within (record { kept = p.kept; written = p.written })
     halted (stop.Consumer (frames_faults.Handler fault)) r at_end failed endless = at_frame fault r.ends.frame r.ends.behind r.ends.stopped
       where
         e : Halts (handles answers parts_of store contents) (flushes answers parts_of store contents) (stops answers parts_of store contents) first now r.frames count fault
@@ -189,42 +173,26 @@ module _ {C K W : Type 0} (answers : C → Frame → Option Frame → C → Type
         at_frame : (fault : FrameStop) (next : Option Frame) → IsBehind r.frames count next → stops answers parts_of store contents before next now fault
             → Serves (Full P Q E) r.read (Err (stopped_by (stop.Consumer (frames_faults.Handler fault)) count))
         at_frame fault None behind stopped = absurd stopped
-        at_frame why.NoMemory (Some frame) behind stopped = record {
-          frames = r.frames;
-          rest = r.rest;
-          stream = r.stream;
-          within = e.within;
-          replies = p.replies;
-          now = before.own.core;
-          runs = p.runs;
-          ends = record {
-            kept = only-more (store first.store) (store before.store) (store now.store) (parts_of first.own.core) (parts_of before.own.core) (parts_of before.own.core) stopped.follows p.kept stopped.answer.kept;
-            written = same-written (contents first.out.inner) (contents before.out.inner) (contents now.out.inner) p.replies p.written stopped.answer.written;
-          };
-        }
+        at_frame why.NoMemory (Some frame) behind stopped =
+            serves_some r before p (Err (stopped_by (stop.Consumer (frames_faults.Handler why.NoMemory)) count)) refl e.within
+            (record {
+              kept = only-more (store first.store) (store before.store) (store now.store) (parts_of first.own.core) (parts_of before.own.core) (parts_of before.own.core) stopped.follows p.kept stopped.answer.kept;
+              written = same-written (contents first.out.inner) (contents before.out.inner) (contents now.out.inner) p.replies p.written stopped.answer.written;
+            })
         at_frame (why.Keep fault) (Some frame) behind stopped =
             let refused = stopped.answer in
-            record {
-              frames = r.frames;
-              rest = r.rest;
-              stream = r.stream;
-              within = e.within;
-              replies = p.replies;
-              now = before.own.core;
-              runs = p.runs;
-              ends = (
-                frame,
-                behind,
-                record {
-                  reply = refused.reply;
-                  next = refused.next;
-                  answered = refused.answered;
-                  left = left-more (store first.store) (store before.store) (store now.store) (parts_of first.own.core) (parts_of before.own.core) (parts_of before.own.core) (parts_of refused.next) stopped.follows p.kept refused.left;
-                  cause = refusal-more (store first.store) (store before.store) (store now.store) (parts_of first.own.core) (parts_of before.own.core) (parts_of refused.next) fault p.follows stopped.follows p.kept refused.cause;
-                  written = same-written (contents first.out.inner) (contents before.out.inner) (contents now.out.inner) p.replies p.written refused.written;
-                },
-              );
-            }
+            serves_some r before p (Err (stopped_by (stop.Consumer (frames_faults.Handler (why.Keep fault))) count)) refl e.within (
+              frame,
+              behind,
+              record {
+                reply = refused.reply;
+                next = refused.next;
+                answered = refused.answered;
+                left = left-more (store first.store) (store before.store) (store now.store) (parts_of first.own.core) (parts_of before.own.core) (parts_of before.own.core) (parts_of refused.next) stopped.follows p.kept refused.left;
+                cause = refusal-more (store first.store) (store before.store) (store now.store) (parts_of first.own.core) (parts_of before.own.core) (parts_of refused.next) fault p.follows stopped.follows p.kept refused.cause;
+                written = same-written (contents first.out.inner) (contents before.out.inner) (contents now.out.inner) p.replies p.written refused.written;
+              },
+            )
         at_frame why.Output (Some frame) behind stopped =
             let reply : Option Frame = stopped.answer.0 in
             let last = stopped.answer.3 in

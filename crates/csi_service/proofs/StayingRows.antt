@@ -130,7 +130,7 @@ module _ {R : Type 0} (shown : R → StoredPart) (stays : R → Bool) where
       by false c t rest (inl own) = nowhere (sym own)
       by false c t rest (inr there) = rest there
 
--- ---- what a step changed
+-- ---- what an answer changed
 
 -- the head where it is a new one, and then changes of rows, whose keys are above the head's, lead from the old head and the old rows
 -- to the new ones

@@ -17,7 +17,7 @@ use Rattle.csi_types.specs.declared.call.Party.TheVariants.{Controller, Node}
 use Rattle.csi_types.specs.Model.Mode.{mode_number}
 use Rattle.csi_types.specs.Model.Same.{same_text, same_flag, same_access, same_capability, same_number, kind_number, same_kind, same_party}
 use Rattle.csi_types.specs.Model.Holding.{same_holding}
-use Rattle.csi_types.specs.Public.Key.{Key, Exists, Attached, Staged, Published, same_key}
+use Rattle.csi_types.specs.Public.PluginThing.{PluginThing, Exists, Attached, Staged, Published, same_plugin_thing}
 
 -- the test of two texts holds exactly where they are equal
 pub same_text-tells : (a b : List ℕ) → IsTrue (same_text a b) ↔ (a ≡ b)
@@ -70,7 +70,7 @@ same_capability-self : (a : Capability) → same_capability a a ≡ true
 same_capability-self a =
     and_from (same_access a.access a.access) (mode_number a.mode == mode_number a.mode) (same_access-self a.access) (eq-eqb (mode_number a.mode) (mode_number a.mode) refl)
 
--- the test of two capabilities holds exactly where they are equal; below the same of holdings, numbers, kinds, parties and keys
+-- the test of two capabilities holds exactly where they are equal; below the same of holdings, numbers, kinds, parties and things
 pub same_capability-tells : (a b : Capability) → IsTrue (same_capability a b) ↔ (a ≡ b)
 same_capability-tells a b =
     (same_capability-then a b, λ e. subst (λ x. same_capability a x ≡ true) e (same_capability-self a))
@@ -149,30 +149,30 @@ pub same_party-tells : (a b : Party) → IsTrue (same_party a b) ↔ (a ≡ b)
 same_party-tells a b =
     (same_party-then a b, λ e. subst (λ x. same_party a x ≡ true) e (same_party-self a))
 
--- keys that pass the test are equal
-same_key-then : (a b : Key) → same_key a b ≡ true → a ≡ b
-same_key-then (Exists name) (Exists other) h = ap Exists ((same_text-tells name other).0 h)
-same_key-then (Attached id node) (Attached other there) h =
+-- things that pass the test are equal
+same_plugin_thing-then : (a b : PluginThing) → same_plugin_thing a b ≡ true → a ≡ b
+same_plugin_thing-then (Exists name) (Exists other) h = ap Exists ((same_text-tells name other).0 h)
+same_plugin_thing-then (Attached id node) (Attached other there) h =
     let parts = and_parts (id == other) (same_text node there) h in
     λ i. Attached (eqb-true id other parts.0 i) ((same_text-tells node there).0 parts.1 i)
-same_key-then (Staged id node) (Staged other there) h =
+same_plugin_thing-then (Staged id node) (Staged other there) h =
     let parts = and_parts (id == other) (same_text node there) h in
     λ i. Staged (eqb-true id other parts.0 i) ((same_text-tells node there).0 parts.1 i)
-same_key-then (Published id node target) (Published other there aim) h =
+same_plugin_thing-then (Published id node target) (Published other there aim) h =
     let parts = and_parts ((id == other) && same_text node there) (same_text target aim) h in
     let place = and_parts (id == other) (same_text node there) parts.0 in
     λ i. Published (eqb-true id other place.0 i) ((same_text-tells node there).0 place.1 i) ((same_text-tells target aim).0 parts.1 i)
-same_key-then a b h = cc
+same_plugin_thing-then a b h = cc
 
--- a key passes with itself
-same_key-self : (a : Key) → same_key a a ≡ true
-same_key-self (Exists name) = (same_text-tells name name).1 refl
-same_key-self (Attached id node) = and_from _ _ (eq-eqb id id refl) ((same_text-tells node node).1 refl)
-same_key-self (Staged id node) = and_from _ _ (eq-eqb id id refl) ((same_text-tells node node).1 refl)
-same_key-self (Published id node target) =
+-- a thing passes with itself
+same_plugin_thing-self : (a : PluginThing) → same_plugin_thing a a ≡ true
+same_plugin_thing-self (Exists name) = (same_text-tells name name).1 refl
+same_plugin_thing-self (Attached id node) = and_from _ _ (eq-eqb id id refl) ((same_text-tells node node).1 refl)
+same_plugin_thing-self (Staged id node) = and_from _ _ (eq-eqb id id refl) ((same_text-tells node node).1 refl)
+same_plugin_thing-self (Published id node target) =
     and_from _ _ (and_from _ _ (eq-eqb id id refl) ((same_text-tells node node).1 refl)) ((same_text-tells target target).1 refl)
 
--- the test of two keys holds exactly where they are equal
-pub same_key-tells : (a b : Key) → IsTrue (same_key a b) ↔ (a ≡ b)
-same_key-tells a b =
-    (same_key-then a b, λ e. subst (λ x. same_key a x ≡ true) e (same_key-self a))
+-- the test of two things holds exactly where they are equal
+pub same_plugin_thing-tells : (a b : PluginThing) → IsTrue (same_plugin_thing a b) ↔ (a ≡ b)
+same_plugin_thing-tells a b =
+    (same_plugin_thing-then a b, λ e. subst (λ x. same_plugin_thing a x ≡ true) e (same_plugin_thing-self a))

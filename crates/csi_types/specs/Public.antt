@@ -13,7 +13,7 @@ pub mod Limits
 pub mod Holding
 pub mod Config
 pub mod Worked
-pub mod Key
+pub mod PluginThing
 pub mod NodeUse
 pub mod Spelled
 pub mod Listed

@@ -14,7 +14,7 @@ use Rattle.csi_types.proofs.Order.{before-trans}
 use Rattle.csi_types.specs.declared.call.Party.{Party}
 use Rattle.csi_types.specs.declared.call.Party.TheVariants.{Controller, Node}
 use Rattle.csi_fence.specs.Public.Delivery.{IsEmpty}
-use Rattle.csi_types.specs.Public.Key.{StagedAs, Staged}
+use Rattle.csi_types.specs.Public.PluginThing.{StagedAs, Staged}
 use Rattle.csi_node.specs.Model.State.{NodeState, empty_node}
 use Rattle.csi_orchestrator.specs.Model.Thing.{Issued}
 use Rattle.csi_orchestrator.specs.Model.History.{Item, Started, Sent, Accepted, Closed, Noted, History, with_items}
@@ -25,7 +25,7 @@ use Rattle.csi_world.specs.Public.Step.{Choice, Sends, Closes, Takes, Notes, Sta
 use Rattle.csi_orchestrator.specs.Public.Steps.{frame_of}
 use Rattle.csi_world.proofs.WorldView.{party_of, node_view, plugin_view, view_of}
 use Rattle.csi_world.proofs.GivenIds.{GivenId}
-use Rattle.csi_world.proofs.KeyedCalls.{IsOwn, IsAnsweredOk, Named}
+use Rattle.csi_world.proofs.CallThings.{IsOwn, IsAnsweredOk, Named}
 use Rattle.csi_world.proofs.CreatesFirst.{first-sent, first-noted}
 use Rattle.csi_world.proofs.NotLive.{ended-sent, ended-noted}
 use Rattle.csi_world.proofs.Forgotten.{told_by, closed-told}
@@ -179,10 +179,10 @@ empty-node config id state h = let found = found-at id (empty_world config) stat
 
 -- in the empty world nothing is there, spent or kept
 empty-view : PluginLaws → (config : Config) → IsEmpty (view_of (empty_world config))
-empty-view laws config = record { held = λ key. (at (party_of key)).held key; is_spent = λ key. (at (party_of key)).is_spent key; kept = λ key. (at (party_of key)).kept key }
+empty-view laws config = record { held = λ thing. (at (party_of thing)).held thing; is_spent = λ thing. (at (party_of thing)).is_spent thing; kept = λ thing. (at (party_of thing)).kept thing }
   where
     node : (id : List ℕ) (o : Option NodeState) → node_state id (empty_world config) ≡ o → IsEmpty (node_view id o)
-    node id None e = record { held = λ key. refl; is_spent = λ key number. refl; kept = λ key. refl }
+    node id None e = record { held = λ thing. refl; is_spent = λ thing number. refl; kept = λ thing. refl }
     node id (Some state) e = subst (λ (s : NodeState). IsEmpty (node_view id (Some s))) (sym (empty-node config id state e)) (laws.node.empty id)
 
     at : (party : Party) → IsEmpty (plugin_view (empty_world config) party)
@@ -203,11 +203,11 @@ empty-right laws config =
               calls = λ frame c among is. absurd among;
               replies = λ number party kind reply among. absurd among;
               ids = λ number party kind reply among ok. absurd among;
-              kept = λ key k is. absurd (none-some k (sym (empty.kept key) ∙ is));
+              kept = λ thing k is. absurd (none-some k (sym (empty.kept thing) ∙ is));
               numbers = tt;
-              spent = λ call key reply among of ok. absurd among;
-              told = λ call key reply found ok. absurd (none-some call found);
-              untouched = λ key none. empty.held key;
+              spent = λ call thing reply among of ok. absurd among;
+              told = λ call thing reply found ok. absurd (none-some call found);
+              untouched = λ thing none. empty.held thing;
             };
             closed = closed-told [] (empty_world config) (all-closed laws (empty_world config));
             named = record { own = λ call among. absurd among; made = λ call reply id create required limit capabilities among is ok has_id. absurd among };

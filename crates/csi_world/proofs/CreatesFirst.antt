@@ -16,7 +16,7 @@ use Rattle.csi_orchestrator.specs.Model.Thing.{Issued}
 use Rattle.csi_orchestrator.specs.Model.History.{Item, Sent, History}
 use Rattle.csi_orchestrator.specs.Model.Readings.{newest, issued_in, issued_of, id_in, id_by, id_of}
 use Rattle.csi_orchestrator.specs.Public.Guards.{IsGuarded, HasId}
-use Rattle.csi_world.proofs.KeyedCalls.{is_making}
+use Rattle.csi_world.proofs.CallThings.{is_making}
 use Rattle.csi_world.proofs.HeardReplies.{newest-found}
 
 -- an id of the name was heard

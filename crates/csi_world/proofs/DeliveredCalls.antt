@@ -13,12 +13,12 @@ use Rattle.csi_types.specs.declared.status.Status.TheVariants.{Ok}
 use Rattle.csi_fence.specs.Public.Delivery.{PluginView, Delivery, Acts, Rests, Misses, CallBecomes, kept_of}
 use Rattle.csi_fence.specs.Model.Fence.{Kept}
 use Rattle.csi_types.specs.Model.Frame.{Frame}
-use Rattle.csi_types.specs.Public.Key.{Key, Exists, Form, HasId}
+use Rattle.csi_types.specs.Public.PluginThing.{PluginThing, Exists, ThingForm, HasId}
 use Rattle.csi_lists.specs.Model.Members.{IsAmong}
 use Rattle.csi_lists.proofs.Members.{among-last}
 use Rattle.csi_types.specs.Model.Replies.{reply_frame}
 use Rattle.csi_types.specs.Model.Same.{same_party}
-use Rattle.csi_types.proofs.Equality.{same_text-tells, same_party-tells, same_key-tells}
+use Rattle.csi_types.proofs.Equality.{same_text-tells, same_party-tells, same_plugin_thing-tells}
 use Rattle.csi_controller.specs.Model.State.{Volume, ControllerState}
 use Rattle.csi_controller.specs.Public.View as controllers
 use Rattle.csi_orchestrator.specs.Model.Thing.{Issued}
@@ -27,7 +27,7 @@ use Rattle.csi_world.specs.Model.World.{NodeAt, World}
 use Rattle.csi_world.specs.Model.Safe.{IsAttachedWhileLive}
 use Rattle.csi_world.proofs.WorldView.{party_of, plugin_view, view_of, ChangesOnly, acts-all, rests-all, misses-all}
 use Rattle.csi_world.proofs.GivenIds.{GivenId, HasName, AreGiven, id-of_found, live-named, is_given, is_forgotten, gone-forgotten, not-forgotten, stays-gone, stays-forgotten, IsNewlyGiven, AreGivenNext}
-use Rattle.csi_world.proofs.KeyedCalls.{IsOwn, key_at, is_key, is_of, is_making, own-kept}
+use Rattle.csi_world.proofs.CallThings.{IsOwn, plugin_thing_at, is_plugin_thing, is_of, is_making, own-kept}
 use Rattle.csi_world.proofs.SeenCalls.{IsFound, IsGone, IsMissed, IsAnsweredBy, call-seen, unseen-gone}
 use Rattle.csi_world.proofs.RepliesTold.{answer_to, delivery_of, IsEffect, IsMet, IsKeptStill, effect-acts, effect-rests, effect-misses}
 use Rattle.csi_world.proofs.NotLive.{not-ended}
@@ -41,16 +41,16 @@ with_plugins world controller nodes = record world { controller = controller; no
 -- what is kept at a plugin was kept, or is the answer; or nothing is kept any more
 abbrev KeepsOr : World → World → Party → Delivery → Type 0
 KeepsOr old new party delivery =
-    (other : Key) → ((plugin_view new party).kept other ≡ (plugin_view old party).kept other) ⊎ ((plugin_view new party).kept other ≡ Some (kept_of delivery)) ⊎ ((plugin_view new party).kept other ≡ None)
+    (other : PluginThing) → ((plugin_view new party).kept other ≡ (plugin_view old party).kept other) ⊎ ((plugin_view new party).kept other ≡ Some (kept_of delivery)) ⊎ ((plugin_view new party).kept other ≡ None)
 
 -- so it is in the world
-kept-either : (old new : World) (call : Issued) (key : Key) (kind : Kind) (reply : Reply) → party_of key ≡ call.party → ChangesOnly (party_of key) old new
-    → KeepsOr old new (party_of key) (delivery_of call kind reply) → IsKeptStill (issued_in old.history.items) old.frames (view_of old) (view_of new) call key kind reply
-kept-either old new call key kind reply of_party only keeps other k is = by (same_party (party_of other) (party_of key)) refl
+kept-either : (old new : World) (call : Issued) (plugin_thing : PluginThing) (kind : Kind) (reply : Reply) → party_of plugin_thing ≡ call.party → ChangesOnly (party_of plugin_thing) old new
+    → KeepsOr old new (party_of plugin_thing) (delivery_of call kind reply) → IsKeptStill (issued_in old.history.items) old.frames (view_of old) (view_of new) call plugin_thing kind reply
+kept-either old new call plugin_thing kind reply of_party only keeps other k is = by (same_party (party_of other) (party_of plugin_thing)) refl
   where
-    now : (party : Party) → party ≡ party_of key → (plugin_view new party).kept other ≡ Some k
-        → ((plugin_view new (party_of key)).kept other ≡ (plugin_view old (party_of key)).kept other) ⊎ ((plugin_view new (party_of key)).kept other ≡ Some (kept_of (delivery_of call kind reply)))
-        ⊎ ((plugin_view new (party_of key)).kept other ≡ None)
+    now : (party : Party) → party ≡ party_of plugin_thing → (plugin_view new party).kept other ≡ Some k
+        → ((plugin_view new (party_of plugin_thing)).kept other ≡ (plugin_view old (party_of plugin_thing)).kept other) ⊎ ((plugin_view new (party_of plugin_thing)).kept other ≡ Some (kept_of (delivery_of call kind reply)))
+        ⊎ ((plugin_view new (party_of plugin_thing)).kept other ≡ None)
         → ((plugin_view old party).kept other ≡ Some k) ⊎ (IsAmong (reply_frame k.number party k.kind k.reply) (old.frames ++ answer_to call kind reply ∷ []))
     now party e is (inl kept) = inl (ap (λ p. (plugin_view old p).kept other) e ∙ sym kept ∙ ap (λ p. (plugin_view new p).kept other) (sym e) ∙ is)
     now party e is (inr (inl kept)) =
@@ -60,8 +60,8 @@ kept-either old new call key kind reply of_party only keeps other k is = by (sam
         inr (subst (λ (f : Frame). IsAmong f (old.frames ++ answer_to call kind reply ∷ [])) (sym frame) (among-last old.frames (answer_to call kind reply)))
     now party e is (inr (inr none)) = absurd (none-some k (sym none ∙ ap (λ p. (plugin_view new p).kept other) (sym e) ∙ is))
 
-    by : (b : Bool) → same_party (party_of other) (party_of key) ≡ b → ((view_of old).kept other ≡ Some k) ⊎ (IsAmong (reply_frame k.number (party_of other) k.kind k.reply) (old.frames ++ answer_to call kind reply ∷ []))
-    by true e = now (party_of other) ((same_party-tells (party_of other) (party_of key)).0 e) is (keeps other)
+    by : (b : Bool) → same_party (party_of other) (party_of plugin_thing) ≡ b → ((view_of old).kept other ≡ Some k) ⊎ (IsAmong (reply_frame k.number (party_of other) k.kind k.reply) (old.frames ++ answer_to call kind reply ∷ []))
+    by true e = now (party_of other) ((same_party-tells (party_of other) (party_of plugin_thing)).0 e) is (keeps other)
     by false e = inl (ap (λ (v : PluginView). v.kept other) (sym (only (party_of other) e)) ∙ is)
 
 -- a sent call that came to its plugin, and what the plugins know then
@@ -71,15 +71,15 @@ module _ (world : World) (controller : ControllerState) (nodes : List NodeAt) (c
   next = with_plugins world controller nodes
 
   -- what became of the things, whether or not what was forgotten is told too
-  pub record AreEffects (given more : List GivenId) (key : Key) (kind : Kind) (reply : Reply) : Type 0 where
-    pub plain : IsEffect (issued_in world.history.items) world.frames (view_of world) (view_of next) call key kind reply
-    pub told : IsEffect (issued_in world.history.items) world.frames (told_by given world) (told_by more next) call key kind reply
-    pub met : IsMet (issued_in world.history.items) world.frames (told_by given world) (told_by more next) call key kind reply
+  pub record AreEffects (given more : List GivenId) (plugin_thing : PluginThing) (kind : Kind) (reply : Reply) : Type 0 where
+    pub plain : IsEffect (issued_in world.history.items) world.frames (view_of world) (view_of next) call plugin_thing kind reply
+    pub told : IsEffect (issued_in world.history.items) world.frames (told_by given world) (told_by more next) call plugin_thing kind reply
+    pub met : IsMet (issued_in world.history.items) world.frames (told_by given world) (told_by more next) call plugin_thing kind reply
 
   -- each name has one id, and each id one name, when a volume was made: its name had none, and its id is the next one
-  pub given-once : (given more : List GivenId) (key : Key) (kind : Kind) (reply : Reply) → IsWell world given → AreGivenNext world.controller controller given more
-      → IsEffect (issued_in world.history.items) world.frames (view_of world) (view_of next) call key kind reply → AreGiven more
-  given-once given more key kind reply well following plain = record { one_id = one_id; one_name = one_name }
+  pub given-once : (given more : List GivenId) (plugin_thing : PluginThing) (kind : Kind) (reply : Reply) → IsWell world given → AreGivenNext world.controller controller given more
+      → IsEffect (issued_in world.history.items) world.frames (view_of world) (view_of next) call plugin_thing kind reply → AreGiven more
+  given-once given more plugin_thing kind reply well following plain = record { one_id = one_id; one_name = one_name }
     where
       are : AreGiven given
       are = well.so_far.are_given
@@ -91,7 +91,7 @@ module _ (world : World) (controller : ControllerState) (nodes : List NodeAt) (c
           let none = ap (option_map (λ (v : Volume). HasId v.id)) (subst (λ n. controllers.live_named n world.controller ≡ None) newly.has_name newly.made.was_free) in
           let found = live-named controller volume (following.of.names.by_name j volume newly.is_found) newly.made.is_live in
           let now = ap (option_map (λ (v : Volume). HasId v.id)) (subst (λ n. controllers.live_named n controller ≡ Some volume) newly.has_name found) in
-          not-ended world.history.items world.frames (view_of world) (view_of next) call key kind reply plain name volume.id none now (well.ended name i has none)
+          not-ended world.history.items world.frames (view_of world) (view_of next) call plugin_thing kind reply plain name volume.id none now (well.ended name i has none)
 
       clash : (i j : ℕ) → i < j → i ≡ j → ⊥
       clash i j less e = omega arith
@@ -120,24 +120,24 @@ module _ (world : World) (controller : ControllerState) (nodes : List NodeAt) (c
 
   module _ (given more : List GivenId) (well : IsWell world given) (keeps : controllers.KeepsNames world.controller controller) (following : AreGivenNext world.controller controller given more)
       (live : IsAttachedWhileLive world) (live_next : IsAttachedWhileLive next)
-      (among : IsAmong call (issued_in world.history.items)) (key : Key) (of_key : key_at call.name call.party call.call ≡ Some key) (of_party : party_of key ≡ call.party)
-      (only : ChangesOnly (party_of key) world next) (kind : Kind) (reply : Reply) where
+      (among : IsAmong call (issued_in world.history.items)) (plugin_thing : PluginThing) (of_plugin_thing : plugin_thing_at call.name call.party call.call ≡ Some plugin_thing) (of_party : party_of plugin_thing ≡ call.party)
+      (only : ChangesOnly (party_of plugin_thing) world next) (kind : Kind) (reply : Reply) where
     -- the call is of the thing
-    of : is_of key call ≡ true
-    of = ap (is_key key) of_key ∙ (same_key-tells key key).1 refl
+    of : is_of plugin_thing call ≡ true
+    of = ap (is_plugin_thing plugin_thing) of_plugin_thing ∙ (same_plugin_thing-tells plugin_thing plugin_thing).1 refl
 
     -- what was spent, or forgotten, is so still
-    still-told : ((other : Key) (number : Number) → IsTrue ((view_of world).is_spent other number) → IsTrue ((view_of next).is_spent other number))
-        → (other : Key) (number : Number) → IsTrue ((told_by given world).is_spent other number) → IsTrue ((told_by more next).is_spent other number)
+    still-told : ((other : PluginThing) (number : Number) → IsTrue ((view_of world).is_spent other number) → IsTrue ((view_of next).is_spent other number))
+        → (other : PluginThing) (number : Number) → IsTrue ((told_by given world).is_spent other number) → IsTrue ((told_by more next).is_spent other number)
     still-told spent other number is =
         ⊎_elim (λ own. or_left ((view_of next).is_spent other number) (is_forgotten more controller other) (spent other number own))
         (λ gone. or_right ((view_of next).is_spent other number) (is_forgotten more controller other) (stays-forgotten world.controller controller given more other keeps well.of_controller following.wider gone))
         (or_cases ((view_of world).is_spent other number) (is_forgotten given world.controller other) is)
 
     -- what became of the things, where what was forgotten is told too: a call that was carried out is of none that was
-    told-effect : ((view_of world).is_spent key call.number ≡ false → is_forgotten given world.controller key ≡ false)
-        → IsEffect (issued_in world.history.items) world.frames (view_of world) (view_of next) call key kind reply
-        → IsEffect (issued_in world.history.items) world.frames (told_by given world) (told_by more next) call key kind reply
+    told-effect : ((view_of world).is_spent plugin_thing call.number ≡ false → is_forgotten given world.controller plugin_thing ≡ false)
+        → IsEffect (issued_in world.history.items) world.frames (view_of world) (view_of next) call plugin_thing kind reply
+        → IsEffect (issued_in world.history.items) world.frames (told_by given world) (told_by more next) call plugin_thing kind reply
     told-effect known plain =
         record {
           among = plain.among;
@@ -148,69 +148,69 @@ module _ (world : World) (controller : ControllerState) (nodes : List NodeAt) (c
           held = λ k. ⊎_elim (λ same. inl same) (λ changed. inr (record {
             same = changed.same;
             its_kind = changed.its_kind;
-            fresh = or_from ((view_of world).is_spent key call.number) (is_forgotten given world.controller key) changed.fresh (known changed.fresh);
+            fresh = or_from ((view_of world).is_spent plugin_thing call.number) (is_forgotten given world.controller plugin_thing) changed.fresh (known changed.fresh);
             ok = changed.ok;
             now = changed.now;
-            spent = or_left ((view_of next).is_spent key call.number) (is_forgotten more controller key) changed.spent;
+            spent = or_left ((view_of next).is_spent plugin_thing call.number) (is_forgotten more controller plugin_thing) changed.spent;
           })) (plain.held k);
         }
 
     -- a fresh call that the plugin sees is of no thing that was forgotten
-    fresh-known : IsFound given world.controller call.party call.call key → (view_of world).is_spent key call.number ≡ false → is_forgotten given world.controller key ≡ false
+    fresh-known : IsFound given world.controller call.party call.call plugin_thing → (view_of world).is_spent plugin_thing call.number ≡ false → is_forgotten given world.controller plugin_thing ≡ false
     fresh-known found fresh =
-        not-forgotten given world.controller key (λ one there is_for gone.
+        not-forgotten given world.controller plugin_thing (λ one there is_for gone.
         let making = found.there one there is_for gone in
-        let exists : key ≡ Exists call.name = made-key call.call making of_key in
+        let exists : plugin_thing ≡ Exists call.name = made-thing call.call making of_plugin_thing in
         let named : one.name ≡ call.name = (same_text-tells one.name call.name).0 (subst (λ k. is_given k one ≡ true) exists is_for) in
-        let none = gone-held world given key one well.so_far.are_given well.of_controller live there is_for gone in
+        let none = gone-held world given plugin_thing one well.so_far.are_given well.of_controller live there is_for gone in
         let ended = well.ended call.name one.id (subst (λ n. HasName given n one.id) named there) (ap (view_of world).held (sym exists) ∙ none) in
         false≢true (sym fresh ∙ ap (λ k. (view_of world).is_spent k call.number) exists ∙ ended.spent call among refl making))
       where
-        made-key : (c : Call) → is_making c ≡ true → key_at call.name call.party c ≡ Some key → key ≡ Exists call.name
-        made-key (calls.CreateVolume create required limit capabilities) making e = sym (same_Some (Exists call.name) key e)
-        made-key c making e = absurd (false≢true making)
+        made-thing : (c : Call) → is_making c ≡ true → plugin_thing_at call.name call.party c ≡ Some plugin_thing → plugin_thing ≡ Exists call.name
+        made-thing (calls.CreateVolume create required limit capabilities) making e = sym (same_Some (Exists call.name) plugin_thing e)
+        made-thing c making e = absurd (false≢true making)
 
     -- a plugin carried the call out
-    acts-effects : IsFound given world.controller call.party call.call key → Acts key (delivery_of call kind reply) (plugin_view world (party_of key)) (plugin_view next (party_of key)) → AreEffects given more key kind reply
+    acts-effects : IsFound given world.controller call.party call.call plugin_thing → Acts plugin_thing (delivery_of call kind reply) (plugin_view world (party_of plugin_thing)) (plugin_view next (party_of plugin_thing)) → AreEffects given more plugin_thing kind reply
     acts-effects found own =
-        let acts = acts-all world next key (delivery_of call kind reply) only own in
-        let plain = effect-acts (issued_in world.history.items) world.frames (view_of world) (view_of next) call key kind reply well.so_far.truth.kept among of
-        (kept-either world next call key kind reply of_party only own.keeps) acts in
+        let acts = acts-all world next plugin_thing (delivery_of call kind reply) only own in
+        let plain = effect-acts (issued_in world.history.items) world.frames (view_of world) (view_of next) call plugin_thing kind reply well.so_far.truth.kept among of
+        (kept-either world next call plugin_thing kind reply of_party only own.keeps) acts in
         record {
           plain = plain;
           told = told-effect (fresh-known found) plain;
-          met = λ ok. inr (acts.done ok, or_left ((view_of next).is_spent key call.number) (is_forgotten more controller key) (acts.spent ok));
+          met = λ ok. inr (acts.done ok, or_left ((view_of next).is_spent plugin_thing call.number) (is_forgotten more controller plugin_thing) (acts.spent ok));
         }
 
     -- it didn't, since the number was spent
-    rests-effects : Rests key (delivery_of call kind reply) (plugin_view world (party_of key)) (plugin_view next (party_of key)) → AreEffects given more key kind reply
+    rests-effects : Rests plugin_thing (delivery_of call kind reply) (plugin_view world (party_of plugin_thing)) (plugin_view next (party_of plugin_thing)) → AreEffects given more plugin_thing kind reply
     rests-effects own =
-        let rests = rests-all world next key (delivery_of call kind reply) only own in
-        let plain = effect-rests (issued_in world.history.items) world.frames (view_of world) (view_of next) call key kind reply well.so_far.truth.kept
+        let rests = rests-all world next plugin_thing (delivery_of call kind reply) only own in
+        let plain = effect-rests (issued_in world.history.items) world.frames (view_of world) (view_of next) call plugin_thing kind reply well.so_far.truth.kept
         (λ ok. well.so_far.truth.ids call.number call.party kind reply (sent rests ok) ok) among of rests in
         record { plain = plain; told = told-effect (λ fresh. absurd (false≢true (sym fresh ∙ rests.was_spent))) plain; met = λ ok. inl (sent rests ok) }
       where
-        sent : Rests key (delivery_of call kind reply) (view_of world) (view_of next) → reply.status ≡ Ok → IsAmong (answer_to call kind reply) world.frames
-        sent rests ok = subst (λ p. IsAmong (reply_frame call.number p kind reply) world.frames) of_party (well.so_far.truth.kept key (kept_of (delivery_of call kind reply)) (rests.was_kept ok))
+        sent : Rests plugin_thing (delivery_of call kind reply) (view_of world) (view_of next) → reply.status ≡ Ok → IsAmong (answer_to call kind reply) world.frames
+        sent rests ok = subst (λ p. IsAmong (reply_frame call.number p kind reply) world.frames) of_party (well.so_far.truth.kept plugin_thing (kept_of (delivery_of call kind reply)) (rests.was_kept ok))
 
     -- it doesn't have the call's volume
-    misses-effects : (AreGiven more → IsGone more controller key) → Misses (delivery_of call kind reply) (plugin_view world (party_of key)) (plugin_view next (party_of key)) → AreEffects given more key kind reply
+    misses-effects : (AreGiven more → IsGone more controller plugin_thing) → Misses (delivery_of call kind reply) (plugin_view world (party_of plugin_thing)) (plugin_view next (party_of plugin_thing)) → AreEffects given more plugin_thing kind reply
     misses-effects missing own =
-        let misses = misses-all (party_of key) world next (delivery_of call kind reply) only own in
-        let still = kept-either world next call key kind reply of_party only (λ other. ⊎_elim (λ same. inl same) (λ none. inr (inr none)) (own.keeps other)) in
-        let plain = effect-misses (issued_in world.history.items) world.frames (view_of world) (view_of next) call key kind reply well.so_far.truth.kept among of still misses in
-        let are = given-once given more key kind reply well following plain in
+        let misses = misses-all (party_of plugin_thing) world next (delivery_of call kind reply) only own in
+        let still = kept-either world next call plugin_thing kind reply of_party only (λ other. ⊎_elim (λ same. inl same) (λ none. inr (inr none)) (own.keeps other)) in
+        let plain = effect-misses (issued_in world.history.items) world.frames (view_of world) (view_of next) call plugin_thing kind reply well.so_far.truth.kept among of still misses in
+        let are = given-once given more plugin_thing kind reply well following plain in
         let gone = missing are in
-        let none = gone-held next more key gone.one are following.of live_next gone.among gone.of gone.gone in
-        let forgotten = gone-forgotten more controller key gone.one gone.among gone.of gone.gone in
+        let none = gone-held next more plugin_thing gone.one are following.of live_next gone.among gone.of gone.gone in
+        let forgotten = gone-forgotten more controller plugin_thing gone.one gone.among gone.of gone.gone in
         record {
           plain = plain;
           told = record { among = among; of = of; rule = plain.rule; kept = plain.kept; spent = still-told plain.spent; held = λ k. inl (misses.held k) };
-          met = λ ok. inr (none ∙ sym (misses.undoes ok), or_right ((view_of next).is_spent key call.number) (is_forgotten more controller key) forgotten);
+          met = λ ok. inr (none ∙ sym (misses.undoes ok), or_right ((view_of next).is_spent plugin_thing call.number) (is_forgotten more controller plugin_thing) forgotten);
         }
 
     -- a volume that isn't there before isn't there afterwards
-    gone-still : IsGone given world.controller key → IsGone more controller key
+    gone-still : IsGone given world.controller plugin_thing → IsGone more controller plugin_thing
     gone-still was =
         record {
           one = was.one;
@@ -220,23 +220,23 @@ module _ (world : World) (controller : ControllerState) (nodes : List NodeAt) (c
         }
 
     -- by the thing by which the plugin answers it
-    pub effects : IsOwn given call.name call.party call.call → (thing : Option Key) → IsAnsweredBy world.controller controller call.party call.call thing
-        → CallBecomes thing (delivery_of call kind reply) (plugin_view world (party_of key)) (plugin_view next (party_of key)) → AreEffects given more key kind reply
-    effects own thing by becomes = at by (call-seen given world.controller well.so_far.are_given well.of_controller call.name call.party call.call own key of_key)
+    pub effects : IsOwn given call.name call.party call.call → (thing : Option PluginThing) → IsAnsweredBy world.controller controller call.party call.call thing
+        → CallBecomes thing (delivery_of call kind reply) (plugin_view world (party_of plugin_thing)) (plugin_view next (party_of plugin_thing)) → AreEffects given more plugin_thing kind reply
+    effects own thing by becomes = at by (call-seen given world.controller well.so_far.are_given well.of_controller call.name call.party call.call own plugin_thing of_plugin_thing)
       where
-        becomes_at : (o : Option Key) → thing ≡ o → CallBecomes o (delivery_of call kind reply) (plugin_view world (party_of key)) (plugin_view next (party_of key))
-        becomes_at o e = subst (λ (x : Option Key). CallBecomes x (delivery_of call kind reply) (plugin_view world (party_of key)) (plugin_view next (party_of key))) e becomes
+        becomes_at : (o : Option PluginThing) → thing ≡ o → CallBecomes o (delivery_of call kind reply) (plugin_view world (party_of plugin_thing)) (plugin_view next (party_of plugin_thing))
+        becomes_at o e = subst (λ (x : Option PluginThing). CallBecomes x (delivery_of call kind reply) (plugin_view world (party_of plugin_thing)) (plugin_view next (party_of plugin_thing))) e becomes
 
-        at : IsAnsweredBy world.controller controller call.party call.call thing → IsFound given world.controller call.party call.call key ⊎ IsMissed given world.controller call.party call.call key
-            → AreEffects given more key kind reply
-        at (inl seen) (inl found) = ⊎_elim (acts-effects found) rests-effects (becomes_at (Some key) (seen ∙ found.seen))
+        at : IsAnsweredBy world.controller controller call.party call.call thing → IsFound given world.controller call.party call.call plugin_thing ⊎ IsMissed given world.controller call.party call.call plugin_thing
+            → AreEffects given more plugin_thing kind reply
+        at (inl seen) (inl found) = ⊎_elim (acts-effects found) rests-effects (becomes_at (Some plugin_thing) (seen ∙ found.seen))
         at (inl seen) (inr missed) = misses-effects (λ are. gone-still missed.is_gone) (becomes_at None (seen ∙ missed.unseen))
         at (inr none) seen =
-            misses-effects (λ are. unseen-gone more controller are following.of call.name call.party call.call key (own-kept given more call.name call.party call.call following.wider own) of_key none.1) (becomes_at None none.0)
+            misses-effects (λ are. unseen-gone more controller are following.of call.name call.party call.call plugin_thing (own-kept given more call.name call.party call.call following.wider own) of_plugin_thing none.1) (becomes_at None none.0)
 
   -- a name that was given an id since has a live volume
   pub given-live : (given more : List GivenId) → AreGivenNext world.controller controller given more → (name : List ℕ) (id : ℕ) → HasName more name id
-      → HasName given name id ⊎ ((form : Form) × ((view_of next).held (Exists name) ≡ Some form))
+      → HasName given name id ⊎ ((form : ThingForm) × ((view_of next).held (Exists name) ≡ Some form))
   given-live given more following name id has =
       ⊎_elim (λ was. inl was) (λ newly.
       let found = live-named controller newly.volume (following.of.names.by_name id newly.volume newly.is_found) newly.made.is_live in

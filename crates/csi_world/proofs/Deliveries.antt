@@ -15,7 +15,7 @@ use Rattle.csi_types.specs.declared.reply.Reply.{Reply}
 use Rattle.csi_types.specs.Model.Config.{Config}
 use Rattle.csi_fence.specs.Public.Delivery.{CallBecomes, IsClosed, IsDelivered}
 use Rattle.csi_types.specs.Model.Frame.{Frame}
-use Rattle.csi_types.specs.Public.Key.{Key, Exists, HasId, asked}
+use Rattle.csi_types.specs.Public.PluginThing.{PluginThing, Exists, HasId, asked}
 use Rattle.csi_lists.specs.Model.Members.{IsAmong}
 use Rattle.csi_types.specs.Model.Replies.{call_frame}
 use Rattle.csi_controller.specs.Model.State.{Volume, ControllerState}
@@ -34,7 +34,7 @@ use Rattle.csi_world.specs.Model.World.{NodeAt, World, node_state, with_node, wi
 use Rattle.csi_world.specs.Model.Step.{answered_by_node, answered_by_plugin}
 use Rattle.csi_world.proofs.WorldView.{party_of, node_view, plugin_view, view_of, ChangesOnly, closed-all}
 use Rattle.csi_world.proofs.GivenIds.{GivenId, HasName, AreOf, name-of_found, id-of_found, AreGivenNext, given-next}
-use Rattle.csi_world.proofs.KeyedCalls.{IsKeyed, key_at, keyed, own-kept}
+use Rattle.csi_world.proofs.CallThings.{IsOfThing, plugin_thing_at, of_thing, own-kept}
 use Rattle.csi_world.proofs.SeenCalls.{IsAnsweredBy}
 use Rattle.csi_world.proofs.HeardReplies.{sent-more}
 use Rattle.csi_world.proofs.RepliesTold.{answer_to, delivery_of, ok-either, truth-answered}
@@ -74,12 +74,12 @@ made-id controller given name id of h = by (controllers.live_named name controll
         (subst (λ n. HasName given n volume.id) (name-of_found name controller volume named) (of.listed volume.id volume (of.names.by_id name volume named)))
 
 -- where CreateVolume was carried out and answered OK, the name has the id that the reply has
-made-now : (new : World) (given : List GivenId) (call : Issued) (key : Key) (reply : Reply) (id : ℕ) (create : List ℕ) (required limit : ℕ) (capabilities : List Capability) → key_at call.name call.party call.call ≡ Some key
-    → AreOf new.controller given → (view_of new).held key ≡ asked call.call reply → call.call ≡ calls.CreateVolume create required limit capabilities
+made-now : (new : World) (given : List GivenId) (call : Issued) (plugin_thing : PluginThing) (reply : Reply) (id : ℕ) (create : List ℕ) (required limit : ℕ) (capabilities : List Capability) → plugin_thing_at call.name call.party call.call ≡ Some plugin_thing
+    → AreOf new.controller given → (view_of new).held plugin_thing ≡ asked call.call reply → call.call ≡ calls.CreateVolume create required limit capabilities
     → reply.id ≡ Some id → HasName given call.name id
-made-now new given call key reply id create required limit capabilities of_key of done is has_id =
-    let exists : key ≡ Exists call.name = same_Some key (Exists call.name) (sym of_key ∙ ap (key_at call.name call.party) is) in
-    let held : (plugin_view new (party_of key)).held key ≡ Some (HasId id) = done ∙ ap (λ c. asked c reply) is ∙ ap (option_map HasId) has_id in
+made-now new given call plugin_thing reply id create required limit capabilities of_plugin_thing of done is has_id =
+    let exists : plugin_thing ≡ Exists call.name = same_Some plugin_thing (Exists call.name) (sym of_plugin_thing ∙ ap (plugin_thing_at call.name call.party) is) in
+    let held : (plugin_view new (party_of plugin_thing)).held plugin_thing ≡ Some (HasId id) = done ∙ ap (λ c. asked c reply) is ∙ ap (option_map HasId) has_id in
     made-id new.controller given call.name id of (subst (λ k. (plugin_view new (party_of k)).held k ≡ Some (HasId id)) exists held)
 
 -- what is kept of every world, by the ids that were given
@@ -96,7 +96,7 @@ module _ (laws : PluginLaws) (config : Config) (world : World) (controller : Con
 
   -- all that is so of a world stays so, where the plugin goes on as its laws say, and the others are as they were
   good-delivered : IsGood config world → IsAmong call (issued_in world.history.items) → IsReached config next → controllers.KeepsNames world.controller controller → controllers.AreNamed controller
-      → ChangesOnly call.party world next → (thing : Option Key) → IsAnsweredBy world.controller controller call.party call.call thing → (answer : Option Frame)
+      → ChangesOnly call.party world next → (thing : Option PluginThing) → IsAnsweredBy world.controller controller call.party call.call thing → (answer : Option Frame)
       → IsDelivered call.party call.number call.call thing (plugin_view world call.party) (plugin_view next call.party) answer → IsGood config (with_frame answer next)
   good-delivered good among reached keeps names only thing by answer delivered =
       subst (λ (f : Option Frame). IsGood config (with_frame f next)) (sym delivered.is_answer)
@@ -105,24 +105,24 @@ module _ (laws : PluginLaws) (config : Config) (world : World) (controller : Con
         given = more;
         well = record {
           so_far = record {
-            truth = truth-answered issued world.frames (told_by given world) (told_by more next) call key kind reply so_far.truth so_far.closed made.told made.met;
+            truth = truth-answered issued world.frames (told_by given world) (told_by more next) call plugin_thing kind reply so_far.truth so_far.closed made.told made.met;
             closed = closed-told more next (all-closed laws next);
             named = record {
               own = λ other there. own-kept given more other.name other.party other.call following.1.wider (so_far.named.own other there);
               made = λ other r id create required limit capabilities there is ok has_id.
                   ⊎_elim (λ was. following.1.wider other.name id (so_far.named.made other r id create required limit capabilities there is was has_id))
                   (λ now. subst (λ (x : Issued). HasName more x.name id) (sym now.0)
-                  (made-now next more call key reply id create required limit capabilities keyed_call.by_name following.1.of now.2 (ap (λ (x : Issued). x.call) (sym now.0) ∙ is)
+                  (made-now next more call plugin_thing reply id create required limit capabilities its.by_name following.1.of now.2 (ap (λ (x : Issued). x.call) (sym now.0) ∙ is)
                   (ap (λ (x : Reply). x.id) (sym now.1) ∙ has_id)))
-                  (ok-either issued world.frames (told_by given world) (told_by more next) call key kind reply so_far.truth made.told made.met other r there ok);
+                  (ok-either issued world.frames (told_by given world) (told_by more next) call plugin_thing kind reply so_far.truth made.told made.met other r there ok);
             };
-            are_given = given-once world controller nodes call given more key kind reply well following.1 made.plain;
+            are_given = given-once world controller nodes call given more plugin_thing kind reply well following.1 made.plain;
             heard = λ number status id there. sent-more issued issued world.frames (answer_to call kind reply) number status id (λ c also. also) (so_far.heard number status id there);
-            stands = stands-answered world.history.items world.frames (told_by given world) (told_by more next) call key kind reply made.told so_far.stands;
+            stands = stands-answered world.history.items world.frames (told_by given world) (told_by more next) call plugin_thing kind reply made.told so_far.stands;
           };
           of_controller = following.1.of;
           creates = well.creates;
-          ended = ended-answered world.history.items world.frames (view_of world) (view_of next) call key kind reply made.plain given more (all-closed laws next) well.creates well.ended
+          ended = ended-answered world.history.items world.frames (view_of world) (view_of next) call plugin_thing kind reply made.plain given more (all-closed laws next) well.creates well.ended
               (given-live world controller nodes call given more following.1);
         };
       })
@@ -139,11 +139,11 @@ module _ (laws : PluginLaws) (config : Config) (world : World) (controller : Con
       issued : List Issued
       issued = issued_in world.history.items
 
-      keyed_call : IsKeyed given call.name call.party call.call
-      keyed_call = keyed given call.name call.party call.call (so_far.named.own call among)
+      its : IsOfThing given call.name call.party call.call
+      its = of_thing given call.name call.party call.call (so_far.named.own call among)
 
-      key : Key
-      key = keyed_call.key
+      plugin_thing : PluginThing
+      plugin_thing = its.plugin_thing
 
       kind : Kind
       kind = delivered.kind
@@ -157,11 +157,11 @@ module _ (laws : PluginLaws) (config : Config) (world : World) (controller : Con
       more : List GivenId
       more = following.0
 
-      made : AreEffects world controller nodes call given more key kind reply
+      made : AreEffects world controller nodes call given more plugin_thing kind reply
       made =
           effects world controller nodes call given more well keeps following.1 (exclusive laws.exclusive config world good.reached).attached_while_live (exclusive laws.exclusive config next reached).attached_while_live
-          among key keyed_call.by_name keyed_call.of_party (subst (λ p. ChangesOnly p world next) (sym keyed_call.of_party) only) kind reply (so_far.named.own call among) thing by
-          (subst (λ p. CallBecomes thing (delivery_of call kind reply) (plugin_view world p) (plugin_view next p)) (sym keyed_call.of_party) delivered.becomes)
+          among plugin_thing its.by_name its.of_party (subst (λ p. ChangesOnly p world next) (sym its.of_party) only) kind reply (so_far.named.own call among) thing by
+          (subst (λ p. CallBecomes thing (delivery_of call kind reply) (plugin_view world p) (plugin_view next p)) (sym its.of_party) delivered.becomes)
 
 -- a controller that gets no frame keeps its names
 names-stay : (controller : ControllerState) → controllers.KeepsNames controller controller
@@ -178,7 +178,7 @@ call-got laws config world name number Controller c good among =
     let frame : Frame = call_frame number Controller c in
     let after : Fenced ControllerState = controller.fenced config world.controller frame in
     let frames = good.reached.controller in
-    let of_kind = (keyed good.given name Controller c (good.well.so_far.named.own call among)).of_kind in
+    let of_kind = (of_thing good.given name Controller c (good.well.so_far.named.own call among)).of_kind in
     let delivered = subst (λ (s : ControllerState). controllers.IsDeliveredTo config s number c) (sym frames.1) (laws.controller.delivered config frames.0 number c of_kind) in
     let next = controller-next config world.controller frame frames in
     good-delivered laws config world after.state world.nodes call good among (record { controller = next; nodes = good.reached.nodes; alike = good.reached.alike })
@@ -200,13 +200,13 @@ call-got laws config world name number (Node id) c good among = by (node_state i
         let after : Fenced NodeState = node.fenced id state (call_frame number (Node id) c) in
         let changed : World = with_node id after.state world in
         let frames = node-of-frames config world id state good.reached is in
-        let of_kind = (keyed good.given name (Node id) c (good.well.so_far.named.own call among)).of_kind in
+        let of_kind = (of_thing good.given name (Node id) c (good.well.so_far.named.own call among)).of_kind in
         let delivered = subst (λ (s : NodeState). nodes.IsDeliveredTo id s number c) (sym frames.1) (laws.node.delivered id frames.0 number c of_kind) in
         let new_view = ap (node_view id) (sym (node_state-same id state after.state world is)) in
-        let now = subst (λ v. IsDelivered (Node id) number c (nodes.key_of id c) (nodes.view_of id state) v after.reply) new_view delivered in
+        let now = subst (λ v. IsDelivered (Node id) number c (nodes.thing_of id c) (nodes.view_of id state) v after.reply) new_view delivered in
         good-delivered laws config world world.controller changed.nodes call good among (node-next config world id state (call_frame number (Node id) c) good.reached is)
-        (names-stay world.controller) good.well.of_controller.names (others after.state) (nodes.key_of id c) (inl refl) after.reply
-        (subst (λ v. IsDelivered (Node id) number c (nodes.key_of id c) v (plugin_view changed (Node id)) after.reply) (ap (node_view id) (sym is)) now)
+        (names-stay world.controller) good.well.of_controller.names (others after.state) (nodes.thing_of id c) (inl refl) after.reply
+        (subst (λ v. IsDelivered (Node id) number c (nodes.thing_of id c) v (plugin_view changed (Node id)) after.reply) (ap (node_view id) (sym is)) now)
 
 -- a frame came that was sent; plugins answer no reply
 got : PluginLaws → (config : Config) (world : World) (number : Number) (party : Party) (body : Body) → IsGood config world

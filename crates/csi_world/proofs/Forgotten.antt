@@ -4,7 +4,7 @@ use Rattle.std.specs.Prelude.{is_some}
 use Rattle.std.proofs.lemmas.Bool.{and_parts, and_left, eqb-true, false≢true, or_cases, or_left, or_right}
 use Rattle.csi_types.specs.declared.holding.Holding.{Holding}
 use Rattle.csi_fence.specs.Public.Delivery.{PluginView, IsClosed}
-use Rattle.csi_types.specs.Public.Key.{Key, Exists, Attached, Staged, Published, HasId, AttachedAs}
+use Rattle.csi_types.specs.Public.PluginThing.{PluginThing, Exists, Attached, Staged, Published, HasId, AttachedAs}
 use Rattle.csi_types.specs.Model.Same.{same_text}
 use Rattle.csi_types.proofs.Equality.{same_text-tells}
 use Rattle.csi_lists.specs.Model.Members.{IsAmong}
@@ -24,16 +24,16 @@ abbrev pub told_by : List GivenId → World → PluginView
 told_by given world =
     record {
       held = (view_of world).held;
-      is_spent = λ key number. (view_of world).is_spent key number || is_forgotten given world.controller key;
+      is_spent = λ thing number. (view_of world).is_spent thing number || is_forgotten given world.controller thing;
       kept = (view_of world).kept;
     }
 
 -- what came before a spent number is spent
 pub closed-told : (given : List GivenId) (world : World) → IsClosed (view_of world) → IsClosed (told_by given world)
-closed-told given world closed key earlier later before spent =
-    ⊎_elim (λ own. or_left ((view_of world).is_spent key earlier) (is_forgotten given world.controller key) (closed key earlier later before own))
-    (λ forgotten. or_right ((view_of world).is_spent key earlier) (is_forgotten given world.controller key) forgotten)
-    (or_cases ((view_of world).is_spent key later) (is_forgotten given world.controller key) spent)
+closed-told given world closed thing earlier later before spent =
+    ⊎_elim (λ own. or_left ((view_of world).is_spent thing earlier) (is_forgotten given world.controller thing) (closed thing earlier later before own))
+    (λ forgotten. or_right ((view_of world).is_spent thing earlier) (is_forgotten given world.controller thing) forgotten)
+    (or_cases ((view_of world).is_spent thing later) (is_forgotten given world.controller thing) spent)
 
 -- ---- a volume that isn't there any more
 
@@ -52,8 +52,8 @@ gone-detached world id node live gone =
     false≢true (sym (ap is_some (ap (λ n. live_volume n world.controller) (eqb-true holding.volume id passes.0) ∙ gone-dead world.controller id gone)) ∙ lives))
 
 -- a thing whose volume isn't there isn't there
-pub gone-held : (world : World) (given : List GivenId) (key : Key) (one : GivenId) → AreGiven given → AreOf world.controller given → IsAttachedWhileLive world
-    → IsAmong one given → is_given key one ≡ true → volume_with_id one.id world.controller ≡ None → (view_of world).held key ≡ None
+pub gone-held : (world : World) (given : List GivenId) (thing : PluginThing) (one : GivenId) → AreGiven given → AreOf world.controller given → IsAttachedWhileLive world
+    → IsAmong one given → is_given thing one ≡ true → volume_with_id one.id world.controller ≡ None → (view_of world).held thing ≡ None
 gone-held world given (Exists name) one are of live among named gone =
     let same : one.name ≡ name = (same_text-tells one.name name).0 named in
     let unnamed = gone-unnamed world.controller given one.name one.id are of among gone in

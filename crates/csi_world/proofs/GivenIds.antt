@@ -4,7 +4,7 @@ use Rattle.std.specs.Prelude.{is_some}
 use Rattle.std.specs.List.{list_any}
 use Rattle.std.proofs.lemmas.Bool.{and_parts, and_from, eqb-true, eq-eqb, false≢true, false_from_ne_true}
 use Rattle.std.proofs.lemmas.Option.{none-some, same_Some}
-use Rattle.csi_types.specs.Public.Key.{Key, Exists, Attached, Staged, Published}
+use Rattle.csi_types.specs.Public.PluginThing.{PluginThing, Exists, Attached, Staged, Published}
 use Rattle.csi_types.specs.Model.Same.{same_text}
 use Rattle.csi_types.proofs.Equality.{same_text-tells}
 use Rattle.csi_lists.specs.Model.Members.{IsAmong}
@@ -103,7 +103,7 @@ unnamed-dead controller name names none = by (controllers.live_named name contro
 -- ---- what was forgotten
 
 -- the id was given for this thing of the controller's
-abbrev pub is_given : Key → GivenId → Bool
+abbrev pub is_given : PluginThing → GivenId → Bool
 is_given (Exists name) given = same_text given.name name
 is_given (Attached id node) given = given.id == id
 is_given (Staged id node) given = false
@@ -114,8 +114,8 @@ abbrev pub is_gone : ControllerState → GivenId → Bool
 is_gone controller given = not (is_some (volume_with_id given.id controller))
 
 -- the controller doesn't have the thing's volume any more
-abbrev pub is_forgotten : List GivenId → ControllerState → Key → Bool
-is_forgotten given controller key = list_any (λ one. is_given key one && is_gone controller one) given
+abbrev pub is_forgotten : List GivenId → ControllerState → PluginThing → Bool
+is_forgotten given controller thing = list_any (λ one. is_given thing one && is_gone controller one) given
 
 -- the test of what is gone
 gone-is : (controller : ControllerState) (one : GivenId) → volume_with_id one.id controller ≡ None → is_gone controller one ≡ true
@@ -130,24 +130,24 @@ is-gone controller one h = by (volume_with_id one.id controller) refl h
     by (Some volume) e h = absurd (false≢true h)
 
 -- where the volume of a given id of the thing isn't there, the thing was forgotten
-pub gone-forgotten : (given : List GivenId) (controller : ControllerState) (key : Key) (one : GivenId) → IsAmong one given → is_given key one ≡ true → volume_with_id one.id controller ≡ None
-    → is_forgotten given controller key ≡ true
-gone-forgotten given controller key one among of gone =
-    then-any (λ (g : GivenId). is_given key g && is_gone controller g) given one among (and_from (is_given key one) (is_gone controller one) of (gone-is controller one gone))
+pub gone-forgotten : (given : List GivenId) (controller : ControllerState) (thing : PluginThing) (one : GivenId) → IsAmong one given → is_given thing one ≡ true → volume_with_id one.id controller ≡ None
+    → is_forgotten given controller thing ≡ true
+gone-forgotten given controller thing one among of gone =
+    then-any (λ (g : GivenId). is_given thing g && is_gone controller g) given one among (and_from (is_given thing one) (is_gone controller one) of (gone-is controller one gone))
 
 -- a thing that was forgotten has such an id
-pub forgotten-gone : (given : List GivenId) (controller : ControllerState) (key : Key) → is_forgotten given controller key ≡ true
-    → (one : GivenId) × IsAmong one given × (is_given key one ≡ true) × (volume_with_id one.id controller ≡ None)
-forgotten-gone given controller key h =
-    let found = any-then (λ (g : GivenId). is_given key g && is_gone controller g) given h in
-    let parts = and_parts (is_given key found.0) (is_gone controller found.0) found.2 in
+pub forgotten-gone : (given : List GivenId) (controller : ControllerState) (thing : PluginThing) → is_forgotten given controller thing ≡ true
+    → (one : GivenId) × IsAmong one given × (is_given thing one ≡ true) × (volume_with_id one.id controller ≡ None)
+forgotten-gone given controller thing h =
+    let found = any-then (λ (g : GivenId). is_given thing g && is_gone controller g) given h in
+    let parts = and_parts (is_given thing found.0) (is_gone controller found.0) found.2 in
     (found.0, found.1, parts.0, is-gone controller found.0 parts.1)
 
 -- a thing of which each given id's volume is there wasn't forgotten
-pub not-forgotten : (given : List GivenId) (controller : ControllerState) (key : Key)
-    → ((one : GivenId) → IsAmong one given → is_given key one ≡ true → volume_with_id one.id controller ≡ None → ⊥) → is_forgotten given controller key ≡ false
-not-forgotten given controller key there =
-    false_from_ne_true (is_forgotten given controller key) (λ h. let found = forgotten-gone given controller key h in there found.0 found.1 found.2 found.3)
+pub not-forgotten : (given : List GivenId) (controller : ControllerState) (thing : PluginThing)
+    → ((one : GivenId) → IsAmong one given → is_given thing one ≡ true → volume_with_id one.id controller ≡ None → ⊥) → is_forgotten given controller thing ≡ false
+not-forgotten given controller thing there =
+    false_from_ne_true (is_forgotten given controller thing) (λ h. let found = forgotten-gone given controller thing h in there found.0 found.1 found.2 found.3)
 
 -- ---- after a frame
 
@@ -171,11 +171,11 @@ stays-gone old new given one keeps of among gone = by (volume_with_id one.id new
         came (inr made) = absurd (clash one.id old.next_id (of.below one.name one.id among) (sym same ∙ made.has_next))
 
 -- so a thing that was forgotten stays so
-pub stays-forgotten : (old new : ControllerState) (given more : List GivenId) (key : Key) → controllers.KeepsNames old new → AreOf old given → GivesMore given more
-    → is_forgotten given old key ≡ true → is_forgotten more new key ≡ true
-stays-forgotten old new given more key keeps of wider h =
-    let found = forgotten-gone given old key h in
-    gone-forgotten more new key found.0 (wider (found.0).name (found.0).id found.1) found.2 (stays-gone old new given found.0 keeps of found.1 found.3)
+pub stays-forgotten : (old new : ControllerState) (given more : List GivenId) (thing : PluginThing) → controllers.KeepsNames old new → AreOf old given → GivesMore given more
+    → is_forgotten given old thing ≡ true → is_forgotten more new thing ≡ true
+stays-forgotten old new given more thing keeps of wider h =
+    let found = forgotten-gone given old thing h in
+    gone-forgotten more new thing found.0 (wider (found.0).name (found.0).id found.1) found.2 (stays-gone old new given found.0 keeps of found.1 found.3)
 
 -- ---- the ids that are given after a frame
 

@@ -10,7 +10,7 @@ use Rattle.csi_types.specs.declared.call.Party.TheVariants.{Controller, Node}
 use Rattle.csi_types.specs.declared.reply.Reply.{Reply}
 use Rattle.csi_fence.specs.Public.Delivery.{PluginView, IsClosed}
 use Rattle.csi_types.specs.Model.Frame.{Frame}
-use Rattle.csi_types.specs.Public.Key.{Key, Attached, Staged, StagedAs, asked}
+use Rattle.csi_types.specs.Public.PluginThing.{PluginThing, Attached, Staged, StagedAs, asked}
 use Rattle.csi_lists.proofs.Members.{among-find, none_passes}
 use Rattle.csi_lists.proofs.Searches.{find-passes, find-same_among}
 use Rattle.std.proofs.lemmas.Option.{none-some, same_Some}
@@ -24,7 +24,7 @@ use Rattle.csi_orchestrator.specs.Model.History.{Held, History}
 use Rattle.csi_orchestrator.specs.Model.Readings.{newest, issued_in, known, held_by_call, held}
 use Rattle.csi_orchestrator.specs.Public.Guards.{IsGuarded, HasId}
 use Rattle.csi_world.proofs.GivenIds.{GivenId, HasName, AreGiven}
-use Rattle.csi_world.proofs.KeyedCalls.{IsAnsweredOk, IsOwn, IsOne, Attachment, Staging, key_at, is_key, is_of, latest-last, Named, touches-key}
+use Rattle.csi_world.proofs.CallThings.{IsAnsweredOk, IsOwn, IsOne, Attachment, Staging, plugin_thing_at, is_plugin_thing, is_of, latest-last, Named, touches-plugin_thing}
 use Rattle.csi_world.proofs.HeardReplies.{IsHeard, IsLatest, success-ok, id-given, known-yes, known-no, latest-known}
 use Rattle.csi_world.proofs.RepliesTold.{Truth}
 use Rattle.csi_world.proofs.StagedAttached.{staging, IsStanding, IsAttachedSo, Stands}
@@ -47,7 +47,7 @@ asked-undoing (calls.NodeUnpublishVolume id target) reply h = refl
 asked-undoing c reply h = absurd (false≢true (sym h))
 
 -- the latest call that attached a volume tells how it is held
-attached-call : (name : List ℕ) (party : Party) (c : Call) (id : ℕ) (node : List ℕ) → is_key (Attached id node) (key_at name party c) ≡ true → is_doing c ≡ true
+attached-call : (name : List ℕ) (party : Party) (c : Call) (id : ℕ) (node : List ℕ) → is_plugin_thing (Attached id node) (plugin_thing_at name party c) ≡ true → is_doing c ≡ true
     → (held : Held) × (c ≡ calls.ControllerPublishVolume id node held.capability held.readonly)
 attached-call name party (calls.ControllerPublishVolume i there capability readonly) id node of doing =
     let parts = and_parts (id == i) (same_text node there) of in
@@ -129,9 +129,9 @@ module _ (history : History) (frames : List Frame) (view : PluginView) (given : 
   own-guarded name party call guard = absurd guard
 
   -- the latest call of a thing, by its name and by its id
-  pub found-one : (thing : Thing) (key : Key) → IsOne given thing key → find (touches thing) (issued_in history.items) ≡ find (is_of key) (issued_in history.items)
-  found-one thing key one =
-      find-same_among (touches thing) (is_of key) (issued_in history.items) (λ call among. touches-key given thing key call so.are_given one (so.named.own call among))
+  pub found-one : (thing : Thing) (plugin_thing : PluginThing) → IsOne given thing plugin_thing → find (touches thing) (issued_in history.items) ≡ find (is_of plugin_thing) (issued_in history.items)
+  found-one thing plugin_thing one =
+      find-same_among (touches thing) (is_of plugin_thing) (issued_in history.items) (λ call among. touches-plugin_thing given thing plugin_thing call so.are_given one (so.named.own call among))
 
   -- what stands is known to be attached
   attached-known : (name node : List ℕ) (id : ℕ) (capability : Capability) → HasName given name id → IsAttachedSo history.items id node capability
@@ -141,18 +141,18 @@ module _ (history : History) (frames : List Frame) (view : PluginView) (given : 
       (record { found = found-one (things.Attached name node) (Attached id node) (Attachment name node id has) ∙ attached.found; success = attached.success; is_so = ap is_doing attached.publishes })
 
   -- the latest call of a thing, where its success was heard, was answered OK and left the thing as it asks
-  pub latest-told : (thing : Thing) (key : Key) (call : Issued) (doing : Bool) → IsOne given thing key → IsLatest history.items thing call doing
-      → (reply : Reply) × IsAnsweredOk frames call reply × (find (is_of key) (issued_in history.items) ≡ Some call) × (view.held key ≡ asked call.call reply)
-  latest-told thing key call doing one latest =
-      let found = sym (found-one thing key one) ∙ latest.found in
-      let ok = success-ok history.items (issued_in history.items) frames call so.heard so.truth.numbers (among-find (is_of key) (issued_in history.items) call found) latest.success in
-      (ok.0, ok.1, found, so.truth.told call key ok.0 found ok.1)
+  pub latest-told : (thing : Thing) (plugin_thing : PluginThing) (call : Issued) (doing : Bool) → IsOne given thing plugin_thing → IsLatest history.items thing call doing
+      → (reply : Reply) × IsAnsweredOk frames call reply × (find (is_of plugin_thing) (issued_in history.items) ≡ Some call) × (view.held plugin_thing ≡ asked call.call reply)
+  latest-told thing plugin_thing call doing one latest =
+      let found = sym (found-one thing plugin_thing one) ∙ latest.found in
+      let ok = success-ok history.items (issued_in history.items) frames call so.heard so.truth.numbers (among-find (is_of plugin_thing) (issued_in history.items) call found) latest.success in
+      (ok.0, ok.1, found, so.truth.told call plugin_thing ok.0 found ok.1)
 
   -- what is known not to be so isn't there
-  pub not-there : (thing : Thing) (key : Key) → IsOne given thing key → known history thing ≡ No → view.held key ≡ None
-  not-there thing key one is_no =
-      ⊎_elim (λ none. so.truth.untouched key (sym (found-one thing key one) ∙ none)) (λ latest.
-      let told = latest-told thing key latest.0 false one latest.1 in
+  pub not-there : (thing : Thing) (plugin_thing : PluginThing) → IsOne given thing plugin_thing → known history thing ≡ No → view.held plugin_thing ≡ None
+  not-there thing plugin_thing one is_no =
+      ⊎_elim (λ none. so.truth.untouched plugin_thing (sym (found-one thing plugin_thing one) ∙ none)) (λ latest.
+      let told = latest-told thing plugin_thing latest.0 false one latest.1 in
       told.3 ∙ asked-undoing (latest.0).call told.0 latest.1.is_so) (known-no history thing is_no)
 
   -- where a volume is known not to be staged at a node, nothing stands there
@@ -197,7 +197,7 @@ module _ (history : History) (frames : List Frame) (view : PluginView) (given : 
           false_from_ne_true ((id == i) && same_text node there)
           (λ e. let parts = and_parts (id == i) (same_text node there) e in differ (eqb-true id i parts.0) ((same_text-tells node there).0 parts.1))
 
-      by : (party : Party) (c : Call) → IsGuarded history call.name party c → is_key (Attached id node) (key_at call.name party c) ≡ false
+      by : (party : Party) (c : Call) → IsGuarded history call.name party c → is_plugin_thing (Attached id node) (plugin_thing_at call.name party c) ≡ false
       by Controller (calls.ControllerPublishVolume i there other readonly) guard =
           apart i there (λ volume at.
           let has : HasName given call.name id = subst (HasName given call.name) (sym volume) (given-id call.name i guard.0) in

@@ -25,7 +25,7 @@ use Rattle.csi_orchestrator.specs.Model.Thing.{Issued, touches, is_doing, is_yes
 use Rattle.csi_orchestrator.specs.Model.History.{Item, Accepted, History}
 use Rattle.csi_orchestrator.specs.Model.Readings.{newest, issued_in, issued_of, is_success_of, has_success, known_by, known, id_in, id_by, id_of}
 use Rattle.csi_world.proofs.GivenIds.{GivenId, HasName}
-use Rattle.csi_world.proofs.KeyedCalls.{IsAnsweredOk, ComesAfter, one-number, Named}
+use Rattle.csi_world.proofs.CallThings.{IsAnsweredOk, ComesAfter, one-number, Named}
 
 -- a reply like this was sent to a sent call of this number
 pub record WasSent (issued : List Issued) (frames : List Frame) (number : Number) (status : Status) (id : Option ℕ) : Type 0 where

@@ -8,7 +8,7 @@ pub mod AssembledNodes
 pub mod PluginSafety
 pub mod WorldView
 pub mod GivenIds
-pub mod KeyedCalls
+pub mod CallThings
 pub mod SeenCalls
 pub mod RepliesTold
 pub mod HeardReplies

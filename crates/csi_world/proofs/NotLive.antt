@@ -12,7 +12,7 @@ use Rattle.csi_types.specs.declared.reply.Reply.{Reply}
 use Rattle.csi_types.specs.Model.Call.{kind_of}
 use Rattle.csi_fence.specs.Public.Delivery.{PluginView, IsClosed}
 use Rattle.csi_types.specs.Model.Frame.{Frame}
-use Rattle.csi_types.specs.Public.Key.{Key, Exists, Form, HasId, asked}
+use Rattle.csi_types.specs.Public.PluginThing.{PluginThing, Exists, ThingForm, HasId, asked}
 use Rattle.csi_types.specs.Public.Reply.{has_id_by_rule}
 use Rattle.csi_types.proofs.Equality.{same_text-tells}
 use Rattle.csi_lists.specs.Model.Members.{IsAmong}
@@ -21,7 +21,7 @@ use Rattle.csi_orchestrator.specs.Model.History.{Item, Sent, History}
 use Rattle.csi_orchestrator.specs.Model.Readings.{issued_in}
 use Rattle.csi_orchestrator.specs.Public.Guards.{IsGuarded}
 use Rattle.csi_world.proofs.GivenIds.{GivenId, HasName}
-use Rattle.csi_world.proofs.KeyedCalls.{key_at, is_key, is_of, is_making}
+use Rattle.csi_world.proofs.CallThings.{plugin_thing_at, is_plugin_thing, is_of, is_making}
 use Rattle.csi_world.proofs.CreatesFirst.{IsKnown, CreatesFirst, known-later, known-heard, making-guarded}
 use Rattle.csi_world.proofs.RepliesTold.{IsChanged, IsEffect, asked-doing}
 
@@ -35,7 +35,7 @@ abbrev pub AreEnded : List GivenId → List Item → PluginView → Type 0
 AreEnded given items view = (name : List ℕ) (id : ℕ) → HasName given name id → view.held (Exists name) ≡ None → IsEnded items view name
 
 -- a call of whether a volume is there is for its name
-pub exists-named : (name other : List ℕ) (party : Party) (c : Call) → is_key (Exists name) (key_at other party c) ≡ true → other ≡ name
+pub exists-named : (name other : List ℕ) (party : Party) (c : Call) → is_plugin_thing (Exists name) (plugin_thing_at other party c) ≡ true → other ≡ name
 exists-named name other party (calls.CreateVolume create required limit capabilities) of = sym ((same_text-tells name other).0 of)
 exists-named name other party (calls.DeleteVolume id) of = sym ((same_text-tells name other).0 of)
 exists-named name other party (calls.ControllerPublishVolume id node capability readonly) of = absurd (false≢true of)
@@ -88,9 +88,9 @@ ended-noted given items item view same ended name id has none =
     }
 
 -- a sent call that a plugin got, and what became of the things
-module _ (items : List Item) (frames : List Frame) (old new : PluginView) (call : Issued) (key : Key) (kind : Kind) (reply : Reply) (effect : IsEffect (issued_in items) frames old new call key kind reply) where
+module _ (items : List Item) (frames : List Frame) (old new : PluginView) (call : Issued) (thing : PluginThing) (kind : Kind) (reply : Reply) (effect : IsEffect (issued_in items) frames old new call thing kind reply) where
   -- the call is of the thing that it changed
-  of_changed : (k : Key) → k ≡ key → is_of k call ≡ true
+  of_changed : (k : PluginThing) → k ≡ thing → is_of k call ≡ true
   of_changed k same = ap (λ x. is_of x call) same ∙ effect.of
 
   -- a name that has a live volume now and had none has it by a CreateVolume that wasn't spent
@@ -104,11 +104,11 @@ module _ (items : List Item) (frames : List Frame) (old new : PluginView) (call 
 
   -- what is so of the names without a live volume is so then, where those that were given an id since have one
   pub ended-answered : (given more : List GivenId) → IsClosed new → CreatesFirst items → AreEnded given items old
-      → ((name : List ℕ) (id : ℕ) → HasName more name id → HasName given name id ⊎ ((form : Form) × (new.held (Exists name) ≡ Some form))) → AreEnded more items new
+      → ((name : List ℕ) (id : ℕ) → HasName more name id → HasName given name id ⊎ ((form : ThingForm) × (new.held (Exists name) ≡ Some form))) → AreEnded more items new
   ended-answered given more closed creates ended newer name id has none =
       ⊎_elim (λ was. by was (effect.held (Exists name))) (λ now. absurd (none-some now.0 (sym none ∙ now.1))) (newer name id has)
     where
-      by : HasName given name id → (new.held (Exists name) ≡ old.held (Exists name)) ⊎ IsChanged (issued_in items) frames old new call key kind reply (Exists name) → IsEnded items new name
+      by : HasName given name id → (new.held (Exists name) ≡ old.held (Exists name)) ⊎ IsChanged (issued_in items) frames old new call thing kind reply (Exists name) → IsEnded items new name
       by was (inl same) =
           let before = ended name id was (sym same ∙ none) in
           record { known = before.known; spent = λ other among named making. effect.spent (Exists name) other.number (before.spent other among named making) }

@@ -2,7 +2,7 @@
 use Rattle.std.proofs.Common.{◌≡◌, ◌⊎◌, ℕ, List, true, false, cond, Option, Some, None, option_map, find, is_some, refl, sym, ◌∙◌, ap, subst, inl, inr, ⊎_elim, ◌==◌}
 use Rattle.std.proofs.lemmas.Bool.{and_parts, eqb-true, false≢true}
 use Rattle.csi_types.specs.Model.Call.{kind_of}
-use Rattle.csi_types.specs.Public.Key.{Key, Exists, Attached, Staged, Published, Form, StagedAs, PublishedAs}
+use Rattle.csi_types.specs.Public.PluginThing.{PluginThing, Exists, Attached, Staged, Published, ThingForm, StagedAs, PublishedAs}
 use Rattle.csi_lists.specs.Model.Members.{IsAmong}
 use Rattle.csi_lists.proofs.Members.{among-find}
 use Rattle.csi_lists.proofs.Searches.{find-passes}
@@ -22,7 +22,7 @@ use Rattle.csi_world.specs.Model.World.{NodeAt, World, node_state}
 use Rattle.csi_world.specs.Model.Safe.{IsStagedWhereAttached, IsPublishedWhereStaged, IsAttachedWhileLive, holds_attached, holds_staged, holds_published, holds, IsRecordedRight}
 use Rattle.csi_world.proofs.WorldView.{node_view, view_of}
 use Rattle.csi_world.proofs.GivenIds.{GivenId, HasName, AreGiven, AreOf, named-id, name-of_found, unnamed-gone}
-use Rattle.csi_world.proofs.KeyedCalls.{IsOne, Existence, Attachment, Staging, Publication, keyed}
+use Rattle.csi_world.proofs.CallThings.{IsOne, Existence, Attachment, Staging, Publication, of_thing}
 use Rattle.csi_world.proofs.MarksTold.{same-tells}
 use Rattle.csi_world.proofs.HeardReplies.{known-yes}
 use Rattle.csi_world.proofs.RepliesTold.{asked-doing}
@@ -46,21 +46,21 @@ pub record IsOrdered (world : World) : Type 0 where
   pub live : IsAttachedWhileLive world
 
 -- what is known to be so is there
-is_there : (world : World) (given : List GivenId) (thing : Thing) (key : Key) → IsWell world given → IsOne given thing key → known world.history thing ≡ Yes → is_some ((view_of world).held key) ≡ true
-is_there world given thing key well one h =
+is_there : (world : World) (given : List GivenId) (thing : Thing) (plugin_thing : PluginThing) → IsWell world given → IsOne given thing plugin_thing → known world.history thing ≡ Yes → is_some ((view_of world).held plugin_thing) ≡ true
+is_there world given thing plugin_thing well one h =
     let latest = known-yes world.history thing h in
-    let told = latest-told world.history world.frames (told_by given world) given well.so_far thing key latest.0 true one latest.1 in
+    let told = latest-told world.history world.frames (told_by given world) given well.so_far thing plugin_thing latest.0 true one latest.1 in
     let rule = well.so_far.truth.ids (latest.0).number (latest.0).party (kind_of (latest.0).call) told.0 told.1.0 told.1.1 in
     ap is_some told.3 ∙ asked-doing (latest.0).call told.0 latest.1.is_so told.1.1 rule
 
 -- the name of a known thing was given an id
-known-one : (world : World) (given : List GivenId) (thing : Thing) → IsWell world given → known world.history thing ≡ Yes → (key : Key) × IsOne given thing key
+known-one : (world : World) (given : List GivenId) (thing : Thing) → IsWell world given → known world.history thing ≡ Yes → (plugin_thing : PluginThing) × IsOne given thing plugin_thing
 known-one world given thing well h =
     let latest = known-yes world.history thing h in
     let call : Issued = latest.0 in
-    let keyed_call = keyed given call.name call.party call.call (well.so_far.named.own call (among-find (touches thing) (issued_in world.history.items) call latest.1.found)) in
-    let passes : same_thing thing keyed_call.thing ≡ true = ap (is_thing thing) (sym keyed_call.by_thing) ∙ find-passes (touches thing) (issued_in world.history.items) call latest.1.found in
-    (keyed_call.key, subst (λ t. IsOne given t keyed_call.key) (sym (same-tells thing keyed_call.thing passes)) keyed_call.one)
+    let its = of_thing given call.name call.party call.call (well.so_far.named.own call (among-find (touches thing) (issued_in world.history.items) call latest.1.found)) in
+    let passes : same_thing thing its.thing ≡ true = ap (is_thing thing) (sym its.by_thing) ∙ find-passes (touches thing) (issued_in world.history.items) call latest.1.found in
+    (its.plugin_thing, subst (λ t. IsOne given t its.plugin_thing) (sym (same-tells thing its.thing passes)) its.one)
 
 -- ---- how the views tell what holds
 
@@ -115,7 +115,7 @@ module _ (world : World) (given : List GivenId) (are : AreGiven given) (of : Are
   published-holds : (name node target : List ℕ) (id : ℕ) → HasName given name id → holds world (things.Published name node target) ≡ is_some ((view_of world).held (Published id node target))
   published-holds name node target id has = by (volume_named name world.controller) refl
     where
-      published_as : PublishedVolume → Form
+      published_as : PublishedVolume → ThingForm
       published_as published = PublishedAs published.capability published.readonly
 
       there : (o : Option NodeState) (volume : Volume) → volume.id ≡ id → holds_published target (Some volume) o ≡ is_some ((node_view node o).held (Published id node target))
@@ -139,7 +139,7 @@ module _ (world : World) (given : List GivenId) (are : AreGiven given) (of : Are
       by None e = ap (λ o. holds_published target o (node_state node world)) e ∙ gone (node_state node world) refl (unnamed-gone world.controller given name id are of has e)
 
   -- a thing holds where the view has it, by the id that its name was given
-  holds-one : (thing : Thing) (key : Key) → IsOne given thing key → holds world thing ≡ is_some ((view_of world).held key)
+  holds-one : (thing : Thing) (plugin_thing : PluginThing) → IsOne given thing plugin_thing → holds world thing ≡ is_some ((view_of world).held plugin_thing)
   holds-one _ _ (Existence name) = sym (is_some-map _ (controllers.live_named name world.controller))
   holds-one _ _ (Attachment name node id has) = attached-holds name node id has
   holds-one _ _ (Staging name node id has) = staged-holds name node id has
@@ -147,17 +147,17 @@ module _ (world : World) (given : List GivenId) (are : AreGiven given) (of : Are
 
   -- where no volume has the name nothing holds
   abbrev IsOneOrNone : Thing → Type 0
-  IsOneOrNone thing = (holds world thing ≡ false) ⊎ ((key : Key) × IsOne given thing key)
+  IsOneOrNone thing = (holds world thing ≡ false) ⊎ ((plugin_thing : PluginThing) × IsOne given thing plugin_thing)
 
-  -- a thing doesn't hold, or has a key, by whether a volume has its name
-  by-name : (name : List ℕ) (thing : Thing) (key : ℕ → Key) → (volume_named name world.controller ≡ None → holds world thing ≡ false)
-      → ((id : ℕ) → HasName given name id → IsOne given thing (key id)) → IsOneOrNone thing
-  by-name name thing key none one = by (volume_named name world.controller) refl
+  -- a thing doesn't hold, or has a thing, by whether a volume has its name
+  by-name : (name : List ℕ) (thing : Thing) (plugin_thing : ℕ → PluginThing) → (volume_named name world.controller ≡ None → holds world thing ≡ false)
+      → ((id : ℕ) → HasName given name id → IsOne given thing (plugin_thing id)) → IsOneOrNone thing
+  by-name name thing plugin_thing none one = by (volume_named name world.controller) refl
     where
       by : (o : Option Volume) → volume_named name world.controller ≡ o → IsOneOrNone thing
       by None e = inl (none e)
       by (Some volume) e =
-          inr (key volume.id, one volume.id (subst (λ n. HasName given n volume.id) (name-of_found name world.controller volume e) (of.listed volume.id volume (of.names.by_id name volume e))))
+          inr (plugin_thing volume.id, one volume.id (subst (λ n. HasName given n volume.id) (name-of_found name world.controller volume e) (of.listed volume.id volume (of.names.by_id name volume e))))
 
   -- so it is of each thing
   one-or-none : (thing : Thing) → IsOneOrNone thing

@@ -16,7 +16,7 @@ use Rattle.csi_types.specs.Model.Call.{kind_of}
 use Rattle.csi_fence.specs.Public.Delivery.{PluginView, Delivery, Acts, Rests, Misses, IsClosed}
 use Rattle.csi_fence.specs.Model.Fence.{Kept}
 use Rattle.csi_types.specs.Model.Frame.{Frame}
-use Rattle.csi_types.specs.Public.Key.{Key, HasId, same_key, asked}
+use Rattle.csi_types.specs.Public.PluginThing.{PluginThing, HasId, same_plugin_thing, asked}
 use Rattle.csi_lists.specs.Model.Members.{IsAmong, EachTwo}
 use Rattle.csi_lists.proofs.Members.{all_of, among-append, among-either, among-find, none_passes}
 use Rattle.csi_lists.proofs.Searches.{find-passes}
@@ -24,12 +24,12 @@ use Rattle.csi_types.specs.Model.Number.{IsBefore}
 use Rattle.csi_types.specs.Model.Reply.{is_ok_status}
 use Rattle.csi_types.specs.Public.Reply.{has_id_by_rule}
 use Rattle.csi_types.specs.Model.Replies.{reply_frame}
-use Rattle.csi_types.proofs.Equality.{same_key-tells}
+use Rattle.csi_types.proofs.Equality.{same_plugin_thing-tells}
 use Rattle.csi_orchestrator.specs.Model.Thing.{Issued, is_doing}
 use Rattle.csi_orchestrator.specs.Public.Steps.{frame_of}
 use Rattle.csi_world.proofs.WorldView.{party_of}
 use Rattle.csi_world.proofs.HeardReplies.{is_ok-then}
-use Rattle.csi_world.proofs.KeyedCalls.{is_of, is_key, key_at, IsAnsweredOk, ComesAfter, before-irreflexive, one-number, latest-last}
+use Rattle.csi_world.proofs.CallThings.{is_of, is_plugin_thing, plugin_thing_at, IsAnsweredOk, ComesAfter, before-irreflexive, one-number, latest-last}
 
 -- a call with this number was sent
 pub record IsSent (issued : List Issued) (number : Number) : Type 0 where
@@ -50,12 +50,12 @@ pub record Truth (issued : List Issued) (frames : List Frame) (view : PluginView
   pub calls : (frame : Frame) (call : Call) → IsAmong frame frames → frame.body ≡ bodies.Call call → IsFrameOf issued frame
   pub replies : (number : Number) (party : Party) (kind : Kind) (reply : Reply) → IsAmong (reply_frame number party kind reply) frames → IsSent issued number
   pub ids : (number : Number) (party : Party) (kind : Kind) (reply : Reply) → IsAmong (reply_frame number party kind reply) frames → reply.status ≡ Ok → IsTrue (has_id_by_rule kind reply)
-  pub kept : (key : Key) (kept : Kept) → view.kept key ≡ Some kept → IsAmong (reply_frame kept.number (party_of key) kept.kind kept.reply) frames
+  pub kept : (thing : PluginThing) (kept : Kept) → view.kept thing ≡ Some kept → IsAmong (reply_frame kept.number (party_of thing) kept.kind kept.reply) frames
   pub numbers : EachTwo ComesAfter issued
   -- what was answered OK is spent; the latest call of a thing left it as it asks; a thing without one isn't there
-  pub spent : (call : Issued) (key : Key) (reply : Reply) → IsAmong call issued → is_of key call ≡ true → IsAnsweredOk frames call reply → IsTrue (view.is_spent key call.number)
-  pub told : (call : Issued) (key : Key) (reply : Reply) → find (is_of key) issued ≡ Some call → IsAnsweredOk frames call reply → view.held key ≡ asked call.call reply
-  pub untouched : (key : Key) → find (is_of key) issued ≡ None → view.held key ≡ None
+  pub spent : (call : Issued) (thing : PluginThing) (reply : Reply) → IsAmong call issued → is_of thing call ≡ true → IsAnsweredOk frames call reply → IsTrue (view.is_spent thing call.number)
+  pub told : (call : Issued) (thing : PluginThing) (reply : Reply) → find (is_of thing) issued ≡ Some call → IsAnsweredOk frames call reply → view.held thing ≡ asked call.call reply
+  pub untouched : (thing : PluginThing) → find (is_of thing) issued ≡ None → view.held thing ≡ None
 
 -- no reply is the frame of a call
 reply_is_call : (number : Number) (party : Party) (kind : Kind) (reply : Reply) (call : Issued) → reply_frame number party kind reply ≡ frame_of call → ⊥
@@ -88,28 +88,28 @@ truth-sent issued frames view call truth later =
           let sent = truth.replies number party kind reply (before_call frames call number party kind reply among) in
           record { call = sent.call; among = inr sent.among; has_number = sent.has_number };
       ids = λ number party kind reply among. truth.ids number party kind reply (before_call frames call number party kind reply among);
-      kept = λ key kept is. among-append frames (frame_of call ∷ []) _ (truth.kept key kept is);
+      kept = λ thing kept is. among-append frames (frame_of call ∷ []) _ (truth.kept thing kept is);
       numbers = (all_of (ComesAfter call) issued later, truth.numbers);
-      spent = λ other key reply among of ok. spent other key reply among of ok;
-      told = λ other key reply found ok. told other key reply (is_of key call) refl found ok;
-      untouched = λ key none. untouched key (is_of key call) refl none;
+      spent = λ other thing reply among of ok. spent other thing reply among of ok;
+      told = λ other thing reply found ok. told other thing reply (is_of thing call) refl found ok;
+      untouched = λ thing none. untouched thing (is_of thing call) refl none;
     }
   where
     older_ok : (other : Issued) (reply : Reply) → IsAnsweredOk (frames ++ frame_of call ∷ []) other reply → IsAnsweredOk frames other reply
     older_ok other reply ok = (before_call frames call other.number other.party (kind_of other.call) reply ok.0, ok.1)
 
-    spent : (other : Issued) (key : Key) (reply : Reply) → IsAmong other (call ∷ issued) → is_of key other ≡ true → IsAnsweredOk (frames ++ frame_of call ∷ []) other reply → IsTrue (view.is_spent key other.number)
-    spent other key reply (inl e) of ok = absurd (unanswered issued frames view call reply truth later (subst (λ (x : Issued). IsAnsweredOk (frames ++ frame_of call ∷ []) x reply) e ok))
-    spent other key reply (inr there) of ok = truth.spent other key reply there of (older_ok other reply ok)
+    spent : (other : Issued) (thing : PluginThing) (reply : Reply) → IsAmong other (call ∷ issued) → is_of thing other ≡ true → IsAnsweredOk (frames ++ frame_of call ∷ []) other reply → IsTrue (view.is_spent thing other.number)
+    spent other thing reply (inl e) of ok = absurd (unanswered issued frames view call reply truth later (subst (λ (x : Issued). IsAnsweredOk (frames ++ frame_of call ∷ []) x reply) e ok))
+    spent other thing reply (inr there) of ok = truth.spent other thing reply there of (older_ok other reply ok)
 
-    told : (other : Issued) (key : Key) (reply : Reply) (b : Bool) → is_of key call ≡ b → cond b (Some call) (find (is_of key) issued) ≡ Some other → IsAnsweredOk (frames ++ frame_of call ∷ []) other reply
-        → view.held key ≡ asked other.call reply
-    told other key reply true of e ok = absurd (unanswered issued frames view call reply truth later (subst (λ (x : Issued). IsAnsweredOk (frames ++ frame_of call ∷ []) x reply) (sym (same_Some call other e)) ok))
-    told other key reply false of e ok = truth.told other key reply e (older_ok other reply ok)
+    told : (other : Issued) (thing : PluginThing) (reply : Reply) (b : Bool) → is_of thing call ≡ b → cond b (Some call) (find (is_of thing) issued) ≡ Some other → IsAnsweredOk (frames ++ frame_of call ∷ []) other reply
+        → view.held thing ≡ asked other.call reply
+    told other thing reply true of e ok = absurd (unanswered issued frames view call reply truth later (subst (λ (x : Issued). IsAnsweredOk (frames ++ frame_of call ∷ []) x reply) (sym (same_Some call other e)) ok))
+    told other thing reply false of e ok = truth.told other thing reply e (older_ok other reply ok)
 
-    untouched : (key : Key) (b : Bool) → is_of key call ≡ b → cond b (Some call) (find (is_of key) issued) ≡ None → view.held key ≡ None
-    untouched key true of e = absurd (some_is_not_none call e)
-    untouched key false of e = truth.untouched key e
+    untouched : (thing : PluginThing) (b : Bool) → is_of thing call ≡ b → cond b (Some call) (find (is_of thing) issued) ≡ None → view.held thing ≡ None
+    untouched thing true of e = absurd (some_is_not_none call e)
+    untouched thing false of e = truth.untouched thing e
 
 -- what a delivered call adds to the frames
 abbrev pub answer_to : Issued → Kind → Reply → Frame
@@ -120,12 +120,12 @@ abbrev pub delivery_of : Issued → Kind → Reply → Delivery
 delivery_of call kind reply = record { number = call.number; call = call.call; kind = kind; reply = reply }
 
 -- a call is of one thing
-one-key : (call : Issued) (a b : Key) → is_of a call ≡ true → is_of b call ≡ true → a ≡ b
-one-key call a b p q = by (key_at call.name call.party call.call) p q
+one-thing : (call : Issued) (a b : PluginThing) → is_of a call ≡ true → is_of b call ≡ true → a ≡ b
+one-thing call a b p q = by (plugin_thing_at call.name call.party call.call) p q
   where
-    by : (o : Option Key) → is_key a o ≡ true → is_key b o ≡ true → a ≡ b
+    by : (o : Option PluginThing) → is_plugin_thing a o ≡ true → is_plugin_thing b o ≡ true → a ≡ b
     by None p q = absurd (false≢true p)
-    by (Some k) p q = (same_key-tells a k).0 p ∙ sym ((same_key-tells b k).0 q)
+    by (Some k) p q = (same_plugin_thing-tells a k).0 p ∙ sym ((same_plugin_thing-tells b k).0 q)
 
 -- the frame of a reply tells its kind and what it says
 reply-parts : (a b : Number) (p q : Party) (k l : Kind) (r s : Reply) → reply_frame a p k r ≡ reply_frame b q l s → (k ≡ l) × (r ≡ s)
@@ -145,45 +145,45 @@ asked-doing (calls.NodePublishVolume id target capability readonly) reply doing 
 asked-doing c reply doing ok rule = absurd (false≢true doing)
 
 -- a sent call that a plugin answered, and the things before and after it
-module _ (issued : List Issued) (frames : List Frame) (old new : PluginView) (call : Issued) (key : Key) (kind : Kind) (reply : Reply) where
+module _ (issued : List Issued) (frames : List Frame) (old new : PluginView) (call : Issued) (thing : PluginThing) (kind : Kind) (reply : Reply) where
   -- the call was carried out: its number wasn't spent, it was answered OK, and its thing is as it asks
-  pub record IsChanged (k : Key) : Type 0 where
-    pub same : k ≡ key
+  pub record IsChanged (k : PluginThing) : Type 0 where
+    pub same : k ≡ thing
     pub its_kind : kind ≡ kind_of call.call
-    pub fresh : old.is_spent key call.number ≡ false
+    pub fresh : old.is_spent thing call.number ≡ false
     pub ok : reply.status ≡ Ok
     pub now : new.held k ≡ asked call.call reply
-    pub spent : IsTrue (new.is_spent key call.number)
+    pub spent : IsTrue (new.is_spent thing call.number)
 
   -- what became of the things: the call's own is as it asks, where it was carried out, and all others are as they were; and what is kept
   -- was sent
   pub record IsEffect : Type 0 where
     pub among : IsAmong call issued
-    pub of : is_of key call ≡ true
+    pub of : is_of thing call ≡ true
     pub rule : reply.status ≡ Ok → IsTrue (has_id_by_rule kind reply)
-    pub kept : (other : Key) (k : Kept) → new.kept other ≡ Some k → IsAmong (reply_frame k.number (party_of other) k.kind k.reply) (frames ++ answer_to call kind reply ∷ [])
-    pub spent : (other : Key) (number : Number) → IsTrue (old.is_spent other number) → IsTrue (new.is_spent other number)
-    pub held : (k : Key) → (new.held k ≡ old.held k) ⊎ IsChanged k
+    pub kept : (other : PluginThing) (k : Kept) → new.kept other ≡ Some k → IsAmong (reply_frame k.number (party_of other) k.kind k.reply) (frames ++ answer_to call kind reply ∷ [])
+    pub spent : (other : PluginThing) (number : Number) → IsTrue (old.is_spent other number) → IsTrue (new.is_spent other number)
+    pub held : (k : PluginThing) → (new.held k ≡ old.held k) ⊎ IsChanged k
 
   -- an OK was sent before, or the call's thing is as it asks, and its number is spent
   abbrev pub IsMet : Type 0
-  IsMet = reply.status ≡ Ok → IsAmong (answer_to call kind reply) frames ⊎ ((new.held key ≡ asked call.call reply) × IsTrue (new.is_spent key call.number))
+  IsMet = reply.status ≡ Ok → IsAmong (answer_to call kind reply) frames ⊎ ((new.held thing ≡ asked call.call reply) × IsTrue (new.is_spent thing call.number))
 
   -- what was kept was sent
   abbrev pub WasKept : Type 0
-  WasKept = (other : Key) (k : Kept) → old.kept other ≡ Some k → IsAmong (reply_frame k.number (party_of other) k.kind k.reply) frames
+  WasKept = (other : PluginThing) (k : Kept) → old.kept other ≡ Some k → IsAmong (reply_frame k.number (party_of other) k.kind k.reply) frames
 
   -- what is kept was kept before, or was sent
   abbrev pub IsKeptStill : Type 0
-  IsKeptStill = (other : Key) (k : Kept) → new.kept other ≡ Some k
+  IsKeptStill = (other : PluginThing) (k : Kept) → new.kept other ≡ Some k
       → (old.kept other ≡ Some k) ⊎ IsAmong (reply_frame k.number (party_of other) k.kind k.reply) (frames ++ answer_to call kind reply ∷ [])
 
   -- so all that is kept was sent
-  kept-sent : WasKept → IsKeptStill → (other : Key) (k : Kept) → new.kept other ≡ Some k → IsAmong (reply_frame k.number (party_of other) k.kind k.reply) (frames ++ answer_to call kind reply ∷ [])
+  kept-sent : WasKept → IsKeptStill → (other : PluginThing) (k : Kept) → new.kept other ≡ Some k → IsAmong (reply_frame k.number (party_of other) k.kind k.reply) (frames ++ answer_to call kind reply ∷ [])
   kept-sent was still other k is = ⊎_elim (λ before. among-append frames (answer_to call kind reply ∷ []) _ (was other k before)) (λ now. now) (still other k is)
 
   -- a plugin carried the call out
-  pub effect-acts : WasKept → IsAmong call issued → is_of key call ≡ true → IsKeptStill → Acts key (delivery_of call kind reply) old new → IsEffect
+  pub effect-acts : WasKept → IsAmong call issued → is_of thing call ≡ true → IsKeptStill → Acts thing (delivery_of call kind reply) old new → IsEffect
   effect-acts was there of still acts =
       record {
         among = there;
@@ -191,21 +191,21 @@ module _ (issued : List Issued) (frames : List Frame) (old new : PluginView) (ca
         rule = acts.with_id;
         kept = kept-sent was still;
         spent = acts.stays_spent;
-        held = λ k. held k (same_key k key) refl (is_ok_status reply.status) refl;
+        held = λ k. held k (same_plugin_thing k thing) refl (is_ok_status reply.status) refl;
       }
     where
-      held : (k : Key) (b : Bool) → same_key k key ≡ b → (s : Bool) → is_ok_status reply.status ≡ s → (new.held k ≡ old.held k) ⊎ IsChanged k
+      held : (k : PluginThing) (b : Bool) → same_plugin_thing k thing ≡ b → (s : Bool) → is_ok_status reply.status ≡ s → (new.held k ≡ old.held k) ⊎ IsChanged k
       held k false e s t = inl (acts.others k e)
       held k true e false t =
-          let same : k ≡ key = (same_key-tells k key).0 e in
+          let same : k ≡ thing = (same_plugin_thing-tells k thing).0 e in
           inl (ap new.held same ∙ acts.refused (λ ok. false≢true (sym t ∙ ap is_ok_status ok)) ∙ ap old.held (sym same))
       held k true e true t =
-          let same : k ≡ key = (same_key-tells k key).0 e in
+          let same : k ≡ thing = (same_plugin_thing-tells k thing).0 e in
           let ok : reply.status ≡ Ok = is_ok-then reply.status t in
           inr (record { same = same; its_kind = acts.of_its_kind; fresh = acts.was_fresh; ok = ok; now = ap new.held same ∙ acts.done ok; spent = acts.spent ok })
 
   -- a plugin didn't carry it out, since its number was spent
-  pub effect-rests : WasKept → (reply.status ≡ Ok → IsTrue (has_id_by_rule kind reply)) → IsAmong call issued → is_of key call ≡ true → Rests key (delivery_of call kind reply) old new → IsEffect
+  pub effect-rests : WasKept → (reply.status ≡ Ok → IsTrue (has_id_by_rule kind reply)) → IsAmong call issued → is_of thing call ≡ true → Rests thing (delivery_of call kind reply) old new → IsEffect
   effect-rests was rule there of rests =
       record {
         among = there;
@@ -217,7 +217,7 @@ module _ (issued : List Issued) (frames : List Frame) (old new : PluginView) (ca
       }
 
   -- a plugin didn't have its volume
-  pub effect-misses : WasKept → IsAmong call issued → is_of key call ≡ true → IsKeptStill → Misses (delivery_of call kind reply) old new → IsEffect
+  pub effect-misses : WasKept → IsAmong call issued → is_of thing call ≡ true → IsKeptStill → Misses (delivery_of call kind reply) old new → IsEffect
   effect-misses was there of still misses =
       record {
         among = there;
@@ -230,7 +230,7 @@ module _ (issued : List Issued) (frames : List Frame) (old new : PluginView) (ca
 
   -- an OK is an old one, or the answer, and then the call's thing is as it asks
   pub ok-either : Truth issued frames old → IsEffect → IsMet → (other : Issued) (r : Reply) → IsAmong other issued → IsAnsweredOk (frames ++ answer_to call kind reply ∷ []) other r
-      → IsAnsweredOk frames other r ⊎ ((other ≡ call) × (r ≡ reply) × (new.held key ≡ asked call.call reply) × IsTrue (new.is_spent key call.number))
+      → IsAnsweredOk frames other r ⊎ ((other ≡ call) × (r ≡ reply) × (new.held thing ≡ asked call.call reply) × IsTrue (new.is_spent thing call.number))
   ok-either truth effect met other r among ok =
       ⊎_elim (λ there. inl (there, ok.1)) (λ e.
       let says : r ≡ reply = (reply-parts _ _ _ _ (kind_of other.call) kind r reply e).1 in
@@ -252,22 +252,22 @@ module _ (issued : List Issued) (frames : List Frame) (old new : PluginView) (ca
         numbers = truth.numbers;
         spent = λ other k r among of ok.
             ⊎_elim (λ was. effect.spent k other.number (truth.spent other k r among of was))
-            (λ now. ap (λ (x : Issued). new.is_spent k x.number) now.0 ∙ ap (λ x. new.is_spent x call.number) (its_key k other now.0 of) ∙ now.3) (ok-either truth effect met other r among ok);
+            (λ now. ap (λ (x : Issued). new.is_spent k x.number) now.0 ∙ ap (λ x. new.is_spent x call.number) (its_thing k other now.0 of) ∙ now.3) (ok-either truth effect met other r among ok);
         told = λ other k r found ok.
             ⊎_elim (λ was. stays k (λ same fresh. overtaken other r (subst (λ x. find (is_of x) issued ≡ Some other) same found) was fresh) ∙ truth.told other k r found was)
-            (λ now. ap new.held (its_key k other now.0 (find-passes (is_of k) issued other found)) ∙ now.2 ∙ ap (asked call.call) (sym now.1) ∙ ap (λ (x : Issued). asked x.call r) (sym now.0))
+            (λ now. ap new.held (its_thing k other now.0 (find-passes (is_of k) issued other found)) ∙ now.2 ∙ ap (asked call.call) (sym now.1) ∙ ap (λ (x : Issued). asked x.call r) (sym now.0))
             (ok-either truth effect met other r (among-find (is_of k) issued other found) ok);
         untouched = λ k none. stays k (λ same fresh. false≢true (sym (none_passes (is_of k) issued call none effect.among) ∙ ap (λ x. is_of x call) same ∙ effect.of)) ∙ truth.untouched k none;
       }
     where
       -- the latest call of a thing was answered OK, so an earlier one wasn't carried out
-      overtaken : (other : Issued) (r : Reply) → find (is_of key) issued ≡ Some other → IsAnsweredOk frames other r → old.is_spent key call.number ≡ false → ⊥
+      overtaken : (other : Issued) (r : Reply) → find (is_of thing) issued ≡ Some other → IsAnsweredOk frames other r → old.is_spent thing call.number ≡ false → ⊥
       overtaken other r found ok fresh =
-          let latest : IsTrue (old.is_spent key other.number) = truth.spent other key r (among-find (is_of key) issued other found) (find-passes (is_of key) issued other found) ok in
-          false≢true (sym fresh ∙ ⊎_elim (λ e. ap (λ (x : Issued). old.is_spent key x.number) e ∙ latest) (λ before. closed key call.number other.number before latest)
-          (latest-last key issued other call truth.numbers found effect.among effect.of))
+          let latest : IsTrue (old.is_spent thing other.number) = truth.spent other thing r (among-find (is_of thing) issued other found) (find-passes (is_of thing) issued other found) ok in
+          false≢true (sym fresh ∙ ⊎_elim (λ e. ap (λ (x : Issued). old.is_spent thing x.number) e ∙ latest) (λ before. closed thing call.number other.number before latest)
+          (latest-last thing issued other call truth.numbers found effect.among effect.of))
 
-      stays : (k : Key) → (k ≡ key → old.is_spent key call.number ≡ false → ⊥) → new.held k ≡ old.held k
+      stays : (k : PluginThing) → (k ≡ thing → old.is_spent thing call.number ≡ false → ⊥) → new.held k ≡ old.held k
       stays k differs = ⊎_elim (λ same. same) (λ now. absurd (differs now.same now.fresh)) (effect.held k)
 
       no_call : (c : Call) → bodies.Reply kind reply ≡ bodies.Call c → ⊥
@@ -276,5 +276,5 @@ module _ (issued : List Issued) (frames : List Frame) (old new : PluginView) (ca
       rule : (k : Kind) (r : Reply) → (k ≡ kind) × (r ≡ reply) → r.status ≡ Ok → IsTrue (has_id_by_rule k r)
       rule k r same ok = ap (λ x. has_id_by_rule x r) same.0 ∙ ap (has_id_by_rule kind) same.1 ∙ effect.rule (subst (λ (x : Reply). x.status ≡ Ok) same.1 ok)
 
-      its_key : (k : Key) (other : Issued) → other ≡ call → is_of k other ≡ true → k ≡ key
-      its_key k other same of = one-key call k key (subst (λ (x : Issued). is_of k x ≡ true) same of) effect.of
+      its_thing : (k : PluginThing) (other : Issued) → other ≡ call → is_of k other ≡ true → k ≡ thing
+      its_thing k other same of = one-thing call k thing (subst (λ (x : Issued). is_of k x ≡ true) same of) effect.of

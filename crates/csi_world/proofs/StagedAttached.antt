@@ -11,14 +11,14 @@ use Rattle.csi_types.specs.declared.call.Party.{Party}
 use Rattle.csi_types.specs.declared.call.Party.TheVariants.{Controller, Node}
 use Rattle.csi_types.specs.declared.reply.Reply.{Reply}
 use Rattle.csi_fence.specs.Public.Delivery.{PluginView}
-use Rattle.csi_types.specs.Public.Key.{Key, Attached, Staged, StagedAs, asked}
+use Rattle.csi_types.specs.Public.PluginThing.{PluginThing, Attached, Staged, StagedAs, asked}
 use Rattle.csi_lists.specs.Model.Members.{IsAmong}
 use Rattle.csi_types.specs.Model.Same.{same_text}
 use Rattle.csi_types.proofs.Equality.{same_text-tells}
 use Rattle.csi_orchestrator.specs.Model.Thing.{Issued}
 use Rattle.csi_orchestrator.specs.Model.History.{Item, Sent}
 use Rattle.csi_orchestrator.specs.Model.Readings.{issued_in, is_success_of, has_success, held}
-use Rattle.csi_world.proofs.KeyedCalls.{key_at, is_key, is_of}
+use Rattle.csi_world.proofs.CallThings.{plugin_thing_at, is_plugin_thing, is_of}
 use Rattle.csi_world.proofs.RepliesTold.{IsEffect}
 use Rattle.csi_types.specs.declared.number.Number.{Number}
 use Rattle.csi_types.specs.Model.Frame.{Frame}
@@ -51,7 +51,7 @@ abbrev pub Stands : List Item → PluginView → Type 0
 Stands items view = (id : ℕ) (node : List ℕ) (capability : Capability) → IsStanding (issued_in items) view id node capability → IsAttachedSo items id node capability
 
 -- a call that a plugin carried out
-staged_by : (name : List ℕ) (party : Party) (c : Call) (reply : Reply) (id : ℕ) (node : List ℕ) (capability : Capability) → is_key (Staged id node) (key_at name party c) ≡ true → asked c reply ≡ Some (StagedAs capability)
+staged_by : (name : List ℕ) (party : Party) (c : Call) (reply : Reply) (id : ℕ) (node : List ℕ) (capability : Capability) → is_plugin_thing (Staged id node) (plugin_thing_at name party c) ≡ true → asked c reply ≡ Some (StagedAs capability)
     → (party ≡ Node node) × (c ≡ calls.NodeStageVolume id capability)
 staged_by name (Node here) (calls.NodeStageVolume i other) reply id node capability of asks =
     let parts = and_parts (id == i) (same_text node here) of in
@@ -66,12 +66,12 @@ staged_by name Controller (calls.NodeStageVolume i other) reply id node capabili
 staged_by name party c reply id node capability of asks = absurd (false≢true of)
 
 -- whatever stands is attached so after a plugin answered a sent call, since it stood before
-pub stands-answered : (items : List Item) (frames : List Frame) (old new : PluginView) (call : Issued) (key : Key) (kind : Kind) (reply : Reply)
-    → IsEffect (issued_in items) frames old new call key kind reply
+pub stands-answered : (items : List Item) (frames : List Frame) (old new : PluginView) (call : Issued) (thing : PluginThing) (kind : Kind) (reply : Reply)
+    → IsEffect (issued_in items) frames old new call thing kind reply
     → Stands items old → Stands items new
-stands-answered items frames old new call key kind reply effect stands id node capability standing = stands id node capability (before standing)
+stands-answered items frames old new call thing kind reply effect stands id node capability standing = stands id node capability (before standing)
   where
-    carried_out : Staged id node ≡ key → old.is_spent key call.number ≡ false → asked call.call reply ≡ Some (StagedAs capability) → IsStanding (issued_in items) old id node capability
+    carried_out : Staged id node ≡ thing → old.is_spent thing call.number ≡ false → asked call.call reply ≡ Some (StagedAs capability) → IsStanding (issued_in items) old id node capability
     carried_out same fresh asks =
         let is = staged_by call.name call.party call.call reply id node capability (ap (λ k. is_of k call) same ∙ effect.of) asks in
         let whole : call ≡ staging call.name call.number id node capability = λ i. record { name = call.name; number = call.number; party = is.0 i; call = is.1 i } in

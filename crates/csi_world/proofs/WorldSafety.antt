@@ -4,7 +4,7 @@ use Rattle.std.proofs.lemmas.Bool.{and_parts, eqb-true}
 use Rattle.csi_types.specs.declared.capability.Capability.{Capability}
 use Rattle.csi_types.specs.declared.holding.Holding.{Holding}
 use Rattle.csi_types.specs.Model.Config.{Config}
-use Rattle.csi_types.specs.Public.Key.{AttachedAs, StagedAs, Attached, Staged, asked}
+use Rattle.csi_types.specs.Public.PluginThing.{AttachedAs, StagedAs, Attached, Staged, asked}
 use Rattle.csi_lists.specs.Model.Members.{IsAmong}
 use Rattle.csi_lists.proofs.Members.{each_of, among-find}
 use Rattle.csi_lists.proofs.Options.{some-from_map}
@@ -18,7 +18,7 @@ use Rattle.csi_world.specs.Model.World.{NodeAt, World, empty_world}
 use Rattle.csi_world.specs.Public.Step.{Choice, MayChooseAll, chosen_all}
 use Rattle.csi_world.specs.Model.Safe.{IsAttachedAs, IsStagedWhereAttached, Safe}
 use Rattle.csi_world.proofs.WorldView.{node_view, view_of}
-use Rattle.csi_world.proofs.KeyedCalls.{is_of}
+use Rattle.csi_world.proofs.CallThings.{is_of}
 use Rattle.csi_world.proofs.HeardReplies.{success-ok}
 use Rattle.csi_world.proofs.RecordedRight.{recorded}
 use Rattle.csi_world.proofs.PluginsReached.{IsNodeOfFrames}

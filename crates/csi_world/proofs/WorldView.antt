@@ -5,7 +5,7 @@ use Rattle.csi_types.specs.declared.number.Number.{Number}
 use Rattle.csi_types.specs.declared.call.Party.{Party}
 use Rattle.csi_types.specs.declared.call.Party.TheVariants.{Controller, Node}
 use Rattle.csi_fence.specs.Public.Delivery.{PluginView, Delivery, Acts, Rests, Misses, IsSameView, IsClosed, kept_of}
-use Rattle.csi_types.specs.Public.Key.{Key, Exists, Attached, Staged, Published}
+use Rattle.csi_types.specs.Public.PluginThing.{PluginThing, Exists, Attached, Staged, Published}
 use Rattle.csi_types.specs.Model.Number.{IsBefore}
 use Rattle.csi_types.specs.Model.Same.{same_party}
 use Rattle.csi_types.proofs.Equality.{same_party-tells}
@@ -15,7 +15,7 @@ use Rattle.csi_node.specs.Public.View as nodes
 use Rattle.csi_world.specs.Model.World.{World, node_state}
 
 -- the plugin that has a thing
-abbrev pub party_of : Key → Party
+abbrev pub party_of : PluginThing → Party
 party_of (Exists name) = Controller
 party_of (Attached id node) = Controller
 party_of (Staged id node) = Node node
@@ -23,7 +23,7 @@ party_of (Published id node target) = Node node
 
 -- a node that isn't there
 abbrev pub no_view : PluginView
-no_view = record { held = λ key. None; is_spent = λ key number. false; kept = λ key. None }
+no_view = record { held = λ thing. None; is_spent = λ thing number. false; kept = λ thing. None }
 
 -- a node by its things, if it is there
 abbrev pub node_view : List ℕ → Option NodeState → PluginView
@@ -39,9 +39,9 @@ plugin_view world (Node id) = node_view id (node_state id world)
 abbrev pub view_of : World → PluginView
 view_of world =
     record {
-      held = λ key. (plugin_view world (party_of key)).held key;
-      is_spent = λ key number. (plugin_view world (party_of key)).is_spent key number;
-      kept = λ key. (plugin_view world (party_of key)).kept key;
+      held = λ thing. (plugin_view world (party_of thing)).held thing;
+      is_spent = λ thing number. (plugin_view world (party_of thing)).is_spent thing number;
+      kept = λ thing. (plugin_view world (party_of thing)).kept thing;
     }
 
 -- the other plugins are as they were
@@ -49,19 +49,19 @@ abbrev pub ChangesOnly : Party → World → World → Type 0
 ChangesOnly party old new = (other : Party) → same_party other party ≡ false → plugin_view new other ≡ plugin_view old other
 
 -- a fact of two plugins' views, where the other plugins are as they were
-pub for_each : (P : PluginView → PluginView → Key → Type 0) (party : Party) (old new : World) → ChangesOnly party old new → (key : Key)
-    → P (plugin_view old party) (plugin_view new party) key → ((view : PluginView) → P view view key)
-    → P (plugin_view old (party_of key)) (plugin_view new (party_of key)) key
-for_each P party old new only key its same = by (same_party (party_of key) party) refl
+pub for_each : (P : PluginView → PluginView → PluginThing → Type 0) (party : Party) (old new : World) → ChangesOnly party old new → (thing : PluginThing)
+    → P (plugin_view old party) (plugin_view new party) thing → ((view : PluginView) → P view view thing)
+    → P (plugin_view old (party_of thing)) (plugin_view new (party_of thing)) thing
+for_each P party old new only thing its same = by (same_party (party_of thing) party) refl
   where
-    by : (b : Bool) → same_party (party_of key) party ≡ b → P (plugin_view old (party_of key)) (plugin_view new (party_of key)) key
-    by true e = subst (λ p. P (plugin_view old p) (plugin_view new p) key) (sym ((same_party-tells (party_of key) party).0 e)) its
-    by false e = subst (λ view. P (plugin_view old (party_of key)) view key) (sym (only (party_of key) e)) (same (plugin_view old (party_of key)))
+    by : (b : Bool) → same_party (party_of thing) party ≡ b → P (plugin_view old (party_of thing)) (plugin_view new (party_of thing)) thing
+    by true e = subst (λ p. P (plugin_view old p) (plugin_view new p) thing) (sym ((same_party-tells (party_of thing) party).0 e)) its
+    by false e = subst (λ view. P (plugin_view old (party_of thing)) view thing) (sym (only (party_of thing) e)) (same (plugin_view old (party_of thing)))
 
 -- a call that acts on a thing of one plugin, while the others are as they were, acts so in the world
-pub acts-all : (old new : World) (key : Key) (delivery : Delivery) → ChangesOnly (party_of key) old new
-    → Acts key delivery (plugin_view old (party_of key)) (plugin_view new (party_of key)) → Acts key delivery (view_of old) (view_of new)
-acts-all old new key delivery only acts =
+pub acts-all : (old new : World) (thing : PluginThing) (delivery : Delivery) → ChangesOnly (party_of thing) old new
+    → Acts thing delivery (plugin_view old (party_of thing)) (plugin_view new (party_of thing)) → Acts thing delivery (view_of old) (view_of new)
+acts-all old new thing delivery only acts =
     record {
       of_its_kind = acts.of_its_kind;
       with_id = acts.with_id;
@@ -69,25 +69,25 @@ acts-all old new key delivery only acts =
       done = acts.done;
       spent = acts.spent;
       refused = acts.refused;
-      others = λ other differs. for_each (λ before after k. after.held k ≡ before.held k) (party_of key) old new only other (acts.others other differs) (λ view. refl);
-      stays_spent = λ other number spent. for_each (λ before after k. IsTrue (before.is_spent k number) → IsTrue (after.is_spent k number)) (party_of key) old new only other (acts.stays_spent other number) (λ view h. h) spent;
-      keeps = λ other. for_each (λ before after k. (after.kept k ≡ before.kept k) ⊎ (after.kept k ≡ Some (kept_of delivery)) ⊎ (after.kept k ≡ None)) (party_of key) old new only other (acts.keeps other) (λ view. inl refl);
+      others = λ other differs. for_each (λ before after k. after.held k ≡ before.held k) (party_of thing) old new only other (acts.others other differs) (λ view. refl);
+      stays_spent = λ other number spent. for_each (λ before after k. IsTrue (before.is_spent k number) → IsTrue (after.is_spent k number)) (party_of thing) old new only other (acts.stays_spent other number) (λ view h. h) spent;
+      keeps = λ other. for_each (λ before after k. (after.kept k ≡ before.kept k) ⊎ (after.kept k ≡ Some (kept_of delivery)) ⊎ (after.kept k ≡ None)) (party_of thing) old new only other (acts.keeps other) (λ view. inl refl);
     }
 
 -- where one plugin is as it was by its things, and the others are as they were, so is the world
 pub same-all : (party : Party) (old new : World) → ChangesOnly party old new → IsSameView (plugin_view old party) (plugin_view new party) → IsSameView (view_of old) (view_of new)
 same-all party old new only same =
     record {
-      held = λ key. for_each (λ before after k. after.held k ≡ before.held k) party old new only key (same.held key) (λ view. refl);
-      is_spent = λ key number. for_each (λ before after k. after.is_spent k number ≡ before.is_spent k number) party old new only key (same.is_spent key number) (λ view. refl);
-      kept = λ key. for_each (λ before after k. after.kept k ≡ before.kept k) party old new only key (same.kept key) (λ view. refl);
+      held = λ thing. for_each (λ before after k. after.held k ≡ before.held k) party old new only thing (same.held thing) (λ view. refl);
+      is_spent = λ thing number. for_each (λ before after k. after.is_spent k number ≡ before.is_spent k number) party old new only thing (same.is_spent thing number) (λ view. refl);
+      kept = λ thing. for_each (λ before after k. after.kept k ≡ before.kept k) party old new only thing (same.kept thing) (λ view. refl);
     }
 
 -- a call that rests at one plugin, while the others are as they were, rests in the world
-pub rests-all : (old new : World) (key : Key) (delivery : Delivery) → ChangesOnly (party_of key) old new
-    → Rests key delivery (plugin_view old (party_of key)) (plugin_view new (party_of key)) → Rests key delivery (view_of old) (view_of new)
-rests-all old new key delivery only rests =
-    record { was_spent = rests.was_spent; was_kept = rests.was_kept; same = same-all (party_of key) old new only rests.same }
+pub rests-all : (old new : World) (thing : PluginThing) (delivery : Delivery) → ChangesOnly (party_of thing) old new
+    → Rests thing delivery (plugin_view old (party_of thing)) (plugin_view new (party_of thing)) → Rests thing delivery (view_of old) (view_of new)
+rests-all old new thing delivery only rests =
+    record { was_spent = rests.was_spent; was_kept = rests.was_kept; same = same-all (party_of thing) old new only rests.same }
 
 -- a call that one plugin misses, while the others are as they were, the world misses
 pub misses-all : (party : Party) (old new : World) (delivery : Delivery) → ChangesOnly party old new → Misses delivery (plugin_view old party) (plugin_view new party)
@@ -97,20 +97,20 @@ misses-all party old new delivery only misses =
       of_its_kind = misses.of_its_kind;
       with_id = misses.with_id;
       undoes = misses.undoes;
-      held = λ key. for_each (λ before after k. after.held k ≡ before.held k) party old new only key (misses.held key) (λ view. refl);
-      stays_spent = λ key number spent. for_each (λ before after k. IsTrue (before.is_spent k number) → IsTrue (after.is_spent k number)) party old new only key (misses.stays_spent key number) (λ view h. h) spent;
-      keeps = λ key. for_each (λ before after k. (after.kept k ≡ before.kept k) ⊎ (after.kept k ≡ None)) party old new only key (misses.keeps key) (λ view. inl refl);
+      held = λ thing. for_each (λ before after k. after.held k ≡ before.held k) party old new only thing (misses.held thing) (λ view. refl);
+      stays_spent = λ thing number spent. for_each (λ before after k. IsTrue (before.is_spent k number) → IsTrue (after.is_spent k number)) party old new only thing (misses.stays_spent thing number) (λ view h. h) spent;
+      keeps = λ thing. for_each (λ before after k. (after.kept k ≡ before.kept k) ⊎ (after.kept k ≡ None)) party old new only thing (misses.keeps thing) (λ view. inl refl);
     }
 
 -- what came before a spent number is spent
 pub closed-all : (controller : (world : World) → IsClosed (controllers.view_of world.controller)) → (node : (id : List ℕ) (state : NodeState) → IsClosed (nodes.view_of id state))
     → (world : World) → IsClosed (view_of world)
-closed-all controller node world = λ key earlier later before. by (party_of key) key earlier later before
+closed-all controller node world = λ thing earlier later before. by (party_of thing) thing earlier later before
   where
-    by : (party : Party) (key : Key) (earlier later : Number) → IsBefore earlier later → IsTrue ((plugin_view world party).is_spent key later) → IsTrue ((plugin_view world party).is_spent key earlier)
-    by Controller key earlier later before = controller world key earlier later before
-    by (Node id) key earlier later before = at (node_state id world)
+    by : (party : Party) (thing : PluginThing) (earlier later : Number) → IsBefore earlier later → IsTrue ((plugin_view world party).is_spent thing later) → IsTrue ((plugin_view world party).is_spent thing earlier)
+    by Controller thing earlier later before = controller world thing earlier later before
+    by (Node id) thing earlier later before = at (node_state id world)
       where
-        at : (o : Option NodeState) → IsTrue ((node_view id o).is_spent key later) → IsTrue ((node_view id o).is_spent key earlier)
+        at : (o : Option NodeState) → IsTrue ((node_view id o).is_spent thing later) → IsTrue ((node_view id o).is_spent thing earlier)
         at None h = h
-        at (Some state) h = node id state key earlier later before h
+        at (Some state) h = node id state thing earlier later before h

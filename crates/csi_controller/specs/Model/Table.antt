@@ -3,6 +3,7 @@
 -- tables and what they say of calls that come again. The limits and the details are this profile's own.
 use Rattle.std.specs.Prelude.{ℕ, ◌+◌, ◌^◌, ◌==◌, List, [], ◌∷◌, ◌++◌, map, filter, find, length, Bool, true, false, not, ◌&&◌, ◌||◌, nat_lt, nat_le, Option, Some, None, if◌then◌else◌, codes}
 use Rattle.std.specs.List.{list_all, list_any}
+use Rattle.csi_types.specs.declared.rows.TheConstants.{MAX_ROWS}
 use Rattle.csi_types.specs.declared.capability.Capability.{Capability}
 use Rattle.csi_types.specs.declared.holding.Holding.{Holding}
 use Rattle.csi_types.specs.declared.call.Call.{Call}
@@ -53,7 +54,7 @@ serves volume required limit capabilities =
 abbrev pub create_new : Config → ControllerState → List ℕ → ℕ → ℕ → List Capability → Outcome
 create_new config state name required limit capabilities =
     if nat_lt config.greatest (capacity_wanted required limit) then refused OutOfRange (codes "range")
-    else if nat_le 4096 (length state.volumes) || nat_le (2 ^ 64) state.next_id then refused ResourceExhausted (codes "volumes")
+    else if nat_le MAX_ROWS (length state.volumes) || nat_le (2 ^ 64) state.next_id then refused ResourceExhausted (codes "volumes")
     else record { reply = ok_reply_with state.next_id; change = Makes name (capacity_wanted required limit) capabilities }
 
 -- good arguments: by the volume of the name, if there is one

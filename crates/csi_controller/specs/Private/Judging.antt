@@ -1,5 +1,6 @@
 -- Which of the rows that a record is to be made of is the first that no record has there. This profile's own.
 use Rattle.std.specs.Prelude.{ℕ, Bool, ◌&&◌, nat_le, nat_lt, Option, Some, None, if◌then◌else◌}
+use Rattle.csi_types.specs.declared.rows.TheConstants.{MAX_ROWS}
 use Rattle.csi_controller.specs.declared.row.ControllerRow.{ControllerRow}
 use Rattle.csi_controller.specs.Private.SoundRow.{is_sound_row}
 use Rattle.csi_controller.specs.Public.WithoutSession.{stays_in}
@@ -10,7 +11,7 @@ is_current_row session row = nat_le row.last.session session && stays_in session
 
 -- the row may follow so many others, the last of which has this id (0 where there is none), whatever their names are
 abbrev pub may_follow : ℕ → ℕ → ℕ → ControllerRow → Bool
-may_follow next_id count last row = nat_lt count 4096 && nat_lt last row.id && is_sound_row next_id row
+may_follow next_id count last row = nat_lt count MAX_ROWS && nat_lt last row.id && is_sound_row next_id row
 
 -- the earlier of two places, of which neither, one or both may be there
 abbrev pub earlier_of : Option ℕ → Option ℕ → Option ℕ

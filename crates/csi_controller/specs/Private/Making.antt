@@ -1,5 +1,6 @@
 -- A volume that is made: what a new name is answered, and what a core is then. Only private functions cite it.
 use Rattle.std.specs.Prelude.{◌≡◌, ℕ, ◌<◌, ◌^◌, List, [], ◌∷◌, ◌++◌, Option, Some, None, true, ◌||◌, nat_le, nat_lt, if◌then◌else◌, codes, ◌+◌, ◌%◌}
+use Rattle.csi_types.specs.declared.rows.TheConstants.{MAX_ROWS}
 use Rattle.csi_types.specs.declared.capability.Capability.{Capability}
 use Rattle.csi_types.specs.declared.number.Number.{Number}
 use Rattle.csi_fence.specs.declared.answer.Answer.{Answer}
@@ -28,7 +29,7 @@ made_answer id place = record { kind = CreateVolume; reply = ok_reply_with id; r
 abbrev pub new_line : ℕ → ℕ → ℕ → List ℕ → ℕ → ℕ → List Capability → Outcome
 new_line greatest count next name required limit capabilities =
     if nat_lt greatest (capacity_wanted required limit) then refused OutOfRange (codes "range")
-    else if nat_le 4096 count || nat_le (2 ^ 64) next then refused ResourceExhausted (codes "volumes")
+    else if nat_le MAX_ROWS count || nat_le (2 ^ 64) next then refused ResourceExhausted (codes "volumes")
     else record { reply = ok_reply_with next; change = Makes name (capacity_wanted required limit) capabilities }
 
 -- the same, by what is wrong with the arguments, if anything is

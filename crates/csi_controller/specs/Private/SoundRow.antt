@@ -1,6 +1,7 @@
 -- The rules of one row of a controller's record, as tests. This profile's own.
 use Rattle.std.specs.Prelude.{ℕ, ◌==◌, List, [], ◌∷◌, length, Bool, true, not, ◌&&◌, ◌||◌, nat_le, nat_lt}
 use Rattle.std.specs.List.{list_all}
+use Rattle.csi_types.specs.declared.capacity.TheConstants.{MAX_CAPACITY}
 use Rattle.csi_types.specs.declared.call.Party.TheVariants.{Controller}
 use Rattle.csi_types.specs.declared.capability.Capability.{Capability}
 use Rattle.csi_types.specs.Public.Call.{is_party_of}
@@ -13,7 +14,7 @@ use Rattle.csi_controller.specs.Public.Core.{volume_holding, next_shown}
 
 -- the id is below the next one, and the capacity from 1 to the greatest that a call may name
 abbrev pub has_fit_numbers : ℕ → ControllerRow → Bool
-has_fit_numbers next_id row = nat_lt row.id (next_shown next_id) && nat_le 1 row.capacity && nat_le row.capacity 9223372036854775807
+has_fit_numbers next_id row = nat_lt row.id (next_shown next_id) && nat_le 1 row.capacity && nat_le row.capacity MAX_CAPACITY
 
 -- the kept reply is one that a controller gives
 abbrev pub has_own_reply : ControllerRow → Bool

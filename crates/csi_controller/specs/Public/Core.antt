@@ -2,6 +2,7 @@
 use Rattle.std.specs.Prelude.{◌≡◌, ℕ, ◌<◌, ◌≤◌, ◌^◌, ◌==◌, List, [], ◌∷◌, length, true, false, if◌then◌else◌, IsTrue}
 use Rattle.std.specs.List.{AllByRecursion}
 use Rattle.csi_lists.specs.Public.Places.{AtMostOne}
+use Rattle.csi_types.specs.declared.rows.TheConstants.{MAX_ROWS}
 use Rattle.csi_types.specs.declared.holding.Holding.{Holding}
 use Rattle.csi_types.specs.declared.number.Number.{Number}
 use Rattle.csi_types.specs.declared.call.Call.{Call}
@@ -55,7 +56,7 @@ pub record IsSoundRow (next_id : ℕ) (row : ControllerRow) : Type 0 where
 
 -- the rules of all rows
 pub record AreSoundRows (next_id : ℕ) (rows : List ControllerRow) : Type 0 where
-  pub limit : length rows ≤ 4096
+  pub limit : length rows ≤ MAX_ROWS
   pub each : AllByRecursion (IsSoundRow next_id) rows
   pub rising : AreRisingRows rows
   pub names : (name : List ℕ) → AtMostOne (λ (row : ControllerRow). same_text row.name name) rows

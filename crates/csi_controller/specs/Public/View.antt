@@ -11,7 +11,7 @@ use Rattle.csi_types.specs.Model.Config.{Config}
 use Rattle.csi_fence.specs.Public.Delivery.{PluginView, view_by, IsDelivered, IsEmpty, IsClosed}
 use Rattle.csi_fence.specs.Model.Fence.{Kept}
 use Rattle.csi_types.specs.Model.Frame.{Frame}
-use Rattle.csi_types.specs.Public.Key.{Key, Exists, Attached, Staged, Published, Form, HasId, AttachedAs}
+use Rattle.csi_types.specs.Public.PluginThing.{PluginThing, Exists, Attached, Staged, Published, ThingForm, HasId, AttachedAs}
 use Rattle.csi_types.specs.Model.Replies.{call_frame}
 use Rattle.csi_types.specs.Model.Same.{same_text}
 use Rattle.csi_controller.specs.Model.State.{Volume, ControllerState, empty_controller, volume_named, holding_at}
@@ -24,14 +24,14 @@ abbrev pub live_named : List ℕ → ControllerState → Option Volume
 live_named name state = find (λ volume. same_text volume.name name && volume.is_live) state.volumes
 
 -- how a thing is in a controller; what is staged and published is the nodes'
-abbrev pub held_in : ControllerState → Key → Option Form
+abbrev pub held_in : ControllerState → PluginThing → Option ThingForm
 held_in state (Exists name) = option_map (λ volume. HasId volume.id) (live_named name state)
 held_in state (Attached id node) = option_map (λ holding. AttachedAs holding.capability holding.readonly) (holding_at id node state)
 held_in state (Staged id node) = None
 held_in state (Published id node target) = None
 
 -- what is kept of the last call that was answered for a thing's volume, deleted or not, unless it is forgotten
-abbrev pub kept_in_row : ControllerState → Key → Option Kept
+abbrev pub kept_in_row : ControllerState → PluginThing → Option Kept
 kept_in_row state (Exists name) = option_map (λ volume. volume.kept) (volume_named name state)
 kept_in_row state (Attached id node) = option_map (λ volume. volume.kept) (volume_with_id id state)
 kept_in_row state (Staged id node) = None
@@ -42,23 +42,23 @@ abbrev pub view_of : ControllerState → PluginView
 view_of state = view_by state.session (held_in state) (kept_in_row state)
 
 -- the thing that a call to the controller does or undoes, where the controller has the call's volume
-abbrev pub key_of : ControllerState → Call → Option Key
-key_of state (calls.CreateVolume name required limit capabilities) = Some (Exists name)
-key_of state (calls.DeleteVolume id) = option_map (λ volume. Exists volume.name) (volume_with_id id state)
-key_of state (calls.ControllerPublishVolume id node capability readonly) = option_map (λ volume. Attached id node) (volume_with_id id state)
-key_of state (calls.ControllerUnpublishVolume id node) = option_map (λ volume. Attached id node) (volume_with_id id state)
-key_of state (calls.NodeStageVolume id capability) = None
-key_of state (calls.NodeUnstageVolume id) = None
-key_of state (calls.NodePublishVolume id target capability readonly) = None
-key_of state (calls.NodeUnpublishVolume id target) = None
+abbrev pub thing_of : ControllerState → Call → Option PluginThing
+thing_of state (calls.CreateVolume name required limit capabilities) = Some (Exists name)
+thing_of state (calls.DeleteVolume id) = option_map (λ volume. Exists volume.name) (volume_with_id id state)
+thing_of state (calls.ControllerPublishVolume id node capability readonly) = option_map (λ volume. Attached id node) (volume_with_id id state)
+thing_of state (calls.ControllerUnpublishVolume id node) = option_map (λ volume. Attached id node) (volume_with_id id state)
+thing_of state (calls.NodeStageVolume id capability) = None
+thing_of state (calls.NodeUnstageVolume id) = None
+thing_of state (calls.NodePublishVolume id target capability readonly) = None
+thing_of state (calls.NodeUnpublishVolume id target) = None
 
 -- a call is answered by the thing that it has in the state before; or by none, and then its volume isn't there afterwards
-abbrev pub IsThingOf : ControllerState → ControllerState → Call → Option Key → Type 0
-IsThingOf old new call thing = (thing ≡ key_of old call) ⊎ ((thing ≡ None) × (key_of new call ≡ None))
+abbrev pub IsThingOf : ControllerState → ControllerState → Call → Option PluginThing → Type 0
+IsThingOf old new call thing = (thing ≡ thing_of old call) ⊎ ((thing ≡ None) × (thing_of new call ≡ None))
 
 -- a call is delivered to a controller
 pub record IsDeliveredTo (config : Config) (state : ControllerState) (number : Number) (call : Call) : Type 0 where
-  pub thing : Option Key
+  pub thing : Option PluginThing
   pub is_thing : IsThingOf state (fenced config state (call_frame number Controller call)).state call thing
   pub is_delivered : IsDelivered Controller number call thing (view_of state) (view_of (fenced config state (call_frame number Controller call)).state)
       (fenced config state (call_frame number Controller call)).reply

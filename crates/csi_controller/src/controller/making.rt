@@ -15,11 +15,8 @@ use super::line::{Line, refused};
 use super::new_row::new_row;
 use super::replies::{answer_of, done};
 use csi_fence::{Answer, CoreFault};
-use csi_types::{Call, CapabilitiesRef, Kind, Number, Status, VolumeId, wanted_capacity};
+use csi_types::{Call, CapabilitiesRef, Kind, MAX_ROWS, Number, Status, VolumeId, wanted_capacity};
 use std::alloc::Global;
-
-/// The most rows that a controller has.
-const MAX_ROWS: usize = 4096;
 
 /// The answer that the volume of this id is there, by a row that was made at this place.
 pub fn made(alloc: Global, id: VolumeId, place: usize) -> Answer

@@ -19,6 +19,7 @@ use Rattle.csi_types.specs.declared.reply.Reply.{Reply}
 use Rattle.csi_types.specs.declared.frame.Body.{Body}
 use Rattle.csi_types.specs.declared.frame.Body.TheVariants as bodies
 use Rattle.csi_types.specs.Model.Frame.{Frame}
+use Rattle.csi_frames.specs.declared.body.TheConstants.{MAX_BODY}
 use Rattle.csi_frames.specs.declared.fault.FaultKind.{FaultKind}
 use Rattle.csi_frames.specs.declared.fault.FaultKind.TheVariants.{Short, TooLong, BadVersion, BadKind, BadParty, BadText, BadMode, BadAccess, BadFlag, BadStatus, BadId, BadCount, LengthDiffers}
 use Rattle.csi_frames.specs.declared.fault.FrameFault.{FrameFault}
@@ -264,6 +265,6 @@ placed_frame size (Err stop) = fault stop.kind (size - stop.left)
 unfoldable pub first_frame : List ℕ → Result (Frame × ℕ) FrameFault
 first_frame bytes =
     if nat_lt (length bytes) 4 then fault Short (length bytes)
-    else if nat_lt 1280 (big_number 4 bytes) then fault TooLong 0
+    else if nat_lt MAX_BODY (big_number 4 bytes) then fault TooLong 0
     else if nat_lt (length bytes) (4 + big_number 4 bytes) then fault Short (length bytes)
     else placed_frame (4 + big_number 4 bytes) (whole_frame (frame_at (take (big_number 4 bytes) (drop 4 bytes))))

@@ -2,6 +2,7 @@
 -- "NodeStageVolume", "NodeUnstageVolume", "NodePublishVolume" and "NodeUnpublishVolume", their error tables
 -- and what they say of calls that come again. The limits and the details are this profile's own.
 use Rattle.std.specs.Prelude.{ℕ, ◌==◌, List, [], ◌∷◌, ◌++◌, filter, length, Bool, false, not, ◌&&◌, nat_le, Option, Some, None, is_none, if◌then◌else◌, codes}
+use Rattle.csi_types.specs.declared.rows.TheConstants.{MAX_ROWS}
 use Rattle.csi_types.specs.declared.capability.Capability.{Capability}
 use Rattle.csi_types.specs.declared.call.Call.{Call}
 use Rattle.csi_types.specs.declared.call.Call.TheVariants as calls
@@ -102,7 +103,7 @@ lifecycle_row state (calls.ControllerUnpublishVolume id node) = refused Unimplem
 
 -- the call's volume has no row, and there is no room for one
 abbrev pub has_no_room : NodeState → Call → Bool
-has_no_room state call = is_none (row_for call state) && nat_le 4096 (length state.rows)
+has_no_room state call = is_none (row_for call state) && nat_le MAX_ROWS (length state.rows)
 
 -- the table
 abbrev pub node_row : NodeState → Call → Outcome

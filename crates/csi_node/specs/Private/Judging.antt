@@ -1,5 +1,6 @@
 -- Which of the rows that a record is to be made of is the first that no record has there. This profile's own.
 use Rattle.std.specs.Prelude.{ℕ, ◌==◌, Option, Some, None, is_some, Bool, true, ◌&&◌, ◌||◌, nat_lt, nat_le}
+use Rattle.csi_types.specs.declared.rows.TheConstants.{MAX_ROWS}
 use Rattle.csi_node.specs.Model.OneRow.{NodeRowShown}
 use Rattle.csi_node.specs.Private.SoundRow.{is_sound_row}
 
@@ -10,4 +11,4 @@ is_current (Some session) row = nat_le row.kept.number.session session && (is_so
 
 -- the row may follow so many others, the last of which has this id (0 where there is none)
 abbrev pub may_follow : Option ℕ → ℕ → ℕ → NodeRowShown → Bool
-may_follow session count last row = nat_lt count 4096 && nat_lt last row.id && is_sound_row row && is_current session row
+may_follow session count last row = nat_lt count MAX_ROWS && nat_lt last row.id && is_sound_row row && is_current session row

@@ -1,6 +1,7 @@
 -- Worked examples of the node's table and fence, which the checker computes, and the law of a full node.
 use Rattle.std.specs.Prelude.{◌≡◌, ◌≤◌, ℕ, List, [], ◌∷◌, ◌++◌, map, length, Bool, true, false, Option, Some, None, codes, replicate}
 use Rattle.std.specs.List.{range_with_len}
+use Rattle.csi_types.specs.declared.rows.TheConstants.{MAX_ROWS}
 use Rattle.csi_types.specs.declared.number.Number.{Number}
 use Rattle.csi_types.specs.declared.mode.Mode.{Mode}
 use Rattle.csi_types.specs.declared.mode.Mode.TheVariants.{SingleNodeWriter, MultiNodeMultiWriter}
@@ -136,7 +137,7 @@ ForgottenRows = (call : Call) → ForgottenRow call
 -- answer again
 abbrev pub FullNodeRefuses : Type 0
 FullNodeRefuses =
-    (node : List ℕ) (state : NodeState) (call_number : Number) (call : Call) → call_number.session ≡ state.session → length state.rows ≡ 4096 → row_for call state ≡ None
+    (node : List ℕ) (state : NodeState) (call_number : Number) (call : Call) → call_number.session ≡ state.session → length state.rows ≡ MAX_ROWS → row_for call state ≡ None
     → fenced node state (call_frame call_number (Node node) call)
     ≡ record { reply = Some (reply_frame call_number (Node node) (kind_of call) (plain_reply ResourceExhausted (codes "rows"))); state = state }
 
@@ -144,7 +145,7 @@ FullNodeRefuses =
 -- volume alone then
 abbrev pub FullNodeForgets : Type 0
 FullNodeForgets =
-    (rows : List AnsweredVolume) (id : ℕ) → length rows ≡ 4096
+    (rows : List AnsweredVolume) (id : ℕ) → length rows ≡ MAX_ROWS
     → fenced (codes "n1") (record { rows = rows; session = 1; staged = []; published = [] }) (second_session (NodeUnstageVolume id))
     ≡ record {
       reply = Some (reply_frame (record { session = 2; call = 1 }) (Node (codes "n1")) kinds.NodeUnstageVolume ok_reply);

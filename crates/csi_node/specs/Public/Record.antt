@@ -1,5 +1,6 @@
 -- A node's record as a value, and the rules that it keeps. This profile's own.
 use Rattle.std.specs.Prelude.{◌≡◌, ℕ, ◌<◌, ◌≤◌, List, map, length, slice_index_or, All, Bool, false, None}
+use Rattle.csi_types.specs.declared.rows.TheConstants.{MAX_ROWS}
 use Rattle.csi_types.specs.declared.call.Party.{Party}
 use Rattle.csi_types.specs.declared.call.Party.TheVariants.{Controller, Node}
 use Rattle.csi_types.specs.declared.frame.Body.{Body}
@@ -19,7 +20,7 @@ row_id_at rows place = slice_index_or (ids rows) place 0
 -- the rules of a record: its rows stand by rising id, at most 4,096, and each keeps the rules of a row
 pub record AreSoundRows (rows : List NodeRowShown) : Type 0 where
   pub rising : (i j : ℕ) → i < j → j < length rows → row_id_at rows i < row_id_at rows j
-  pub limit : length rows ≤ 4096
+  pub limit : length rows ≤ MAX_ROWS
   pub each : All IsSoundRow rows
 
 -- a row's last call is of no later session than the greatest that came; and of that one, where the volume isn't staged

@@ -10,7 +10,7 @@ use Rattle.csi_types.specs.Public.Call.{is_party_of}
 use Rattle.csi_fence.specs.Public.Delivery.{PluginView, view_by, IsDelivered, IsEmpty, IsClosed}
 use Rattle.csi_fence.specs.Model.Fence.{Kept}
 use Rattle.csi_types.specs.Model.Frame.{Frame}
-use Rattle.csi_types.specs.Public.Key.{Key, Exists, Attached, Staged, Published, Form, StagedAs, PublishedAs}
+use Rattle.csi_types.specs.Public.PluginThing.{PluginThing, Exists, Attached, Staged, Published, ThingForm, StagedAs, PublishedAs}
 use Rattle.csi_lists.specs.Model.Members.{IsAmong}
 use Rattle.csi_types.specs.Model.Replies.{call_frame}
 use Rattle.csi_types.specs.Model.Same.{same_text}
@@ -19,7 +19,7 @@ use Rattle.csi_node.specs.Model.Fenced.{fenced}
 use Rattle.csi_node.specs.Public.Fenced.{after_frames}
 
 -- how a thing is on this node; volumes and where they are attached are the controller's
-abbrev pub held_on : List ℕ → NodeState → Key → Option Form
+abbrev pub held_on : List ℕ → NodeState → PluginThing → Option ThingForm
 held_on node state (Exists name) = None
 held_on node state (Attached id there) = None
 held_on node state (Staged id there) = if same_text there node then option_map StagedAs (staged_of id state) else None
@@ -31,7 +31,7 @@ abbrev pub kept_in_row : ℕ → NodeState → Option Kept
 kept_in_row id state = option_map (λ row. row.kept) (row_with_id id state)
 
 -- what is kept of the last call that was answered for a thing's volume
-abbrev pub kept_on : List ℕ → NodeState → Key → Option Kept
+abbrev pub kept_on : List ℕ → NodeState → PluginThing → Option Kept
 kept_on node state (Exists name) = None
 kept_on node state (Attached id there) = None
 kept_on node state (Staged id there) = if same_text there node then kept_in_row id state else None
@@ -42,20 +42,20 @@ abbrev pub view_of : List ℕ → NodeState → PluginView
 view_of node state = view_by state.session (held_on node state) (kept_on node state)
 
 -- the thing that a call to this node does or undoes
-abbrev pub key_of : List ℕ → Call → Option Key
-key_of node (calls.CreateVolume name required limit capabilities) = None
-key_of node (calls.DeleteVolume id) = None
-key_of node (calls.ControllerPublishVolume id there capability readonly) = None
-key_of node (calls.ControllerUnpublishVolume id there) = None
-key_of node (calls.NodeStageVolume id capability) = Some (Staged id node)
-key_of node (calls.NodeUnstageVolume id) = Some (Staged id node)
-key_of node (calls.NodePublishVolume id target capability readonly) = Some (Published id node target)
-key_of node (calls.NodeUnpublishVolume id target) = Some (Published id node target)
+abbrev pub thing_of : List ℕ → Call → Option PluginThing
+thing_of node (calls.CreateVolume name required limit capabilities) = None
+thing_of node (calls.DeleteVolume id) = None
+thing_of node (calls.ControllerPublishVolume id there capability readonly) = None
+thing_of node (calls.ControllerUnpublishVolume id there) = None
+thing_of node (calls.NodeStageVolume id capability) = Some (Staged id node)
+thing_of node (calls.NodeUnstageVolume id) = Some (Staged id node)
+thing_of node (calls.NodePublishVolume id target capability readonly) = Some (Published id node target)
+thing_of node (calls.NodeUnpublishVolume id target) = Some (Published id node target)
 
 -- a call is delivered to a node
 abbrev pub IsDeliveredTo : List ℕ → NodeState → Number → Call → Type 0
 IsDeliveredTo node state number call =
-    IsDelivered (Node node) number call (key_of node call) (view_of node state) (view_of node (fenced node state (call_frame number (Node node) call)).state)
+    IsDelivered (Node node) number call (thing_of node call) (view_of node state) (view_of node (fenced node state (call_frame number (Node node) call)).state)
     (fenced node state (call_frame number (Node node) call)).reply
 
 -- in every state that frames lead to, whichever call comes next: it is delivered as the laws say, and each staged volume

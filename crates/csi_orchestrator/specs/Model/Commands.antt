@@ -2,6 +2,7 @@
 -- what they allow (CSI's spec.md, "CreateVolume", `AccessMode`).
 use Rattle.std.specs.Prelude.{ℕ, ◌+◌, ◌^◌, List, filter, filter_map, length, Bool, false, not, ◌&&◌, ◌||◌, nat_lt, nat_le, Option, Some, None, is_some, is_none, if◌then◌else◌}
 use Rattle.std.specs.List.{list_any}
+use Rattle.csi_types.specs.declared.rows.TheConstants.{MAX_ROWS}
 use Rattle.csi_types.specs.declared.capability.Capability.{Capability}
 use Rattle.csi_types.specs.declared.number.Number.{Number}
 use Rattle.csi_types.specs.Model.Same.{same_text, same_flag, same_capability, has_capability}
@@ -28,7 +29,7 @@ abbrev pub create_fault : History → List ℕ → Option OrchFault
 create_fault history name =
     if is_some (id_of history name) || is_some (goal_of history name) then Some faults.NameUsed
     else if is_session_spent history then Some faults.NumbersSpent
-    else if not (has_row history name) && nat_le 4096 (length (names_of history)) then Some faults.Full
+    else if not (has_row history name) && nat_le MAX_ROWS (length (names_of history)) then Some faults.Full
     else None
 
 -- the capability is one that the volume was to be created with

@@ -1,6 +1,7 @@
 -- Why a row refuses what is asked of its volume: the first reason that holds. This profile's own.
 use Rattle.std.specs.Prelude.{ℕ, List, length, count_by, Bool, false, not, ◌&&◌, ◌||◌, nat_le, Option, Some, None, is_some, is_none, if◌then◌else◌}
 use Rattle.std.specs.List.{list_any}
+use Rattle.csi_types.specs.declared.rows.TheConstants.{MAX_ROWS}
 use Rattle.csi_types.specs.declared.number.Number.{Number}
 use Rattle.csi_types.specs.Model.Same.{same_text, has_capability}
 use Rattle.csi_types.specs.Model.Sharing.{allows_one_target}
@@ -22,7 +23,7 @@ is_last last = is_none (next_number last)
 
 -- a create: why the first of a name is refused, and why another is
 abbrev pub first_fault : Number → List RowShown → Option OrchFault
-first_fault last rows = if is_last last then Some faults.NumbersSpent else if nat_le 4096 (length rows) then Some faults.Full else None
+first_fault last rows = if is_last last then Some faults.NumbersSpent else if nat_le MAX_ROWS (length rows) then Some faults.Full else None
 
 -- why a create of a name that has a row is refused
 abbrev pub again_fault : Number → RowShown → Option OrchFault

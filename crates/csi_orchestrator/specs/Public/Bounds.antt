@@ -1,6 +1,7 @@
 -- How much an orchestrator keeps at most. This profile's own.
 use Rattle.std.specs.Prelude.{◌≡◌, ℕ, ◌+◌, ◌*◌, ◌≤◌, List, length, true}
 use Rattle.std.specs.List.{AllByRecursion, list_any}
+use Rattle.csi_types.specs.declared.rows.TheConstants.{MAX_ROWS}
 use Rattle.csi_types.specs.Model.Same.{same_text}
 use Rattle.csi_orchestrator.specs.Model.Shown.{NodeEntryShown, RowShown, OrchestratorParts}
 
@@ -14,7 +15,7 @@ HasFewNodes nodes row = length row.node_entries ≤ length nodes
 
 -- in all: at most 4,096 names, and for each of them an entry for each node at most, with 16 targets at most
 pub record IsBounded (parts : OrchestratorParts) : Type 0 where
-  pub rows : length parts.rows ≤ 4096
+  pub rows : length parts.rows ≤ MAX_ROWS
   pub nodes : AllByRecursion (HasFewNodes parts.nodes) parts.rows
   pub targets : AllByRecursion (λ (row : RowShown). AllByRecursion HasFewTargets row.node_entries) parts.rows
 
@@ -29,7 +30,7 @@ AreWithin nodes row = AllByRecursion (IsEntryWithin nodes) row.node_entries
 
 -- what an orchestrator's type keeps of this
 pub record IsWithin (parts : OrchestratorParts) : Type 0 where
-  pub rows : length parts.rows ≤ 4096
+  pub rows : length parts.rows ≤ MAX_ROWS
   pub entries : AllByRecursion (AreWithin parts.nodes) parts.rows
 
 -- the calls that are noted: at most one more than twice as many as there are rows

@@ -1,4 +1,4 @@
--- A node's plugin that is served: what a step changed of its record's parts, and what it answers. This profile's own.
+-- A node's plugin that is served: what an answer changed of its record's parts, and what it answers. This profile's own.
 use Rattle.std.specs.Prelude.{ℕ, if◌then◌else◌, List, [], map, filter, Some, is_none}
 use Rattle.csi_types.specs.declared.number.Number.{Number}
 use Rattle.csi_fence.specs.Model.Fence.{begins}

@@ -1,4 +1,4 @@
--- The plugins that are served: the parts of their records in the present version, what a step changed of them, and how they answer.
+-- The plugins that are served: the parts of their records in the present version, what an answer changed of them, and how they answer.
 -- This profile's own.
 use Rattle.std.specs.Prelude.{ℕ, not, if◌then◌else◌, List, [], map, filter}
 use Rattle.csi_types.specs.declared.number.Number.{Number}

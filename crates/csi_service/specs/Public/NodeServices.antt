@@ -1,4 +1,4 @@
--- A node's plugin that is served: what a step changed of its record's parts, and what it answers. This profile's own.
+-- A node's plugin that is served: what an answer changed of its record's parts, and what it answers. This profile's own.
 use Rattle.std.specs.Prelude.{◌≡◌, ℕ, List, [], ◌∷◌, ◌++◌, slice_get, Option, Some, None, option_map, IfSome}
 use Rattle.std.specs.List.{AllByRecursion}
 use Rattle.csi_types.specs.declared.number.Number.{Number}
@@ -33,12 +33,12 @@ row_at (Some place) rows = slice_get rows place
 abbrev pub row_id : Option ℕ → List NodeRowShown → Option ℕ
 row_id place rows = option_map (λ row. row.id) (row_at place rows)
 
--- what a step changed, as the node has it now: the head, where a session began; the rows that were forgotten are taken out; and then one
+-- what an answer changed, as the node has it now: the head, where a session began; the rows that were forgotten are taken out; and then one
 -- row is put in
 abbrev pub node_changes_of : Changed → NodeParts → List StoredChange
 node_changes_of changed node = head_change changed.new_head (head_of_node node) ++ take_all changed.forgotten.items ++ node_row_change (row_at changed.row (parts node.rows))
 
--- the same, of the last step that answered
+-- the same, of its last answer
 abbrev pub node_service_changes : NodeService → List StoredChange
 node_service_changes service = node_changes_of service.changed service.node
 
@@ -46,7 +46,7 @@ node_service_changes service = node_changes_of service.changed service.node
 abbrev pub last_in_node : NodeParts → ℕ → Option Number
 last_in_node node id = option_map (λ row. row.kept.number) (row_by_id id (parts node.rows))
 
--- what a step tells as changed is other than it was
+-- what an answer tells as changed is other than it was
 abbrev pub NodeDiffers : Changed → NodeParts → NodeParts → Type 0
 NodeDiffers changed old new = AllDiffer changed (row_id changed.row (parts new.rows)) old.session new.session (last_in_node old) (last_in_node new)
 
@@ -58,7 +58,7 @@ AreFitNodeRows rows = AllByRecursion (IsAnsweredRow present) rows
 abbrev pub IsNamedNodeRowFit : Option ℕ → List NodeRowShown → Type 0
 IsNamedNodeRowFit place rows = IfSome (row_at place rows) (IsAnsweredRow present)
 
--- where all that the old rows have is, and what a step changed, all that the new rows have is
+-- where all that the old rows have is, and what an answer changed, all that the new rows have is
 abbrev pub NodeStaysFit : NodeService → NodeService → Type 0
 NodeStaysFit old new = AreFitNodeRows (parts old.node.rows) → IsNamedNodeRowFit new.changed.row (parts new.node.rows) → AreFitNodeRows (parts new.node.rows)
 

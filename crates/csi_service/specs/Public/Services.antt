@@ -1,4 +1,4 @@
--- The plugins that are served: the parts of their records in the present version, what a step changed of them, and how they answer.
+-- The plugins that are served: the parts of their records in the present version, what an answer changed of them, and how they answer.
 -- This profile's own.
 use Rattle.std.specs.Prelude.{◌≡◌, ℕ, List, [], ◌∷◌, ◌++◌, map, slice_get, Option, Some, None, option_map, IfSome}
 use Rattle.std.specs.List.{AllByRecursion}
@@ -46,13 +46,13 @@ row_at (Some place) rows = slice_get rows place
 abbrev pub row_id : Option ℕ → List ControllerRow → Option ℕ
 row_id place rows = option_map (λ row. row.id) (row_at place rows)
 
--- what a step changed, as the controller has it now: the head, where a volume was made or a session began; the rows that were
+-- what an answer changed, as the controller has it now: the head, where a volume was made or a session began; the rows that were
 -- forgotten are taken out; and then one row is put in
 abbrev pub controller_changes_of : Changed → ControllerParts → List StoredChange
 controller_changes_of changed controller =
     head_change changed.new_head (head_of_controller controller) ++ take_all changed.forgotten.items ++ controller_row_change (row_at changed.row controller.rows)
 
--- the same, of the last step that answered
+-- the same, of its last answer
 abbrev pub controller_service_changes : ControllerService → List StoredChange
 controller_service_changes service = controller_changes_of service.changed service.controller
 
@@ -60,7 +60,7 @@ controller_service_changes service = controller_changes_of service.changed servi
 abbrev pub last_in_controller : ControllerParts → ℕ → Option Number
 last_in_controller controller id = option_map (λ row. row.last) (row_by_id id controller.rows)
 
--- what a step tells as changed is other than it was
+-- what an answer tells as changed is other than it was
 abbrev pub ControllerDiffers : Changed → ControllerParts → ControllerParts → Type 0
 ControllerDiffers changed old new = AllDiffer {H = ℕ × ℕ} changed (row_id changed.row new.rows) (old.next_id, old.session) (new.next_id, new.session) (last_in_controller old) (last_in_controller new)
 
@@ -72,7 +72,7 @@ AreFitControllerRows rows = AllByRecursion (IsVolumeRow present) (map volume_row
 abbrev pub IsNamedControllerRowFit : Option ℕ → List ControllerRow → Type 0
 IsNamedControllerRowFit place rows = IfSome (row_at place rows) (λ row. IsVolumeRow present (volume_row row))
 
--- where all that the old rows have is, and what a step changed, all that the new rows have is
+-- where all that the old rows have is, and what an answer changed, all that the new rows have is
 abbrev pub ControllerStaysFit : ControllerService → ControllerService → Type 0
 ControllerStaysFit old new = AreFitControllerRows old.controller.rows → IsNamedControllerRowFit new.changed.row new.controller.rows → AreFitControllerRows new.controller.rows
 

@@ -55,34 +55,19 @@ impl<C: Core, K: Keep, W: Write> FrameHandler<K, Counted<W>> for Answering<C> {
 pub(crate) fn stopped(stop: Stop<FramesFault<FrameStop>>, frames: u64) -> ServeFault
     ensures { result ≡ stopped_by stop frames }
 {
-    match stop {
-        Stop::Input => ServeFault {
-            kind: ServeFaultKind::Input,
-            frames,
-        },
-        Stop::Endless => ServeFault {
-            kind: ServeFaultKind::Endless,
-            frames,
-        },
-        Stop::Consumer(FramesFault::Frame(kind, place)) => ServeFault {
-            kind: ServeFaultKind::Frame(kind, place),
-            frames,
-        },
-        Stop::Consumer(FramesFault::NoMemory) => ServeFault {
-            kind: ServeFaultKind::NoMemory,
-            frames,
-        },
-        Stop::Consumer(FramesFault::Handler(FrameStop::NoMemory)) => ServeFault {
-            kind: ServeFaultKind::NoMemory,
-            frames,
-        },
-        Stop::Consumer(FramesFault::Handler(FrameStop::Keep(fault))) => ServeFault {
-            kind: ServeFaultKind::Keep(fault),
-            frames,
-        },
-        Stop::Consumer(FramesFault::Handler(FrameStop::Output)) => ServeFault {
-            kind: ServeFaultKind::Output,
-            frames: frames.saturating_add(1),
-        },
-    }
+    let kind = match stop {
+        Stop::Input => ServeFaultKind::Input,
+        Stop::Endless => ServeFaultKind::Endless,
+        Stop::Consumer(FramesFault::Frame(kind, place)) => ServeFaultKind::Frame(kind, place),
+        Stop::Consumer(FramesFault::NoMemory) => ServeFaultKind::NoMemory,
+        Stop::Consumer(FramesFault::Handler(FrameStop::NoMemory)) => ServeFaultKind::NoMemory,
+        Stop::Consumer(FramesFault::Handler(FrameStop::Keep(fault))) => ServeFaultKind::Keep(fault),
+        Stop::Consumer(FramesFault::Handler(FrameStop::Output)) => {
+            return ServeFault {
+                kind: ServeFaultKind::Output,
+                frames: frames.saturating_add(1),
+            };
+        }
+    };
+    ServeFault { kind, frames }
 }

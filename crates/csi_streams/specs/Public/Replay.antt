@@ -2,6 +2,7 @@
 use Rattle.std.specs.Prelude.{◌≡◌, ℕ, ◌≤◌, List, [], ◌∷◌, ◌++◌, length, take}
 use Rattle.std.specs.Option.{option_to_list}
 use Rattle.std.specs.List.{flat_map}
+use Rattle.csi_types.specs.declared.capacity.TheConstants.{MAX_CAPACITY}
 use Rattle.csi_types.specs.Model.Config.{Config}
 use Rattle.csi_types.specs.Model.Frame.{Frame}
 use Rattle.csi_frames.specs.Public.Spelling.{spelling}
@@ -13,7 +14,7 @@ use Rattle.csi_streams.specs.declared.answers.AnswerFault.TheVariants as faults
 
 -- the greatest capacity that a call may name, 2^63 - 1, and no nodes
 abbrev pub replay_config : Config
-replay_config = record { greatest = 9223372036854775807; nodes = [] }
+replay_config = record { greatest = MAX_CAPACITY; nodes = [] }
 
 -- the replies to these frames, one after another
 abbrev pub replies_from : ControllerState → List Frame → List Frame

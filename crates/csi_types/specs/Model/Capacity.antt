@@ -1,10 +1,11 @@
 -- The capacity that a volume gets, in bytes. CSI's spec.md, "CreateVolume", has the range; which capacity
 -- in it is granted is this profile's own.
 use Rattle.std.specs.Prelude.{ℕ, ◌==◌, ◌&&◌, ◌||◌, not, nat_lt, min, if◌then◌else◌, Bool}
+use Rattle.csi_types.specs.declared.capacity.TheConstants.{MAX_CAPACITY}
 
 -- neither end is given, or one is above 2^63 - 1
 abbrev pub is_bad_range : ℕ → ℕ → Bool
-is_bad_range required limit = ((required == 0) && (limit == 0)) || nat_lt 9223372036854775807 required || nat_lt 9223372036854775807 limit
+is_bad_range required limit = ((required == 0) && (limit == 0)) || nat_lt MAX_CAPACITY required || nat_lt MAX_CAPACITY limit
 
 -- a limit is given, and is below what is required
 abbrev pub is_empty_range : ℕ → ℕ → Bool

@@ -10,7 +10,7 @@ use Rattle.csi_types.specs.Public.Capacity.{grant_of}
 use Rattle.csi_types.specs.Model.Number.{is_before}
 use Rattle.csi_types.specs.Model.Same.{same_text, same_capability, same_number, same_kind, same_party}
 use Rattle.csi_types.specs.Model.Holding.{same_holding}
-use Rattle.csi_types.specs.Public.Key.{Key, same_key}
+use Rattle.csi_types.specs.Public.PluginThing.{PluginThing, same_plugin_thing}
 use Rattle.csi_types.specs.Public.Worked.{number}
 
 -- what volumes get from a controller that gives at most 1,000 bytes
@@ -37,4 +37,4 @@ pub record TestsTellEquality : Type 0 where
   pub kinds : (a b : Kind) → IsTrue (same_kind a b) ↔ (a ≡ b)
   pub parties : (a b : Party) → IsTrue (same_party a b) ↔ (a ≡ b)
   pub holdings : (a b : Holding) → IsTrue (same_holding a b) ↔ (a ≡ b)
-  pub keys : (a b : Key) → IsTrue (same_key a b) ↔ (a ≡ b)
+  pub things : (a b : PluginThing) → IsTrue (same_plugin_thing a b) ↔ (a ≡ b)

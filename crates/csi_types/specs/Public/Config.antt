@@ -2,6 +2,7 @@
 -- can publish.
 use Rattle.std.specs.Prelude.{ℕ, ◌==◌, List, [], ◌∷◌, length, Bool, false, ◌||◌, nat_lt, Option, Some, None, if◌then◌else◌}
 use Rattle.std.specs.List.{list_any}
+use Rattle.csi_types.specs.declared.capacity.TheConstants.{MAX_CAPACITY}
 use Rattle.csi_types.specs.declared.config.NodeSlots.{NodeSlots}
 use Rattle.csi_types.specs.declared.config.ConfigFault.{ConfigFault}
 use Rattle.csi_types.specs.declared.config.ConfigFault.TheVariants.{BadGreatest, TooManyNodes, SameNode, BadSlots, NoMemory}
@@ -9,7 +10,7 @@ use Rattle.csi_types.specs.Model.Config.{has_node}
 
 -- the greatest capacity is 0 or above 2^63 - 1
 abbrev pub is_bad_greatest : ℕ → Bool
-is_bad_greatest greatest = (greatest == 0) || nat_lt 9223372036854775807 greatest
+is_bad_greatest greatest = (greatest == 0) || nat_lt MAX_CAPACITY greatest
 
 -- two nodes of the list have one id
 abbrev pub has_same_node : List NodeSlots → Bool

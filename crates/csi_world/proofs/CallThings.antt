@@ -14,7 +14,7 @@ use Rattle.csi_types.specs.declared.status.Status.TheVariants.{Ok}
 use Rattle.csi_types.specs.Model.Call.{kind_of}
 use Rattle.csi_types.specs.Public.Call.{is_party_of}
 use Rattle.csi_types.specs.Model.Frame.{Frame}
-use Rattle.csi_types.specs.Public.Key.{Key, Exists, Attached, Staged, Published, same_key}
+use Rattle.csi_types.specs.Public.PluginThing.{PluginThing, Exists, Attached, Staged, Published, same_plugin_thing}
 use Rattle.csi_lists.specs.Model.Members.{IsAmong, EachTwo}
 use Rattle.csi_lists.proofs.Members.{each_of}
 use Rattle.csi_types.specs.Model.Number.{is_before, IsBefore}
@@ -28,25 +28,25 @@ use Rattle.csi_types.specs.declared.capability.Capability.{Capability}
 use Rattle.csi_world.proofs.GivenIds.{GivenId, HasName, AreGiven, GivesMore, names-ids}
 
 -- the thing of a call to this plugin, by its id
-abbrev pub key_at : List ℕ → Party → Call → Option Key
-key_at name party (calls.CreateVolume create required limit capabilities) = Some (Exists name)
-key_at name party (calls.DeleteVolume id) = Some (Exists name)
-key_at name party (calls.ControllerPublishVolume id node capability readonly) = Some (Attached id node)
-key_at name party (calls.ControllerUnpublishVolume id node) = Some (Attached id node)
-key_at name (Node node) (calls.NodeStageVolume id capability) = Some (Staged id node)
-key_at name (Node node) (calls.NodeUnstageVolume id) = Some (Staged id node)
-key_at name (Node node) (calls.NodePublishVolume id target capability readonly) = Some (Published id node target)
-key_at name (Node node) (calls.NodeUnpublishVolume id target) = Some (Published id node target)
-key_at name Controller call = None
+abbrev pub plugin_thing_at : List ℕ → Party → Call → Option PluginThing
+plugin_thing_at name party (calls.CreateVolume create required limit capabilities) = Some (Exists name)
+plugin_thing_at name party (calls.DeleteVolume id) = Some (Exists name)
+plugin_thing_at name party (calls.ControllerPublishVolume id node capability readonly) = Some (Attached id node)
+plugin_thing_at name party (calls.ControllerUnpublishVolume id node) = Some (Attached id node)
+plugin_thing_at name (Node node) (calls.NodeStageVolume id capability) = Some (Staged id node)
+plugin_thing_at name (Node node) (calls.NodeUnstageVolume id) = Some (Staged id node)
+plugin_thing_at name (Node node) (calls.NodePublishVolume id target capability readonly) = Some (Published id node target)
+plugin_thing_at name (Node node) (calls.NodeUnpublishVolume id target) = Some (Published id node target)
+plugin_thing_at name Controller call = None
 
 -- the thing, if there is one, is this
-abbrev pub is_key : Key → Option Key → Bool
-is_key key None = false
-is_key key (Some other) = same_key key other
+abbrev pub is_plugin_thing : PluginThing → Option PluginThing → Bool
+is_plugin_thing plugin_thing None = false
+is_plugin_thing plugin_thing (Some other) = same_plugin_thing plugin_thing other
 
 -- the call does or undoes the thing
-abbrev pub is_of : Key → Issued → Bool
-is_of key issued = is_key key (key_at issued.name issued.party issued.call)
+abbrev pub is_of : PluginThing → Issued → Bool
+is_of plugin_thing issued = is_plugin_thing plugin_thing (plugin_thing_at issued.name issued.party issued.call)
 
 -- the call is for the plugin of its kind, and for the volume of the name
 abbrev pub IsOwn : List GivenId → List ℕ → Party → Call → Type 0
@@ -72,41 +72,41 @@ is_making (calls.NodePublishVolume id target capability readonly) = false
 is_making (calls.NodeUnpublishVolume id target) = false
 
 -- a thing by its name, and by the id that the name was given
-pub data IsOne (given : List GivenId) : Thing → Key → Type 0 where
+pub data IsOne (given : List GivenId) : Thing → PluginThing → Type 0 where
   Existence : (name : List ℕ) → IsOne given (things.Exists name) (Exists name)
   Attachment : (name node : List ℕ) (id : ℕ) → HasName given name id → IsOne given (things.Attached name node) (Attached id node)
   Staging : (name node : List ℕ) (id : ℕ) → HasName given name id → IsOne given (things.Staged name node) (Staged id node)
   Publication : (name node target : List ℕ) (id : ℕ) → HasName given name id → IsOne given (things.Published name node target) (Published id node target)
 
 -- a call of a volume by its id
-pub record IsKeyed (given : List GivenId) (name : List ℕ) (party : Party) (call : Call) : Type 0 where
+pub record IsOfThing (given : List GivenId) (name : List ℕ) (party : Party) (call : Call) : Type 0 where
   pub thing : Thing
-  pub key : Key
-  pub one : IsOne given thing key
+  pub plugin_thing : PluginThing
+  pub one : IsOne given thing plugin_thing
   pub by_thing : thing_at name party call ≡ Some thing
-  pub by_name : key_at name party call ≡ Some key
-  pub of_party : party_of key ≡ party
+  pub by_name : plugin_thing_at name party call ≡ Some plugin_thing
+  pub of_party : party_of plugin_thing ≡ party
   pub of_kind : IsTrue (is_party_of (kind_of call) party)
 
 -- a call for the volume of a name has one thing, by its name and by its id
-pub keyed : (given : List GivenId) (name : List ℕ) (party : Party) (call : Call) → IsOwn given name party call → IsKeyed given name party call
-keyed given name Controller (calls.CreateVolume create required limit capabilities) own =
-    record { thing = things.Exists name; key = Exists name; one = Existence name; by_thing = refl; by_name = refl; of_party = refl; of_kind = refl }
-keyed given name Controller (calls.DeleteVolume id) own =
-    record { thing = things.Exists name; key = Exists name; one = Existence name; by_thing = refl; by_name = refl; of_party = refl; of_kind = refl }
-keyed given name Controller (calls.ControllerPublishVolume id node capability readonly) own =
-    record { thing = _; key = _; one = Attachment name node id own; by_thing = refl; by_name = refl; of_party = refl; of_kind = refl }
-keyed given name Controller (calls.ControllerUnpublishVolume id node) own =
-    record { thing = _; key = _; one = Attachment name node id own; by_thing = refl; by_name = refl; of_party = refl; of_kind = refl }
-keyed given name (Node node) (calls.NodeStageVolume id capability) own =
-    record { thing = _; key = _; one = Staging name node id own; by_thing = refl; by_name = refl; of_party = refl; of_kind = refl }
-keyed given name (Node node) (calls.NodeUnstageVolume id) own =
-    record { thing = _; key = _; one = Staging name node id own; by_thing = refl; by_name = refl; of_party = refl; of_kind = refl }
-keyed given name (Node node) (calls.NodePublishVolume id target capability readonly) own =
-    record { thing = _; key = _; one = Publication name node target id own; by_thing = refl; by_name = refl; of_party = refl; of_kind = refl }
-keyed given name (Node node) (calls.NodeUnpublishVolume id target) own =
-    record { thing = _; key = _; one = Publication name node target id own; by_thing = refl; by_name = refl; of_party = refl; of_kind = refl }
-keyed given name party call own = absurd own
+pub of_thing : (given : List GivenId) (name : List ℕ) (party : Party) (call : Call) → IsOwn given name party call → IsOfThing given name party call
+of_thing given name Controller (calls.CreateVolume create required limit capabilities) own =
+    record { thing = things.Exists name; plugin_thing = Exists name; one = Existence name; by_thing = refl; by_name = refl; of_party = refl; of_kind = refl }
+of_thing given name Controller (calls.DeleteVolume id) own =
+    record { thing = things.Exists name; plugin_thing = Exists name; one = Existence name; by_thing = refl; by_name = refl; of_party = refl; of_kind = refl }
+of_thing given name Controller (calls.ControllerPublishVolume id node capability readonly) own =
+    record { thing = _; plugin_thing = _; one = Attachment name node id own; by_thing = refl; by_name = refl; of_party = refl; of_kind = refl }
+of_thing given name Controller (calls.ControllerUnpublishVolume id node) own =
+    record { thing = _; plugin_thing = _; one = Attachment name node id own; by_thing = refl; by_name = refl; of_party = refl; of_kind = refl }
+of_thing given name (Node node) (calls.NodeStageVolume id capability) own =
+    record { thing = _; plugin_thing = _; one = Staging name node id own; by_thing = refl; by_name = refl; of_party = refl; of_kind = refl }
+of_thing given name (Node node) (calls.NodeUnstageVolume id) own =
+    record { thing = _; plugin_thing = _; one = Staging name node id own; by_thing = refl; by_name = refl; of_party = refl; of_kind = refl }
+of_thing given name (Node node) (calls.NodePublishVolume id target capability readonly) own =
+    record { thing = _; plugin_thing = _; one = Publication name node target id own; by_thing = refl; by_name = refl; of_party = refl; of_kind = refl }
+of_thing given name (Node node) (calls.NodeUnpublishVolume id target) own =
+    record { thing = _; plugin_thing = _; one = Publication name node target id own; by_thing = refl; by_name = refl; of_party = refl; of_kind = refl }
+of_thing given name party call own = absurd own
 
 -- an OK to the call was sent
 abbrev pub IsAnsweredOk : List Frame → Issued → Reply → Type 0
@@ -131,16 +131,16 @@ one-number (i ∷ is) two a b (inr at) (inl f) same =
 one-number (i ∷ is) two a b (inr at) (inr bt) same = one-number is two.1 a b at bt same
 
 -- the latest call of a thing is no earlier than any other of it
-pub latest-last : (key : Key) (issued : List Issued) (latest other : Issued) → EachTwo ComesAfter issued → find (is_of key) issued ≡ Some latest → IsAmong other issued → is_of key other ≡ true
+pub latest-last : (plugin_thing : PluginThing) (issued : List Issued) (latest other : Issued) → EachTwo ComesAfter issued → find (is_of plugin_thing) issued ≡ Some latest → IsAmong other issued → is_of plugin_thing other ≡ true
     → (other ≡ latest) ⊎ IsBefore other.number latest.number
-latest-last key [] latest other two found at of = absurd at
-latest-last key (i ∷ is) latest other two found at of = by (is_of key i) refl found at (λ e o. latest-last key is latest other two.1 e o of)
+latest-last plugin_thing [] latest other two found at of = absurd at
+latest-last plugin_thing (i ∷ is) latest other two found at of = by (is_of plugin_thing i) refl found at (λ e o. latest-last plugin_thing is latest other two.1 e o of)
   where
-    by : (b : Bool) → is_of key i ≡ b → cond b (Some i) (find (is_of key) is) ≡ Some latest → (other ≡ i) ⊎ IsAmong other is
-        → (find (is_of key) is ≡ Some latest → IsAmong other is → (other ≡ latest) ⊎ IsBefore other.number latest.number) → (other ≡ latest) ⊎ IsBefore other.number latest.number
+    by : (b : Bool) → is_of plugin_thing i ≡ b → cond b (Some i) (find (is_of plugin_thing) is) ≡ Some latest → (other ≡ i) ⊎ IsAmong other is
+        → (find (is_of plugin_thing) is ≡ Some latest → IsAmong other is → (other ≡ latest) ⊎ IsBefore other.number latest.number) → (other ≡ latest) ⊎ IsBefore other.number latest.number
     by true t e (inl o) rest = inl (o ∙ same_Some i latest e)
     by true t e (inr o) rest = inr (subst (λ (x : Issued). IsBefore other.number x.number) (same_Some i latest e) (each_of (ComesAfter i) is other two.0 o))
-    by false t e (inl o) rest = absurd (false≢true (sym t ∙ sym (ap (is_of key) o) ∙ of))
+    by false t e (inl o) rest = absurd (false≢true (sym t ∙ sym (ap (is_of plugin_thing) o) ∙ of))
     by false t e (inr o) rest = rest e o
 
 -- ---- names and ids
@@ -164,7 +164,7 @@ own-kept given more name (Node node) (calls.NodeUnpublishVolume id target) wider
 own-kept given more name party call wider own = absurd own
 
 -- two things are one by their names exactly where they are by their ids
-pub same-one : (given : List GivenId) (t u : Thing) (k l : Key) → AreGiven given → IsOne given t k → IsOne given u l → same_thing t u ≡ same_key k l
+pub same-one : (given : List GivenId) (t u : Thing) (k l : PluginThing) → AreGiven given → IsOne given t k → IsOne given u l → same_thing t u ≡ same_plugin_thing k l
 same-one given _ _ _ _ are (Existence name) (Existence other) = refl
 same-one given _ _ _ _ are (Attachment name node i has) (Attachment other there j had) = ap (λ b. b && same_text node there) (names-ids given name other i j are has had)
 same-one given _ _ _ _ are (Staging name node i has) (Staging other there j had) = ap (λ b. b && same_text node there) (names-ids given name other i j are has had)
@@ -173,7 +173,7 @@ same-one given _ _ _ _ are (Publication name node target i has) (Publication oth
 same-one given _ _ _ _ are one other = refl
 
 -- and so is a call of a thing
-pub touches-key : (given : List GivenId) (thing : Thing) (key : Key) (call : Issued) → AreGiven given → IsOne given thing key → IsOwn given call.name call.party call.call → touches thing call ≡ is_of key call
-touches-key given thing key call are one own =
-    let keyed_call = keyed given call.name call.party call.call own in
-    ap (is_thing thing) keyed_call.by_thing ∙ same-one given thing keyed_call.thing key keyed_call.key are one keyed_call.one ∙ ap (is_key key) (sym keyed_call.by_name)
+pub touches-plugin_thing : (given : List GivenId) (thing : Thing) (plugin_thing : PluginThing) (call : Issued) → AreGiven given → IsOne given thing plugin_thing → IsOwn given call.name call.party call.call → touches thing call ≡ is_of plugin_thing call
+touches-plugin_thing given thing plugin_thing call are one own =
+    let its = of_thing given call.name call.party call.call own in
+    ap (is_thing thing) its.by_thing ∙ same-one given thing its.thing plugin_thing its.plugin_thing are one its.one ∙ ap (is_plugin_thing plugin_thing) (sym its.by_name)
