@@ -39,6 +39,7 @@ use Rattle.csi_controller.specs.Model.Fenced.{begun, kept_for}
 use Rattle.csi_controller.specs.Private.Nowhere.{IsCreate, reply_nowhere}
 use Rattle.csi_controller.specs.Private.OneRow.{RowOutcome}
 use Rattle.csi_controller.specs.Private.RowTable.{row_line}
+use Rattle.csi_controller.specs.Public.Repeats.{IsPlainRepeat}
 use Rattle.csi_controller.specs.Public.RowsLaw.{Changes, ChangesAt, row_by_id, staying}
 use Rattle.csi_controller.specs.Model.Shown.{volume_of_row}
 use Rattle.csi_controller.specs.Model.State.{Volume, ControllerState, is_row_for}
@@ -46,7 +47,7 @@ use Rattle.csi_controller.specs.Private.Step.{IsFencedAnswer}
 use Rattle.csi_controller.specs.Public.Step.{answer_frame}
 use Rattle.csi_controller.specs.Model.Table.{Outcome}
 use Rattle.csi_controller.specs.Public.WithoutSession.{stays_in}
-use Rattle.csi_controller.proofs.AtRow.{at-place, nowhere-allowed, there-answers, told-nowhere}
+use Rattle.csi_controller.proofs.AtRow.{at-place, nowhere-allowed, repeat-now, there-answers, told-nowhere}
 use Rattle.csi_controller.proofs.CatalogMaps.{indexed-set, read-at, rows-set}
 use Rattle.csi_controller.proofs.ChangesTold.{at-got, none-changed, row-put, session-first, set-at, staying-first}
 use Rattle.csi_controller.proofs.Counts.{answered-counted}
@@ -286,6 +287,14 @@ put-indexed core place row new counts kept stands put = indexed-set core.catalog
 -- ids rise with that row in its place
 pub put-rising : (core : ControllerCore) (place : ℕ) (row new : ControllerRow) (counts : List ℕ) → IsPut core place row new counts → AreRisingRows (rows_of (recounted_core core place new counts).catalog)
 put-rising core place row new counts put = subst AreRisingRows (sym (rows-set core.catalog.rows place new)) put.sound.rising
+
+-- a call that begins a session repeats none that was answered
+pub repeat-first : (core : ControllerCore) (number : Number) (call : Call) (state : ControllerState) → core.session < number.session → Shows (controller_parts_shown core) state
+    → IsPlainRepeat state.session (kept_for call state) number → ⊥
+repeat-first core number call state later shown repeat =
+    let now : number.session ≡ state.session = repeat-now state.session (kept_for call state) number repeat in
+    let same : core.session ≡ state.session = shown.session in
+    omega (arith, later, same, now)
 
 -- what follows of a refusal is so of any
 pub on-err : {T E P : Type 0} (r : Result T E) → P → OnErr r P

@@ -8,6 +8,7 @@ ghost use Rattle.csi_types.specs.Public.Call.{is_party_of};
 ghost use Rattle.csi_types.specs.Public.Frame.{IsAllowed};
 ghost use Rattle.csi_types.specs.Public.Lent.{lent_call, HasFitTexts};
 ghost use Rattle.csi_types.specs.Model.Replies.{call_frame};
+ghost use Rattle.csi_controller.specs.Public.Core.{AreSoundRows, IsCurrent};
 
 mod at_row;
 mod attached;
@@ -67,7 +68,7 @@ impl Controller {
     ghost use Rattle.csi_lists.specs.Model.Members.{EachTwo};
     ghost use Rattle.csi_controller.specs.Public.Views.{shown_if_live, attached_holdings, IsHeldBefore, HasHoldingsOf, IsCopyOf, IsRowOf};
     ghost use Rattle.csi_controller.specs.Model.Core.{Shows};
-    ghost use Rattle.csi_controller.specs.Public.Core.{AreSoundRows, IsCurrent, IsAnsweredOk, IsUndoing};
+    ghost use Rattle.csi_controller.specs.Public.Core.{IsAnsweredOk, IsUndoing};
 
     /// A controller that made no volume. It takes no memory.
     pub fn new(alloc: Global, config: Config) -> Controller
@@ -145,7 +146,7 @@ impl Controller {
         ensures repeated { (state : ControllerState) → Shows self.old state →
             IsPlainRepeat state.session (kept_for (lent_call call.now) state) number → IsOk result }
     {
-        self.assert_current();
+        let _core = &self.core;
         if !call.is_within_limits() {
             return Ok(None);
         }
@@ -243,18 +244,19 @@ impl Controller {
     {
         attachments(self.core.catalog.rows(), self.core.alloc)
     }
+}
 
-    // Nothing that runs: the rules of the rows hold.
-    pub(crate) fn assert_sound(&self)
-        ensures { AreSoundRows self.now.next_id self.now.rows }
-    {
-        let _core = &self.core;
-    }
+/// A law, and nothing that runs: the rows of every controller keep the rules of a record. This profile's own.
+pub fn sound_law(controller: &Controller)
+    ensures { AreSoundRows controller.now.next_id controller.now.rows }
+{
+    let _core = &controller.core;
+}
 
-    // Nothing that runs: no row is of a later session, and each of a deleted volume is of this one.
-    pub(crate) fn assert_current(&self)
-        ensures { IsCurrent self.now.session self.now.rows }
-    {
-        let _core = &self.core;
-    }
+/// A law, and nothing that runs: in every controller, whatever it was asked and whichever record it was made of, no row's last call
+/// is of a later session than the greatest that came, and that of a volume that was deleted is of that session. This profile's own.
+pub fn current_law(controller: &Controller)
+    ensures { IsCurrent controller.now.session controller.now.rows }
+{
+    let _core = &controller.core;
 }

@@ -1,14 +1,13 @@
 //! The laws of the controller.
 ghost use Rattle.std.specs.List.{AllByRecursion};
 ghost use Rattle.csi_controller.specs.Model.Core.{Shows};
-ghost use Rattle.csi_controller.specs.Public.Core.{AreSoundRows, IsCurrent};
 ghost use Rattle.csi_controller.specs.Public.Exclusive.{IsRowExclusive};
 ghost use Rattle.csi_controller.specs.Public.Laws.{ControllerTableLaw};
 ghost use Rattle.csi_controller.specs.Public.Safe.{ControllerSafetyLaw, ControllerSessionsLaw};
 ghost use Rattle.csi_controller.specs.Model.State.{ControllerState};
 ghost use Rattle.csi_controller.specs.Public.View.{ControllerDeliveryLaw, ControllerNamesLaw};
 
-use crate::controller::Controller;
+use crate::controller::{Controller, sound_law};
 
 /// A law, and nothing that runs: in every state that frames lead to, and for every call that the table
 /// answers there, a refusal changes nothing, a success brings about what the call asks, the same call again
@@ -57,7 +56,7 @@ pub fn names_law()
 pub fn exclusive_law(controller: &Controller)
     ensures { AllByRecursion IsRowExclusive controller.now.rows }
 {
-    controller.assert_sound();
+    sound_law(controller);
 }
 
 /// A law, and nothing that runs: every controller, whatever it was asked and whichever record it was made of, shows a state, so
@@ -65,21 +64,6 @@ pub fn exclusive_law(controller: &Controller)
 pub fn showing_law(controller: &Controller)
     ensures { (state : ControllerState) × Shows controller.now state }
 {
-    controller.assert_sound();
+    sound_law(controller);
     let _next = controller.next_id();
-}
-
-/// A law, and nothing that runs: the rows of every controller keep the rules of a record. This profile's own.
-pub fn sound_law(controller: &Controller)
-    ensures { AreSoundRows controller.now.next_id controller.now.rows }
-{
-    controller.assert_sound();
-}
-
-/// A law, and nothing that runs: in every controller, whatever it was asked and whichever record it was made of, no row's last call
-/// is of a later session than the greatest that came, and that of a volume that was deleted is of that session. This profile's own.
-pub fn current_law(controller: &Controller)
-    ensures { IsCurrent controller.now.session controller.now.rows }
-{
-    controller.assert_current();
 }

@@ -11,11 +11,10 @@ mod row;
 mod sound_row;
 mod worked;
 
-pub use controller::Controller;
+pub use controller::{Controller, current_law, sound_law};
 pub use csi_fence::{Answer, CoreFault, RecordFault};
 pub use laws::{
-    current_law, delivery_law, exclusive_law, names_law, safety_law, sessions_law, showing_law,
-    sound_law, table_law,
+    delivery_law, exclusive_law, names_law, safety_law, sessions_law, showing_law, table_law,
 };
 pub use record::ControllerRecord;
 pub use row::{ControllerRow, NodeHolding};

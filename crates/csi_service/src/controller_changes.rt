@@ -1,5 +1,5 @@
 //! What a call changes of a controller's record, and the parts that say so.
-ghost use Rattle.std.specs.Prelude.{◌≡◌, ◌≤◌, ◌↔◌, ◌++◌, [], map, IfOk, IfSome, IsTrue, OnOk, IsOk};
+ghost use Rattle.std.specs.Prelude.{◌≡◌, ◌≤◌, ◌++◌, [], map, IfOk, IfSome, OnOk, IsOk};
 ghost use Rattle.std.specs.List.{AllByRecursion};
 ghost use Rattle.csi_types.specs.Public.VolumeId.{IsVolumeId};
 ghost use Rattle.csi_stores.specs.Public.Part.{part_change};
@@ -68,11 +68,4 @@ pub(crate) fn forgotten(
         }
         Err(_) => Err(NoMemory),
     }
-}
-
-/// Whether the two heads, each a next id and a session, are the same.
-pub(crate) fn is_same_head(before: (u64, u64), now: (u64, u64)) -> bool
-    ensures { IsTrue result ↔ (now ≡ before) }
-{
-    now == before
 }

@@ -3,12 +3,10 @@ ghost use Rattle.std.specs.Prelude.{◌≡◌, ◌≤◌, ◌+◌, ◌∷◌, �
 ghost use Rattle.csi_types.specs.Model.Frame.{Frame as FrameParts};
 ghost use Rattle.csi_types.specs.Public.Frame.{IsAllowed};
 ghost use Rattle.csi_types.specs.Public.Lent.{lent_call, HasFitTexts};
-ghost use Rattle.csi_types.specs.Model.Replies.{call_frame};
 ghost use Rattle.csi_frames.specs.Public.Lent.{lent_frame};
 ghost use Rattle.csi_controller.specs.Model.Core.{Shows};
 ghost use Rattle.csi_controller.specs.Model.Fenced.{fenced};
 ghost use Rattle.csi_controller.specs.Model.State.{ControllerState, empty_controller};
-ghost use Rattle.csi_controller.specs.Public.Step.{answer_frame};
 ghost use Rattle.csi_stores.specs.Public.Part.{part_change};
 ghost use Rattle.csi_controller.specs.Public.Views.{RecordParts};
 ghost use Rattle.csi_records.specs.Public.Records.{controller_layout, AreParts};
@@ -17,11 +15,12 @@ ghost use Rattle.csi_stores.specs.Public.Content.{all_changed};
 ghost use Rattle.csi_stores.specs.Public.Keeping.{RefusesAt};
 ghost use Rattle.csi_service.specs.Public.Answering.{AppendsReply, AnswersAsBefore};
 ghost use Rattle.csi_service.specs.Private.Calls.{IsNoCallFor};
+ghost use Rattle.csi_service.specs.Private.Services.{AnswersControllerCall};
 ghost use Rattle.csi_service.specs.Public.Opening.{controller_records, IsOpenFault, LeavesOpened, HasRecord};
 ghost use Rattle.csi_service.specs.Public.Services.{controller_service_parts, controller_service_changes, AreFitControllerRows, IsNamedControllerRowFit, ControllerStaysFit, ControllerAnswers, ControllerDiffers};
 
 use crate::changed::{Changed, nothing};
-use crate::controller_changes::{forgotten, id_law, is_same_head, push_row};
+use crate::controller_changes::{forgotten, id_law, push_row};
 use crate::opening::{Opens, head_part, open, renewal};
 use crate::plugin_core::Core;
 use crate::replies::{MOST_BYTES, append};
@@ -159,19 +158,7 @@ impl ControllerService {
     fn answer_call(&mut self, number: Number, call: &CallRef<'_>) -> Result<Answer, NoMemory>
         requires allowed { IsAllowed Party.Controller (Body.Call (lent_call call.now)) }
         requires texts { HasFitTexts (lent_call call.now) }
-        ensures answered { IfOk result (λ answer. ControllerAnswers self.old (call_frame number Party.Controller (lent_call call.now)) (Some
-            (answer_frame number answer)) self.new) }
-        ensures allowed { IfOk result (λ answer. IsAllowed Party.Controller (Body.Reply answer.kind answer.reply)) }
-        ensures parts { OnOk result (controller_service_parts self.new ≡ all_changed (controller_service_changes self.new)
-            (controller_service_parts self.old)) }
-        ensures nothing { (state : ControllerState) → Shows self.old.controller state
-            → (fenced self.old.controller.config state (call_frame number Party.Controller (lent_call call.now))).state ≡ state → OnOk result (controller_service_changes self.new ≡ []) }
-        ensures config { self.new.controller.config ≡ self.old.controller.config }
-        ensures err_shows { (state : ControllerState) → Shows self.old.controller state → OnErr result (Shows self.new.controller state) }
-        ensures err { OnErr result (controller_service_parts self.new ≡ controller_service_parts self.old) }
-        ensures err_changes { OnErr result (controller_service_changes self.new ≡ controller_service_changes self.old) }
-        ensures differs { OnOk result (ControllerDiffers self.new.changed self.old.controller self.new.controller) }
-        ensures fit { OnOk result (ControllerStaysFit self.old self.new) }
+        ensures { AnswersControllerCall self.old self.new number (lent_call call.now) result }
     {
         sound_law(&self.controller);
         showing_law(&self.controller);
@@ -185,8 +172,9 @@ impl ControllerService {
         let answer = answer.unwrap();
         id_law(&self.controller, answer.row);
         let now = (self.controller.next_id(), self.controller.session());
+        let same_head = now == before;
         self.changed = Changed {
-            new_head: !is_same_head(before, now),
+            new_head: !same_head,
             forgotten,
             row: answer.row,
         };

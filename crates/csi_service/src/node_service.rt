@@ -71,18 +71,15 @@ impl NodeService {
     ghost use Rattle.csi_types.specs.Model.Frame.{Frame as FrameParts};
     ghost use Rattle.csi_types.specs.Public.Frame.{IsAllowed};
     ghost use Rattle.csi_types.specs.Public.Lent.{lent_call, HasFitTexts};
-    ghost use Rattle.csi_types.specs.Model.Replies.{call_frame};
-    ghost use Rattle.csi_node.specs.Model.Fenced.{fenced};
-    ghost use Rattle.csi_node.specs.Public.Fenced.{answer_frame};
     ghost use Rattle.csi_node.specs.Model.OneRow.{node_row_shown};
-    ghost use Rattle.csi_node.specs.Model.Record.{Shows, parts as shown_rows};
-    ghost use Rattle.csi_node.specs.Model.State.{NodeState};
+    ghost use Rattle.csi_node.specs.Model.Record.{parts as shown_rows};
     ghost use Rattle.csi_records.specs.Public.Spelling.{present, node_head, node_parts};
     ghost use Rattle.csi_stores.specs.Public.Content.{all_changed};
     ghost use Rattle.csi_stores.specs.Public.Keeping.{RefusesAt};
     ghost use Rattle.csi_frames.specs.Public.Lent.{lent_frame};
     ghost use Rattle.csi_service.specs.Private.Calls.{IsNoCallFor};
-    ghost use Rattle.csi_service.specs.Public.NodeServices.{node_service_changes, AreFitNodeRows, IsNamedNodeRowFit, NodeStaysFit, NodeDiffers, NodeServiceAnswers};
+    ghost use Rattle.csi_service.specs.Private.NodeServices.{AnswersNodeCall};
+    ghost use Rattle.csi_service.specs.Public.NodeServices.{node_service_changes, AreFitNodeRows, NodeDiffers, NodeServiceAnswers};
     ghost use Rattle.csi_service.specs.Public.Opening.{node_records, IsOpenFault, LeavesOpened, HasRecord};
     ghost use Rattle.csi_service.specs.Public.Services.{node_service_parts};
 
@@ -162,18 +159,7 @@ impl NodeService {
     fn answer_call(&mut self, number: Number, call: &CallRef<'_>) -> Result<Answer, NoMemory>
         requires allowed { IsAllowed self.old.party (Body.Call (lent_call call.now)) }
         requires texts { HasFitTexts (lent_call call.now) }
-        ensures answered { IfOk result (λ answer. NodeServiceAnswers self.old (call_frame number self.old.party (lent_call call.now)) (Some
-            (answer_frame self.old.node.id number answer)) self.new) }
-        ensures allowed { IfOk result (λ answer. IsAllowed self.old.party (Body.Reply answer.kind answer.reply)) }
-        ensures parts { OnOk result (node_service_parts self.new ≡ all_changed (node_service_changes self.new) (node_service_parts self.old)) }
-        ensures nothing { (state : NodeState) → Shows self.old.node state
-            → (fenced self.old.node.id state (call_frame number self.old.party (lent_call call.now))).state ≡ state → OnOk result (node_service_changes self.new ≡ []) }
-        ensures party { self.new.party ≡ self.old.party }
-        ensures err_shows { (state : NodeState) → Shows self.old.node state → OnErr result (Shows self.new.node state) }
-        ensures err { OnErr result (node_service_parts self.new ≡ node_service_parts self.old) }
-        ensures err_changes { OnErr result (node_service_changes self.new ≡ node_service_changes self.old) }
-        ensures differs { OnOk result (NodeDiffers self.new.changed self.old.node self.new.node) }
-        ensures fit { OnOk result (NodeStaysFit self.old self.new) }
+        ensures { AnswersNodeCall self.old self.new number (lent_call call.now) result }
     {
         record_law(&self.node);
         showing_law(&self.node);

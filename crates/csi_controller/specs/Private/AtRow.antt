@@ -1,13 +1,18 @@
 -- What the row of a call's volume gives behind the fence, and what it and the counts of the nodes are then. Only private functions cite it.
-use Rattle.std.specs.Prelude.{◌≡◌, ℕ, List, Option, Some, None}
+use Rattle.std.specs.Prelude.{◌≡◌, ℕ, List, [], Option, Some, None, Result, IfOk, OnErr, IsOk}
 use Rattle.csi_types.specs.declared.number.Number.{Number}
 use Rattle.csi_types.specs.declared.call.Kind.{Kind}
 use Rattle.csi_types.specs.declared.call.Call.{Call}
 use Rattle.csi_types.specs.declared.call.Party.TheVariants.{Controller}
+use Rattle.csi_types.specs.declared.frame.Body.TheVariants as bodies
+use Rattle.csi_types.specs.declared.status.Status.TheVariants.{Ok as OkStatus}
+use Rattle.csi_fence.specs.declared.answer.Answer.{Answer}
+use Rattle.csi_fence.specs.declared.fault.CoreFault.{CoreFault}
 use Rattle.csi_fence.specs.declared.fence.Verdict.{Verdict}
 use Rattle.csi_fence.specs.declared.fence.Verdict.TheVariants.{Stale, Repeated, Fresh}
 use Rattle.csi_types.specs.Model.Call.{kind_of}
 use Rattle.csi_types.specs.Model.Frame.{Frame}
+use Rattle.csi_types.specs.Public.Frame.{IsAllowed}
 use Rattle.csi_types.specs.Model.Replies.{stale_reply, reply_frame}
 use Rattle.csi_controller.specs.declared.row.NodeHolding.{NodeHolding}
 use Rattle.csi_controller.specs.declared.row.ControllerRow.{ControllerRow}
@@ -15,7 +20,8 @@ use Rattle.csi_controller.specs.Model.State.{Volume}
 use Rattle.csi_controller.specs.Model.Shown.{volume_of_row}
 use Rattle.csi_types.specs.declared.config.NodeSlots.{NodeSlots}
 use Rattle.csi_controller.specs.Private.Counts.{recounted}
-use Rattle.csi_controller.specs.Public.Core.{IsSameRow}
+use Rattle.csi_controller.specs.Public.Core.{IsSameRow, IsUndoing}
+use Rattle.csi_controller.specs.Public.Step.{answer_frame}
 use Rattle.csi_controller.specs.Private.OneRow.{RowChange, RowOutcome, live_after, items_after, count_change_by}
 use Rattle.csi_controller.specs.Private.RowTable.{row_line}
 
@@ -65,3 +71,12 @@ row_named Fresh place = Some place
 pub record IsRowLeft (old new : ControllerRow) (before after : List ℕ) : Type 0 where
   pub row : IsSameRow old new
   pub counts : after ≡ before
+
+-- to a call the row at a place answered this, by what the fence says: an `Err` changes nothing, and what takes no memory succeeds
+pub record AnswersAtRow (nodes : List NodeSlots) (place : ℕ) (old new : ControllerRow) (before after : List ℕ) (number : Number) (call : Call) (verdict : Verdict) (result : Result Answer CoreFault) : Type 0 where
+  pub ok : IfOk result (λ answer. RowAnswers nodes old new before after number call verdict (answer_frame number answer))
+  pub row : IfOk result (λ answer. answer.row ≡ row_named verdict place)
+  pub allowed : IfOk result (λ answer. IsAllowed Controller (bodies.Reply answer.kind answer.reply))
+  pub err : OnErr result (IsRowLeft old new before after)
+  pub undone : IsUndoing call → verdict ≡ Fresh → (row_line nodes before old call).reply.status ≡ OkStatus → IsOk result
+  pub repeated : verdict ≡ Repeated → old.reply.detail ≡ [] → IsOk result

@@ -1,18 +1,14 @@
 //! What a row answers to the calls of its volume, behind the fence, and what it keeps.
 ghost use Rattle.std.specs.Prelude.{◌≡◌, ◌≤◌, ℕ, [], Some, None, length, IsTrue, IsOk, IfOk, OnOk, OnErr};
 ghost use Rattle.csi_types.specs.declared.call.Party.TheVariants.{Controller};
-ghost use Rattle.csi_fence.specs.declared.fence.Verdict.TheVariants.{Fresh, Repeated};
-ghost use Rattle.csi_types.specs.declared.status.Status.TheVariants.{Ok as OkStatus};
+ghost use Rattle.csi_fence.specs.declared.fence.Verdict.TheVariants.{Fresh};
 ghost use Rattle.csi_types.specs.Model.Call.{kind_of};
 ghost use Rattle.csi_types.specs.Public.Call.{is_party_of};
 ghost use Rattle.csi_fence.specs.Model.Fence.{verdict_of as verdict_by};
-ghost use Rattle.csi_types.specs.Public.Frame.{IsAllowed};
 ghost use Rattle.csi_types.specs.Public.Lent.{lent_call};
 ghost use Rattle.csi_types.specs.Model.Replies.{stale_reply};
-ghost use Rattle.csi_controller.specs.Public.Core.{IsSoundRow, IsUndoing};
-ghost use Rattle.csi_controller.specs.Private.AtRow.{RowAnswers, IsRowLeft, row_named};
-ghost use Rattle.csi_controller.specs.Private.RowTable.{row_line};
-ghost use Rattle.csi_controller.specs.Public.Step.{answer_frame};
+ghost use Rattle.csi_controller.specs.Public.Core.{IsSoundRow};
+ghost use Rattle.csi_controller.specs.Private.AtRow.{AnswersAtRow};
 
 use super::changes::change;
 use super::counts::MAX_NODES;
@@ -21,7 +17,7 @@ use super::replies::{answer_of, done, reply_of};
 use super::row_table::line;
 use crate::row::ControllerRow;
 use csi_fence::{Answer, CoreFault, Verdict, verdict_of};
-use csi_types::{Body, CallRef, Kind, NodeSlots, Number, Reply, Status};
+use csi_types::{CallRef, Kind, NodeSlots, Number, Reply, Status};
 use std::alloc::Global;
 
 // Keeps a reply in the row at this place, and answers with its kind and a copy of it. A refusal changes nothing. Without a detail it takes no
@@ -67,12 +63,7 @@ fn carry_out(
 ) -> Result<Answer, CoreFault>
     requires party { IsTrue (is_party_of (kind_of (lent_call call.now)) Controller) }
     requires few { length nodes.now ≤ 64 }
-    ensures ok { IfOk result (λ answer. RowAnswers nodes.now row.old row.new counts.old counts.new number (lent_call call.now) Fresh
-        (answer_frame number answer)) }
-    ensures row { IfOk result (λ answer. answer.row ≡ Some place) }
-    ensures allowed { IfOk result (λ answer. IsAllowed Controller (Body.Reply answer.kind answer.reply)) }
-    ensures err { OnErr result (IsRowLeft row.old row.new counts.old counts.new) }
-    ensures undone { IsUndoing (lent_call call.now) → (row_line nodes.now counts.old row.old (lent_call call.now)).reply.status ≡ OkStatus → IsOk result }
+    ensures { AnswersAtRow nodes.now place row.old row.new counts.old counts.new number (lent_call call.now) Fresh result }
 {
     match line(row, nodes, counts, call) {
         Some(line) => match reply_of(alloc, &line) {
@@ -118,14 +109,8 @@ pub fn answer_at_row(
     requires party { IsTrue (is_party_of (kind_of (lent_call call.now)) Controller) }
     requires few { length nodes.now ≤ 64 }
     requires sound { (next_id : ℕ) × IsSoundRow next_id row.old }
-    ensures ok { IfOk result (λ answer. RowAnswers nodes.now row.old row.new counts.old counts.new number (lent_call call.now) (verdict_by
-        (Some row.old.last) number) (answer_frame number answer)) }
-    ensures row { IfOk result (λ answer. answer.row ≡ row_named (verdict_by (Some row.old.last) number) place) }
-    ensures allowed { IfOk result (λ answer. IsAllowed Controller (Body.Reply answer.kind answer.reply)) }
-    ensures err { OnErr result (IsRowLeft row.old row.new counts.old counts.new) }
-    ensures undone { IsUndoing (lent_call call.now) → verdict_by (Some row.old.last) number ≡ Fresh →
-        (row_line nodes.now counts.old row.old (lent_call call.now)).reply.status ≡ OkStatus → IsOk result }
-    ensures repeated { verdict_by (Some row.old.last) number ≡ Repeated → row.old.reply.detail ≡ [] → IsOk result }
+    ensures { AnswersAtRow nodes.now place row.old row.new counts.old counts.new number (lent_call call.now) (verdict_by (Some row.old.last)
+        number) result }
 {
     match verdict_of(Some(row.last), number) {
         Verdict::Stale => stale(alloc, call.kind()),

@@ -1,6 +1,6 @@
 //! A call that begins a session: it is answered, and the volumes that were deleted before are forgotten. All that may fail comes before
 //! the first of them goes.
-ghost use Rattle.std.specs.Prelude.{◌≡◌, ◌==◌, ◌<◌, None, Some, filter, find, length, position, slice_get, IfOk, IfSome, IfNone, IsOk, IsTrue, OnErr, OnOk, true};
+ghost use Rattle.std.specs.Prelude.{◌≡◌, ◌==◌, ◌<◌, None, Some, filter, find, length, position, slice_get, IfOk, IfSome, IsTrue, OnErr, OnOk, true};
 ghost use Rattle.indexmap.specs.IndexMap.{index_map_len};
 ghost use Rattle.csi_types.specs.declared.call.Party.TheVariants.{Controller};
 ghost use Rattle.csi_types.specs.Model.Call.{kind_of};
@@ -19,14 +19,13 @@ use csi_fence::{Answer, CoreFault};
 use csi_types::{Call, CallRef, CapabilitiesRef, Kind, Number, VolumeId};
 
 impl ControllerCore {
-    ghost use Rattle.csi_controller.specs.Model.State.{ControllerState, is_row_for};
+    ghost use Rattle.csi_controller.specs.Model.State.{is_row_for};
     ghost use Rattle.csi_controller.specs.Model.Shown.{volume_of_row};
     ghost use Rattle.csi_controller.specs.Public.Catalog.{rows_of, IsIndexed};
     ghost use Rattle.csi_controller.specs.Private.Catalog.{HasRoomForRow};
-    ghost use Rattle.csi_controller.specs.Model.Core.{Shows};
-    ghost use Rattle.csi_controller.specs.Public.Core.{AreRisingRows, IsAnsweredOk, IsUndoing};
-    ghost use Rattle.csi_controller.specs.Public.CoreParts.{controller_parts_shown, IsSoundCore};
-    ghost use Rattle.csi_controller.specs.Private.CoreAnswers.{IsCallAnswered, IsLeftSo};
+    ghost use Rattle.csi_controller.specs.Public.Core.{AreRisingRows};
+    ghost use Rattle.csi_controller.specs.Public.CoreParts.{IsSoundCore};
+    ghost use Rattle.csi_controller.specs.Private.CoreAnswers.{IsLeftSo, AnswersOwn};
     ghost use Rattle.csi_controller.specs.Private.Beginning.{live_rows, HasForgotten, HasMade};
     ghost use Rattle.csi_controller.specs.Private.Making.{made_answer};
     ghost use Rattle.csi_controller.specs.Private.Nowhere.{IsCreate};
@@ -75,10 +74,7 @@ impl ControllerCore {
         requires place { Some place ≡ position (λ row. is_row_for (lent_call call.now) (volume_of_row row)) (rows_of self.old.catalog) }
         requires within { place < index_map_len self.old.catalog.rows }
         requires live { (row : OneRow) → slice_get (rows_of self.old.catalog) place ≡ Some row → row.live ≡ true }
-        ensures ok { IfOk result (λ answer. IsCallAnswered self.old self.new number (lent_call call.now) answer) }
-        ensures err { OnErr result (IsLeftSo self.old self.new) }
-        ensures undone { (state : ControllerState) → Shows (controller_parts_shown self.old) state → IsUndoing (lent_call call.now) →
-            IsAnsweredOk self.old.config state number (lent_call call.now) → IsOk result }
+        ensures { AnswersOwn self.old self.new number (lent_call call.now) result }
     {
         let alloc = self.alloc;
         let nodes = self.config.nodes();
@@ -131,9 +127,7 @@ impl ControllerCore {
         requires kept { IsSoundCore self.old }
         requires begins { self.old.session < number.session }
         requires new { find (λ row. same_text row.name name.now) (live_rows (rows_of self.old.catalog)) ≡ None }
-        ensures ok { IfOk result (λ answer. IsCallAnswered self.old self.new number (Call.CreateVolume name.now required limit
-            (lent_capabilities capabilities.entry)) answer) }
-        ensures err { OnErr result (IsLeftSo self.old self.new) }
+        ensures { AnswersOwn self.old self.new number (Call.CreateVolume name.now required limit (lent_capabilities capabilities.entry)) result }
     {
         let alloc = self.alloc;
         match self.room_for(self.catalog.live(), required, limit, capabilities) {
@@ -154,9 +148,7 @@ impl ControllerCore {
         requires begins { self.old.session < number.session }
         requires none { find (λ row. is_row_for (lent_call call.now) (volume_of_row row)) (live_rows (rows_of self.old.catalog)) ≡ None }
         requires other { IsCreate (lent_call call.now) → ⊥ }
-        ensures ok { IfOk result (λ answer. IsCallAnswered self.old self.new number (lent_call call.now) answer) }
-        ensures err { OnErr result (IsLeftSo self.old self.new) }
-        ensures undone { IsUndoing (lent_call call.now) → IsOk result }
+        ensures { AnswersOwn self.old self.new number (lent_call call.now) result }
     {
         let answer = answer_of(self.alloc, call.kind(), &line_without_row(call))?;
         self.forget(number.session);
@@ -172,10 +164,7 @@ impl ControllerCore {
         requires party { IsTrue (is_party_of (kind_of (lent_call call.now)) Controller) }
         requires kept { IsSoundCore self.old }
         requires begins { self.old.session < number.session }
-        ensures ok { IfOk result (λ answer. IsCallAnswered self.old self.new number (lent_call call.now) answer) }
-        ensures err { OnErr result (IsLeftSo self.old self.new) }
-        ensures undone { (state : ControllerState) → Shows (controller_parts_shown self.old) state → IsUndoing (lent_call call.now) →
-            IsAnsweredOk self.old.config state number (lent_call call.now) → IsOk result }
+        ensures { AnswersOwn self.old self.new number (lent_call call.now) result }
     {
         match self.live_place_for(call) {
             Some(place) => self.begin_with_row(place, number, call),

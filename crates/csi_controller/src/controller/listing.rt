@@ -1,7 +1,7 @@
 //! The rows of a controller, how many they are, and those of deleted volumes.
 ghost use Rattle.std.specs.Prelude.{◌≡◌, ◌≤◌, [], ◌+◌, ◌==◌, IfOk, IsOk, count_by, filter, length, map, not};
 
-use super::Controller;
+use super::{Controller, current_law, sound_law};
 use crate::row::ControllerRow;
 use csi_fence::CoreFault;
 use csi_types::VolumeId;
@@ -29,7 +29,7 @@ impl Controller {
         ensures value { result.now ≡ self.now.rows }
         ensures sound { AreSoundRows self.now.next_id self.now.rows }
     {
-        self.assert_sound();
+        sound_law(self);
         self.core.catalog.rows()
     }
 
@@ -39,7 +39,7 @@ impl Controller {
         ensures value { result ≡ length self.now.rows }
         ensures few { result ≤ count_by (λ row. row.live) self.now.rows + count_by (λ row. row.last.session == self.now.session) self.now.rows }
     {
-        self.assert_current();
+        current_law(self);
         self.core.catalog.len()
     }
 

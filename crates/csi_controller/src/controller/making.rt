@@ -32,7 +32,7 @@ pub fn made(alloc: Global, id: VolumeId, place: usize) -> Answer
 impl ControllerCore {
     ghost use Rattle.csi_controller.specs.Model.Table.{Makes, Stays};
     ghost use Rattle.csi_controller.specs.Public.Core.{next_shown};
-    ghost use Rattle.csi_controller.specs.Private.CoreAnswers.{IsCallAnswered, IsLeftSo};
+    ghost use Rattle.csi_controller.specs.Private.CoreAnswers.{AnswersOwn};
     ghost use Rattle.csi_controller.specs.Private.Making.{made_line, new_line, IsVolumeMade};
     ghost use Rattle.csi_controller.specs.Private.RowTable.{argument_fault as fault_told};
     ghost use Rattle.csi_controller.specs.Public.Catalog.{IsIndexed};
@@ -110,9 +110,7 @@ impl ControllerCore {
         requires kept { IsSoundCore self.old }
         requires present { number.session ≡ self.old.session }
         requires new { find (λ row. same_text row.name name.now) (controller_parts_shown self.old).rows ≡ None }
-        ensures ok { IfOk result (λ answer. IsCallAnswered self.old self.new number (Call.CreateVolume name.now required limit
-            (lent_capabilities capabilities.entry)) answer) }
-        ensures err { OnErr result (IsLeftSo self.old self.new) }
+        ensures { AnswersOwn self.old self.new number (Call.CreateVolume name.now required limit (lent_capabilities capabilities.entry)) result }
     {
         let alloc = self.alloc;
         match self.room_for(self.catalog.len(), required, limit, capabilities) {

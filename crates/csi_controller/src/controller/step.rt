@@ -1,15 +1,14 @@
 //! What a controller answers to a call, and what it does with a frame.
-ghost use Rattle.std.specs.Prelude.{◌≡◌, ◌<◌, None, Some, position, option_map, IfOk, IfSome, OnErr, OnOk, IsOk, IsTrue, not};
+ghost use Rattle.std.specs.Prelude.{◌≡◌, ◌<◌, None, Some, position, IfOk, OnErr, OnOk, IsOk, IsTrue};
 ghost use Rattle.indexmap.specs.IndexMap.{index_map_len};
 ghost use Rattle.csi_types.specs.declared.call.Call.{Call as OneCall};
 ghost use Rattle.csi_types.specs.declared.number.Number.{Number as OneNumber};
-ghost use Rattle.csi_types.specs.declared.call.Party.{Party as OneParty};
 ghost use Rattle.csi_types.specs.declared.call.Party.TheVariants.{Controller};
 ghost use Rattle.csi_types.specs.Model.Call.{kind_of};
 ghost use Rattle.csi_types.specs.Public.Call.{is_party_of};
 ghost use Rattle.csi_types.specs.Public.Frame.{IsAllowed};
 ghost use Rattle.csi_types.specs.Public.Lent.{lent_call};
-ghost use Rattle.csi_types.specs.Model.Replies.{call_frame, reply_frame};
+ghost use Rattle.csi_types.specs.Model.Replies.{reply_frame};
 
 use super::at_row::{answer_at_row, stale};
 use super::core_parts::ControllerCore;
@@ -34,12 +33,10 @@ impl ControllerCore {
     ghost use Rattle.csi_controller.specs.Public.Catalog.{rows_of};
     ghost use Rattle.csi_controller.specs.Model.Core.{Shows};
     ghost use Rattle.csi_controller.specs.Public.Core.{IsAnsweredOk, IsUndoing};
-    ghost use Rattle.csi_controller.specs.Public.Step.{answer_frame};
     ghost use Rattle.csi_controller.specs.Public.CoreParts.{controller_parts_shown, IsSoundCore};
-    ghost use Rattle.csi_controller.specs.Private.CoreAnswers.{IsCallAnswered, IsLeftSo};
+    ghost use Rattle.csi_controller.specs.Private.CoreAnswers.{IsCallAnswered, AnswersOwn, AnswersCall};
     ghost use Rattle.csi_controller.specs.Private.Nowhere.{IsCreate};
     ghost use Rattle.csi_controller.specs.Public.Repeats.{IsPlainRepeat};
-    ghost use Rattle.csi_controller.specs.Public.RowsLaw.{ChangesAt};
 
     // Answers a call of the present session whose row is at this place. An `Err` changes nothing.
     fn answer_with_row(
@@ -53,12 +50,7 @@ impl ControllerCore {
         requires present { number.session ≡ self.old.session }
         requires place { Some place ≡ position (λ row. is_row_for (lent_call call.now) (volume_of_row row)) (rows_of self.old.catalog) }
         requires within { place < index_map_len self.old.catalog.rows }
-        ensures ok { IfOk result (λ answer. IsCallAnswered self.old self.new number (lent_call call.now) answer) }
-        ensures err { OnErr result (IsLeftSo self.old self.new) }
-        ensures repeated { (state : ControllerState) → Shows (controller_parts_shown self.old) state →
-            IsPlainRepeat state.session (kept_for (lent_call call.now) state) number → IsOk result }
-        ensures undone { (state : ControllerState) → Shows (controller_parts_shown self.old) state → IsUndoing (lent_call call.now) →
-            IsAnsweredOk self.old.config state number (lent_call call.now) → IsOk result }
+        ensures { AnswersOwn self.old self.new number (lent_call call.now) result }
     {
         let alloc = self.alloc;
         let nodes = self.config.nodes();
@@ -89,12 +81,7 @@ impl ControllerCore {
         requires kept { IsSoundCore self.old }
         requires present { number.session ≡ self.old.session }
         requires none { None ≡ position (λ row. is_row_for (lent_call call.now) (volume_of_row row)) (rows_of self.old.catalog) }
-        ensures ok { IfOk result (λ answer. IsCallAnswered self.old self.new number (lent_call call.now) answer) }
-        ensures err { OnErr result (IsLeftSo self.old self.new) }
-        ensures repeated { (state : ControllerState) → Shows (controller_parts_shown self.old) state →
-            IsPlainRepeat state.session (kept_for (lent_call call.now) state) number → IsOk result }
-        ensures undone { (state : ControllerState) → Shows (controller_parts_shown self.old) state → IsUndoing (lent_call call.now) →
-            IsAnsweredOk self.old.config state number (lent_call call.now) → IsOk result }
+        ensures { AnswersOwn self.old self.new number (lent_call call.now) result }
     {
         match call {
             CallRef::CreateVolume {
@@ -111,12 +98,7 @@ impl ControllerCore {
     fn answer_own(&mut self, number: Number, call: &CallRef<'_>) -> Result<Answer, CoreFault>
         requires party { IsTrue (is_party_of (kind_of (lent_call call.now)) Controller) }
         requires kept { IsSoundCore self.old }
-        ensures ok { IfOk result (λ answer. IsCallAnswered self.old self.new number (lent_call call.now) answer) }
-        ensures err { OnErr result (IsLeftSo self.old self.new) }
-        ensures repeated { (state : ControllerState) → Shows (controller_parts_shown self.old) state →
-            IsPlainRepeat state.session (kept_for (lent_call call.now) state) number → IsOk result }
-        ensures undone { (state : ControllerState) → Shows (controller_parts_shown self.old) state → IsUndoing (lent_call call.now) →
-            IsAnsweredOk self.old.config state number (lent_call call.now) → IsOk result }
+        ensures { AnswersOwn self.old self.new number (lent_call call.now) result }
     {
         if number.session < self.session {
             return stale(self.alloc, call.kind());
@@ -137,24 +119,7 @@ impl ControllerCore {
         call: &CallRef<'_>,
     ) -> Result<Option<Answer>, CoreFault>
         requires kept { IsSoundCore self.old }
-        ensures reply { (state : ControllerState) (party : OneParty) → Shows (controller_parts_shown self.old) state →
-            IsAllowed party (Body.Call (lent_call call.now))
-            → IfOk result (λ answer. option_map (answer_frame number) answer ≡ (fenced self.old.config state (call_frame number party (lent_call call.now))).reply) }
-        ensures state { (state : ControllerState) (party : OneParty) → Shows (controller_parts_shown self.old) state →
-            IsAllowed party (Body.Call (lent_call call.now))
-            → OnOk result (Shows (controller_parts_shown self.new) (fenced self.old.config state (call_frame number party (lent_call call.now))).state) }
-        ensures changes { IfOk result (λ answer. IfSome answer (λ own. ChangesAt own.row number (controller_parts_shown self.old)
-            (controller_parts_shown self.new))) }
-        ensures unanswered { result ≡ Ok None → controller_parts_shown self.new ≡ controller_parts_shown self.old }
-        ensures allowed { IfOk result (λ answer. IfSome answer (λ own. IsAllowed Controller (Body.Reply own.kind own.reply))) }
-        ensures others { IsTrue (not (is_party_of (kind_of (lent_call call.now)) Controller)) → result ≡ Ok None }
-        ensures err { (state : ControllerState) → Shows (controller_parts_shown self.old) state → OnErr result (Shows (controller_parts_shown self.new) state) }
-        ensures kept { IsSoundCore self.new }
-        ensures config { self.new.config ≡ self.old.config }
-        ensures repeated { (state : ControllerState) → Shows (controller_parts_shown self.old) state →
-            IsPlainRepeat state.session (kept_for (lent_call call.now) state) number → IsOk result }
-        ensures undone { (state : ControllerState) → Shows (controller_parts_shown self.old) state → IsUndoing (lent_call call.now) →
-            IsAnsweredOk self.old.config state number (lent_call call.now) → IsOk result }
+        ensures { AnswersCall self.old self.new number (lent_call call.now) result }
     {
         if !is_own(call) {
             return Ok(None);

@@ -8,4 +8,4 @@ use Rattle.csi_controller.proofs.laws.exclusive_law.Goals as goal
 pub returns : goal.returns
 returns c =
     let parts = c.args.controller.now in
-    each-weaker (IsSoundRow parts.next_id) IsRowExclusive parts.rows (row-exclusive parts.next_id) c.assert_sound.ensures.each
+    each-weaker (IsSoundRow parts.next_id) IsRowExclusive parts.rows (row-exclusive parts.next_id) c.sound_law.ensures.each

@@ -7,6 +7,6 @@ use Rattle.csi_controller.proofs.controller.Controller.row_count.Goals as goal
 pub returns-clause-few : goal.returns-clause-few
 returns-clause-few c =
     let parts = c.args.self.now in
-    let few = few-rows parts.session parts.rows c.assert_current.ensures in
+    let few = few-rows parts.session parts.rows c.current_law.ensures in
     let same = c.len.ensures ∙ ap (λ (k : ControllerParts). length k.rows) c.self.view_is in
     omega (arith, few, same)

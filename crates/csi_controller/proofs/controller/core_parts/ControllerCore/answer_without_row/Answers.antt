@@ -18,12 +18,6 @@ create-requires-clause-new c =
     nowhere (λ (r : ControllerRow). same_text r.name _) (rows_of c.args.self.now.catalog)
     (subst (λ (call : CallRef). None ≡ position (λ (r : ControllerRow). is_row_for (lent_call call) (volume_of_row r)) (rows_of c.args.self.now.catalog)) c.in-CreateVolume.is c.requires.none)
 
-pub returns-in-CreateVolume-clause-repeated : goal.returns-in-CreateVolume-clause-repeated
-returns-in-CreateVolume-clause-repeated c = λ state shown repeat.
-    let core = c.args.self.now in
-    absurd (repeat-nowhere core.config core.next_id core.session (rows_of core.catalog) state c.args.number (lent_call c.args.call.now) shown
-    (nowhere (λ (r : ControllerRow). is_row_for (lent_call c.args.call.now) (volume_of_row r)) (rows_of core.catalog) c.requires.none) repeat)
-
 pub returns-in_default : goal.returns-in_default
 returns-in_default c =
     let core = c.args.self.now in
