@@ -2,3 +2,4 @@ pub mod FaultPlaces
 pub mod Streams
 pub mod Reaching
 pub mod Ending
+pub mod LineStreams
