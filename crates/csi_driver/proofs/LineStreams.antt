@@ -91,11 +91,3 @@ pub lines-push : (lines : List (List ℕ)) (line behind : List ℕ) → flat_map
 lines-push lines line behind =
     ap (λ bytes. bytes ++ behind) (flat_map-append with_newline lines (line ∷ []) ∙ ap (λ bytes. flat_map with_newline lines ++ bytes) (append-nil (with_newline line)))
     ∙ append_assoc (flat_map with_newline lines) (with_newline line) behind
-
--- the line behind others
-pub next_line : (done later : List (List ℕ)) (k : ℕ) → k ≡ length done → slice_get (done ++ later) k ≡ slice_get later 0
-next_line done later k is = ap (slice_get (done ++ later)) is ∙ behind done
-  where
-    behind : (done : List (List ℕ)) → slice_get (done ++ later) (length done) ≡ slice_get later 0
-    behind [] = refl
-    behind (d ∷ ds) = behind ds
