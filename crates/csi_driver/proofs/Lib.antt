@@ -6,3 +6,4 @@ pub mod Ending
 pub mod LineStreams
 pub mod Fronts
 pub mod LineReaching
+pub mod LineEnding
