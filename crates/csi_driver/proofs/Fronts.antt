@@ -3,7 +3,7 @@ use Rattle.std.proofs.Common.{◌≡◌, ◌∙◌, inl, inr, sym, ap, subst, �
 use Rattle.std.specs.Prelude.{◌≢◌}
 use Rattle.std.proofs.lemmas.Bool.{cases_lt}
 use Rattle.std.proofs.lemmas.List.{take-append-drop, drop_more, get_or-drop, length-take-le, take_all}
-use Rattle.csi_driver.specs.Public.LinesOf.{HasNoNewline, with_newline, IsShort}
+use Rattle.csi_driver.specs.Public.LinesOf.{HasNoNewline, IsShort}
 use Rattle.csi_driver.specs.Public.Lining.{HasLine, HasLongLine}
 use Rattle.csi_driver.specs.Private.Looked.{IsLookedThrough}
 
@@ -51,8 +51,8 @@ module _ (bytes : List ℕ) (start to : ℕ) (looked : IsLookedThrough bytes (le
         there,
         (
           sym (take-append-drop n kept)
-          ∙ ap (λ (back : List ℕ). take n kept ++ back) (drop_more kept n 0 there ∙ ap (λ (b : ℕ). b ∷ drop (n + 1) kept) newline)
-          ∙ sym (append_assoc (take n kept) (10 ∷ []) (drop (n + 1) kept)),
+              ∙ ap (λ (back : List ℕ). take n kept ++ back) (drop_more kept n 0 there ∙ ap (λ (b : ℕ). b ∷ drop (n + 1) kept) newline)
+              ∙ sym (append_assoc (take n kept) (10 ∷ []) (drop (n + 1) kept)),
           none_looked,
           omega (arith, length-take-le n kept many),
         ),

@@ -11,9 +11,9 @@ use Rattle.csi_driver.specs.declared.lines.LinesFault.{LinesFault}
 use Rattle.csi_driver.specs.declared.lines.LinesFault.TheVariants as faults
 use Rattle.csi_driver.specs.Public.Driving.{Drives, DrivesSlice}
 use Rattle.csi_driver.specs.Public.State.{State}
-use Rattle.csi_driver.specs.Public.LinesOf.{LinesOf, HasNoNewline, with_newline, IsShort, and_last}
-use Rattle.csi_driver.specs.Public.Lining.{Runs, handled, flushed as flushes_more, inner, Reaches, Rests, HasLine, HasLongLine, IsThere, StopsIn}
-use Rattle.csi_driver.specs.Public.Lines.{AllHandled, IsBehind, Halts, FirstHandled, IsLongAt, EndsLines, ReadsLines}
+use Rattle.csi_driver.specs.Public.LinesOf.{LinesOf, with_newline, IsShort, and_last}
+use Rattle.csi_driver.specs.Public.Lining.{Runs, handled, flushed as flushes_more, inner, Reaches, Rests, IsThere, StopsIn}
+use Rattle.csi_driver.specs.Public.Lines.{AllHandled, IsBehind, EndsLines, ReadsLines}
 use Rattle.csi_driver.specs.Private.Lining.{EndsIn}
 use Rattle.csi_driver.proofs.Items.{get-seam, front-taken}
 use Rattle.csi_driver.proofs.LineStreams.{lines_of, no_lines, behind_lines, first_is_longer}
@@ -200,11 +200,10 @@ module _ {H S O F : Type 0} (handles : State H S O → ℕ → List ℕ → Stat
           ap (λ (bytes : List ℕ). bytes ++ behind) has.0
           ∙ append_assoc (with_newline line) there.0 behind
           ∙ ap (λ (front : List ℕ). front ++ (there.0 ++ behind)) (sym (append-nil (with_newline line))) in
-          let next = behind_lines (line ∷ []) later (there.0 ++ behind) rest (has.1, tt) (subst (λ (bytes : List ℕ). LinesOf bytes later rest) whole of) in
-          (
+          let next = behind_lines (line ∷ []) later (there.0 ++ behind) rest (has.1, tt) (subst (λ (bytes : List ℕ). LinesOf bytes later rest) whole of) in (
             ap (slice_get lines) (s.counted ∙ p.counted)
-            ∙ ap (λ (all : List (List ℕ)). slice_get all (length p.done)) are
-            ∙ get-seam p.done later ∙ ap (λ (all : List (List ℕ)). slice_get all 0) next.1,
+                ∙ ap (λ (all : List (List ℕ)). slice_get all (length p.done)) are
+                ∙ get-seam p.done later ∙ ap (λ (all : List (List ℕ)). slice_get all 0) next.1,
             has.2,
           )
 

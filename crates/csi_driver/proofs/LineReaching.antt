@@ -1,11 +1,11 @@
 -- How far the lines of a stream were handled: from one piece and one line to the next.
-use Rattle.std.proofs.Common.{◌≡◌, ◌∙◌, sym, ap, subst, refl, ℕ, ◌+◌, ◌-◌, ◌^◌, ◌<◌, min, List, [], ◌∷◌, ◌++◌, length, Option, Some, None, Ok, Err, arith, length-append, append_assoc}
-use Rattle.std.specs.List.{flat_map, AllByRecursion}
+use Rattle.std.proofs.Common.{◌≡◌, ◌∙◌, sym, ap, subst, refl, ℕ, ◌+◌, ◌-◌, ◌^◌, ◌<◌, min, List, [], ◌∷◌, ◌++◌, length, Option, Err, arith, length-append, append_assoc}
+use Rattle.std.specs.List.{flat_map}
 use Rattle.csi_driver.specs.declared.lines.Lines.{Lines}
 use Rattle.csi_driver.specs.declared.lines.LinesFault.{LinesFault}
 use Rattle.csi_driver.specs.declared.lines.LinesFault.TheVariants as faults
 use Rattle.csi_driver.specs.Public.LinesOf.{HasNoNewline, with_newline, IsShort}
-use Rattle.csi_driver.specs.Public.Lining.{begins as none_yet, handled, flushed, Reaches, Rests, HasLine, HasLongLine, StopsIn}
+use Rattle.csi_driver.specs.Public.Lining.{begins as none_yet, handled, flushed, Reaches, Rests, HasLine, StopsIn}
 use Rattle.csi_driver.specs.Public.State.{State}
 use Rattle.csi_driver.specs.Private.Lining.{HandlesNext}
 use Rattle.csi_driver.proofs.Items.{each-push}

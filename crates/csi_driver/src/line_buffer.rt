@@ -1,5 +1,5 @@
 //! The bytes of a stream that no line took yet.
-ghost use Rattle.std.specs.Prelude.{◌≡◌, ◌≢◌, ◌<◌, ◌≤◌, ◌+◌, ◌++◌, ℕ, List, [], length, take, drop, slice_index, OnOk, OnErr};
+ghost use Rattle.std.specs.Prelude.{◌≡◌, ◌≢◌, ◌<◌, ◌≤◌, ◌++◌, ℕ, [], length, take, drop, slice_index, OnOk, OnErr};
 ghost use Rattle.csi_driver.specs.Private.Lining.{IsFront};
 
 use csi_types::NoMemory;

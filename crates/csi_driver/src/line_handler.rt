@@ -1,5 +1,5 @@
 //! What is done with the lines of a stream.
-ghost use Rattle.std.specs.Prelude.{◌≡◌, ℕ, List, Option, Some, None, OnOk, IfErr};
+ghost use Rattle.std.specs.Prelude.{ℕ, List, Option, Some, None, OnOk, IfErr};
 ghost use Rattle.csi_driver.specs.Public.State.{State};
 
 /// What is done with the lines of a stream, one after another: it works on a store, and writes to an output, at once or where it is told

@@ -142,7 +142,10 @@ impl<H> Lines<H> {
             return Ok(());
         }
         let number = self.count.saturating_add(1);
-        match self.handler.handle(store, out, number, self.buffer.first(len)) {
+        match self
+            .handler
+            .handle(store, out, number, self.buffer.first(len))
+        {
             Ok(()) => {
                 self.count = number;
                 match self.handler.flush(store, out) {

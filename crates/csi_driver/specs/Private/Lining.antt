@@ -1,10 +1,10 @@
 -- How far the lines of a stream were handled. This profile's own.
-use Rattle.std.specs.Prelude.{◌≡◌, ◌≢◌, ◌<◌, ◌≤◌, ◌+◌, ◌++◌, ◌⊎◌, ℕ, Bool, true, false, List, [], ◌∷◌, length, take, drop, slice_index, Option, Some, None, Result, Ok, Err}
+use Rattle.std.specs.Prelude.{◌≡◌, ◌≢◌, ◌<◌, ◌+◌, ◌⊎◌, ℕ, Bool, true, false, List, [], length, take, drop, Option, Some, None, Result, Ok, Err}
 use Rattle.csi_driver.specs.declared.line_buffer.Front.{Front}
 use Rattle.csi_driver.specs.declared.line_buffer.Front.TheVariants as front
 use Rattle.csi_driver.specs.declared.lines.LinesFault.{LinesFault}
 use Rattle.csi_driver.specs.declared.lines.LinesFault.TheVariants as faults
-use Rattle.csi_driver.specs.Public.LinesOf.{HasNoNewline, with_newline, IsShort}
+use Rattle.csi_driver.specs.Public.LinesOf.{HasNoNewline, IsShort}
 use Rattle.csi_driver.specs.Public.Lining.{HasLine, HasLongLine, IsThere}
 use Rattle.csi_driver.specs.Public.State.{State}
 

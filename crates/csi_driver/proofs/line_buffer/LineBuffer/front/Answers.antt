@@ -1,4 +1,4 @@
-use Rattle.std.proofs.Common.{◌≡◌, ◌-◌, ◌∙◌, ap, List, ℕ, subst, sym, length, slice_index, arith}
+use Rattle.std.proofs.Common.{◌-◌, ◌∙◌, ap, List, ℕ, subst, sym, length, slice_index, arith}
 use Rattle.csi_driver.specs.declared.line_buffer.Front.TheVariants as fronts
 use Rattle.csi_driver.specs.Private.Lining.{IsFront}
 use Rattle.csi_driver.specs.Private.Looked.{IsLookedThrough}
@@ -20,7 +20,7 @@ returns-clause-front c =
       | else-len-gt-LINE_ROOM+then-self-len w ↦
           rw w.result-is
           (subst (λ (kept : List ℕ). IsFront kept (fronts.Line (to - start))) c.self.view_is
-           (line_front bytes start to looked (omega (arith, len_is)) (ap (λ (all : List ℕ). slice_index all to) (sym a.value) ∙ e.there (omega (arith, len_is))) w.if-len-gt-LINE_ROOM.false))
+          (line_front bytes start to looked (omega (arith, len_is)) (ap (λ (all : List ℕ). slice_index all to) (sym a.value) ∙ e.there (omega (arith, len_is))) w.if-len-gt-LINE_ROOM.false))
       | else-len-gt-LINE_ROOM+else-self-len w ↦
           rw w.result-is (subst (λ (kept : List ℕ). IsFront kept fronts.Part) c.self.view_is (part_front bytes start to looked (omega (arith, len_is)) w.if-len-gt-LINE_ROOM.false))
     ]

@@ -1,4 +1,4 @@
-use Rattle.std.proofs.Common.{◌≡◌, ◌≢◌, ◌∙◌, inl, inr, ap, subst, ℕ, ◌≤◌, List, [], length, take, arith}
+use Rattle.std.proofs.Common.{◌≡◌, ◌≢◌, ◌∙◌, inr, ap, subst, ℕ, List, [], length, take, arith}
 use Rattle.std.proofs.lemmas.List.{take_all}
 use Rattle.csi_driver.specs.Public.State.{State}
 use Rattle.csi_driver.proofs.lines.Lines.end.Goals as goal
