@@ -4,8 +4,8 @@ use Rattle.std.specs.Prelude.{slice_get}
 use Rattle.std.specs.List.{flat_map}
 use Rattle.std.specs.Io.KnownBytes.{IsAtEnd}
 use Rattle.std.proofs.lemmas.List.{append-nil}
-use Rattle.std.proofs.Math.Seq.{take-append_seam}
 use Rattle.csi_types.specs.Model.Frame.{Frame}
+use Rattle.csi_types.specs.Public.Limits.{IsFrame}
 use Rattle.csi_frames.specs.declared.fault.FaultKind.{FaultKind}
 use Rattle.csi_frames.specs.declared.fault.FaultKind.TheVariants.{Short}
 use Rattle.csi_frames.specs.declared.fault.FrameFault.{FrameFault}
@@ -28,7 +28,8 @@ use Rattle.csi_driver.specs.Private.Framing.{EndsIn}
 use Rattle.csi_driver.specs.Public.Frames.{AllHandled, IsBehind, Waits, EndsFrames, ReadsFrames}
 use Rattle.csi_driver.proofs.FaultPlaces.{place_within}
 use Rattle.csi_driver.proofs.Streams.{splits_at, front_of, frames_of}
-use Rattle.csi_driver.proofs.Reaching.{begins_kept, each-push, spellings-push}
+use Rattle.csi_driver.proofs.Items.{each-push, get-seam, front-taken}
+use Rattle.csi_driver.proofs.Reaching.{begins_kept, spellings-push}
 
 -- bytes at fault, other than too few, are there
 faulty-something : (bytes : List ℕ) (kind : FaultKind) (place : ℕ) → kind ≢ Short → IsFaulty bytes kind place → bytes ≢ []
@@ -51,15 +52,6 @@ waits-open (Some g) kept e next = absurd cc
 left-open : (fault : Option FrameFault) (kept rest : List ℕ) → fault ≡ None → IsRestLeft fault kept rest → kept ≡ rest
 left-open None kept rest e left = left
 left-open (Some g) kept rest e left = absurd cc
-
--- behind the frames that were handled stands the next one
-get-seam : (done : List Frame) (frame : Frame) (later : List Frame) → slice_get (done ++ frame ∷ later) (length done) ≡ Some frame
-get-seam [] frame later = refl
-get-seam (d ∷ ds) frame later = get-seam ds frame later
-
--- the frames at the front
-front-taken : (frames done later : List Frame) (k : ℕ) → frames ≡ done ++ later → k ≡ length done → take k frames ≡ done
-front-taken frames done later k are is = ap (λ n. take n frames) is ∙ ap (take (length done)) are ∙ take-append_seam done later
 
 module _ {H S O F : Type 0} (handles : State H S O → ℕ → Frame → State H S O → Type 0) (flushes : State H S O → State H S O → Type 0) (is_flushed : H → Type 0) (stops : State H S O → Option Frame → State H S O → F → Type 0) (first : State (Frames H) S O) where
   -- the frames that were handled are the first ones, whatever comes behind them
@@ -84,7 +76,7 @@ module _ {H S O F : Type 0} (handles : State H S O → ℕ → Frame → State H
       ∙ ap (λ (bytes : List ℕ). flat_map spelling p.done ++ bytes) (append_assoc (spelling frame) (drop n kept) behind)
       ∙ sym (append_assoc (flat_map spelling p.done) (spelling frame) back)
       ∙ ap (λ (front : List ℕ). front ++ back) (sym (spellings-push p.done frame)) in
-      let front = front_of (p.done ++ frame ∷ []) frames back rest (each-push p.done frame p.each at_front.spelled.fits) of.each of.longest (sym whole ∙ of.whole) in
+      let front = front_of (p.done ++ frame ∷ []) frames back rest (each-push IsFrame p.done frame p.each at_front.spelled.fits) of.each of.longest (sym whole ∙ of.whole) in
       (front.0, front.1 ∙ append_assoc p.done (frame ∷ []) front.0)
 
   -- what is kept at most isn't more than was fed
@@ -196,7 +188,7 @@ module _ {H S O F : Type 0} (handles : State H S O → ℕ → Frame → State H
           let p = s.reached in
           let whole : bytes ++ behind ≡ s.fed ++ behind = ap (λ (front : List ℕ). front ++ behind) s.behind.1 in
           let next = next_first s.fed behind s.before p frame there frames rest (subst (λ (all : List ℕ). FramesOf all frames rest) whole of) in
-          ap (slice_get frames) (s.counted ∙ p.counted) ∙ ap (λ (fs : List Frame). slice_get fs (length p.done)) next.1 ∙ get-seam p.done frame next.0
+          ap (slice_get frames) (s.counted ∙ p.counted) ∙ ap (λ (fs : List Frame). slice_get fs (length p.done)) next.1 ∙ get-seam p.done (frame ∷ next.0)
 
   -- ---- a reader's stream
 

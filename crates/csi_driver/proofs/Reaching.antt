@@ -1,6 +1,6 @@
 -- How far the frames of a stream were handled: from one piece and one frame to the next.
 use Rattle.std.proofs.Common.{◌≡◌, ◌∙◌, sym, ap, subst, refl, ℕ, ◌+◌, ◌-◌, ◌^◌, ◌<◌, min, List, [], ◌∷◌, ◌++◌, length, drop, Option, Some, None, Ok, Err, arith, length-append, length-drop, append_assoc}
-use Rattle.std.specs.List.{flat_map, AllByRecursion}
+use Rattle.std.specs.List.{flat_map}
 use Rattle.std.proofs.lemmas.List.{append-nil}
 use Rattle.std.proofs.lemmas.List.Concat.{flat_map-append}
 use Rattle.csi_types.specs.Model.Frame.{Frame}
@@ -17,12 +17,8 @@ use Rattle.csi_driver.specs.declared.frames.FramesFault.TheVariants as faults
 use Rattle.csi_driver.specs.Public.State.{State}
 use Rattle.csi_driver.specs.Public.Framing.{begins as none_yet, handled, flushed, Reaches, WaitsForMore, Rests, StopsIn}
 use Rattle.csi_driver.specs.Private.Framing.{HandlesNext}
+use Rattle.csi_driver.proofs.Items.{each-push}
 use Rattle.csi_driver.proofs.Streams.{AreBytes-both, spelling-not-empty, frames_few, splits_at, none_in_nothing}
-
--- frames within their limits, and one more within its limits, are all within them
-pub each-push : (frames : List Frame) (frame : Frame) → AllByRecursion IsFrame frames → IsFrame frame → AllByRecursion IsFrame (frames ++ frame ∷ [])
-each-push [] frame each fits = (fits, tt)
-each-push (f ∷ frames) frame each fits = (each.0, each-push frames frame each.1 fits)
 
 -- the spellings of frames and one more are those of the frames and then that of the one
 pub spellings-push : (frames : List Frame) (frame : Frame) → flat_map spelling (frames ++ frame ∷ []) ≡ flat_map spelling frames ++ spelling frame
@@ -84,7 +80,7 @@ module _ {H S O : Type 0} (handles : State H S O → ℕ → Frame → State H S
         few = p.few;
         done = p.done ++ frame ∷ [];
         splits = asks fed p.done splitter (Ok (Some frame)) p.splits next;
-        each = each-push p.done frame p.each at_front.spelled.fits;
+        each = each-push IsFrame p.done frame p.each at_front.spelled.fits;
         whole =
             p.whole
             ∙ ap (λ (bytes : List ℕ). flat_map spelling p.done ++ bytes) (splits_at splitter.kept frame n at_front)

@@ -2,3 +2,6 @@ pub mod State
 pub mod Driving
 pub mod Framing
 pub mod Frames
+pub mod LinesOf
+pub mod Lining
+pub mod Lines

@@ -6,8 +6,16 @@ mod consumer;
 mod driver;
 mod frames;
 mod handler;
+mod laws;
+mod line_buffer;
+mod line_handler;
+mod lines;
 
 pub use consumer::Consumer;
 pub use driver::{Stop, drive, drive_slice};
 pub use frames::{Frames, FramesFault};
 pub use handler::FrameHandler;
+pub use laws::lines_law;
+pub use line_buffer::LINE_ROOM;
+pub use line_handler::LineHandler;
+pub use lines::{Lines, LinesFault};
