@@ -54,7 +54,7 @@ use Rattle.csi_orchestrator.proofs.StepsSound.{first-held, use-free}
 -- ---- how long lists of entries are
 
 -- a change leaves as many
-change-long : {X : Type 0} (key : X → List ℕ) (text : List ℕ) (change : X → X) (xs : List X) → length (change_by key text change xs) ≡ length xs
+pub change-long : {X : Type 0} (key : X → List ℕ) (text : List ℕ) (change : X → X) (xs : List X) → length (change_by key text change xs) ≡ length xs
 change-long key text change [] = refl
 change-long key text change (x ∷ xs) = by (same_text (key x) text) (change-long key text change xs)
   where

@@ -15,6 +15,8 @@ pub mod DueCalls
 pub mod EntryRules
 pub mod RulesStay
 pub mod BoundsStay
+pub mod KeptSteps
+pub mod KeptRows
 pub mod StepsSound
 pub mod RowRules
 pub mod UseRules

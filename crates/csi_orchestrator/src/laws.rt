@@ -5,6 +5,7 @@ ghost use Rattle.csi_orchestrator.specs.Private.RowDue.{DueIsTold};
 ghost use Rattle.csi_orchestrator.specs.Public.Steps.{MovesLaw};
 ghost use Rattle.std.specs.List.{AllByRecursion};
 ghost use Rattle.csi_orchestrator.specs.Public.Bounds.{IsBounded};
+ghost use Rattle.csi_orchestrator.specs.Public.Kept.{AreKeptRows};
 ghost use Rattle.csi_orchestrator.specs.Private.Sound.{RowsTell, RowsStaySound, MovesAreGuarded};
 ghost use Rattle.csi_orchestrator.specs.Public.Sound.{HasHistory, KeepsWhatIsNeeded};
 
@@ -47,6 +48,14 @@ pub fn showing_law(orchestrator: &Orchestrator)
 /// attached, staged or published, and the targets at which it may be published. This profile's own.
 pub fn entries_law(orchestrator: &Orchestrator)
     ensures { AllByRecursion KeepsWhatIsNeeded orchestrator.now.rows }
+{
+    orchestrator.assert_kept();
+}
+
+/// A law, and nothing that runs: every orchestrator's rows keep the rules of a row, whatever it was asked and whatever came: how often
+/// a goal's call was tried. This profile's own.
+pub fn rows_law(orchestrator: &Orchestrator)
+    ensures { AreKeptRows orchestrator.now.rows }
 {
     orchestrator.assert_kept();
 }

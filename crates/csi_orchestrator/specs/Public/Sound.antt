@@ -19,6 +19,7 @@ use Rattle.csi_orchestrator.specs.Public.RowRefusals.{has_elsewhere}
 use Rattle.csi_orchestrator.specs.Public.Steps.{IsReached}
 use Rattle.csi_orchestrator.specs.Model.WellFormed.{IsWellFormed}
 use Rattle.csi_orchestrator.specs.Public.Bounds.{IsWithin}
+use Rattle.csi_orchestrator.specs.Public.Kept.{AreKeptRows}
 
 -- a node has one entry
 abbrev pub AreNodesApart : List NodeEntryShown → Type 0
@@ -81,6 +82,7 @@ pub record HasHistory (parts : OrchestratorParts) : Type 0 where
 -- what an orchestrator's type keeps of what it shows
 pub record AreSoundParts (parts : OrchestratorParts) : Type 0 where
   pub sound : AreSoundRows parts.rows
+  pub kept : AreKeptRows parts.rows
   pub within : IsWithin parts
   pub told : HasHistory parts
 
