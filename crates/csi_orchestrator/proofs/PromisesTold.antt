@@ -16,7 +16,7 @@ use Rattle.csi_orchestrator.proofs.AddedItems.{moves-add, stays-formed}
 use Rattle.csi_orchestrator.proofs.SendingAgrees.{Tells}
 use Rattle.csi_orchestrator.proofs.RulesStay.{rows-stay-sound}
 use Rattle.csi_orchestrator.proofs.BoundsStay.{rows-stay-within}
-use Rattle.csi_orchestrator.proofs.KeptRows.{IsFitInput, rows-stay-kept}
+use Rattle.csi_orchestrator.proofs.KeptRows.{IsFitInput, rows-stay-steady}
 use Rattle.csi_orchestrator.proofs.RepliesAgree.{all-tell}
 
 -- where the rows tell what the history tells, what is told is done
@@ -85,8 +85,8 @@ kept-promised {old = old} {new = new} {input = input} {says = says} {result = Ok
     let after = sound-promised {input = input} {says = says} {result = Ok r} kept.sound told in
     record {
       sound = after.0;
-      kept = rows-stay-kept old input (record { answer = says r; parts = new }) kept.sound kept.kept fits told.ok;
-      within = rows-stay-within old input (record { answer = says r; parts = new }) kept.sound kept.within told.ok;
+      steady = rows-stay-steady old input (record { answer = says r; parts = new }) kept.sound kept.steady fits told.ok;
+      within = rows-stay-within old input (record { answer = says r; parts = new }) kept.steady kept.within told.ok;
       told =
           told-on old new kept.told input (says r) after.1 _ refl
           (is-done old kept.told.history input (record { answer = says r; parts = new }) kept.sound kept.told.form kept.told.agrees told.ok);

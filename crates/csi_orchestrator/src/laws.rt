@@ -52,8 +52,9 @@ pub fn entries_law(orchestrator: &Orchestrator)
     orchestrator.assert_kept();
 }
 
-/// A law, and nothing that runs: every orchestrator's rows keep the rules of a row, whatever it was asked and whatever came: how often
-/// a goal's call was tried. This profile's own.
+/// A law, and nothing that runs: whatever it was asked and whatever came, each row of every orchestrator keeps the rules of a row: its
+/// goal, its tries, its id and its entries go together, each entry is as the volume's arguments allow, any two of them may be held
+/// together, and where a call is at work, it is at one node and one target: elsewhere the volume is in use. This profile's own.
 pub fn rows_law(orchestrator: &Orchestrator)
     ensures { AreKeptRows orchestrator.now.rows }
 {
