@@ -46,15 +46,16 @@ use Rattle.csi_orchestrator.specs.Private.Keyed.{change_by, put_by}
 use Rattle.csi_orchestrator.specs.Public.Bounds.{HasFewTargets, HasFewNodes, IsBounded, IsEntryWithin, AreWithin, IsWithin}
 use Rattle.csi_orchestrator.specs.Model.Commands.{next_number}
 use Rattle.csi_orchestrator.specs.Public.Sound.{IsNeeded, IsSoundRow, AreSoundRows, AreNodesApart}
+use Rattle.csi_orchestrator.specs.Public.Steady.{IsInUse, IsSteadyRow, AreSteadyRows}
 use Rattle.csi_orchestrator.proofs.EntryRules.{by_if, each-change, each-put}
+use Rattle.csi_orchestrator.proofs.KeptInUse.{idle-used, used-needed}
 use Rattle.csi_orchestrator.proofs.OpenCalls.{GoesOn, step-goes}
-use Rattle.csi_orchestrator.proofs.RulesStay.{found-kept}
 use Rattle.csi_orchestrator.proofs.StepsSound.{first-held, use-free}
 
 -- ---- how long lists of entries are
 
 -- a change leaves as many
-change-long : {X : Type 0} (key : X → List ℕ) (text : List ℕ) (change : X → X) (xs : List X) → length (change_by key text change xs) ≡ length xs
+pub change-long : {X : Type 0} (key : X → List ℕ) (text : List ℕ) (change : X → X) (xs : List X) → length (change_by key text change xs) ≡ length xs
 change-long key text change [] = refl
 change-long key text change (x ∷ xs) = by (same_text (key x) text) (change-long key text change xs)
   where
@@ -158,7 +159,7 @@ with-target-few target target_entries few may room = by (find (λ (t : TargetEnt
         omega (arith, same, below, long)
 
 -- an entry at which the volume is held as a use asks is still of its node
-held-node : (usage : Usage) (entry : NodeEntryShown) → (held_as usage entry).node ≡ entry.node
+pub held-node : (usage : Usage) (entry : NodeEntryShown) → (held_as usage entry).node ≡ entry.node
 held-node usage entry = by_if (λ (e : NodeEntryShown). e.node ≡ entry.node) (is_no entry.attached) (record entry { capability = usage.capability; readonly = usage.readonly }) entry (λ e. refl) (λ e. refl)
 
 -- the entry for a use is within the bounds, where its node is known and there is room for its target
@@ -206,14 +207,14 @@ room-left last usage row free =
     (first-held (nat_le 16 (others_count usage.target (node_entry_of row usage.node))) faults.Full None (first-held (is_last last) faults.NumbersSpent _ free).1).0
 
 -- a row with the entry for a use that isn't refused stays within the bounds
-used-within : (nodes : List (List ℕ)) (last : Number) (usage : Usage) (row : RowShown) → IsSoundRow row → AreWithin nodes row → use_refusal nodes usage row ≡ None → room_refusal last usage row ≡ None
+used-within : (nodes : List (List ℕ)) (last : Number) (usage : Usage) (row : RowShown) → IsSteadyRow row → AreWithin nodes row → use_refusal nodes usage row ≡ None → room_refusal last usage row ≡ None
     → AreWithin nodes (with_entry usage row)
 used-within nodes last usage row own all free room =
     each-put (IsEntryWithin nodes) (λ (entry : NodeEntryShown). entry.node) (entry_for usage (node_entry_of row usage.node)) row.node_entries
     (entry-within nodes usage (node_entry_of row usage.node) (node-known nodes usage row free)
     (λ entry is.
     let among = among-find (λ (e : NodeEntryShown). same_text e.node usage.node) row.node_entries entry is in
-    (each_of (IsEntryWithin nodes) row.node_entries entry all among, each_of IsNeeded row.node_entries entry (own.needed (use-free nodes usage row free).idle) among))
+    (each_of (IsEntryWithin nodes) row.node_entries entry all among, used-needed entry (each_of IsInUse row.node_entries entry (idle-used row (use-free nodes usage row free).idle own) among)))
     (room-left last usage row room))
     all
 
@@ -228,7 +229,7 @@ failed-within nodes row (Some Create) all = all
 failed-within nodes row goal all = all
 
 -- so does one that is changed by whatever step isn't refused
-changed-within : (nodes : List (List ℕ)) (last : Number) (step : Step) (row : RowShown) → IsSoundRow row → AreWithin nodes row → step_refusal nodes last step row ≡ None → late_refusal last step row ≡ None
+changed-within : (nodes : List (List ℕ)) (last : Number) (step : Step) (row : RowShown) → IsSteadyRow row → AreWithin nodes row → step_refusal nodes last step row ≡ None → late_refusal last step row ≡ None
     → AreWithin nodes (row_before_call step row)
 changed-within nodes last (steps.Use usage) row own all free room = used-within nodes last usage row own all free room
 changed-within nodes last steps.TimeOut row own all free room = timed-out-within nodes row row.goal all
@@ -242,7 +243,7 @@ unless-within nodes None result f = f refl
 unless-within nodes (Some fault) result f = tt
 
 -- so does a row that takes a step
-step-within : (nodes : List (List ℕ)) (last : Number) (step : Step) (row : RowShown) → IsSoundRow row → AreWithin nodes row → WithinAfter nodes (row_step nodes last step row)
+step-within : (nodes : List (List ℕ)) (last : Number) (step : Step) (row : RowShown) → IsSteadyRow row → AreWithin nodes row → WithinAfter nodes (row_step nodes last step row)
 step-within nodes last step row own all =
     unless-within nodes (step_refusal nodes last step row) _
     (λ free. by_if (WithinAfter nodes) (is_step_met step row) (row_rests row) _ (λ met. all)
@@ -257,10 +258,10 @@ BoundedAfter (Ok moved_rows) = IsWithin moved_rows.parts
 BoundedAfter (Err fault) = Unit {0}
 
 -- the row that is found takes a step
-found-within : (parts : OrchestratorParts) (answer : Option Frame → Answer) (step : Step) (p : RowShown → Bool) (row : RowShown) → AreSoundRows parts.rows → IsWithin parts → find p parts.rows ≡ Some row
+found-within : (parts : OrchestratorParts) (answer : Option Frame → Answer) (step : Step) (p : RowShown → Bool) (row : RowShown) → AreSteadyRows parts.rows → IsWithin parts → find p parts.rows ≡ Some row
     → BoundedAfter (steps_at parts answer step (Some row))
 found-within parts answer step p row kept within e =
-    by (row_step parts.nodes parts.last step row) (step-within parts.nodes parts.last step row (found-kept p parts.rows row kept e) (each_of (AreWithin parts.nodes) parts.rows row within.entries (among-find p parts.rows row e)))
+    by (row_step parts.nodes parts.last step row) (step-within parts.nodes parts.last step row (each_of IsSteadyRow parts.rows row kept (among-find p parts.rows row e)) (each_of (AreWithin parts.nodes) parts.rows row within.entries (among-find p parts.rows row e)))
     (step-goes parts.nodes parts.last step row)
   where
     by : (result : Result MovedRow OrchFault) → WithinAfter parts.nodes result → GoesOn parts.last row result → BoundedAfter (all_rows_moved parts answer result)
@@ -274,12 +275,12 @@ found-within parts answer step p row kept within e =
         }
 
 -- rows stay within the bounds where one of them is asked something, or none has the name
-asked-within : (parts : OrchestratorParts) (step : Step) (name : List ℕ) → AreSoundRows parts.rows → IsWithin parts → (o : Option RowShown) → row_of parts.rows name ≡ o → BoundedAfter (steps_at parts Sends step o)
+asked-within : (parts : OrchestratorParts) (step : Step) (name : List ℕ) → AreSteadyRows parts.rows → IsWithin parts → (o : Option RowShown) → row_of parts.rows name ≡ o → BoundedAfter (steps_at parts Sends step o)
 asked-within parts step name kept within None e = tt
 asked-within parts step name kept within (Some row) e = found-within parts Sends step (λ (r : RowShown). same_text r.name name) row kept within e
 
 -- a new row goes last, where there is room for one
-creates-within : (parts : OrchestratorParts) (name : List ℕ) (arguments : Arguments) → AreSoundRows parts.rows → IsWithin parts → (o : Option RowShown) → row_of parts.rows name ≡ o → BoundedAfter (creates parts name arguments o)
+creates-within : (parts : OrchestratorParts) (name : List ℕ) (arguments : Arguments) → AreSteadyRows parts.rows → IsWithin parts → (o : Option RowShown) → row_of parts.rows name ≡ o → BoundedAfter (creates parts name arguments o)
 creates-within parts name arguments kept within (Some row) e = found-within parts Sends (steps.Create arguments) (λ (r : RowShown). same_text r.name name) row kept within e
 creates-within parts name arguments kept within None e = by (first_fault parts.last parts.rows) refl
   where
@@ -299,7 +300,7 @@ creates-within parts name arguments kept within None e = by (first_fault parts.l
     by None e = put-in (free e) (row_sends_due parts.last (new_row name arguments)) (sends-due-within parts.nodes parts.last (new_row name arguments) tt)
 
 -- rows stay within the bounds where a frame comes
-receives-within : (parts : OrchestratorParts) (number : Number) (party : Party) (body : Body) → AreSoundRows parts.rows → IsWithin parts → BoundedAfter (receives parts number party body)
+receives-within : (parts : OrchestratorParts) (number : Number) (party : Party) (body : Body) → AreSteadyRows parts.rows → IsWithin parts → BoundedAfter (receives parts number party body)
 receives-within parts number party (bodies.Call call) kept within = within
 receives-within parts number party (bodies.Reply kind reply) kept within = by (row_replied parts.rows number party kind) refl
   where
@@ -318,7 +319,7 @@ restart-within parts within =
     (λ spent. tt)
 
 -- rows stay within the bounds at every input
-moves-within : (parts : OrchestratorParts) (input : Input) → AreSoundRows parts.rows → IsWithin parts → BoundedAfter (row_moves parts input)
+moves-within : (parts : OrchestratorParts) (input : Input) → AreSteadyRows parts.rows → IsWithin parts → BoundedAfter (row_moves parts input)
 moves-within parts (ToCreate name arguments) kept within = creates-within parts name arguments kept within (row_of parts.rows name) refl
 moves-within parts (ToUse name usage) kept within = asked-within parts (steps.Use usage) name kept within (row_of parts.rows name) refl
 moves-within parts (ToStop name node target) kept within = asked-within parts (steps.Stop node target) name kept within (row_of parts.rows name) refl
@@ -328,7 +329,7 @@ moves-within parts (Comes frame) kept within = receives-within parts frame.numbe
 moves-within parts Restarts kept within = restart-within parts within
 
 -- whatever comes, the rows stay within their bounds
-pub rows-stay-within : (parts : OrchestratorParts) (input : Input) (moved_rows : MovedRows) → AreSoundRows parts.rows → IsWithin parts → row_moves parts input ≡ Ok moved_rows → IsWithin moved_rows.parts
+pub rows-stay-within : (parts : OrchestratorParts) (input : Input) (moved_rows : MovedRows) → AreSteadyRows parts.rows → IsWithin parts → row_moves parts input ≡ Ok moved_rows → IsWithin moved_rows.parts
 rows-stay-within parts input moved_rows kept within e = subst BoundedAfter e (moves-within parts input kept within)
 
 -- ---- what is told of the bounds

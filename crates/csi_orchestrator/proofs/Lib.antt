@@ -14,7 +14,16 @@ pub mod RestartAgrees
 pub mod DueCalls
 pub mod EntryRules
 pub mod RulesStay
+pub mod KeptInUse
 pub mod BoundsStay
+pub mod HasOnes
+pub mod KeptMarks
+pub mod KeptTidied
+pub mod KeptStandings
+pub mod KeptUses
+pub mod KeptEntries
+pub mod KeptSteps
+pub mod KeptRows
 pub mod StepsSound
 pub mod RowRules
 pub mod UseRules

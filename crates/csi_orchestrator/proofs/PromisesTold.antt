@@ -16,6 +16,7 @@ use Rattle.csi_orchestrator.proofs.AddedItems.{moves-add, stays-formed}
 use Rattle.csi_orchestrator.proofs.SendingAgrees.{Tells}
 use Rattle.csi_orchestrator.proofs.RulesStay.{rows-stay-sound}
 use Rattle.csi_orchestrator.proofs.BoundsStay.{rows-stay-within}
+use Rattle.csi_orchestrator.proofs.KeptRows.{IsFitInput, rows-stay-steady}
 use Rattle.csi_orchestrator.proofs.RepliesAgree.{all-tell}
 
 -- where the rows tell what the history tells, what is told is done
@@ -79,17 +80,18 @@ sound-promised {old = old} {new = new} {input = input} {says = says} {result = E
     (subst (λ (p : OrchestratorParts). AreSoundRows p.rows) (sym told.stays) kept, ap (λ (p : OrchestratorParts). p.nodes) told.stays)
 
 -- parts that are kept as they have to be stay so, whatever the result
-pub kept-promised : {R : Type 0} {old new : OrchestratorParts} {input : Input} {says : R → Answer} {result : Result R OrchFault} → AreSoundParts old → IsMoveOf old new input says result → AreSoundParts new
-kept-promised {old = old} {new = new} {input = input} {says = says} {result = Ok r} kept told =
+pub kept-promised : {R : Type 0} {old new : OrchestratorParts} {input : Input} {says : R → Answer} {result : Result R OrchFault} → AreSoundParts old → IsMoveOf old new input says result → IsFitInput input → AreSoundParts new
+kept-promised {old = old} {new = new} {input = input} {says = says} {result = Ok r} kept told fits =
     let after = sound-promised {input = input} {says = says} {result = Ok r} kept.sound told in
     record {
       sound = after.0;
-      within = rows-stay-within old input (record { answer = says r; parts = new }) kept.sound kept.within told.ok;
+      steady = rows-stay-steady old input (record { answer = says r; parts = new }) kept.sound kept.steady fits told.ok;
+      within = rows-stay-within old input (record { answer = says r; parts = new }) kept.steady kept.within told.ok;
       told =
           told-on old new kept.told input (says r) after.1 _ refl
           (is-done old kept.told.history input (record { answer = says r; parts = new }) kept.sound kept.told.form kept.told.agrees told.ok);
     }
-kept-promised {old = old} {new = new} {input = input} {says = says} {result = Err fault} kept told = subst AreSoundParts (sym told.stays) kept
+kept-promised {old = old} {new = new} {input = input} {says = says} {result = Err fault} kept told fits = subst AreSoundParts (sym told.stays) kept
 
 -- the nodes stay as they were shown, whatever the result
 pub nodes-promised : {R : Type 0} {old now new : OrchestratorParts} {input : Input} {says : R → Answer} {result : Result R OrchFault} → old ≡ now → AreSoundRows old.rows → IsMoveOf old new input says result

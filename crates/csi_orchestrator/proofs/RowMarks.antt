@@ -16,6 +16,7 @@ use Rattle.csi_orchestrator.specs.declared.thing.Known.{Known}
 use Rattle.csi_orchestrator.specs.Model.Thing.{name_in, same_thing, thing_at, is_thing, is_no}
 use Rattle.csi_orchestrator.specs.Model.Due.{Due}
 use Rattle.csi_orchestrator.specs.Private.Hearing.{marks_marked}
+use Rattle.csi_orchestrator.specs.Public.Kept.{GoalHasEntry}
 use Rattle.csi_orchestrator.specs.Public.Sound.{HasEntry, MayBeWanted}
 use Rattle.csi_orchestrator.specs.Private.RowChanges.{Aspect, Existence, Attachment, Staging, Publication, aspect_of, node_marked, marked_at, at_goal, exists_marked, nodes_marked, marked_row}
 use Rattle.csi_orchestrator.specs.Model.Shown.{NodeEntryShown, RowShown, node_entry_of, target_entry_of, mark_in, publication_known, mark_of, held_on_node, held_at}
@@ -167,21 +168,16 @@ exists-mark row mark (Exists name) is = sym (ap (λ b. cond b mark row.exists) (
 exists-mark row mark thing is = refl
 
 -- where a mark isn't No there is an entry
-has-node-entry : (read : NodeEntryShown → Known) (o : Option NodeEntryShown) → is_no (mark_in read o) ≡ false → (node_entry : NodeEntryShown) × (o ≡ Some node_entry)
+pub has-node-entry : (read : NodeEntryShown → Known) (o : Option NodeEntryShown) → is_no (mark_in read o) ≡ false → (node_entry : NodeEntryShown) × (o ≡ Some node_entry)
 has-node-entry read None e = absurd (false≢true (sym e))
 has-node-entry read (Some node_entry) e = (node_entry, refl)
 
 -- and one of the target
-has-target-entry : (o : Option TargetEntry) → is_no (mark_in (λ (a : TargetEntry). a.published) o) ≡ false → (target_entry : TargetEntry) × (o ≡ Some target_entry)
+pub has-target-entry : (o : Option TargetEntry) → is_no (mark_in (λ (a : TargetEntry). a.published) o) ≡ false → (target_entry : TargetEntry) × (o ≡ Some target_entry)
 has-target-entry None e = absurd (false≢true (sym e))
 has-target-entry (Some target_entry) e = (target_entry, refl)
 
--- the entries that a goal needs
-abbrev pub GoalHasEntry : RowShown → Option Goal → Type 0
-GoalHasEntry row (Some (Use usage)) = HasEntry row usage
-GoalHasEntry row goal = Unit {0}
-
--- so does a goal that may be wanted
+-- a goal that may be wanted has the entries that it needs
 pub has-entry : (row : RowShown) (goal : Option Goal) → MayBeWanted row goal → GoalHasEntry row goal
 has-entry row (Some (Use usage)) may = may.entry
 has-entry row goal may = tt

@@ -1,6 +1,6 @@
 -- What holds of a row after it was changed.
-use Rattle.std.proofs.Common.{◌≡◌, ℕ, List, [], ◌∷◌, Bool, true, false, cond, not, map, filter, refl, sym, ◌∙◌, ap, subst}
-use Rattle.std.specs.Prelude.{◌≢◌, Option, Some, None, option_map, find, ◌&&◌}
+use Rattle.std.proofs.Common.{◌≡◌, ℕ, List, Bool, false, cond, not, map, refl, sym, ◌∙◌, ap, subst}
+use Rattle.std.specs.Prelude.{Option, Some, None, option_map, find, ◌&&◌}
 use Rattle.std.specs.List.{AllByRecursion, list_any}
 use Rattle.csi_types.specs.declared.call.Kind.{Kind}
 use Rattle.csi_types.specs.declared.call.Kind.TheVariants as kinds
@@ -8,10 +8,8 @@ use Rattle.csi_types.specs.declared.number.Number.{Number}
 use Rattle.csi_types.specs.Model.Call.{kind_of}
 use Rattle.csi_types.specs.Model.Same.{same_text}
 use Rattle.csi_lists.proofs.Pairs.{two-filter}
-use Rattle.std.proofs.lemmas.Bool.{false≢true}
 use Rattle.std.proofs.lemmas.Option.{none-some}
-use Rattle.csi_lists.proofs.Each.{each-filter, each-map, each-weaker}
-use Rattle.csi_lists.proofs.Filters.{each-passes}
+use Rattle.csi_lists.proofs.Each.{each-filter, each-map}
 use Rattle.csi_types.proofs.Equality.{same_text-tells}
 use Rattle.csi_orchestrator.specs.declared.row.Goal.{Goal}
 use Rattle.csi_orchestrator.specs.declared.row.Goal.TheVariants.{Create, Use, Stop, Delete}
@@ -27,10 +25,10 @@ use Rattle.csi_orchestrator.specs.Model.Shown.{NodeEntryShown, RowShown, node_en
 use Rattle.csi_orchestrator.specs.Private.Shown.{closed}
 use Rattle.csi_orchestrator.specs.Public.Shown.{AreTargetsApart}
 use Rattle.csi_orchestrator.specs.Public.RowDue.{due_by, due_in}
-use Rattle.csi_orchestrator.specs.Private.RowChanges.{Aspect, Existence, Publication, aspect_of, node_marked, marked_at, at_goal, exists_marked, nodes_marked, marked_row, row_once_sent, known_by_success_of, succeeded_row, wanted_row, is_target_kept, with_kept_targets, is_node_kept, has_targets, tidied_entries, dropped_row, stopped_goal}
+use Rattle.csi_orchestrator.specs.Private.RowChanges.{Aspect, Existence, Publication, aspect_of, node_marked, marked_at, at_goal, exists_marked, nodes_marked, marked_row, row_once_sent, known_by_success_of, succeeded_row, wanted_row, is_target_kept, with_kept_targets, is_node_kept, dropped_row, stopped_goal}
 use Rattle.csi_orchestrator.specs.Public.RowRefusals.{is_so_elsewhere}
 use Rattle.csi_orchestrator.specs.Private.Keyed.{change_by}
-use Rattle.csi_orchestrator.specs.Public.Sound.{AreNodesApart, IsNeeded, IsUsable, MayBeWanted, IsSoundRow}
+use Rattle.csi_orchestrator.specs.Public.Sound.{AreNodesApart, IsUsable, MayBeWanted, IsSoundRow}
 use Rattle.csi_orchestrator.proofs.TextLists.{text-same}
 use Rattle.csi_orchestrator.proofs.DueCases.{IsDueFor, due-cases, spelled, ToMake, ToRemove, ToAttach, ToStage, ToPublish, ToUnpublish, ToUnstage, ToDetach}
 use Rattle.csi_orchestrator.proofs.RowMarks.{has-entry}
@@ -212,7 +210,6 @@ kept-sent number row due e distinct may =
       nodes = after.nodes;
       targets = after.targets;
       goal = wanted-alike (marked_row Maybe (kind_of due.call) row) (row_once_sent number (kind_of due.call) row) row.goal refl refl refl still;
-      needed = λ none. absurd (subst (λ g. FitsGoal g (kind_of due.call)) none (due-fits-goal row due e));
       open_due = λ other is.
           let case = due-cases row due e in
           due-stays row due number (has-entry row row.goal may) case ∙ sym (spelled row due case) ∙ is;
@@ -220,41 +217,7 @@ kept-sent number row due e distinct may =
 
 -- the open call is given up
 pub kept-closed : (row : RowShown) → IsSoundRow row → IsSoundRow (closed row)
-kept-closed row kept = record { nodes = kept.nodes; targets = kept.targets; goal = wanted-alike row (closed row) row.goal refl refl refl kept.goal; needed = kept.needed; open_due = λ due is. absurd (none-some due is) }
-
--- at each target that has an entry the volume may be published
-abbrev MayBePublishedAtAll : NodeEntryShown → Type 0
-MayBePublishedAtAll entry = AllByRecursion (λ (target_entry : TargetEntry). target_entry.published ≢ No) entry.target_entries
-
--- entries that are kept are needed
-target-needed : (target_entry : TargetEntry) → is_target_kept target_entry ≡ true → target_entry.published ≢ No
-target-needed target_entry e = λ no. false≢true (sym (ap (λ k. not (is_no k)) no) ∙ e)
-
--- each target that is kept may be published
-targets-needed : (entry : NodeEntryShown) → AllByRecursion (λ (target_entry : TargetEntry). target_entry.published ≢ No) (with_kept_targets entry).target_entries
-targets-needed entry =
-    each-weaker (λ (target_entry : TargetEntry). is_target_kept target_entry ≡ true) (λ (target_entry : TargetEntry). target_entry.published ≢ No) (filter is_target_kept entry.target_entries) target-needed
-    (each-passes is_target_kept entry.target_entries)
-
--- a node's entry that is kept, but where nothing is attached or staged, has a target
-node-needed : (entry : NodeEntryShown) → is_node_kept entry ≡ true → entry.attached ≡ No → entry.staged ≡ No → entry.target_entries ≢ []
-node-needed entry e attached staged none =
-    false≢true (sym (ap (λ k. not (is_no k && is_no entry.staged && not (has_targets entry.target_entries))) attached ∙ ap (λ k. not (is_no k && not (has_targets entry.target_entries))) staged ∙ ap (λ entries. not (not (has_targets entries))) none) ∙ e)
-
--- entries that are tidied are needed
-tidied-needed : (entries : List NodeEntryShown) → AllByRecursion IsNeeded (tidied_entries entries)
-tidied-needed entries =
-    let kept = each-passes is_node_kept (map with_kept_targets entries) in
-    let targets = each-filter MayBePublishedAtAll is_node_kept (map with_kept_targets entries) (each-map (λ (entry : NodeEntryShown). Unit {0}) MayBePublishedAtAll with_kept_targets entries (λ entry all. targets-needed entry) (each-trivial entries)) in
-    both (tidied_entries entries) kept targets
-  where
-    each-trivial : (entries : List NodeEntryShown) → AllByRecursion (λ (entry : NodeEntryShown). Unit {0}) entries
-    each-trivial [] = tt
-    each-trivial (entry ∷ entries) = (tt, each-trivial entries)
-
-    both : (entries : List NodeEntryShown) → AllByRecursion (λ (entry : NodeEntryShown). is_node_kept entry ≡ true) entries → AllByRecursion MayBePublishedAtAll entries → AllByRecursion IsNeeded entries
-    both [] kept targets = tt
-    both (entry ∷ entries) kept targets = (record { node = node-needed entry kept.0; targets = targets.0 }, both entries kept.1 targets.1)
+kept-closed row kept = record { nodes = kept.nodes; targets = kept.targets; goal = wanted-alike row (closed row) row.goal refl refl refl kept.goal; open_due = λ due is. absurd (none-some due is) }
 
 -- nothing is wanted now
 pub kept-dropped : (row : RowShown) → AreDistinct row.node_entries → IsSoundRow (dropped_row row)
@@ -265,7 +228,6 @@ kept-dropped row distinct =
           each-filter AreTargetsApart is_node_kept (map with_kept_targets row.node_entries)
           (each-map AreTargetsApart AreTargetsApart with_kept_targets row.node_entries (λ entry apart. two-filter (λ (a b : TargetEntry). same_text a.target b.target ≡ false) is_target_kept entry.target_entries apart) distinct.targets);
       goal = tt;
-      needed = λ none. tidied-needed row.node_entries;
       open_due = λ due is. absurd (none-some due is);
     }
 

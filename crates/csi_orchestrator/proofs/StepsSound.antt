@@ -53,7 +53,7 @@ first-held true fault rest e = absurd (clash e)
 first-held false fault rest e = (refl, e)
 
 -- what fails the test of not being Yes is Yes
-is-made : (k : Known) → not (is_yes k) ≡ false → k ≡ Yes
+pub is-made : (k : Known) → not (is_yes k) ≡ false → k ≡ Yes
 is-made Yes e = refl
 is-made No e = absurd (false≢true (sym e))
 is-made Maybe e = absurd (false≢true (sym e))

@@ -67,7 +67,7 @@ pub record IsHeldFor (usage : Usage) (node_entry held : NodeEntryShown) : Type 0
   pub as_flagged : held.readonly ≡ usage.readonly
 
 -- an entry by which it isn't held otherwise is so, once it is held for the use
-held-for : (usage : Usage) (node_entry : NodeEntryShown) → is_entry_otherwise usage (Some node_entry) ≡ false → IsHeldFor usage node_entry (held_as usage node_entry)
+pub held-for : (usage : Usage) (node_entry : NodeEntryShown) → is_entry_otherwise usage (Some node_entry) ≡ false → IsHeldFor usage node_entry (held_as usage node_entry)
 held-for usage node_entry fits = by (is_no node_entry.attached) fits
   where
     by : (b : Bool) → (not b && not (same_capability node_entry.capability usage.capability && same_flag node_entry.readonly usage.readonly)) ≡ false

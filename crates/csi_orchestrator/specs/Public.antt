@@ -5,6 +5,8 @@ pub mod RowDue
 pub mod RowMoves
 pub mod RowRefusals
 pub mod Bounds
+pub mod Steady
+pub mod Kept
 pub mod Sound
 pub mod Steps
 pub mod Listing

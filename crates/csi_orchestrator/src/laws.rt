@@ -5,6 +5,7 @@ ghost use Rattle.csi_orchestrator.specs.Private.RowDue.{DueIsTold};
 ghost use Rattle.csi_orchestrator.specs.Public.Steps.{MovesLaw};
 ghost use Rattle.std.specs.List.{AllByRecursion};
 ghost use Rattle.csi_orchestrator.specs.Public.Bounds.{IsBounded};
+ghost use Rattle.csi_orchestrator.specs.Public.Kept.{AreKeptRows};
 ghost use Rattle.csi_orchestrator.specs.Private.Sound.{RowsTell, RowsStaySound, MovesAreGuarded};
 ghost use Rattle.csi_orchestrator.specs.Public.Sound.{HasHistory, KeepsWhatIsNeeded};
 
@@ -47,6 +48,15 @@ pub fn showing_law(orchestrator: &Orchestrator)
 /// attached, staged or published, and the targets at which it may be published. This profile's own.
 pub fn entries_law(orchestrator: &Orchestrator)
     ensures { AllByRecursion KeepsWhatIsNeeded orchestrator.now.rows }
+{
+    orchestrator.assert_kept();
+}
+
+/// A law, and nothing that runs: whatever it was asked and whatever came, each row of every orchestrator keeps the rules of a row: its
+/// goal, its tries, its id and its entries go together, each entry is as the volume's arguments allow, any two of them may be held
+/// together, and where a call is at work, it is at one node and one target: elsewhere the volume is in use. This profile's own.
+pub fn rows_law(orchestrator: &Orchestrator)
+    ensures { AreKeptRows orchestrator.now.rows }
 {
     orchestrator.assert_kept();
 }

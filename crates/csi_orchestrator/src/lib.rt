@@ -27,6 +27,6 @@ mod thing;
 mod worked;
 
 pub use fault::{Heard, OrchFault};
-pub use laws::{bounds_law, entries_law, form_law, moves_law, showing_law};
+pub use laws::{bounds_law, entries_law, form_law, moves_law, rows_law, showing_law};
 pub use orchestrator::Orchestrator;
 pub use thing::{Known, Thing};

@@ -1,6 +1,7 @@
 //! What becomes of a frame that came: a reply to an open call is taken, and all else is ignored.
 ghost use Rattle.std.specs.Prelude.{◌≡◌, ◌&&◌, Option, Ok, Err, Some, None, IfSome, OnErr, IsOk, map, position, ◌<◌};
 ghost use Rattle.indexmap.specs.IndexMap.{index_map_len};
+ghost use Rattle.csi_types.specs.Public.Frame.{IsAllowed};
 ghost use Rattle.csi_types.specs.Model.Same.{same_number as is_same_number, same_kind as is_same_kind};
 ghost use Rattle.csi_orchestrator.specs.declared.fault.Heard.TheVariants.{Ignored as IsIgnored};
 ghost use Rattle.csi_orchestrator.specs.Model.Moves.{Comes, Hears, hears};
@@ -84,6 +85,7 @@ impl OrchestratorCore {
         requires sound { AreSoundRows (map row_shown (rows_of self.old.catalog)) }
         requires filed { IsFiled self.old }
         ensures told { IsMoveOf (orchestrator_parts_shown self.old) (orchestrator_parts_shown self.new) (Comes frame.now) Hears result }
+        ensures allowed { IsAllowed frame.now.party frame.now.body }
         ensures stays { OnErr result (orchestrator_parts_shown self.new ≡ orchestrator_parts_shown self.old) }
         ensures filed { IsFiled self.new }
         ensures ignored { RowsAnswer (Hears IsIgnored) (row_moves (orchestrator_parts_shown self.old) (Comes frame.now)) → IsOk result }

@@ -19,6 +19,7 @@ use Rattle.csi_orchestrator.specs.Public.RowRefusals.{has_elsewhere}
 use Rattle.csi_orchestrator.specs.Public.Steps.{IsReached}
 use Rattle.csi_orchestrator.specs.Model.WellFormed.{IsWellFormed}
 use Rattle.csi_orchestrator.specs.Public.Bounds.{IsWithin}
+use Rattle.csi_orchestrator.specs.Public.Steady.{AreSteadyRows}
 
 -- a node has one entry
 abbrev pub AreNodesApart : List NodeEntryShown → Type 0
@@ -63,7 +64,6 @@ pub record IsSoundRow (row : RowShown) : Type 0 where
   pub nodes : AreNodesApart row.node_entries
   pub targets : AllByRecursion AreTargetsApart row.node_entries
   pub goal : MayBeWanted row row.goal
-  pub needed : KeepsWhatIsNeeded row
   pub open_due : (due : Due) → due_open row ≡ Some due → due_in row ≡ Some due
 
 -- the rules of all rows: a name has one, and each keeps its own
@@ -81,6 +81,7 @@ pub record HasHistory (parts : OrchestratorParts) : Type 0 where
 -- what an orchestrator's type keeps of what it shows
 pub record AreSoundParts (parts : OrchestratorParts) : Type 0 where
   pub sound : AreSoundRows parts.rows
+  pub steady : AreSteadyRows parts.rows
   pub within : IsWithin parts
   pub told : HasHistory parts
 

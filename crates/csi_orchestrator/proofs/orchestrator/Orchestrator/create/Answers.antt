@@ -3,7 +3,7 @@ use Rattle.csi_orchestrator.proofs.PromisesTold.{ok-promised, err-promised, kept
 use Rattle.csi_orchestrator.proofs.orchestrator.Orchestrator.create.Goals as goal
 
 pub invariant_of-self : goal.invariant_of-self
-invariant_of-self c = (kept-promised c.self.invariant.0 c.create.ensures.told, c.create.ensures.filed)
+invariant_of-self c = (kept-promised c.self.invariant.0 c.create.ensures.told tt, c.create.ensures.filed)
 
 pub returns-clause-ok : goal.returns-clause-ok
 returns-clause-ok c = ok-promised c.self.view_is c.self.invariant.0.sound c.create.ensures.told

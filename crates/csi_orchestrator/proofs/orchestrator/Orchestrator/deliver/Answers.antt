@@ -6,7 +6,7 @@ use Rattle.csi_orchestrator.proofs.PromisesTold.{ok-promised, err-promised, kept
 use Rattle.csi_orchestrator.proofs.orchestrator.Orchestrator.deliver.Goals as goal
 
 pub invariant_of-self : goal.invariant_of-self
-invariant_of-self c = (kept-promised c.self.invariant.0 c.deliver.ensures.told, c.deliver.ensures.filed)
+invariant_of-self c = (kept-promised c.self.invariant.0 c.deliver.ensures.told c.deliver.ensures.allowed, c.deliver.ensures.filed)
 
 pub returns-clause-ok : goal.returns-clause-ok
 returns-clause-ok c = ok-promised c.self.view_is c.self.invariant.0.sound c.deliver.ensures.told

@@ -13,6 +13,7 @@ invariant_of-result c =
     let none : List Row → OrchestratorParts = λ rows. record { nodes = c.args.nodes.items; last = c.args.last; rows = map row_shown rows } in (
       subst (λ rows. AreSoundParts (none rows)) (sym c.new.ensures.rows) (record {
         sound = record { names = tt; each = tt };
+        steady = tt;
         within = record { rows = omega arith; entries = tt };
         told =
             record {

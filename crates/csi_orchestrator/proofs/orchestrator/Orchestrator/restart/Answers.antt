@@ -6,7 +6,7 @@ use Rattle.csi_orchestrator.proofs.orchestrator.Orchestrator.restart.Goals as go
 pub invariant_of-self : goal.invariant_of-self
 invariant_of-self c =
     let told = restart-told c.restart.result c.self.inside.core c.restart.new.self c.restart.ensures.ok c.restart.ensures.err c.restart.ensures.stays in
-    (kept-promised c.self.invariant.0 told, c.restart.ensures.filed)
+    (kept-promised c.self.invariant.0 told tt, c.restart.ensures.filed)
 
 pub returns-clause-ok : goal.returns-clause-ok
 returns-clause-ok c =

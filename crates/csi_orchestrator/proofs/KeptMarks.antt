@@ -1,0 +1,199 @@
+-- Why the marks at a goal's node stay as they may be: where the due call is sent, and where it succeeds.
+use Rattle.std.proofs.Common.{◌≡◌, ◌≢◌, ℕ, List, [], ◌∷◌, Bool, true, false, not, length, refl, sym, ◌∙◌, ap, inl, inr, arith}
+use Rattle.std.specs.Prelude.{◌&&◌, ◌||◌}
+use Rattle.std.specs.List.{list_any}
+use Rattle.std.proofs.lemmas.Bool.{false≢true, or_parts}
+use Rattle.csi_types.specs.Model.Same.{same_text}
+use Rattle.csi_orchestrator.specs.declared.row.TargetEntry.{TargetEntry}
+use Rattle.csi_orchestrator.specs.declared.thing.Known.{Known}
+use Rattle.csi_orchestrator.specs.declared.thing.Known.TheVariants.{Yes, No, Maybe}
+use Rattle.csi_orchestrator.specs.Model.Thing.{is_yes, is_no}
+use Rattle.csi_orchestrator.specs.Model.Shown.{NodeEntryShown, mark_in, publication_known}
+use Rattle.csi_orchestrator.specs.Private.RowChanges.{Attachment, Staging, Publication, node_marked}
+use Rattle.csi_orchestrator.specs.Public.Steady.{HasOne, IsAtWork, HasMarks}
+use Rattle.csi_orchestrator.proofs.BoundsStay.{change-long}
+use Rattle.csi_orchestrator.proofs.HasOnes.{one-found, one-change}
+
+-- the marks on the way to a use, or back from it
+abbrev pub IsOnWay : Known → Known → Known → Type 0
+IsOnWay Yes Yes published = Unit {0}
+IsOnWay Yes Maybe No = Unit {0}
+IsOnWay Yes No No = Unit {0}
+IsOnWay Maybe No No = Unit {0}
+IsOnWay No No No = Unit {0}
+IsOnWay attached staged published = ⊥
+
+-- ---- what becomes of them
+
+-- those at work are on the way
+pub work-way : (a s p : Known) → IsAtWork a s p → IsOnWay a s p
+work-way Maybe No No w = tt
+work-way Yes Maybe No w = tt
+work-way Yes Yes Maybe w = tt
+work-way a s p w = absurd w
+
+-- an attachment is sent, and succeeds
+pub attach-sent : (a s p : Known) → is_yes a ≡ false → IsOnWay a s p → IsAtWork Maybe s p
+attach-sent No No No e w = tt
+attach-sent Maybe No No e w = tt
+attach-sent Yes s p e w = absurd (false≢true (sym e))
+attach-sent a s p e w = absurd w
+
+-- an attachment succeeds
+pub attach-done : (a s p : Known) → is_yes a ≡ false → IsOnWay a s p → IsOnWay Yes s p
+attach-done No No No e w = tt
+attach-done Maybe No No e w = tt
+attach-done Yes s p e w = absurd (false≢true (sym e))
+attach-done a s p e w = absurd w
+
+-- a staging is sent, and succeeds
+pub stage-sent : (a s p : Known) → is_yes a ≡ true → is_yes s ≡ false → IsOnWay a s p → IsAtWork a Maybe p
+stage-sent Yes Yes p e f w = absurd (false≢true (sym f))
+stage-sent Yes Maybe No e f w = tt
+stage-sent Yes No No e f w = tt
+stage-sent Maybe s p e f w = absurd (false≢true e)
+stage-sent No s p e f w = absurd (false≢true e)
+stage-sent a s p e f w = absurd w
+
+-- a staging succeeds
+pub stage-done : (a s p : Known) → is_yes a ≡ true → IsOnWay a s p → IsOnWay a Yes p
+stage-done Yes s p e w = tt
+stage-done Maybe s p e w = absurd (false≢true e)
+stage-done No s p e w = absurd (false≢true e)
+
+-- a publication is sent, and succeeds
+pub publish-sent : (a s : Known) → is_yes a ≡ true → is_yes s ≡ true → IsAtWork a s Maybe
+publish-sent Yes Yes e f = tt
+publish-sent Yes Maybe e f = absurd (false≢true f)
+publish-sent Yes No e f = absurd (false≢true f)
+publish-sent Maybe s e f = absurd (false≢true e)
+publish-sent No s e f = absurd (false≢true e)
+
+-- a publication succeeds
+pub publish-done : (a s p : Known) → is_yes a ≡ true → is_yes s ≡ true → IsOnWay a s p
+publish-done Yes Yes p e f = tt
+publish-done Yes Maybe p e f = absurd (false≢true f)
+publish-done Yes No p e f = absurd (false≢true f)
+publish-done Maybe s p e f = absurd (false≢true e)
+publish-done No s p e f = absurd (false≢true e)
+
+-- the end of a publication is sent, and succeeds
+pub unpublish-sent : (a s p : Known) → is_no p ≡ false → IsOnWay a s p → IsAtWork a s Maybe
+unpublish-sent Yes Yes Yes e w = tt
+unpublish-sent Yes Yes Maybe e w = tt
+unpublish-sent Yes Yes No e w = absurd (false≢true (sym e))
+unpublish-sent Yes Maybe No e w = absurd (false≢true (sym e))
+unpublish-sent Yes No No e w = absurd (false≢true (sym e))
+unpublish-sent Maybe No No e w = absurd (false≢true (sym e))
+unpublish-sent No No No e w = absurd (false≢true (sym e))
+unpublish-sent a s p e w = absurd w
+
+-- the end of a publication succeeds
+pub unpublish-done : (a s p : Known) → is_no p ≡ false → IsOnWay a s p → IsOnWay a s No
+unpublish-done Yes Yes Yes e w = tt
+unpublish-done Yes Yes Maybe e w = tt
+unpublish-done Yes Yes No e w = absurd (false≢true (sym e))
+unpublish-done Yes Maybe No e w = absurd (false≢true (sym e))
+unpublish-done Yes No No e w = absurd (false≢true (sym e))
+unpublish-done Maybe No No e w = absurd (false≢true (sym e))
+unpublish-done No No No e w = absurd (false≢true (sym e))
+unpublish-done a s p e w = absurd w
+
+-- the end of a staging is sent, and succeeds
+pub unstage-sent : (a s p : Known) → is_no p ≡ true → is_no s ≡ false → IsOnWay a s p → IsAtWork a Maybe p
+unstage-sent a No p e f w = absurd (false≢true (sym f))
+unstage-sent Yes Yes No e f w = tt
+unstage-sent Yes Maybe No e f w = tt
+unstage-sent Yes Yes Yes e f w = absurd (false≢true e)
+unstage-sent Yes Yes Maybe e f w = absurd (false≢true e)
+unstage-sent a s p e f w = absurd w
+
+-- the end of a staging succeeds
+pub unstage-done : (a s p : Known) → is_no p ≡ true → is_no s ≡ false → IsOnWay a s p → IsOnWay a No p
+unstage-done a No p e f w = absurd (false≢true (sym f))
+unstage-done Yes Yes No e f w = tt
+unstage-done Yes Maybe No e f w = tt
+unstage-done Yes Yes Yes e f w = absurd (false≢true e)
+unstage-done Yes Yes Maybe e f w = absurd (false≢true e)
+unstage-done a s p e f w = absurd w
+
+-- the end of an attachment is sent, and succeeds
+pub detach-sent : (s p : Known) → is_no p ≡ true → is_no s ≡ true → IsAtWork Maybe s p
+detach-sent No No e f = tt
+detach-sent No Yes e f = absurd (false≢true e)
+detach-sent No Maybe e f = absurd (false≢true e)
+detach-sent Yes p e f = absurd (false≢true f)
+detach-sent Maybe p e f = absurd (false≢true f)
+
+-- the end of an attachment succeeds
+pub detach-done : (s p : Known) → is_no p ≡ true → is_no s ≡ true → IsOnWay No s p
+detach-done No No e f = tt
+detach-done No Yes e f = absurd (false≢true e)
+detach-done No Maybe e f = absurd (false≢true e)
+detach-done Yes p e f = absurd (false≢true f)
+detach-done Maybe p e f = absurd (false≢true f)
+
+-- ---- targets
+
+-- a target's text
+abbrev target_of : TargetEntry → List ℕ
+target_of t = t.target
+
+-- these targets, of which one has this mark, and each other one is published
+abbrev AreTargets : List ℕ → Known → List TargetEntry → Type 0
+AreTargets target mark ts = HasOne target_of target (λ (t : TargetEntry). t.published ≡ mark) (λ (t : TargetEntry). t.published ≡ Yes) ts
+
+-- the volume may be published at another target
+abbrev is_other : List ℕ → TargetEntry → Bool
+is_other target t = not (same_text t.target target) && not (is_no t.published)
+
+-- where it may be at no other target, there is one
+pub alone-then : (target : List ℕ) (mark : Known) (ts : List TargetEntry) → AreTargets target mark ts → list_any (is_other target) ts ≡ false → length ts ≡ 1
+alone-then target mark [] one none = absurd one
+alone-then target mark (t ∷ []) (inl here) none = refl
+alone-then target mark (t ∷ u ∷ us) (inl here) none =
+    let second = or_parts (is_other target u) (list_any (is_other target) us) (or_parts (is_other target t) _ none).1 in
+    absurd (false≢true (sym second.0 ∙ ap (λ b. not b && not (is_no u.published)) here.2.0.0 ∙ ap (λ k. not (is_no k)) here.2.0.1))
+alone-then target mark (t ∷ ts) (inr later) none =
+    absurd (false≢true (sym (or_parts (is_other target t) (list_any (is_other target) ts) none).0 ∙ ap (λ b. not b && not (is_no t.published)) later.0 ∙ ap (λ k. not (is_no k)) later.1))
+
+-- where there is one, it may be at no other target
+pub then-alone : (target : List ℕ) (mark : Known) (ts : List TargetEntry) → AreTargets target mark ts → length ts ≡ 1 → list_any (is_other target) ts ≡ false
+then-alone target mark [] one long = absurd one
+then-alone target mark (t ∷ []) (inl here) long = ap (λ b. (not b && not (is_no t.published)) || false) here.0
+then-alone target mark (t ∷ []) (inr later) long = absurd later.2
+then-alone target mark (t ∷ u ∷ us) one long = absurd (omega (arith, long))
+
+-- ---- an entry
+
+-- what is known of the publication is the one's mark
+pub known-there : (Are : Known → Known → Known → Type 0) (target : List ℕ) (entry : NodeEntryShown) (has : HasMarks Are target entry) → publication_known target entry ≡ has.published
+known-there Are target entry has =
+    let found = one-found target_of target (λ (t : TargetEntry). t.published ≡ has.published) (λ (t : TargetEntry). t.published ≡ Yes) entry.target_entries has.targets in
+    ap (mark_in (λ (t : TargetEntry). t.published)) found.1 ∙ found.2
+
+-- an attachment is marked
+pub attachment-marked : (Are Then : Known → Known → Known → Type 0) (target : List ℕ) (mark : Known) (entry : NodeEntryShown) → (has : HasMarks Are target entry) → Then mark entry.staged has.published
+    → HasMarks Then target (node_marked mark Attachment target entry)
+attachment-marked Are Then target mark entry has then = record { published = has.published; marks = then; targets = has.targets; alone = has.alone }
+
+-- a staging is marked
+pub staging-marked : (Are Then : Known → Known → Known → Type 0) (target : List ℕ) (mark : Known) (entry : NodeEntryShown) → (has : HasMarks Are target entry) → Then entry.attached mark has.published
+    → (mark ≢ Yes → length entry.target_entries ≡ 1) → HasMarks Then target (node_marked mark Staging target entry)
+staging-marked Are Then target mark entry has then alone = record { published = has.published; marks = then; targets = has.targets; alone = alone }
+
+-- a publication is marked
+pub publication-marked : (Are Then : Known → Known → Known → Type 0) (target : List ℕ) (mark : Known) (entry : NodeEntryShown) → HasMarks Are target entry → Then entry.attached entry.staged mark
+    → HasMarks Then target (node_marked mark Publication target entry)
+publication-marked Are Then target mark entry has then =
+    record {
+      published = mark;
+      marks = then;
+      targets =
+          one-change target_of target marked (λ (t : TargetEntry). t.published ≡ has.published) (λ (t : TargetEntry). t.published ≡ Yes) (λ (t : TargetEntry). t.published ≡ mark) entry.target_entries (λ t. refl)
+          (λ t found own. refl) has.targets;
+      alone = λ unstaged. change-long target_of target marked entry.target_entries ∙ has.alone unstaged;
+    }
+  where
+    marked : TargetEntry → TargetEntry
+    marked t = record t { published = mark }

@@ -1,0 +1,135 @@
+-- Why each entry that is kept once a goal is dropped is in use.
+use Rattle.std.proofs.Common.{◌≡◌, ◌≢◌, ℕ, List, [], ◌∷◌, Bool, true, false, cond, not, length, map, filter, refl, sym, ◌∙◌, ap, subst, inl, inr, arith}
+use Rattle.std.specs.Prelude.{Some, find, ◌&&◌}
+use Rattle.std.specs.List.{AllByRecursion}
+use Rattle.std.proofs.lemmas.Bool.{false≢true, and_parts}
+use Rattle.csi_lists.proofs.Each.{each-map, each-weaker}
+use Rattle.csi_lists.proofs.Filters.{filter-each, filter-no_one}
+use Rattle.csi_lists.proofs.Members.{in_filter, among-empty}
+use Rattle.csi_lists.proofs.Tests.{any-then}
+use Rattle.csi_types.specs.Model.Same.{same_text}
+use Rattle.csi_orchestrator.specs.declared.row.TargetEntry.{TargetEntry}
+use Rattle.csi_orchestrator.specs.declared.thing.Known.{Known}
+use Rattle.csi_orchestrator.specs.declared.thing.Known.TheVariants.{Yes, No, Maybe}
+use Rattle.csi_orchestrator.specs.Model.Thing.{is_yes, is_no}
+use Rattle.csi_orchestrator.specs.Model.Shown.{NodeEntryShown, publication_known}
+use Rattle.csi_orchestrator.specs.Private.RowChanges.{is_target_kept, with_kept_targets, has_targets, is_node_kept, tidied_entries}
+use Rattle.csi_orchestrator.specs.Public.Steady.{HasOne, HasMarks, IsInUse}
+use Rattle.csi_orchestrator.specs.Public.RowDue.{others_in}
+use Rattle.csi_orchestrator.proofs.HasOnes.{one-each}
+use Rattle.csi_orchestrator.proofs.KeptMarks.{IsOnWay, then-alone, known-there}
+
+-- what passes the test is Yes
+pub yes-is : (k : Known) → is_yes k ≡ true → k ≡ Yes
+yes-is Yes e = refl
+yes-is No e = absurd (false≢true e)
+yes-is Maybe e = absurd (false≢true e)
+
+-- what is so of each that passes is so of each that is kept
+each-if_kept : {X : Type 0} (P : X → Type 0) (q : X → Bool) (xs : List X) → AllByRecursion (λ x. q x ≡ true → P x) xs → AllByRecursion P (filter q xs)
+each-if_kept P q [] all = tt
+each-if_kept P q (x ∷ xs) all = by (q x) refl (each-if_kept P q xs all.1)
+  where
+    by : (b : Bool) → q x ≡ b → AllByRecursion P (filter q xs) → AllByRecursion P (cond b (x ∷ filter q xs) (filter q xs))
+    by true e rest = (all.0 e, rest)
+    by false e rest = rest
+
+-- it is in use once its targets are tidied, if it is kept
+abbrev IsInUseIfKept : NodeEntryShown → Type 0
+IsInUseIfKept entry = is_node_kept (with_kept_targets entry) ≡ true → IsInUse (with_kept_targets entry)
+
+-- an entry in use stays so
+use-kept : (entry : NodeEntryShown) → IsInUse entry → IsInUse (with_kept_targets entry)
+use-kept entry used =
+    let same : filter is_target_kept entry.target_entries ≡ entry.target_entries = filter-each is_target_kept entry.target_entries
+    (each-weaker (λ (t : TargetEntry). t.published ≡ Yes) (λ (t : TargetEntry). is_target_kept t ≡ true) entry.target_entries (λ t is. ap (λ k. not (is_no k)) is) used.published) in
+    record {
+      attached = used.attached;
+      staged = used.staged;
+      published = subst (AllByRecursion (λ (t : TargetEntry). t.published ≡ Yes)) (sym same) used.published;
+      some = λ none. used.some (sym same ∙ none);
+    }
+
+-- entries that are in use if they are kept are in use once they are tidied
+tidied : (entries : List NodeEntryShown) → AllByRecursion IsInUseIfKept entries → AllByRecursion IsInUse (tidied_entries entries)
+tidied entries all =
+    each-if_kept IsInUse is_node_kept (map with_kept_targets entries)
+    (each-map IsInUseIfKept (λ (entry : NodeEntryShown). is_node_kept entry ≡ true → IsInUse entry) with_kept_targets entries (λ entry own. own) all)
+
+-- so are those that all are in use
+pub used-tidied : (entries : List NodeEntryShown) → AllByRecursion IsInUse entries → AllByRecursion IsInUse (tidied_entries entries)
+used-tidied entries all = tidied entries (each-weaker IsInUse IsInUseIfKept entries (λ entry used kept. use-kept entry used) all)
+
+-- so are those of which one is if it is kept
+pub one-tidied : (node target : List ℕ) (entries : List NodeEntryShown)
+    → ((entry : NodeEntryShown) → find (λ (other : NodeEntryShown). same_text other.node node) entries ≡ Some entry → HasMarks IsOnWay target entry → IsInUseIfKept entry)
+    → HasOne (λ (entry : NodeEntryShown). entry.node) node (HasMarks IsOnWay target) IsInUse entries → AllByRecursion IsInUse (tidied_entries entries)
+one-tidied node target entries f one =
+    tidied entries (one-each (λ (entry : NodeEntryShown). entry.node) node (HasMarks IsOnWay target) IsInUse IsInUseIfKept entries f (λ entry used kept. use-kept entry used) one)
+
+-- an entry whose target is published, as wanted
+pub met-used : (target : List ℕ) (entry : NodeEntryShown) → HasMarks IsOnWay target entry → is_yes entry.attached ≡ true → is_yes entry.staged ≡ true → is_yes (publication_known target entry) ≡ true → IsInUseIfKept entry
+met-used target entry has attached staged published kept =
+    let own : has.published ≡ Yes = yes-is has.published (sym (ap is_yes (known-there IsOnWay target entry has)) ∙ published) in
+    use-kept entry (record {
+      attached = yes-is entry.attached attached;
+      staged = yes-is entry.staged staged;
+      published =
+          one-each (λ (t : TargetEntry). t.target) target (λ (t : TargetEntry). t.published ≡ has.published) (λ (t : TargetEntry). t.published ≡ Yes) (λ (t : TargetEntry). t.published ≡ Yes) entry.target_entries
+          (λ t found is. is ∙ own) (λ t is. is) has.targets;
+      some = λ none. subst (HasOne (λ (t : TargetEntry). t.target) target (λ (t : TargetEntry). t.published ≡ has.published) (λ (t : TargetEntry). t.published ≡ Yes)) none has.targets;
+    })
+
+-- what is staged is attached
+staged-attached : (a s p : Known) → s ≡ Yes → IsOnWay a s p → a ≡ Yes
+staged-attached Yes s p e w = refl
+staged-attached Maybe s p e w = absurd (subst (λ k. IsOnWay Maybe k p) e w)
+staged-attached No s p e w = absurd (subst (λ k. IsOnWay No k p) e w)
+
+-- an entry whose target isn't published any more, beside others
+pub left-used : (target : List ℕ) (entry : NodeEntryShown) → HasMarks IsOnWay target entry → is_no (publication_known target entry) ≡ true → others_in target (Some entry) ≡ true → IsInUseIfKept entry
+left-used target entry has unpublished others kept =
+    let staged = by entry.staged refl in
+    record { attached = staged-attached entry.attached entry.staged has.published staged has.marks; staged = staged; published = published; some = some }
+  where
+    by : (k : Known) → entry.staged ≡ k → entry.staged ≡ Yes
+    by Yes e = e
+    by No e = absurd (false≢true (sym (then-alone target has.published entry.target_entries has.targets (has.alone (λ is. false≢true (ap is_yes (sym e ∙ is))))) ∙ others))
+    by Maybe e = absurd (false≢true (sym (then-alone target has.published entry.target_entries has.targets (has.alone (λ is. false≢true (ap is_yes (sym e ∙ is))))) ∙ others))
+
+    own : is_no has.published ≡ true
+    own = sym (ap is_no (known-there IsOnWay target entry has)) ∙ unpublished
+
+    published : AllByRecursion (λ (t : TargetEntry). t.published ≡ Yes) (filter is_target_kept entry.target_entries)
+    published =
+        each-if_kept (λ (t : TargetEntry). t.published ≡ Yes) is_target_kept entry.target_entries
+        (one-each (λ (t : TargetEntry). t.target) target (λ (t : TargetEntry). t.published ≡ has.published) (λ (t : TargetEntry). t.published ≡ Yes) (λ (t : TargetEntry). is_target_kept t ≡ true → t.published ≡ Yes) entry.target_entries
+        (λ t found is passes. absurd (false≢true (sym (ap not (ap is_no is ∙ own)) ∙ passes))) (λ t is passes. is) has.targets)
+
+    some : filter is_target_kept entry.target_entries ≢ []
+    some none =
+        let other = any-then (λ (t : TargetEntry). not (same_text t.target target) && not (is_no t.published)) entry.target_entries others in
+        among-empty other.0 (filter is_target_kept entry.target_entries) none
+        (in_filter is_target_kept entry.target_entries other.0 other.1 (and_parts (not (same_text other.0.target target)) (not (is_no other.0.published)) other.2).1)
+
+-- the one target isn't kept where it isn't published
+none-left : (target : List ℕ) (mark : Known) (ts : List TargetEntry) → HasOne (λ (t : TargetEntry). t.target) target (λ (t : TargetEntry). t.published ≡ mark) (λ (t : TargetEntry). t.published ≡ Yes) ts
+    → is_no mark ≡ true → length ts ≡ 1 → filter is_target_kept ts ≡ []
+none-left target mark [] one unpublished long = absurd one
+none-left target mark (t ∷ []) (inl here) unpublished long = filter-no_one is_target_kept (t ∷ []) (ap not (ap is_no here.1 ∙ unpublished), tt)
+none-left target mark (t ∷ []) (inr later) unpublished long = absurd later.2
+none-left target mark (t ∷ u ∷ us) one unpublished long = absurd (omega (arith, long))
+
+-- an entry of which nothing is so any more isn't kept
+pub gone-used : (target : List ℕ) (entry : NodeEntryShown) → HasMarks IsOnWay target entry → is_no (publication_known target entry) ≡ true → is_no entry.staged ≡ true → is_no entry.attached ≡ true → IsInUseIfKept entry
+gone-used target entry has unpublished unstaged detached kept = absurd (false≢true (sym gone ∙ kept))
+  where
+    none : filter is_target_kept entry.target_entries ≡ []
+    none =
+        none-left target has.published entry.target_entries has.targets (sym (ap is_no (known-there IsOnWay target entry has)) ∙ unpublished)
+        (has.alone (λ is. false≢true (sym (ap is_no is) ∙ unstaged)))
+
+    gone : is_node_kept (with_kept_targets entry) ≡ false
+    gone =
+        ap (λ b. not (b && is_no entry.staged && not (has_targets (filter is_target_kept entry.target_entries)))) detached
+        ∙ ap (λ b. not (b && not (has_targets (filter is_target_kept entry.target_entries)))) unstaged ∙ ap (λ ts. not (not (has_targets ts))) none

@@ -1,0 +1,227 @@
+-- Why the marks at a goal's node may be as they are: where a use or a stop begins, and once a mark is set by the due call.
+use Rattle.std.proofs.Common.{◌≡◌, ℕ, List, [], ◌∷◌, ◌++◌, Bool, true, false, cond, refl, sym, ◌∙◌, ap, subst, inl}
+use Rattle.std.specs.Prelude.{Option, Some, None, is_some}
+use Rattle.std.specs.List.{AllByRecursion}
+use Rattle.csi_lists.proofs.Members.{each_of, among-find}
+use Rattle.csi_lists.proofs.Searches.{find-passes}
+use Rattle.csi_types.specs.declared.call.Kind.{Kind}
+use Rattle.csi_types.specs.declared.call.Kind.TheVariants as kinds
+use Rattle.csi_types.specs.Model.Call.{kind_of}
+use Rattle.csi_types.specs.Model.Same.{same_text}
+use Rattle.csi_types.proofs.Equality.{same_text-tells}
+use Rattle.csi_orchestrator.specs.declared.row.Goal.{Goal}
+use Rattle.csi_orchestrator.specs.declared.row.Goal.TheVariants.{Create, Use, Stop, Delete}
+use Rattle.csi_orchestrator.specs.declared.row.TargetEntry.{TargetEntry}
+use Rattle.csi_orchestrator.specs.declared.request.Usage.{Usage}
+use Rattle.csi_orchestrator.specs.declared.thing.Known.{Known}
+use Rattle.csi_orchestrator.specs.declared.thing.Known.TheVariants.{Yes, No, Maybe}
+use Rattle.csi_orchestrator.specs.Model.Thing.{is_yes, is_no}
+use Rattle.csi_orchestrator.specs.Model.Due.{Due}
+use Rattle.csi_orchestrator.specs.Model.Shown.{NodeEntryShown, RowShown, node_entry_of, target_entry_of, mark_in, publication_known}
+use Rattle.csi_orchestrator.specs.Private.RowChanges.{Aspect, Attachment, Staging, Publication, aspect_of, node_marked, marked_at, at_goal, nodes_marked, known_by_success_of, new_target_entry, with_target, held_as, entry_for, with_entry}
+use Rattle.csi_orchestrator.specs.Public.Steady.{HasOne, IsAtWork, HasMarks, IsInUse, AreMarked}
+use Rattle.csi_orchestrator.specs.Public.RowDue.{others_in}
+use Rattle.csi_orchestrator.specs.Public.Shown.{AreTargetsApart}
+use Rattle.csi_orchestrator.specs.Public.Sound.{AreNodesApart}
+use Rattle.csi_orchestrator.proofs.BoundsStay.{held-node}
+use Rattle.csi_orchestrator.proofs.DueCases.{IsDueFor, ToMake, ToRemove, ToAttach, ToStage, ToPublish, ToUnpublish, ToUnstage, ToDetach}
+use Rattle.csi_orchestrator.proofs.HasOnes.{one-change, one-of, one-last, one-put, one-weaker}
+use Rattle.csi_orchestrator.proofs.KeptMarks.{IsOnWay, work-way, attach-sent, attach-done, stage-sent, stage-done, publish-sent, publish-done, unpublish-sent, unpublish-done, unstage-sent, unstage-done, detach-sent, detach-done, alone-then, known-there, attachment-marked, staging-marked, publication-marked}
+use Rattle.csi_orchestrator.proofs.KnownTests.{not_yes}
+use Rattle.csi_orchestrator.proofs.RowMarks.{node-stays, has-node-entry, has-target-entry}
+use Rattle.csi_orchestrator.proofs.TextLists.{text-same}
+
+-- ---- where it begins
+
+-- what is in use is on the way, whatever is known of a target
+used-way : (entry : NodeEntryShown) (published : Known) → IsInUse entry → IsOnWay entry.attached entry.staged published
+used-way entry published used = subst (λ a. IsOnWay a entry.staged published) (sym used.attached) (subst (λ s. IsOnWay Yes s published) (sym used.staged) tt)
+
+-- an entry in use that has the target
+used-marks : (target : List ℕ) (entry : NodeEntryShown) (t : TargetEntry) → IsInUse entry → AreTargetsApart entry → target_entry_of entry target ≡ Some t → HasMarks IsOnWay target entry
+used-marks target entry t used apart found =
+    record {
+      published = Yes;
+      marks = used-way entry Yes used;
+      targets =
+          one-of (λ (t : TargetEntry). t.target) target (λ (t : TargetEntry). t.published ≡ Yes) (λ (t : TargetEntry). t.published ≡ Yes) t entry.target_entries apart used.published found
+          (each_of (λ (t : TargetEntry). t.published ≡ Yes) entry.target_entries t used.published (among-find (λ (t : TargetEntry). same_text t.target target) entry.target_entries t found));
+      alone = λ unstaged. absurd (unstaged used.staged);
+    }
+
+-- the same once the target has its entry
+targeted : (target : List ℕ) (entry : NodeEntryShown) → IsInUse entry → AreTargetsApart entry → HasMarks IsOnWay target (record entry { target_entries = with_target target entry.target_entries })
+targeted target entry used apart = by (target_entry_of entry target) refl
+  where
+    by : (o : Option TargetEntry) → target_entry_of entry target ≡ o → HasMarks IsOnWay target (record entry { target_entries = cond (is_some o) entry.target_entries (entry.target_entries ++ new_target_entry target ∷ []) })
+    by (Some t) e = used-marks target entry t used apart e
+    by None e =
+        record {
+          published = No;
+          marks = used-way entry No used;
+          targets =
+              one-last (λ (t : TargetEntry). t.target) target (λ (t : TargetEntry). t.published ≡ No) (λ (t : TargetEntry). t.published ≡ Yes) (new_target_entry target) entry.target_entries used.published e (text-same target) refl;
+          alone = λ unstaged. absurd (unstaged used.staged);
+        }
+
+-- an entry that is attached is held as it was
+pub held-as_is : (usage : Usage) (entry : NodeEntryShown) → entry.attached ≡ Yes → held_as usage entry ≡ entry
+held-as_is usage entry attached = ap (λ k. cond (is_no k) (let e : NodeEntryShown = record entry { capability = usage.capability; readonly = usage.readonly } in e) entry) attached
+
+-- the entry for a use
+record Begins (usage : Usage) (entry : NodeEntryShown) : Type 0 where
+  pub at_node : entry.node ≡ usage.node
+  pub marks : HasMarks IsOnWay usage.target entry
+
+-- a use begins
+pub use-begins : (usage : Usage) (row : RowShown) → AreNodesApart row.node_entries → AllByRecursion AreTargetsApart row.node_entries → AllByRecursion IsInUse row.node_entries
+    → AreMarked IsOnWay (Some (Use usage)) (with_entry usage row).node_entries
+use-begins usage row apart targets all =
+    subst (λ n. HasOne (λ (e : NodeEntryShown). e.node) n (HasMarks IsOnWay usage.target) IsInUse (with_entry usage row).node_entries) entry.at_node
+    (one-put (λ (e : NodeEntryShown). e.node) (HasMarks IsOnWay usage.target) IsInUse (entry_for usage (node_entry_of row usage.node)) row.node_entries apart all entry.marks)
+  where
+    by : (o : Option NodeEntryShown) → node_entry_of row usage.node ≡ o → Begins usage (entry_for usage o)
+    by None e = record { at_node = refl; marks = record { published = No; marks = tt; targets = inl (text-same usage.target, refl, tt); alone = λ unstaged. refl } }
+    by (Some own) e =
+        let among = among-find (λ (p : NodeEntryShown). same_text p.node usage.node) row.node_entries own e in
+        let used = each_of IsInUse row.node_entries own all among in
+        record {
+          at_node = held-node usage own ∙ (same_text-tells own.node usage.node).0 (find-passes (λ (p : NodeEntryShown). same_text p.node usage.node) row.node_entries own e);
+          marks =
+              subst (λ (h : NodeEntryShown). HasMarks IsOnWay usage.target (record h { target_entries = with_target usage.target own.target_entries })) (sym (held-as_is usage own used.attached))
+              (targeted usage.target own used (each_of AreTargetsApart row.node_entries own targets among));
+        }
+
+    entry : Begins usage (entry_for usage (node_entry_of row usage.node))
+    entry = by (node_entry_of row usage.node) refl
+
+-- a stop begins
+pub stop-begins : (node target : List ℕ) (row : RowShown) → AreNodesApart row.node_entries → AllByRecursion AreTargetsApart row.node_entries → AllByRecursion IsInUse row.node_entries
+    → is_no (mark_in (publication_known target) (node_entry_of row node)) ≡ false → AreMarked IsOnWay (Some (Stop node target)) row.node_entries
+stop-begins node target row apart targets all maybe =
+    let entry = has-node-entry (publication_known target) (node_entry_of row node) maybe in
+    let own = has-target-entry (target_entry_of entry.0 target) (ap is_no (sym (ap (mark_in (publication_known target)) entry.1)) ∙ maybe) in
+    let among = among-find (λ (p : NodeEntryShown). same_text p.node node) row.node_entries entry.0 entry.1 in
+    one-of (λ (e : NodeEntryShown). e.node) node (HasMarks IsOnWay target) IsInUse entry.0 row.node_entries apart all entry.1
+    (used-marks target entry.0 own.0 (each_of IsInUse row.node_entries entry.0 all among) (each_of AreTargetsApart row.node_entries entry.0 targets among) own.1)
+
+-- ---- once a mark is set
+
+-- what is marked where a call is sent, or succeeded, leads to such marks
+pub record Leads (mark : Kind → Known) (Then : Known → Known → Known → Type 0) : Type 0 where
+  pub attaches : (a s p : Known) → is_yes a ≡ false → IsOnWay a s p → Then (mark kinds.ControllerPublishVolume) s p
+  pub stages : (a s p : Known) → is_yes a ≡ true → is_yes s ≡ false → IsOnWay a s p → Then a (mark kinds.NodeStageVolume) p
+  pub publishes : (a s p : Known) → is_yes a ≡ true → is_yes s ≡ true → Then a s (mark kinds.NodePublishVolume)
+  pub unpublishes : (a s p : Known) → is_no p ≡ false → IsOnWay a s p → Then a s (mark kinds.NodeUnpublishVolume)
+  pub unstages : (a s p : Known) → is_no p ≡ true → is_no s ≡ false → IsOnWay a s p → Then a (mark kinds.NodeUnstageVolume) p
+  pub detaches : (s p : Known) → is_no p ≡ true → is_no s ≡ true → Then (mark kinds.ControllerUnpublishVolume) s p
+
+-- a call that is sent leads to marks at work
+pub sending-leads : Leads (λ kind. Maybe) IsAtWork
+sending-leads =
+    record {
+      attaches = attach-sent;
+      stages = stage-sent;
+      publishes = λ a s p. publish-sent a s;
+      unpublishes = unpublish-sent;
+      unstages = unstage-sent;
+      detaches = detach-sent;
+    }
+
+-- a call that succeeded leads to marks on the way
+pub success-leads : Leads known_by_success_of IsOnWay
+success-leads =
+    record {
+      attaches = attach-done;
+      stages = λ a s p e f w. stage-done a s p e w;
+      publishes = λ a s p. publish-done a s Yes;
+      unpublishes = unpublish-done;
+      unstages = unstage-done;
+      detaches = detach-done;
+    }
+
+-- a test of what is known at a node, by the entry that is found there
+pub known-at : (read : NodeEntryShown → Known) (test : Known → Bool) (b : Bool) (row : RowShown) (node : List ℕ) (entry : NodeEntryShown) → node_entry_of row node ≡ Some entry
+    → test (mark_in read (node_entry_of row node)) ≡ b → test (read entry) ≡ b
+known-at read test b row node entry found e = sym (ap (λ o. test (mark_in read o)) found) ∙ e
+
+-- the same of the others
+pub others-at : (target : List ℕ) (b : Bool) (row : RowShown) (node : List ℕ) (entry : NodeEntryShown) → node_entry_of row node ≡ Some entry → others_in target (node_entry_of row node) ≡ b → others_in target (Some entry) ≡ b
+others-at target b row node entry found e = sym (ap (others_in target) found) ∙ e
+
+-- whether it isn't published at the goal's target, by the entry
+unpublished-at : (b : Bool) (target : List ℕ) (row : RowShown) (node : List ℕ) (entry : NodeEntryShown) (has : HasMarks IsOnWay target entry) → node_entry_of row node ≡ Some entry
+    → is_no (mark_in (publication_known target) (node_entry_of row node)) ≡ b → is_no has.published ≡ b
+unpublished-at b target row node entry has found e = sym (ap is_no (known-there IsOnWay target entry has)) ∙ known-at (publication_known target) is_no b row node entry found e
+
+-- a mark is set in the entry of the goal's node
+marked-there : (Then : Known → Known → Known → Type 0) (mark : Known) (aspect : Aspect) (node target : List ℕ) (row : RowShown)
+    → ((entry : NodeEntryShown) → node_entry_of row node ≡ Some entry → HasMarks IsOnWay target entry → HasMarks Then target (node_marked mark aspect target entry))
+    → HasOne (λ (e : NodeEntryShown). e.node) node (HasMarks IsOnWay target) IsInUse row.node_entries → HasOne (λ (e : NodeEntryShown). e.node) node (HasMarks Then target) IsInUse (marked_at mark aspect node target row.node_entries)
+marked-there Then mark aspect node target row turns one =
+    one-change (λ (e : NodeEntryShown). e.node) node (node_marked mark aspect target) (HasMarks IsOnWay target) IsInUse (HasMarks Then target) row.node_entries (node-stays mark aspect target) turns one
+
+-- what a due call does or undoes is marked
+pub due-marked : (mark : Kind → Known) (Then : Known → Known → Known → Type 0) → Leads mark Then → (row : RowShown) (due : Due) → IsDueFor row due → AreMarked IsOnWay row.goal row.node_entries
+    → AreMarked Then row.goal (nodes_marked (mark (kind_of due.call)) (aspect_of (kind_of due.call)) row.goal row.node_entries)
+due-marked mark Then leads row _ (ToMake goal e) marked = subst (λ g. AreMarked IsOnWay g row.node_entries → AreMarked Then g row.node_entries) (sym goal) (λ all. all) marked
+due-marked mark Then leads row _ (ToRemove id goal own e) marked = subst (λ g. AreMarked IsOnWay g row.node_entries → AreMarked Then g row.node_entries) (sym goal) (λ all. all) marked
+due-marked mark Then leads row _ (ToAttach usage id goal own a) marked =
+    let m = mark kinds.ControllerPublishVolume in
+    subst (λ g. AreMarked IsOnWay g row.node_entries → AreMarked Then g (at_goal (marked_at m Attachment) g row.node_entries)) (sym goal)
+    (marked-there Then m Attachment usage.node usage.target row (λ entry found has.
+    attachment-marked IsOnWay Then usage.target m entry has
+    (leads.attaches entry.attached entry.staged has.published (known-at (λ p. p.attached) is_yes false row usage.node entry found a) has.marks)))
+    marked
+due-marked mark Then leads row _ (ToStage usage id goal own a s) marked =
+    let m = mark kinds.NodeStageVolume in
+    subst (λ g. AreMarked IsOnWay g row.node_entries → AreMarked Then g (at_goal (marked_at m Staging) g row.node_entries)) (sym goal)
+    (marked-there Then m Staging usage.node usage.target row (λ entry found has.
+    let unstaged = known-at (λ p. p.staged) is_yes false row usage.node entry found s in
+    staging-marked IsOnWay Then usage.target m entry has
+    (leads.stages entry.attached entry.staged has.published (known-at (λ p. p.attached) is_yes true row usage.node entry found a) unstaged has.marks)
+    (λ other. has.alone (not_yes entry.staged unstaged))))
+    marked
+due-marked mark Then leads row _ (ToPublish usage id goal own a s p) marked =
+    let m = mark kinds.NodePublishVolume in
+    subst (λ g. AreMarked IsOnWay g row.node_entries → AreMarked Then g (at_goal (marked_at m Publication) g row.node_entries)) (sym goal)
+    (marked-there Then m Publication usage.node usage.target row (λ entry found has.
+    publication-marked IsOnWay Then usage.target m entry has
+    (leads.publishes entry.attached entry.staged has.published (known-at (λ p. p.attached) is_yes true row usage.node entry found a) (known-at (λ p. p.staged) is_yes true row usage.node entry found s))))
+    marked
+due-marked mark Then leads row _ (ToUnpublish node target id goal own p) marked =
+    let m = mark kinds.NodeUnpublishVolume in
+    subst (λ g. AreMarked IsOnWay g row.node_entries → AreMarked Then g (at_goal (marked_at m Publication) g row.node_entries)) (sym goal)
+    (marked-there Then m Publication node target row (λ entry found has.
+    publication-marked IsOnWay Then target m entry has
+    (leads.unpublishes entry.attached entry.staged has.published (unpublished-at false target row node entry has found p) has.marks)))
+    marked
+due-marked mark Then leads row _ (ToUnstage node target id goal own p o s) marked =
+    let m = mark kinds.NodeUnstageVolume in
+    subst (λ g. AreMarked IsOnWay g row.node_entries → AreMarked Then g (at_goal (marked_at m Staging) g row.node_entries)) (sym goal)
+    (marked-there Then m Staging node target row (λ entry found has.
+    staging-marked IsOnWay Then target m entry has
+    (leads.unstages entry.attached entry.staged has.published (unpublished-at true target row node entry has found p) (known-at (λ p. p.staged) is_no false row node entry found s) has.marks)
+    (λ other. alone-then target has.published entry.target_entries has.targets (others-at target false row node entry found o))))
+    marked
+due-marked mark Then leads row _ (ToDetach node target id goal own p o s a) marked =
+    let m = mark kinds.ControllerUnpublishVolume in
+    subst (λ g. AreMarked IsOnWay g row.node_entries → AreMarked Then g (at_goal (marked_at m Attachment) g row.node_entries)) (sym goal)
+    (marked-there Then m Attachment node target row (λ entry found has.
+    attachment-marked IsOnWay Then target m entry has
+    (leads.detaches entry.staged has.published (unpublished-at true target row node entry has found p) (known-at (λ p. p.staged) is_no true row node entry found s))))
+    marked
+
+-- marks at work are on the way
+pub work-marked : (goal : Option Goal) (entries : List NodeEntryShown) → AreMarked IsAtWork goal entries → AreMarked IsOnWay goal entries
+work-marked (Some (Use usage)) entries one = one-weaker (λ (e : NodeEntryShown). e.node) usage.node (HasMarks IsAtWork usage.target) IsInUse (HasMarks IsOnWay usage.target) entries (work-on usage.target) one
+  where
+    work-on : (target : List ℕ) (entry : NodeEntryShown) → HasMarks IsAtWork target entry → HasMarks IsOnWay target entry
+    work-on target entry has = record { published = has.published; marks = work-way entry.attached entry.staged has.published has.marks; targets = has.targets; alone = has.alone }
+work-marked (Some (Stop node target)) entries one = one-weaker (λ (e : NodeEntryShown). e.node) node (HasMarks IsAtWork target) IsInUse (HasMarks IsOnWay target) entries work-on one
+  where
+    work-on : (entry : NodeEntryShown) → HasMarks IsAtWork target entry → HasMarks IsOnWay target entry
+    work-on entry has = record { published = has.published; marks = work-way entry.attached entry.staged has.published has.marks; targets = has.targets; alone = has.alone }
+work-marked None entries all = all
+work-marked (Some Create) entries all = all
+work-marked (Some Delete) entries all = all
