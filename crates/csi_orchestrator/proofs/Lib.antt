@@ -45,3 +45,5 @@ pub mod ListPlaces
 pub mod NotedCalls
 pub mod OpenCalls
 pub mod OpenCallPlaces
+pub mod SplitLists
+pub mod ComeTo
