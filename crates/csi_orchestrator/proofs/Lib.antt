@@ -47,3 +47,6 @@ pub mod OpenCalls
 pub mod OpenCallPlaces
 pub mod SplitLists
 pub mod ComeTo
+pub mod LastRow
+pub mod StepsTaken
+pub mod PlainLives
