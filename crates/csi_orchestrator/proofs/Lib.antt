@@ -50,3 +50,7 @@ pub mod ComeTo
 pub mod LastRow
 pub mod StepsTaken
 pub mod PlainLives
+pub mod NodePlaces
+pub mod StepsOnTheWay
+pub mod UsesBegun
+pub mod EntriesFit
