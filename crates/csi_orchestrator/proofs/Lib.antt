@@ -54,3 +54,4 @@ pub mod NodePlaces
 pub mod StepsOnTheWay
 pub mod UsesBegun
 pub mod EntriesFit
+pub mod SettledRows
