@@ -55,3 +55,4 @@ pub mod StepsOnTheWay
 pub mod UsesBegun
 pub mod EntriesFit
 pub mod SettledRows
+pub mod GoalsOnTheWay

@@ -21,7 +21,7 @@ use Rattle.csi_orchestrator.proofs.LastRow.{Spot, number, opened, IsSent}
 -- ---- tests
 
 -- what is less passes the test
-less-passes : (a b : ℕ) → a < b → nat_lt a b ≡ true
+pub less-passes : (a b : ℕ) → a < b → nat_lt a b ≡ true
 less-passes a b h = grind (arith, nat_tests)
 
 -- what is less than a bound doesn't reach it
