@@ -55,4 +55,7 @@ pub mod StepsOnTheWay
 pub mod UsesBegun
 pub mod EntriesFit
 pub mod SettledRows
-pub mod GoalsOnTheWay
+pub mod StopsOnTheWay
+pub mod UsesOnTheWay
+pub mod RowsComeAbout
+pub mod Restored

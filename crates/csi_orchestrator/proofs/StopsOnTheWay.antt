@@ -1,4 +1,4 @@
--- A row with a use or a stop on the way comes about: first what is settled, then the calls on the way, then as many timeouts as it tried.
+-- A row with a stop on the way comes about: first what is settled, then the calls on the way, then as many timeouts as it tried.
 use Rattle.std.proofs.Common.{◌≡◌, ◌<◌, ◌≤◌, ◌+◌, ℕ, suc, List, [], ◌∷◌, ◌++◌, Bool, true, false, not, length, refl, sym, ◌∙◌, ap, subst, arith}
 use Rattle.std.specs.Prelude.{Option, Some, None, find, ◌&&◌, ◌||◌}
 use Rattle.std.specs.List.{AllByRecursion, list_any}
@@ -42,18 +42,18 @@ ComesSomehow s left id exists goal tries entries = (o : Option Kind) × RowComes
 -- ---- the place of the goal
 
 -- its entries are fit where it stands
-placed-fit : (nodes : List (List ℕ)) (arguments : Arguments) (entries : List NodeEntryShown) (node target : List ℕ) (h : HasPlace entries node target) → AreEntriesFit nodes arguments entries
+pub placed-fit : (nodes : List (List ℕ)) (arguments : Arguments) (entries : List NodeEntryShown) (node target : List ℕ) (h : HasPlace entries node target) → AreEntriesFit nodes arguments entries
     → AreEntriesFit nodes arguments (h.front ++ h.entry ∷ h.rear)
 placed-fit nodes arguments entries node target h fit = subst (AreEntriesFit nodes arguments) h.entries_are fit
 
 -- its targets are different
-placed-apart : (nodes : List (List ℕ)) (arguments : Arguments) (entries : List NodeEntryShown) (node target : List ℕ) (h : HasPlace entries node target) → AreEntriesFit nodes arguments entries
+pub placed-apart : (nodes : List (List ℕ)) (arguments : Arguments) (entries : List NodeEntryShown) (node target : List ℕ) (h : HasPlace entries node target) → AreEntriesFit nodes arguments entries
     → EachTwo (λ (a b : TargetEntry). same_text a.target b.target ≡ false) (h.first ++ h.target_entry ∷ h.last)
 placed-apart nodes arguments entries node target h fit =
     subst (EachTwo (λ (a b : TargetEntry). same_text a.target b.target ≡ false)) h.targets_are (fit-there nodes arguments h.front h.entry h.rear (placed-fit nodes arguments entries node target h fit)).apart
 
 -- the place itself
-abbrev place_of : (s : Spot) (entries : List NodeEntryShown) (node target : List ℕ) (h : HasPlace entries node target) → AreEntriesFit s.nodes s.arguments entries → Place
+abbrev pub place_of : (s : Spot) (entries : List NodeEntryShown) (node target : List ℕ) (h : HasPlace entries node target) → AreEntriesFit s.nodes s.arguments entries → Place
 place_of s entries node target h fit =
     record {
       front = h.front;
@@ -71,7 +71,7 @@ place_of s entries node target h fit =
     }
 
 -- the entries are those of the place, by its marks
-placed-entries : (s : Spot) (entries : List NodeEntryShown) (node target : List ℕ) (h : HasPlace entries node target) (fit : AreEntriesFit s.nodes s.arguments entries)
+pub placed-entries : (s : Spot) (entries : List NodeEntryShown) (node target : List ℕ) (h : HasPlace entries node target) (fit : AreEntriesFit s.nodes s.arguments entries)
     → entries_at (place_of s entries node target h fit) (h.entry).attached (h.entry).staged (h.target_entry).published ≡ entries
 placed-entries s entries node target h fit =
     ap (λ (ts : List TargetEntry). h.front ++ entry_with (h.entry).node (h.entry).capability (h.entry).readonly (h.entry).attached (h.entry).staged ts ∷ h.rear) (sym h.targets_are) ∙ sym h.entries_are
@@ -86,7 +86,7 @@ only-target p a st q first last =
     other target_entry = not (same_text target_entry.target p.target) && not (is_no target_entry.published)
 
 -- the entry with other targets is fit, if these are
-own-fit : (nodes : List (List ℕ)) (arguments : Arguments) (entry : NodeEntryShown) (a st : Known) (ts : List TargetEntry) → IsEntryFit nodes arguments entry → length ts ≤ length entry.target_entries
+pub own-fit : (nodes : List (List ℕ)) (arguments : Arguments) (entry : NodeEntryShown) (a st : Known) (ts : List TargetEntry) → IsEntryFit nodes arguments entry → length ts ≤ length entry.target_entries
     → EachTwo (λ (x y : TargetEntry). same_text x.target y.target ≡ false) ts → IsEntryFit nodes arguments (entry_with entry.node entry.capability entry.readonly a st ts)
 own-fit nodes arguments entry a st ts own fewer apart =
     record {
@@ -169,42 +169,3 @@ stop-comes s left id tries node target entries few_nodes stop some few fit came 
         let of_target = h.of_target in
         let are = placed-entries s entries node target h fit in
         λ i. plain s (Some id) Yes (Some (Stop (of_node i) (of_target i))) tries (are i)
-
--- ---- a use
-
--- the whole row, where the target is the only one of a node that came last
-use-alone : (s : Spot) (left id tries : ℕ) (front : List NodeEntryShown) (entry : NodeEntryShown) (target : List ℕ) (a st q : Known) → length s.nodes ≤ 64 → IsOnTheWay [] [] a st q → 1 ≤ tries → tries ≤ 3
-    → (fits : AreEntriesFit s.nodes s.arguments (front ++ entry ∷ [])) → AllByRecursion IsSettled front → RowComes s (3072 + five_more left) None (plain s (Some id) Yes None 0 [])
-    → ComesSomehow s left (Some id) Yes (Some (Use (use_at (alone front entry.node entry.capability entry.readonly target (none-there s.nodes s.arguments front entry [] fits))))) tries
-    (entries_at (alone front entry.node entry.capability entry.readonly target (none-there s.nodes s.arguments front entry [] fits)) a st q)
-use-alone s left id tries front entry target a st q few_nodes way some few fits settled came = by a st q way
-  where
-    p : Place
-    p = alone front entry.node entry.capability entry.readonly target (none-there s.nodes s.arguments front entry [] fits)
-
-    fit_front : AreEntriesFit s.nodes s.arguments front
-    fit_front = fit-left s.nodes s.arguments front (entry ∷ []) fits
-
-    few_front : length front ≤ 64
-    few_front = let most = few-entries s.nodes s.arguments front fit_front in omega (arith, most, few_nodes)
-
-    begun : (more : ℕ) → suc more ≤ five_more left → RowComes s more (Some kinds.ControllerPublishVolume) (plain s (Some id) Yes (Some (Use (use_at p))) 1 (entries_at p Maybe No No))
-    begun more fewer =
-        used-anew s more id front entry.node entry.capability entry.readonly target (none-there s.nodes s.arguments front entry [] fits) (may-use s front entry [] target fits)
-        (with-fewer s (five_more left) (suc more) None (plain s (Some id) Yes None 0 front) fewer (settled-comes s (five_more left) id front few_front fit_front settled came))
-
-    by : (a st q : Known) → IsOnTheWay [] [] a st q → ComesSomehow s left (Some id) Yes (Some (Use (use_at p))) tries (entries_at p a st q)
-    by Maybe No No on = (
-      Some kinds.ControllerPublishVolume,
-      tried s left (Some id) Yes (Use (use_at p)) (entries_at p Maybe No No) (attaching (use_at p) id) tries (due-attach s id p) some few (begun (suc (suc left)) (omega arith)),
-    )
-    by Yes Maybe No on = (
-      Some kinds.NodeStageVolume,
-      tried s left (Some id) Yes (Use (use_at p)) (entries_at p Yes Maybe No) (staging (use_at p) id) tries (due-stage s id p) some few (attached-stages s (suc (suc left)) id p (begun (suc (suc (suc left))) (omega arith))),
-    )
-    by Yes Yes Maybe on = (
-      Some kinds.NodePublishVolume,
-      tried s left (Some id) Yes (Use (use_at p)) (entries_at p Yes Yes Maybe) (publishing (use_at p) id) tries (due-publish s id p) some few
-          (staged-publishes s (suc (suc left)) id p (attached-stages s (suc (suc (suc left))) id p (begun (suc (suc (suc (suc left)))) (omega arith)))),
-    )
-    by a st q on = absurd on
