@@ -1,14 +1,12 @@
 -- What an orchestrator comes to is kept as its type keeps it, and told by a history.
-use Rattle.std.proofs.Common.{◌≡◌, ℕ, List, refl, sym, ◌∙◌, ap, subst, arith}
+use Rattle.std.proofs.Common.{◌≡◌, ℕ, List, refl, ◌∙◌}
 use Rattle.csi_types.specs.declared.number.Number.{Number}
 use Rattle.csi_orchestrator.specs.Model.History.{history_after}
 use Rattle.csi_orchestrator.specs.Model.Shown.{OrchestratorParts}
-
 use Rattle.csi_orchestrator.specs.Public.Sound.{AreSoundRows, HasHistory}
 use Rattle.csi_orchestrator.specs.Public.Steps.{Begins as HistoryBegins}
 use Rattle.csi_orchestrator.specs.Private.Restored.{IsComeTo, Begins, GoesOn}
 use Rattle.csi_orchestrator.proofs.RulesStay.{rows-stay-sound}
-
 use Rattle.csi_orchestrator.proofs.PromisesTold.{is-done, told-on}
 
 -- what is so of such parts

@@ -1,16 +1,15 @@
 -- What the rules of entries say of some of them, of one with other marks, and of a use at one.
-use Rattle.std.proofs.Common.{◌≡◌, ◌≤◌, ◌<◌, ◌+◌, ℕ, suc, List, [], ◌∷◌, ◌++◌, Bool, true, false, not, length, map, refl, sym, ◌∙◌, ap, subst, inl, inr, arith}
-use Rattle.std.specs.Prelude.{Option, None, find, ◌&&◌}
-use Rattle.std.specs.List.{AllByRecursion, list_any}
+use Rattle.std.proofs.Common.{◌≡◌, ◌≤◌, ℕ, List, ◌∷◌, ◌++◌, Bool, true, false, not, length, map, refl, sym, ◌∙◌, ap, subst, arith}
+use Rattle.std.specs.Prelude.{None, find, ◌&&◌}
+use Rattle.std.specs.List.{list_any}
 use Rattle.std.proofs.lemmas.Bool.{false≢true}
 use Rattle.std.proofs.lemmas.List.{length-map}
-use Rattle.csi_lists.specs.Model.Members.{IsAmong, EachTwo}
+use Rattle.csi_lists.specs.Model.Members.{IsAmong}
 use Rattle.csi_lists.proofs.Each.{each-append, each-map, each-weaker}
 use Rattle.csi_lists.proofs.Members.{each_of}
 use Rattle.csi_lists.proofs.Pairs.{two-map, two-more}
 use Rattle.csi_lists.proofs.Tests.{any-then}
 use Rattle.csi_types.specs.Model.Same.{same_text}
-use Rattle.csi_types.specs.Model.Sharing.{allows_one_target}
 use Rattle.csi_types.proofs.Equality.{same_text-tells}
 use Rattle.csi_orchestrator.specs.declared.request.Arguments.{Arguments}
 use Rattle.csi_orchestrator.specs.declared.request.Usage.{Usage}

@@ -1,6 +1,6 @@
 -- A row behind others, and what one input makes of it: an orchestrator comes from the one to the other, and the rows in front stay.
-use Rattle.std.proofs.Common.{◌≡◌, ◌<◌, ◌≤◌, ◌+◌, ◌^◌, ℕ, suc, List, [], ◌∷◌, ◌++◌, Bool, true, cond, refl, sym, ◌∙◌, ap, subst, arith}
-use Rattle.std.specs.Prelude.{Option, Some, None, find, option_map, ◌&&◌, Result, Ok, Err}
+use Rattle.std.proofs.Common.{◌≡◌, ◌<◌, ◌≤◌, ◌+◌, ◌^◌, ℕ, suc, List, [], ◌∷◌, ◌++◌, true, refl, sym, ◌∙◌, ap, subst, arith}
+use Rattle.std.specs.Prelude.{Option, Some, None, option_map, ◌&&◌, Result, Ok}
 use Rattle.std.proofs.lemmas.Bool.{and_from}
 use Rattle.csi_types.specs.declared.call.Kind.{Kind}
 use Rattle.csi_types.specs.declared.call.Party.{Party}
@@ -23,7 +23,7 @@ use Rattle.csi_orchestrator.specs.Model.Moves.{Input, ToUse, ToStop, ToDelete, T
 use Rattle.csi_orchestrator.specs.Model.Shown.{RowShown, OrchestratorParts, row_of, goal_in, open_in_row}
 use Rattle.csi_orchestrator.specs.Public.RowMoves.{MovedRows, moved_rows}
 use Rattle.csi_orchestrator.specs.Private.RowMoves.{put, all_rows_moved, steps_at, is_issued_as, row_replied, step_heard, hears_reply, row_moves}
-use Rattle.csi_orchestrator.specs.Private.RowSteps.{MovedRow, row_step}
+use Rattle.csi_orchestrator.specs.Private.RowSteps.{row_step}
 use Rattle.csi_orchestrator.specs.Private.Restored.{IsComeTo, GoesOn}
 use Rattle.csi_orchestrator.proofs.SplitLists.{put-at}
 

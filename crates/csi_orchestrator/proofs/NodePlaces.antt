@@ -1,5 +1,5 @@
 -- The place of a node and a target among a row's entries: what is known there, which call is due for it, and what is marked there.
-use Rattle.std.proofs.Common.{◌≡◌, ℕ, List, [], ◌∷◌, ◌++◌, Bool, true, refl, sym, ◌∙◌, ap}
+use Rattle.std.proofs.Common.{◌≡◌, ℕ, List, ◌∷◌, ◌++◌, Bool, ◌∙◌, ap}
 use Rattle.std.specs.Prelude.{Option, Some, None, find}
 use Rattle.csi_types.specs.declared.capability.Capability.{Capability}
 use Rattle.csi_types.specs.Model.Same.{same_text}

@@ -1,9 +1,8 @@
 -- The steps of a row without entries: its volume is asked for, made, and deleted; and the timeouts of any row.
-use Rattle.std.proofs.Common.{◌≡◌, ◌<◌, ◌≤◌, ◌+◌, ◌^◌, ℕ, zero, suc, List, [], ◌∷◌, ◌++◌, Bool, false, cond, length, refl, sym, ◌∙◌, ap, subst, arith}
-use Rattle.std.specs.Prelude.{◌==◌, min, is_none, nat_le, ◌&&◌, Option, Some, None, Ok}
+use Rattle.std.proofs.Common.{◌≡◌, ◌<◌, ◌≤◌, ◌+◌, ◌^◌, ℕ, zero, suc, List, [], false, cond, length, refl, ◌∙◌, ap, arith}
+use Rattle.std.specs.Prelude.{◌==◌, min, nat_le, ◌&&◌, Option, Some, None}
 use Rattle.csi_types.specs.declared.call.Kind.{Kind}
 use Rattle.csi_types.specs.declared.call.Kind.TheVariants as kinds
-use Rattle.csi_types.specs.declared.number.Number.{Number}
 use Rattle.csi_types.specs.declared.status.Status.TheVariants as statuses
 use Rattle.csi_types.specs.Model.Call.{kind_of}
 use Rattle.csi_types.specs.Model.Frame.{Frame}
@@ -16,14 +15,13 @@ use Rattle.csi_orchestrator.specs.declared.thing.Known.{Known}
 use Rattle.csi_orchestrator.specs.declared.thing.Known.TheVariants.{Yes, No, Maybe}
 use Rattle.csi_orchestrator.specs.Model.Due.{Due}
 use Rattle.csi_orchestrator.specs.Model.Moves.{ToCreate, Sends, is_forward_due}
-use Rattle.csi_orchestrator.specs.Model.Commands.{next_number}
 use Rattle.csi_orchestrator.specs.Model.Shown.{NodeEntryShown, RowShown, OrchestratorParts, row_of}
 use Rattle.csi_orchestrator.specs.Private.Shown.{closed}
 use Rattle.csi_orchestrator.specs.Public.RowDue.{due_in}
 use Rattle.csi_orchestrator.specs.Public.RowMoves.{moved_rows}
 use Rattle.csi_orchestrator.specs.Private.RowChanges.{opened_row, marked_row, new_row, wanted_row, stopped_goal}
 use Rattle.csi_orchestrator.specs.Private.RowRefusals.{is_last}
-use Rattle.csi_orchestrator.specs.Private.RowMoves.{put, all_rows_moved, creates}
+use Rattle.csi_orchestrator.specs.Private.RowMoves.{all_rows_moved, creates}
 use Rattle.csi_orchestrator.specs.Private.RowSteps.{outgoing_by, row_moved, row_sends_due, row_unless}
 use Rattle.csi_orchestrator.specs.Private.Restored.{IsComeTo, GoesOn}
 use Rattle.csi_orchestrator.proofs.SplitLists.{put-last}

@@ -1,16 +1,16 @@
 -- Rows that keep the rules are what some orchestrator came to, and a restart gives them a history in the next session.
-use Rattle.std.proofs.Common.{◌≡◌, ◌<◌, ◌≤◌, ◌+◌, ◌*◌, ◌^◌, ℕ, List, [], cond, length, map, refl, ◌∙◌, ap, subst, arith}
-use Rattle.std.specs.Prelude.{nat_lt, Result, Ok, Err}
+use Rattle.std.proofs.Common.{◌≡◌, ◌<◌, ◌≤◌, ◌+◌, ◌^◌, List, [], cond, map, refl, ◌∙◌, ap, subst, arith}
+use Rattle.std.specs.Prelude.{Result, Err}
 use Rattle.csi_lists.proofs.Each.{each-map}
 use Rattle.csi_orchestrator.specs.declared.fault.OrchFault.{OrchFault}
 use Rattle.csi_orchestrator.specs.declared.fault.OrchFault.TheVariants as faults
 use Rattle.csi_orchestrator.specs.Model.Moves.{Restarts, Restarted}
 use Rattle.csi_orchestrator.specs.Model.Shown.{RowShown, OrchestratorParts}
-use Rattle.csi_orchestrator.specs.Private.Shown.{closed, parts_in_session}
+use Rattle.csi_orchestrator.specs.Private.Shown.{closed}
 use Rattle.csi_orchestrator.specs.Public.RowMoves.{MovedRows, moved_rows}
 use Rattle.csi_orchestrator.specs.Private.RowMoves.{starts_again}
 use Rattle.csi_orchestrator.specs.Public.Sound.{IsSoundRow, AreSoundRows}
-use Rattle.csi_orchestrator.specs.Private.Restored.{IsComeTo, Begins, GoesOn, AreRestorable, IsRestored, restored_parts, RecordsAreReached}
+use Rattle.csi_orchestrator.specs.Private.Restored.{IsComeTo, Begins, GoesOn, restored_parts, RecordsAreReached}
 use Rattle.csi_orchestrator.proofs.EntryRules.{apart-map}
 use Rattle.csi_orchestrator.proofs.RowRules.{kept-closed}
 use Rattle.csi_orchestrator.proofs.ComeTo.{is-come}

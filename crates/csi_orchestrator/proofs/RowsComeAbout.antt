@@ -1,6 +1,6 @@
 -- Rows that keep the rules come about, one behind another.
-use Rattle.std.proofs.Common.{◌≡◌, ◌<◌, ◌≤◌, ◌+◌, ◌*◌, ◌^◌, ℕ, suc, List, [], ◌∷◌, ◌++◌, Bool, true, false, cond, length, map, refl, sym, ◌∙◌, ap, subst, arith}
-use Rattle.std.specs.Prelude.{Option, Some, None, find, option_map, ◌==◌, ◌&&◌}
+use Rattle.std.proofs.Common.{◌≡◌, ◌<◌, ◌≤◌, ◌+◌, ◌*◌, ◌^◌, ℕ, suc, List, [], ◌∷◌, ◌++◌, false, cond, length, map, refl, sym, ◌∙◌, ap, subst, arith}
+use Rattle.std.specs.Prelude.{Option, Some, None, option_map, ◌==◌, ◌&&◌}
 use Rattle.std.specs.List.{AllByRecursion}
 use Rattle.std.proofs.lemmas.Bool.Decides.{nat_tests}
 use Rattle.std.proofs.lemmas.List.{append-nil, append_assoc, length-append, length-map, map-append}
@@ -10,7 +10,6 @@ use Rattle.csi_lists.proofs.Searches.{find-of_map}
 use Rattle.csi_types.specs.declared.call.Kind.{Kind}
 use Rattle.csi_types.specs.declared.call.Kind.TheVariants as kinds
 use Rattle.csi_types.specs.declared.call.Party.{Party}
-use Rattle.csi_types.specs.declared.number.Number.{Number}
 use Rattle.csi_types.specs.Model.Call.{kind_of}
 use Rattle.csi_types.specs.Model.Same.{same_text, same_number, same_party, same_kind}
 use Rattle.csi_orchestrator.specs.declared.row.Goal.{Goal}
@@ -51,9 +50,11 @@ row-comes s left few_nodes came None Maybe (Some Create) tries entries life spen
 )
 row-comes s left few_nodes came (Some id) Yes None tries entries life spent fit =
     let none = sym spent in
-    let few : length entries ≤ 64 = (let most = few-entries s.nodes s.arguments entries fit in omega (arith, most, few_nodes)) in
-    (None, subst (λ (n : ℕ). RowComes s left None (plain s (Some id) Yes None n entries)) none
-        (settled-comes s left id entries few fit life (with-fewer s (3072 + five_more left) (3072 + left) None (plain s (Some id) Yes None 0 []) (omega arith) (made s (3072 + five_more left) id came))))
+    let few : length entries ≤ 64 = (let most = few-entries s.nodes s.arguments entries fit in omega (arith, most, few_nodes)) in (
+      None,
+      subst (λ (n : ℕ). RowComes s left None (plain s (Some id) Yes None n entries)) none
+          (settled-comes s left id entries few fit life (with-fewer s (3072 + five_more left) (3072 + left) None (plain s (Some id) Yes None 0 []) (omega arith) (made s (3072 + five_more left) id came))),
+    )
 row-comes s left few_nodes came (Some id) Yes (Some (Use usage)) tries entries life spent fit = use-comes s left id tries usage entries few_nodes life spent.0 spent.1 fit (made s (3072 + five_more left) id came)
 row-comes s left few_nodes came (Some id) Yes (Some (Stop node target)) tries entries life spent fit = stop-comes s left id tries node target entries few_nodes life spent.0 spent.1 fit (made s (3072 + five_more left) id came)
 row-comes s left few_nodes came (Some id) Maybe (Some Delete) tries entries life spent fit = (
@@ -65,9 +66,11 @@ row-comes s left few_nodes came (Some id) Maybe (Some Delete) tries entries life
 )
 row-comes s left few_nodes came (Some id) No None tries entries life spent fit =
     let none = sym spent in
-    let bare = sym life in
-    (None, subst (RowComes s left None) (λ i. plain s (Some id) No None (none i) (bare i))
-        (removed s left id (removes s left id (made s (suc left) id (with-fewer s (3072 + five_more left) (suc left) (Some kinds.CreateVolume) (plain s None Maybe (Some Create) 1 []) (omega arith) came)))))
+    let bare = sym life in (
+      None,
+      subst (RowComes s left None) (λ i. plain s (Some id) No None (none i) (bare i))
+          (removed s left id (removes s left id (made s (suc left) id (with-fewer s (3072 + five_more left) (suc left) (Some kinds.CreateVolume) (plain s None Maybe (Some Create) 1 []) (omega arith) came)))),
+    )
 row-comes s left few_nodes came id exists goal tries entries life spent fit = absurd life
 
 -- ---- one behind others

@@ -1,21 +1,21 @@
 -- A row of which nothing is wanted comes about entry after entry, and at each of them target after target.
-use Rattle.std.proofs.Common.{◌≡◌, ◌<◌, ◌≤◌, ◌+◌, ℕ, suc, List, [], ◌∷◌, ◌++◌, Bool, true, false, length, refl, sym, ◌∙◌, ap, subst, arith}
-use Rattle.std.specs.Prelude.{◌*◌, Option, Some, None, find}
+use Rattle.std.proofs.Common.{◌≡◌, ◌<◌, ◌≤◌, ◌+◌, ℕ, suc, List, [], ◌∷◌, ◌++◌, Bool, false, length, refl, sym, subst, arith}
+use Rattle.std.specs.Prelude.{◌*◌, Some, None, find}
 use Rattle.std.specs.List.{AllByRecursion}
 use Rattle.std.proofs.lemmas.List.{append-nil, append_assoc, length-append}
-use Rattle.csi_lists.proofs.Each.{each-append, each-append_one}
+use Rattle.csi_lists.proofs.Each.{each-append_one}
 use Rattle.csi_types.specs.declared.capability.Capability.{Capability}
 use Rattle.csi_types.specs.Model.Same.{same_text}
 use Rattle.csi_types.specs.Model.Sharing.{allows_one_target}
 use Rattle.csi_orchestrator.specs.declared.request.Arguments.{Arguments}
 use Rattle.csi_orchestrator.specs.declared.row.TargetEntry.{TargetEntry}
-use Rattle.csi_orchestrator.specs.declared.thing.Known.TheVariants.{Yes, No, Maybe}
+use Rattle.csi_orchestrator.specs.declared.thing.Known.TheVariants.{Yes}
 use Rattle.csi_orchestrator.specs.Model.Shown.{NodeEntryShown}
 use Rattle.csi_orchestrator.specs.Private.Restored.{IsEntryFit, AreEntriesFit, IsPublished, IsSettled}
-use Rattle.csi_orchestrator.proofs.SplitLists.{find-of_none, each-left, two-there}
+use Rattle.csi_orchestrator.proofs.SplitLists.{find-of_none, two-there}
 use Rattle.csi_orchestrator.proofs.LastRow.{Spot, RowComes, with-fewer}
 use Rattle.csi_orchestrator.proofs.PlainLives.{plain}
-use Rattle.csi_orchestrator.proofs.NodePlaces.{Place, target_with, entry_with, entries_at, use_at}
+use Rattle.csi_orchestrator.proofs.NodePlaces.{Place, target_with, entry_with, entries_at}
 use Rattle.csi_orchestrator.proofs.StepsOnTheWay.{attached-stages, staged-publishes, published-settles}
 use Rattle.csi_orchestrator.proofs.UsesBegun.{alone, ending, used-anew, used-too}
 use Rattle.csi_orchestrator.proofs.EntriesFit.{fit-left, fit-there, none-there, may-use, may-use-there, several}

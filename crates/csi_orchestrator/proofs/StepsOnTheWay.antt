@@ -1,13 +1,12 @@
 -- The calls on the way to a target and back: each that succeeds lets the next one be sent, and the last one settles what was wanted.
-use Rattle.std.proofs.Common.{◌≡◌, ◌<◌, ◌+◌, ◌^◌, ℕ, suc, List, [], ◌∷◌, ◌++◌, Bool, true, false, cond, not, map, filter, refl, sym, ◌∙◌, ap}
-use Rattle.std.specs.Prelude.{Option, Some, None, option_map, ◌&&◌, Ok}
+use Rattle.std.proofs.Common.{◌≡◌, ◌+◌, ℕ, suc, List, [], ◌∷◌, false, cond, not, map, filter, refl, ◌∙◌, ap}
+use Rattle.std.specs.Prelude.{Some, None, Ok}
 use Rattle.std.specs.Option.{option_or}
 use Rattle.std.specs.List.{AllByRecursion}
 use Rattle.csi_types.specs.declared.call.Kind.{Kind}
 use Rattle.csi_types.specs.declared.call.Kind.TheVariants as kinds
 use Rattle.csi_types.specs.Model.Call.{kind_of}
 use Rattle.csi_types.specs.Model.Replies.{ok_reply}
-use Rattle.csi_orchestrator.specs.declared.fault.OrchFault.TheVariants as faults
 use Rattle.csi_orchestrator.specs.declared.row.Goal.{Goal}
 use Rattle.csi_orchestrator.specs.declared.row.Goal.TheVariants.{Use, Stop}
 use Rattle.csi_orchestrator.specs.declared.row.TargetEntry.{TargetEntry}
@@ -16,9 +15,9 @@ use Rattle.csi_orchestrator.specs.declared.thing.Known.{Known}
 use Rattle.csi_orchestrator.specs.declared.thing.Known.TheVariants.{Yes, No, Maybe}
 use Rattle.csi_orchestrator.specs.Model.Thing.{is_no}
 use Rattle.csi_orchestrator.specs.Model.Due.{Due, call_for}
-use Rattle.csi_orchestrator.specs.Model.Shown.{NodeEntryShown, RowShown, goal_shown}
+use Rattle.csi_orchestrator.specs.Model.Shown.{NodeEntryShown, goal_shown}
 use Rattle.csi_orchestrator.specs.Public.RowDue.{others_in, due_in}
-use Rattle.csi_orchestrator.specs.Private.RowChanges.{Existence, aspect_of, exists_marked, nodes_marked, known_by_success_of, id_told, succeeded_row, dropped_row, is_target_kept, with_kept_targets, is_node_kept, tidied_entries, row_once_sent}
+use Rattle.csi_orchestrator.specs.Private.RowChanges.{aspect_of, exists_marked, nodes_marked, known_by_success_of, id_told, succeeded_row, is_target_kept, with_kept_targets, is_node_kept, tidied_entries, row_once_sent}
 use Rattle.csi_orchestrator.specs.Private.Restored.{IsPublished, IsSettled}
 use Rattle.csi_orchestrator.proofs.DueCases.{attaching, staging, publishing, unpublishing, unstaging, detaching}
 use Rattle.csi_orchestrator.proofs.LastRow.{Spot, number, opened, RowComes, heard, sends, rests}

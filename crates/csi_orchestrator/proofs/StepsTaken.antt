@@ -1,6 +1,6 @@
 -- What a row makes of a step that nothing refuses.
 use Rattle.std.proofs.Common.{◌≡◌, ◌<◌, ◌+◌, ◌^◌, ℕ, List, Bool, true, false, cond, refl, ◌∙◌, ap, arith}
-use Rattle.std.specs.Prelude.{Option, Some, None, is_none, nat_lt, nat_le, ◌&&◌, Result, Ok}
+use Rattle.std.specs.Prelude.{Option, Some, None, is_none, nat_lt, nat_le, ◌&&◌, Ok}
 use Rattle.std.proofs.lemmas.Bool.Decides.{nat_tests}
 use Rattle.csi_types.specs.declared.call.Kind.{Kind}
 use Rattle.csi_types.specs.declared.number.Number.{Number}

@@ -1,6 +1,6 @@
 -- A row with a stop on the way comes about: first what is settled, then the calls on the way, then as many timeouts as it tried.
-use Rattle.std.proofs.Common.{◌≡◌, ◌<◌, ◌≤◌, ◌+◌, ℕ, suc, List, [], ◌∷◌, ◌++◌, Bool, true, false, not, length, refl, sym, ◌∙◌, ap, subst, arith}
-use Rattle.std.specs.Prelude.{Option, Some, None, find, ◌&&◌, ◌||◌}
+use Rattle.std.proofs.Common.{◌≡◌, ◌≤◌, ◌+◌, ℕ, suc, List, [], ◌∷◌, ◌++◌, Bool, true, false, not, length, refl, sym, ◌∙◌, ap, subst, arith}
+use Rattle.std.specs.Prelude.{Option, Some, None, ◌&&◌, ◌||◌}
 use Rattle.std.specs.List.{AllByRecursion, list_any}
 use Rattle.std.proofs.lemmas.List.{length-append}
 use Rattle.csi_lists.specs.Model.Members.{EachTwo}
@@ -8,27 +8,25 @@ use Rattle.csi_lists.proofs.Each.{each-append}
 use Rattle.csi_types.specs.declared.call.Kind.{Kind}
 use Rattle.csi_types.specs.declared.call.Kind.TheVariants as kinds
 use Rattle.csi_types.specs.Model.Same.{same_text}
-use Rattle.csi_types.specs.Model.Sharing.{allows_one_target}
 use Rattle.csi_orchestrator.specs.declared.request.Arguments.{Arguments}
-use Rattle.csi_orchestrator.specs.declared.request.Usage.{Usage}
 use Rattle.csi_orchestrator.specs.declared.row.Goal.{Goal}
-use Rattle.csi_orchestrator.specs.declared.row.Goal.TheVariants.{Use, Stop}
+use Rattle.csi_orchestrator.specs.declared.row.Goal.TheVariants.{Stop}
 use Rattle.csi_orchestrator.specs.declared.row.TargetEntry.{TargetEntry}
 use Rattle.csi_orchestrator.specs.declared.thing.Known.{Known}
 use Rattle.csi_orchestrator.specs.declared.thing.Known.TheVariants.{Yes, No, Maybe}
 use Rattle.csi_orchestrator.specs.Model.Thing.{is_no}
 use Rattle.csi_orchestrator.specs.Model.Shown.{NodeEntryShown}
 use Rattle.csi_orchestrator.specs.Public.RowDue.{others_in}
-use Rattle.csi_orchestrator.specs.Private.Restored.{IsEntryFit, AreEntriesFit, IsPublished, IsSettled, HasPlace, IsOnTheWay, IsStopOnTheWay, IsUseOnTheWay}
+use Rattle.csi_orchestrator.specs.Private.Restored.{IsEntryFit, AreEntriesFit, IsPublished, IsSettled, HasPlace, IsOnTheWay, IsStopOnTheWay}
 use Rattle.csi_orchestrator.proofs.TextLists.{text-same}
-use Rattle.csi_orchestrator.proofs.DueCases.{attaching, staging, publishing, unpublishing, unstaging, detaching}
-use Rattle.csi_orchestrator.proofs.SplitLists.{find-of_none, two-left, two-there, two-put_at}
+use Rattle.csi_orchestrator.proofs.DueCases.{unpublishing, unstaging, detaching}
+use Rattle.csi_orchestrator.proofs.SplitLists.{find-of_none, two-there, two-put_at}
 use Rattle.csi_orchestrator.proofs.LastRow.{Spot, RowComes, with-fewer}
 use Rattle.csi_orchestrator.proofs.PlainLives.{plain, tried}
-use Rattle.csi_orchestrator.proofs.NodePlaces.{Place, target_with, entry_with, entry_at, entries_at, use_at}
-use Rattle.csi_orchestrator.proofs.StepsOnTheWay.{attached-stages, staged-publishes, unpublished-unstages, unstaged-detaches, due-attach, due-stage, due-publish, due-unpublish, due-unstage, due-detach}
-use Rattle.csi_orchestrator.proofs.UsesBegun.{alone, used-anew, used-too, stopped}
-use Rattle.csi_orchestrator.proofs.EntriesFit.{fit-left, fit-put, fit-there, none-there, may-use, may-use-there, several, few-entries}
+use Rattle.csi_orchestrator.proofs.NodePlaces.{Place, target_with, entry_with, entry_at, entries_at}
+use Rattle.csi_orchestrator.proofs.StepsOnTheWay.{unpublished-unstages, unstaged-detaches, due-unpublish, due-unstage, due-detach}
+use Rattle.csi_orchestrator.proofs.UsesBegun.{stopped}
+use Rattle.csi_orchestrator.proofs.EntriesFit.{fit-put, fit-there, none-there, few-entries}
 use Rattle.csi_orchestrator.proofs.SettledRows.{settled-comes}
 
 -- five calls more

@@ -1,6 +1,6 @@
 -- The steps that begin the way to a target or back: the first use of a node, the use of one more target there, and a stop.
-use Rattle.std.proofs.Common.{◌≡◌, ◌<◌, ◌≤◌, ◌+◌, ◌^◌, ℕ, suc, List, [], ◌∷◌, ◌++◌, Bool, true, false, cond, not, length, refl, sym, ◌∙◌, ap, arith}
-use Rattle.std.specs.Prelude.{Option, Some, None, is_some, is_none, find, nat_le, count_by, ◌&&◌}
+use Rattle.std.proofs.Common.{◌≡◌, ◌<◌, ◌+◌, ℕ, suc, List, [], ◌∷◌, ◌++◌, Bool, true, false, cond, not, length, refl, sym, ◌∙◌, ap, arith}
+use Rattle.std.specs.Prelude.{Option, Some, None, is_some, is_none, find, nat_le, ◌&&◌}
 use Rattle.std.specs.List.{list_any}
 use Rattle.std.proofs.lemmas.Bool.{and_from}
 use Rattle.std.proofs.lemmas.List.Sums.{count_by-le-length}
@@ -15,7 +15,6 @@ use Rattle.csi_orchestrator.specs.declared.request.Usage.{Usage}
 use Rattle.csi_orchestrator.specs.declared.row.Goal.TheVariants.{Use, Stop}
 use Rattle.csi_orchestrator.specs.declared.row.TargetEntry.{TargetEntry}
 use Rattle.csi_orchestrator.specs.declared.step.Step.TheVariants as steps
-use Rattle.csi_orchestrator.specs.declared.thing.Known.{Known}
 use Rattle.csi_orchestrator.specs.declared.thing.Known.TheVariants.{Yes, No, Maybe}
 use Rattle.csi_orchestrator.specs.Model.Thing.{is_no}
 use Rattle.csi_orchestrator.specs.Model.Commands.{is_for_one_node, uses_as_second_writer}
@@ -29,7 +28,7 @@ use Rattle.csi_orchestrator.proofs.TextLists.{text-same}
 use Rattle.csi_orchestrator.proofs.DueCases.{attaching, publishing, unpublishing}
 use Rattle.csi_orchestrator.proofs.SplitLists.{find-at, put-at, put-last}
 use Rattle.csi_orchestrator.proofs.LastRow.{Spot, number, RowComes, asked-use, asked-stop, sends}
-use Rattle.csi_orchestrator.proofs.StepsTaken.{not-reached, unless-first, isnt-last, step-sends}
+use Rattle.csi_orchestrator.proofs.StepsTaken.{not-reached, and-false, unless-first, isnt-last, step-sends}
 use Rattle.csi_orchestrator.proofs.PlainLives.{plain}
 use Rattle.csi_orchestrator.proofs.NodePlaces.{Place, target_with, entry_with, entry_at, entries_at, use_at, marks_from, marks-are, use-due, stop-due}
 use Rattle.csi_orchestrator.proofs.StepsOnTheWay.{next-sent, sends-attach, sends-publish, sends-unpublish}
@@ -69,7 +68,7 @@ used-anew s left id front node capability readonly target none may came =
     sends s left None row (steps.Use usage) kinds.ControllerPublishVolume (plain s (Some id) Yes (Some (Use usage)) 1 (entries_at p Maybe No No)) refl refl (asked-use s None row usage refl)
     (λ call room. step-sends s call None row (steps.Use usage) (plain s (Some id) Yes (Some (Use usage)) 0 (entries_at p No No No)) (attaching usage id)
     (plain s (Some id) Yes (Some (Use usage)) 1 (entries_at p Maybe No No)) room
-    (unrefused s id usage front may (ap (is_entry_otherwise usage) none) (ap (λ o. allows_one_target capability.mode && others_in target o) none ∙ and-none (allows_one_target capability.mode)))
+    (unrefused s id usage front may (ap (is_entry_otherwise usage) none) (ap (λ o. allows_one_target capability.mode && others_in target o) none ∙ and-false (allows_one_target capability.mode)))
     (ap (λ o. is_none (use_due usage (marks_from target o) id)) none) refl
     (unless-first (is_last (number s call)) faults.NumbersSpent _ (isnt-last s.session call room)
     (unless-first (nat_le 16 (others_count target (find (λ (entry : NodeEntryShown). same_text entry.node node) front))) faults.Full None (ap (λ o. nat_le 16 (others_count target o)) none) refl))
@@ -85,10 +84,6 @@ used-anew s left id front node capability readonly target none may came =
 
     row : RowShown
     row = plain s (Some id) Yes None 0 front
-
-    and-none : (b : Bool) → (b && false) ≡ false
-    and-none true = refl
-    and-none false = refl
 
 -- ---- the use of one more target
 

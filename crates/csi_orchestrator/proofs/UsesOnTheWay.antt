@@ -1,33 +1,26 @@
 -- A row with a use on the way comes about: at a node that came last, or as one more target of a node.
-use Rattle.std.proofs.Common.{◌≡◌, ◌<◌, ◌≤◌, ◌+◌, ℕ, suc, List, [], ◌∷◌, ◌++◌, Bool, true, false, not, length, refl, sym, ◌∙◌, ap, subst, arith}
-use Rattle.std.specs.Prelude.{Option, Some, None, find, ◌&&◌, ◌||◌}
-use Rattle.std.specs.List.{AllByRecursion, list_any}
+use Rattle.std.proofs.Common.{◌≡◌, ◌<◌, ◌≤◌, ◌+◌, ℕ, suc, List, [], ◌∷◌, ◌++◌, false, length, refl, sym, ◌∙◌, ap, subst, arith}
+use Rattle.std.specs.Prelude.{Some, None}
+use Rattle.std.specs.List.{AllByRecursion}
 use Rattle.std.proofs.lemmas.List.{length-append}
-use Rattle.csi_lists.specs.Model.Members.{EachTwo}
 use Rattle.csi_lists.proofs.Each.{each-append}
-use Rattle.csi_types.specs.declared.call.Kind.{Kind}
 use Rattle.csi_types.specs.declared.call.Kind.TheVariants as kinds
 use Rattle.csi_types.specs.Model.Same.{same_text}
 use Rattle.csi_types.specs.Model.Sharing.{allows_one_target}
-use Rattle.csi_orchestrator.specs.declared.request.Arguments.{Arguments}
 use Rattle.csi_orchestrator.specs.declared.request.Usage.{Usage}
-use Rattle.csi_orchestrator.specs.declared.row.Goal.{Goal}
-use Rattle.csi_orchestrator.specs.declared.row.Goal.TheVariants.{Use, Stop}
+use Rattle.csi_orchestrator.specs.declared.row.Goal.TheVariants.{Use}
 use Rattle.csi_orchestrator.specs.declared.row.TargetEntry.{TargetEntry}
 use Rattle.csi_orchestrator.specs.declared.thing.Known.{Known}
 use Rattle.csi_orchestrator.specs.declared.thing.Known.TheVariants.{Yes, No, Maybe}
-use Rattle.csi_orchestrator.specs.Model.Thing.{is_no}
 use Rattle.csi_orchestrator.specs.Model.Shown.{NodeEntryShown}
-use Rattle.csi_orchestrator.specs.Public.RowDue.{others_in}
-use Rattle.csi_orchestrator.specs.Private.Restored.{IsEntryFit, AreEntriesFit, IsPublished, IsSettled, HasPlace, IsOnTheWay, IsStopOnTheWay, IsUseOnTheWay}
-use Rattle.csi_orchestrator.proofs.TextLists.{text-same}
-use Rattle.csi_orchestrator.proofs.DueCases.{attaching, staging, publishing, unpublishing, unstaging, detaching}
-use Rattle.csi_orchestrator.proofs.SplitLists.{find-of_none, two-left, two-there, two-put_at}
+use Rattle.csi_orchestrator.specs.Private.Restored.{IsEntryFit, AreEntriesFit, IsSettled, HasPlace, IsOnTheWay, IsUseOnTheWay}
+use Rattle.csi_orchestrator.proofs.DueCases.{attaching, staging, publishing}
+use Rattle.csi_orchestrator.proofs.SplitLists.{two-left}
 use Rattle.csi_orchestrator.proofs.LastRow.{Spot, RowComes, with-fewer}
 use Rattle.csi_orchestrator.proofs.PlainLives.{plain, tried}
-use Rattle.csi_orchestrator.proofs.NodePlaces.{Place, target_with, entry_with, entry_at, entries_at, use_at}
-use Rattle.csi_orchestrator.proofs.StepsOnTheWay.{attached-stages, staged-publishes, unpublished-unstages, unstaged-detaches, due-attach, due-stage, due-publish, due-unpublish, due-unstage, due-detach}
-use Rattle.csi_orchestrator.proofs.UsesBegun.{alone, used-anew, used-too, stopped}
+use Rattle.csi_orchestrator.proofs.NodePlaces.{Place, target_with, entry_with, entries_at, use_at}
+use Rattle.csi_orchestrator.proofs.StepsOnTheWay.{attached-stages, staged-publishes, due-attach, due-stage, due-publish}
+use Rattle.csi_orchestrator.proofs.UsesBegun.{alone, used-anew, used-too}
 use Rattle.csi_orchestrator.proofs.EntriesFit.{fit-left, fit-put, fit-there, none-there, may-use, may-use-there, several, few-entries}
 use Rattle.csi_orchestrator.proofs.SettledRows.{settled-comes}
 use Rattle.csi_orchestrator.proofs.StopsOnTheWay.{five_more, ComesSomehow, placed-fit, placed-apart, place_of, placed-entries, own-fit}
@@ -139,13 +132,12 @@ use-comes s left id tries usage entries few_nodes use_way some few fit came =
         let last = use_way.last_target in
         let fits : AreEntriesFit s.nodes s.arguments (h.front ++ h.entry ∷ []) = subst (λ (es : List NodeEntryShown). AreEntriesFit s.nodes s.arguments (h.front ++ h.entry ∷ es)) rear (placed-fit s.nodes s.arguments entries usage.node usage.target h fit) in
         let way : IsOnTheWay [] [] (h.entry).attached (h.entry).staged (h.target_entry).published =
-            subst (λ (ts : List TargetEntry). IsOnTheWay [] ts (h.entry).attached (h.entry).staged (h.target_entry).published) last
-            (subst (λ (ts : List TargetEntry). IsOnTheWay ts h.last (h.entry).attached (h.entry).staged (h.target_entry).published) first use_way.way) in
+        subst (λ (ts : List TargetEntry). IsOnTheWay [] ts (h.entry).attached (h.entry).staged (h.target_entry).published) last
+        (subst (λ (ts : List TargetEntry). IsOnTheWay ts h.last (h.entry).attached (h.entry).staged (h.target_entry).published) first use_way.way) in
         let begun = use-alone s left id tries h.front h.entry (h.target_entry).target (h.entry).attached (h.entry).staged (h.target_entry).published few_nodes way some few fits h.settled_front came in
         let no_first = sym first in
         let no_last = sym last in
-        let no_rear = sym rear in
-        (
+        let no_rear = sym rear in (
           begun.0,
           subst (λ (es : List NodeEntryShown). RowComes s left begun.0 (plain s (Some id) Yes (Some (Use (use_at p))) tries es))
               (λ i. h.front ++ entry_with (h.entry).node (h.entry).capability (h.entry).readonly (h.entry).attached (h.entry).staged (no_first i ++ target_with (h.target_entry).target (h.target_entry).published ∷ no_last i) ∷ no_rear i)
