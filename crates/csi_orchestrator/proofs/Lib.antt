@@ -54,3 +54,17 @@ pub mod ListPlaces
 pub mod NotedCalls
 pub mod OpenCalls
 pub mod OpenCallPlaces
+pub mod SplitLists
+pub mod ComeTo
+pub mod LastRow
+pub mod StepsTaken
+pub mod PlainLives
+pub mod NodePlaces
+pub mod StepsOnTheWay
+pub mod UsesBegun
+pub mod EntriesFit
+pub mod SettledRows
+pub mod StopsOnTheWay
+pub mod UsesOnTheWay
+pub mod RowsComeAbout
+pub mod Restored

@@ -43,7 +43,7 @@ pub is-refused : (old : OrchestratorParts) (history : History) (input : Input) (
 is-refused old history input fault kept form agrees is = refused history (row_moves old input) (moves old.nodes history input) fault (all-tell old history input form kept agrees) is
 
 -- what was told is told by a history that goes on
-told-on : (old new : OrchestratorParts) (told : HasHistory old) (input : Input) (answer : Answer) → new.nodes ≡ old.nodes → (moved : Result Moved OrchFault) → moves old.nodes told.history input ≡ moved → FollowsUnrefused told.history moved answer new → HasHistory new
+pub told-on : (old new : OrchestratorParts) (told : HasHistory old) (input : Input) (answer : Answer) → new.nodes ≡ old.nodes → (moved : Result Moved OrchFault) → moves old.nodes told.history input ≡ moved → FollowsUnrefused told.history moved answer new → HasHistory new
 told-on old new told input answer nodes (Ok moved) e done =
     record {
       history = with_items told.history moved.items;

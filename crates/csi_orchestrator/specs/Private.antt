@@ -14,3 +14,4 @@ pub mod Hearing
 pub mod Worked
 pub mod RowSteps
 pub mod Decisions
+pub mod Restored

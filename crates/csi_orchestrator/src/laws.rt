@@ -6,6 +6,7 @@ ghost use Rattle.csi_orchestrator.specs.Public.Steps.{MovesLaw};
 ghost use Rattle.std.specs.List.{AllByRecursion};
 ghost use Rattle.csi_orchestrator.specs.Public.Bounds.{IsBounded};
 ghost use Rattle.csi_orchestrator.specs.Public.Kept.{AreKeptRows};
+ghost use Rattle.csi_orchestrator.specs.Private.Restored.{RecordsAreReached};
 ghost use Rattle.csi_orchestrator.specs.Private.Sound.{RowsTell, RowsStaySound, MovesAreGuarded};
 ghost use Rattle.csi_orchestrator.specs.Public.Sound.{HasHistory, KeepsWhatIsNeeded};
 
@@ -27,6 +28,12 @@ fn rows_follow()
     ensures rows_tell { RowsTell }
     ensures rows_stay_sound { RowsStaySound }
     ensures moves_are_guarded { MovesAreGuarded }
+{}
+
+// What is restored from a record is what some orchestrator came to: whatever rows keep the rules of rows without open calls are
+// those of an orchestrator of these nodes, once it gave its calls up.
+fn records_are_reached()
+    ensures { RecordsAreReached }
 {}
 
 /// A law, and nothing that runs: whatever comes, each call that an orchestrator sends has the next number and may be sent
