@@ -1,14 +1,13 @@
 //! How the rows of a node answer a call of the present session.
-ghost use Rattle.std.specs.Prelude.{◌≡◌, ℕ, List, true, Some, IfOk, IfErr, OnErr};
+ghost use Rattle.std.specs.Prelude.{◌≡◌, true, Some, IfOk, IfErr};
 ghost use Rattle.csi_types.specs.Model.Call.{kind_of};
 ghost use Rattle.csi_types.specs.Public.Call.{is_node_kind};
 ghost use Rattle.csi_types.specs.Public.Lent.{lent_call};
-ghost use Rattle.csi_node.specs.Private.OneRow.{IsNodeAnswer};
 ghost use Rattle.csi_node.specs.Model.Record.{parts};
-ghost use Rattle.csi_node.specs.Private.Record.{node_record_parts, IsRowAt, IsGapFor};
+ghost use Rattle.csi_node.specs.Private.Record.{IsRowAt, IsGapFor};
 ghost use Rattle.csi_node.specs.Public.Record.{AreSoundRows, IsCurrent};
 ghost use Rattle.csi_node.specs.Model.State.{volume_of};
-ghost use Rattle.csi_node.specs.Private.Step.{AnswersCall};
+ghost use Rattle.csi_node.specs.Private.Step.{AnswersOwn};
 
 use crate::at_row::{answer_at_row, answer_with_new_row, refusal};
 use crate::row::NodeRow;
@@ -39,12 +38,7 @@ fn answer_with_row(
     requires rules { AreSoundRows (parts rows.old.items) }
     requires current { IsCurrent number.session (parts rows.old.items) }
     requires place { IsRowAt (parts rows.old.items) id place }
-    ensures ok { (node : List ℕ) → IfOk result (AnswersCall number (lent_call call.now) (node_record_parts node number.session rows.old.items)
-        (node_record_parts node number.session rows.new.items)) }
-    ensures fits { IfOk result IsNodeAnswer }
-    ensures rules { AreSoundRows (parts rows.new.items) }
-    ensures current { IsCurrent number.session (parts rows.new.items) }
-    ensures err { OnErr result (parts rows.new.items ≡ parts rows.old.items) }
+    ensures { AnswersOwn number (lent_call call.now) rows.old.items rows.new.items result }
 {
     answer_at_row(&mut rows[place], place, alloc, number, call)
 }
@@ -63,12 +57,7 @@ fn answer_without_row(
     requires rules { AreSoundRows (parts rows.old.items) }
     requires current { IsCurrent number.session (parts rows.old.items) }
     requires place { IsGapFor (parts rows.old.items) id place }
-    ensures ok { (node : List ℕ) → IfOk result (AnswersCall number (lent_call call.now) (node_record_parts node number.session rows.old.items)
-        (node_record_parts node number.session rows.new.items)) }
-    ensures fits { IfOk result IsNodeAnswer }
-    ensures rules { AreSoundRows (parts rows.new.items) }
-    ensures current { IsCurrent number.session (parts rows.new.items) }
-    ensures err { OnErr result (parts rows.new.items ≡ parts rows.old.items) }
+    ensures { AnswersOwn number (lent_call call.now) rows.old.items rows.new.items result }
 {
     if rows.len() >= MAX_ROWS {
         return refusal(alloc, call.kind(), Status::ResourceExhausted, "rows");
@@ -88,12 +77,7 @@ pub(crate) fn answer(
     requires kind { is_node_kind (kind_of (lent_call call.now)) ≡ true }
     requires rules { AreSoundRows (parts rows.old.items) }
     requires current { IsCurrent number.session (parts rows.old.items) }
-    ensures ok { (node : List ℕ) → IfOk result (AnswersCall number (lent_call call.now) (node_record_parts node number.session rows.old.items)
-        (node_record_parts node number.session rows.new.items)) }
-    ensures fits { IfOk result IsNodeAnswer }
-    ensures rules { AreSoundRows (parts rows.new.items) }
-    ensures current { IsCurrent number.session (parts rows.new.items) }
-    ensures err { OnErr result (parts rows.new.items ≡ parts rows.old.items) }
+    ensures { AnswersOwn number (lent_call call.now) rows.old.items rows.new.items result }
 {
     match place_of(rows, id) {
         Ok(place) => answer_with_row(rows, place, alloc, number, id, call),

@@ -15,27 +15,27 @@ pub answer_at_row-requires-clause-rules : goal.answer_at_row-requires-clause-rul
 answer_at_row-requires-clause-rules c =
     (there c.args.rows.now.items c.args.id c.args.place c.index_mut.result.now c.index_mut.ensures.value c.requires.rules c.requires.place).rules
 
-pub returns-clause-ok : goal.returns-clause-ok
-returns-clause-ok c = λ node.
-    let is = there c.args.rows.now.items c.args.id c.args.place c.index_mut.result.now c.index_mut.ensures.value c.requires.rules c.requires.place in
-    IfOk-weaker c.answer_at_row.result _ _
-    (answers-there node c.args.number (lent_call c.args.call.now) c.args.id c.requires.volume c.args.rows.now.items c.args.place c.index_mut.result.now c.answer_at_row.new.row c.index_mut.ensures.value
-    c.requires.rules c.requires.place is)
-    c.answer_at_row.ensures.ok
-
-pub returns-clause-rules : goal.returns-clause-rules
-returns-clause-rules c =
-    let is = there c.args.rows.now.items c.args.id c.args.place c.index_mut.result.now c.index_mut.ensures.value c.requires.rules c.requires.place in
-    rules-there c.args.id c.args.rows.now.items c.args.place c.index_mut.result.now c.answer_at_row.new.row c.requires.rules c.requires.place is c.answer_at_row.ensures.rules
-    (kept_id c.answer_at_row.result c.args.place c.args.number (lent_call c.args.call.now) (node_row_shown c.index_mut.result.now) (node_row_shown c.answer_at_row.new.row) _ c.answer_at_row.ensures.ok c.answer_at_row.ensures.err)
-
-pub returns-clause-current : goal.returns-clause-current
-returns-clause-current c =
-    current-there c.answer_at_row.result c.args.number (lent_call c.args.call.now) c.args.id c.args.rows.now.items c.args.place c.index_mut.result.now c.answer_at_row.new.row c.index_mut.ensures.value
-    c.requires.place c.requires.current c.answer_at_row.ensures.ok c.answer_at_row.ensures.err
-
-pub returns-clause-err : goal.returns-clause-err
-returns-clause-err c =
-    on_err_weaker c.answer_at_row.result
-    (λ same. map-set_same node_row_shown c.args.rows.now.items c.args.place c.answer_at_row.new.row c.index_mut.result.now (same ∙ ap node_row_shown c.index_mut.ensures.value))
-    c.answer_at_row.ensures.err
+pub returns : goal.returns
+returns c =
+    let rows = c.args.rows.now.items in
+    let was = c.index_mut.result.now in
+    let new = c.answer_at_row.new.row in
+    let call = lent_call c.args.call.now in
+    let is = there rows c.args.id c.args.place was c.index_mut.ensures.value c.requires.rules c.requires.place in
+    record {
+      ok = λ node.
+          IfOk-weaker c.answer_at_row.result _ _
+          (answers-there node c.args.number call c.args.id c.requires.volume rows c.args.place was new c.index_mut.ensures.value c.requires.rules c.requires.place is)
+          c.answer_at_row.ensures.ok;
+      fits = c.answer_at_row.ensures.fits;
+      rules =
+          rules-there c.args.id rows c.args.place was new c.requires.rules c.requires.place is c.answer_at_row.ensures.rules
+          (kept_id c.answer_at_row.result c.args.place c.args.number call (node_row_shown was) (node_row_shown new) _ c.answer_at_row.ensures.ok c.answer_at_row.ensures.err);
+      current =
+          current-there c.answer_at_row.result c.args.number call c.args.id rows c.args.place was new c.index_mut.ensures.value
+          c.requires.place c.requires.current c.answer_at_row.ensures.ok c.answer_at_row.ensures.err;
+      err =
+          on_err_weaker c.answer_at_row.result
+          (λ same. map-set_same node_row_shown rows c.args.place new was (same ∙ ap node_row_shown c.index_mut.ensures.value))
+          c.answer_at_row.ensures.err;
+    }
