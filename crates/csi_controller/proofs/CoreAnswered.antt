@@ -1,5 +1,5 @@
 -- A core that answered a call and changed no row, and one that was refused memory.
-use Rattle.std.proofs.Common.{◌≡◌, ◌<◌, ℕ, refl, sym, ◌∙◌, ap, subst}
+use Rattle.std.proofs.Common.{◌≡◌, ℕ, refl, sym, ◌∙◌, ap, subst}
 use Rattle.std.specs.Prelude.{Option, None, find, IsTrue}
 use Rattle.csi_types.specs.declared.number.Number.{Number}
 use Rattle.csi_types.specs.declared.call.Call.{Call}
@@ -9,11 +9,9 @@ use Rattle.csi_fence.specs.declared.answer.Answer.{Answer}
 use Rattle.csi_types.specs.Model.Call.{kind_of}
 use Rattle.csi_types.specs.Public.Call.{is_party_of}
 use Rattle.csi_types.specs.declared.call.Kind.{Kind}
-use Rattle.csi_types.specs.declared.call.Kind.TheVariants as kinds
 use Rattle.csi_types.specs.declared.reply.Reply.{Reply}
 use Rattle.csi_types.specs.Public.Reply.{has_id_by_rule}
 use Rattle.csi_types.specs.Public.Frame.{IsAllowed}
-use Rattle.csi_types.specs.Model.Replies.{stale_reply, reply_frame}
 use Rattle.csi_controller.specs.declared.row.ControllerRow.{ControllerRow}
 use Rattle.csi_controller.specs.declared.controller.core_parts.ControllerCore.{ControllerCore}
 use Rattle.csi_controller.specs.Public.Catalog.{rows_of, IsIndexed}
@@ -30,9 +28,9 @@ use Rattle.csi_controller.specs.Model.State.{ControllerState, is_row_for}
 use Rattle.csi_controller.specs.Private.Step.{IsFencedAnswer}
 use Rattle.csi_controller.specs.Public.Step.{answer_frame}
 use Rattle.csi_controller.proofs.AtRow.{nowhere-allowed, told-nowhere}
-use Rattle.csi_controller.proofs.ChangesTold.{none-changed, session-late, session-now, staying-late, staying-now}
+use Rattle.csi_controller.proofs.ChangesTold.{none-changed, session-now, staying-now}
 use Rattle.csi_controller.proofs.Counts.{same-parts-counted}
-use Rattle.csi_controller.proofs.Sessions.{answered-late, answered-now}
+use Rattle.csi_controller.proofs.Sessions.{answered-now}
 
 -- a call of the present session that changed nothing
 pub same-answered : (core : ControllerCore) (number : Number) (call : Call) (answer : Answer) → IsSoundCore core → number.session ≡ core.session → answer.row ≡ None
@@ -48,32 +46,6 @@ same-answered core number call answer kept present names allowed told =
       config = refl;
       kept = kept;
     }
-
--- a refusal has no id
-stale-rule : (kind : Kind) → IsTrue (has_id_by_rule kind stale_reply)
-stale-rule kinds.CreateVolume = refl
-stale-rule kinds.DeleteVolume = refl
-stale-rule kinds.ControllerPublishVolume = refl
-stale-rule kinds.ControllerUnpublishVolume = refl
-stale-rule kinds.NodeStageVolume = refl
-stale-rule kinds.NodeUnstageVolume = refl
-stale-rule kinds.NodePublishVolume = refl
-stale-rule kinds.NodeUnpublishVolume = refl
-
--- a call of an earlier session, which is stale
-pub late-answered : (core : ControllerCore) (number : Number) (call : Call) (answer : Answer) → IsSoundCore core → number.session < core.session
-    → answer ≡ record { kind = kind_of call; reply = stale_reply; row = None } → IsTrue (is_party_of (kind_of call) Controller) → IsCallAnswered core core number call answer
-late-answered core number call answer kept late is party =
-    subst (IsCallAnswered core core number call) (sym is)
-    (record {
-      told = λ state shown.
-          subst (IsFencedAnswer (controller_parts_shown core) (reply_frame number Controller (kind_of call) stale_reply)) (sym (answered-late core.config state number call (subst (λ (s : ℕ). number.session < s) shown.session late)))
-          (record { reply = refl; shown = shown });
-      changes = none-changed number (controller_parts_shown core) (controller_parts_shown core) (sym (session-late core.session number late)) refl (sym (staying-late core.session number (rows_of core.catalog) late));
-      allowed = (party, stale-rule (kind_of call));
-      config = refl;
-      kept = kept;
-    })
 
 -- a call of an id that no row has, in the present session
 pub nowhere-now : (core : ControllerCore) (number : Number) (call : Call) (kind : Kind) (reply : Reply) → IsSoundCore core → number.session ≡ core.session

@@ -5,7 +5,7 @@ use Rattle.csi_types.specs.declared.capability.Capability.{Capability}
 use Rattle.csi_types.specs.declared.call.Call.{Call}
 use Rattle.csi_types.specs.declared.reply.Reply.{Reply}
 use Rattle.csi_types.specs.declared.status.Status.TheVariants.{InvalidArgument, NotFound, AlreadyExists, ResourceExhausted, FailedPrecondition, OutOfRange, Unimplemented}
-use Rattle.csi_types.specs.Model.Capacity.{is_bad_range, is_empty_range, capacity_wanted}
+use Rattle.csi_types.specs.Model.Capacity.{is_bad_range, is_empty_range}
 use Rattle.csi_types.specs.Model.Config.{has_node}
 use Rattle.csi_types.specs.Model.Holding.{is_compatible, same_holding}
 use Rattle.csi_types.specs.Model.Replies.{plain_reply, ok_reply_with}
