@@ -12,7 +12,7 @@ use Rattle.csi_types.specs.declared.call.Kind.TheVariants as kinds
 use Rattle.csi_types.specs.Model.Call.{kind_of}
 use Rattle.csi_types.specs.Model.Same.{same_text}
 use Rattle.csi_types.proofs.Equality.{same_text-tells}
-use Rattle.csi_orchestrator.specs.declared.row.Goal.TheVariants.{Create, Use, Stop, Delete}
+use Rattle.csi_orchestrator.specs.declared.row.Goal.TheVariants.{Use}
 use Rattle.csi_orchestrator.specs.declared.row.TargetEntry.{TargetEntry}
 use Rattle.csi_orchestrator.specs.declared.request.Usage.{Usage}
 use Rattle.csi_orchestrator.specs.declared.thing.Known.{Known}
@@ -82,13 +82,10 @@ targets-long mark Publication target entry = change-long (λ (t : TargetEntry). 
 -- in the entries of a use
 last-marked : (mark : Known) (aspect : Aspect) (usage : Usage) (entries : List NodeEntryShown)
     → ((entry : NodeEntryShown) → find (λ (e : NodeEntryShown). same_text e.node usage.node) entries ≡ Some entry → is_yes (publication_known usage.target (node_marked mark aspect usage.target entry)) ≡ false
-        → is_yes (publication_known usage.target entry) ≡ false)
+    → is_yes (publication_known usage.target entry) ≡ false)
     → HasLast (Some (Use usage)) entries → HasLast (Some (Use usage)) (marked_at mark aspect usage.node usage.target entries)
 last-marked mark aspect usage entries before last = λ entry found. by (find (λ (e : NodeEntryShown). same_text e.node usage.node) entries) refl entry (sym changed ∙ found)
   where
-    change : NodeEntryShown → NodeEntryShown
-    change = node_marked mark aspect usage.target
-
     changed : find (λ (e : NodeEntryShown). same_text e.node usage.node) (marked_at mark aspect usage.node usage.target entries) ≡ option_map (node_marked mark aspect usage.target) (find (λ (e : NodeEntryShown). same_text e.node usage.node) entries)
     changed =
         find-change (λ (e : NodeEntryShown). e.node) usage.node (node_marked mark aspect usage.target) entries usage.node (node-stays mark aspect usage.target)

@@ -20,7 +20,7 @@ use Rattle.csi_orchestrator.specs.declared.thing.Known.TheVariants.{Yes, No, May
 use Rattle.csi_orchestrator.specs.Model.Shown.{NodeEntryShown, RowShown, OrchestratorParts, publication_known}
 use Rattle.csi_orchestrator.specs.Model.Thing.{is_yes}
 use Rattle.csi_orchestrator.specs.Public.Bounds.{IsEntryWithin, AreWithin}
-use Rattle.csi_orchestrator.specs.Public.Restored.{IsHeldBeside, AreHeldTogether, IsEntryFit, IsSettled, HasPlace, IsOnTheWay, IsStopOnTheWay, IsUseOnTheWay, FitsLife, IsRestorable, AreRestorable}
+use Rattle.csi_orchestrator.specs.Public.Restored.{AreHeldTogether, IsEntryFit, IsSettled, HasPlace, IsOnTheWay, IsStopOnTheWay, IsUseOnTheWay, FitsLife, IsRestorable, AreRestorable}
 use Rattle.csi_orchestrator.specs.Public.Shown.{AreTargetsApart, closed}
 use Rattle.csi_orchestrator.specs.Public.Sound.{MayBeWanted, IsUsable, IsSoundRow, AreSoundParts}
 use Rattle.csi_orchestrator.specs.Public.Steady.{IsStanding, HasOne, IsAtWork, HasMarks, IsInUse, AreMarked, IsLast, CameLast, HasLast, IsAllowed, CanBeBeside, IsSteadyRow, AreSteadyRows}
