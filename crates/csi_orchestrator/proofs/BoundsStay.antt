@@ -35,7 +35,8 @@ use Rattle.csi_orchestrator.specs.Model.Thing.{is_no, is_yes}
 use Rattle.csi_orchestrator.specs.Model.History.{Arguments, Usage}
 use Rattle.csi_orchestrator.specs.Model.Moves.{Input, ToCreate, ToUse, ToStop, ToDelete, TimesOut, Comes, Restarts, Answer, Sends, Restarted, hears}
 use Rattle.csi_orchestrator.specs.Model.Shown.{NodeEntryShown, RowShown, OrchestratorParts, row_of, node_entry_of, open_in_row}
-use Rattle.csi_orchestrator.specs.Private.Shown.{closed, parts_in_session}
+use Rattle.csi_orchestrator.specs.Public.Shown.{closed}
+use Rattle.csi_orchestrator.specs.Private.Shown.{parts_in_session}
 use Rattle.csi_orchestrator.specs.Public.RowDue.{due_in}
 use Rattle.csi_orchestrator.specs.Private.RowChanges.{Aspect, Existence, Attachment, Staging, Publication, aspect_of, node_marked, marked_at, at_goal, nodes_marked, marked_row, is_target_kept, with_kept_targets, is_node_kept, tidied_entries, new_row, new_target_entry, with_target, held_as, entry_for, with_entry, stopped_goal, wanted_row, known_by_success_of}
 use Rattle.csi_orchestrator.specs.Private.RowRefusals.{is_last, first_fault, others_count, use_refusal, room_refusal, step_refusal, late_refusal}

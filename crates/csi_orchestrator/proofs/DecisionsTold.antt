@@ -22,7 +22,7 @@ use Rattle.csi_orchestrator.specs.Private.RowRefusals.{is_last, is_entry_otherwi
 use Rattle.csi_orchestrator.specs.Public.RowRefusals.{has_elsewhere}
 use Rattle.csi_orchestrator.specs.Private.RowSteps.{MovedRow, row_sends_due, row_rests, row_unless, is_step_met, waits, row_before_call, row_step}
 use Rattle.csi_orchestrator.specs.Model.Shown.{NodeEntryShown, RowShown, node_entry_of}
-use Rattle.csi_orchestrator.specs.Private.Shown.{closed}
+use Rattle.csi_orchestrator.specs.Public.Shown.{closed}
 use Rattle.csi_orchestrator.specs.Public.RowDue.{others_in, marks_at, use_due}
 use Rattle.csi_orchestrator.proofs.DueCases.{attaching, staging, publishing}
 

@@ -20,7 +20,7 @@ use Rattle.csi_orchestrator.specs.Model.History.{Held}
 use Rattle.csi_orchestrator.specs.Model.Commands.{is_for_one_node, uses_as_second_writer}
 use Rattle.csi_orchestrator.specs.Model.Shown.{NodeEntryShown, held_at}
 use Rattle.csi_orchestrator.specs.Public.RowRefusals.{is_so_elsewhere}
-use Rattle.csi_orchestrator.specs.Private.Restored.{IsHeldBeside, AreHeldTogether, IsEntryFit, AreEntriesFit}
+use Rattle.csi_orchestrator.specs.Public.Restored.{IsHeldBeside, AreHeldTogether, IsEntryFit, AreEntriesFit}
 use Rattle.csi_orchestrator.proofs.RowRules.{here}
 use Rattle.csi_orchestrator.proofs.BoundsStay.{no-longer}
 use Rattle.csi_orchestrator.proofs.SplitLists.{find-of_none, any-of_none, each-left, each-right, each-put_at, two-left, two-there, two-put_at}

@@ -1,7 +1,6 @@
 -- Why the rows of an orchestrator keep their rules.
-use Rattle.std.proofs.Common.{◌≡◌, ℕ, ◌+◌, ◌^◌, List, [], ◌∷◌, Bool, true, false, cond, refl, subst}
+use Rattle.std.proofs.Common.{◌≡◌, ℕ, ◌+◌, ◌^◌, List, Bool, true, false, cond, refl, subst}
 use Rattle.std.specs.Prelude.{find, is_some, not, ◌&&◌, nat_lt, Option, Some, None, Result, Ok, Err}
-use Rattle.std.specs.List.{AllByRecursion}
 use Rattle.csi_types.specs.declared.call.Kind.{Kind}
 use Rattle.csi_types.specs.declared.call.Party.{Party}
 use Rattle.csi_types.specs.declared.frame.Body.{Body}
@@ -14,7 +13,7 @@ use Rattle.csi_types.specs.Model.Same.{same_text}
 use Rattle.csi_types.specs.Public.Frame.{IsAllowed}
 use Rattle.csi_types.specs.Public.Reply.{is_create, has_id_by_rule}
 use Rattle.std.proofs.lemmas.Bool.{false≢true}
-use Rattle.csi_lists.proofs.Each.{each-map, each-weaker}
+use Rattle.csi_lists.proofs.Each.{each-map}
 use Rattle.csi_lists.proofs.Members.{each_of, among-find}
 use Rattle.csi_lists.proofs.Searches.{find-passes}
 use Rattle.csi_orchestrator.specs.declared.fault.OrchFault.{OrchFault}
@@ -25,18 +24,16 @@ use Rattle.csi_orchestrator.specs.Model.History.{Arguments}
 use Rattle.csi_orchestrator.specs.Model.Moves.{Input, ToCreate, ToUse, ToStop, ToDelete, TimesOut, Comes, Restarts, Answer, Sends, Restarted, hears}
 use Rattle.csi_orchestrator.specs.Model.Shown.{RowShown, OrchestratorParts, row_of, open_in_row}
 use Rattle.csi_orchestrator.specs.Private.Hearing.{IsDueSuccess}
-use Rattle.csi_orchestrator.specs.Private.Shown.{closed, parts_in_session}
+use Rattle.csi_orchestrator.specs.Public.Shown.{closed}
+use Rattle.csi_orchestrator.specs.Private.Shown.{parts_in_session}
 use Rattle.csi_orchestrator.specs.Private.RowRefusals.{first_fault}
 use Rattle.csi_orchestrator.specs.Private.RowSteps.{MovedRow, row_step}
-use Rattle.csi_orchestrator.specs.Public.Bounds.{HasFewTargets, IsEntryWithin, AreWithin}
-use Rattle.csi_orchestrator.specs.Public.Kept.{IsKeptRow, AreKeptRows}
 use Rattle.csi_orchestrator.specs.Public.Steady.{IsSteadyRow, AreSteadyRows}
 use Rattle.csi_orchestrator.specs.Public.RowMoves.{MovedRows, moved_rows}
 use Rattle.csi_orchestrator.specs.Private.RowMoves.{all_rows_moved, steps_at, creates, is_issued_as, row_replied, step_heard, hears_reply, receives, starts_again, row_moves}
 use Rattle.csi_orchestrator.specs.Public.Sound.{IsSoundRow, AreSoundRows}
 use Rattle.csi_orchestrator.proofs.EntryRules.{by_if, each-put}
 use Rattle.csi_orchestrator.proofs.KeptSteps.{BringsId, KeptAfter, closed-kept, new-kept, unless-kept, step-kept}
-use Rattle.csi_orchestrator.proofs.RowMarks.{has-entry}
 use Rattle.csi_orchestrator.proofs.RulesStay.{found-kept}
 use Rattle.csi_orchestrator.proofs.StepsSound.{heard-fits}
 
@@ -121,26 +118,3 @@ moves-kept parts Restarts sound kept fit = restart-kept parts kept
 pub rows-stay-steady : (parts : OrchestratorParts) (input : Input) (moved_rows : MovedRows) → AreSoundRows parts.rows → AreSteadyRows parts.rows → IsFitInput input → row_moves parts input ≡ Ok moved_rows
     → AreSteadyRows moved_rows.parts.rows
 rows-stay-steady parts input moved_rows sound kept fit e = subst AllKeptAfter e (moves-kept parts input sound kept fit)
-
--- ---- what is told of the rows
-
--- what the type keeps of a row are its rules
-row-kept : (nodes : List (List ℕ)) (row : RowShown) → IsSoundRow row → AreWithin nodes row → IsSteadyRow row → IsKeptRow row
-row-kept nodes row sound within steady =
-    record {
-      tries = steady.tries;
-      standing = steady.standing;
-      empty = steady.empty;
-      nodes = sound.nodes;
-      allowed = steady.allowed;
-      beside = steady.beside;
-      targets = sound.targets;
-      few = each-weaker (IsEntryWithin nodes) HasFewTargets row.node_entries (λ entry own. own.targets) within;
-      held = has-entry row row.goal sound.goal;
-      marked = steady.marked;
-    }
-
--- and of all rows
-pub rows-kept : (nodes : List (List ℕ)) (rows : List RowShown) → AllByRecursion IsSoundRow rows → AllByRecursion (AreWithin nodes) rows → AreSteadyRows rows → AreKeptRows rows
-rows-kept nodes [] sound within steady = tt
-rows-kept nodes (row ∷ rows) sound within steady = (row-kept nodes row sound.0 within.0 steady.0, rows-kept nodes rows sound.1 within.1 steady.1)

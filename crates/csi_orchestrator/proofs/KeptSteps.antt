@@ -29,12 +29,12 @@ use Rattle.csi_orchestrator.specs.Model.Due.{Due}
 use Rattle.csi_orchestrator.specs.Model.Shown.{NodeEntryShown, RowShown, node_entry_of, mark_in, publication_known}
 use Rattle.csi_orchestrator.specs.Private.Found.{kind_due}
 use Rattle.csi_orchestrator.specs.Private.Hearing.{IsDueSuccess}
-use Rattle.csi_orchestrator.specs.Private.Shown.{closed}
+use Rattle.csi_orchestrator.specs.Public.Shown.{closed}
 use Rattle.csi_orchestrator.specs.Public.RowDue.{others_in, marks_at, use_due, stop_due, due_by, due_in}
 use Rattle.csi_orchestrator.specs.Private.RowChanges.{aspect_of, exists_marked, nodes_marked, known_by_success_of, tidied_entries, row_once_sent, succeeded_row, wanted_row, stopped_goal, dropped_row, new_row}
 use Rattle.csi_orchestrator.specs.Private.RowRefusals.{is_entry_otherwise, use_refusal, stop_refusal, step_refusal, late_refusal}
 use Rattle.csi_orchestrator.specs.Private.RowSteps.{MovedRow, outgoing_by, row_moved, row_sends_due, row_rests, row_unless, is_step_met, waits, is_given_up, timed_out, failed, row_before_call, row_step}
-use Rattle.csi_orchestrator.specs.Public.Steady.{IsTried, IsStanding, IsAtWork, IsInUse, AreMarked, IsEmptyUnlessMade, IsSteadyRow}
+use Rattle.csi_orchestrator.specs.Public.Steady.{HasTries, IsStanding, IsAtWork, IsInUse, AreMarked, HasLast, IsEmptyUnlessMade, IsSteadyRow}
 use Rattle.csi_orchestrator.specs.Public.RowRefusals.{has_elsewhere}
 use Rattle.csi_orchestrator.specs.Public.Sound.{MayBeWanted, IsSoundRow}
 use Rattle.csi_orchestrator.proofs.DueCases.{attaching, staging, publishing, unpublishing, unstaging, detaching, IsDueFor, due-cases, ToMake, ToRemove, ToAttach, ToStage, ToPublish, ToUnpublish, ToUnstage, ToDetach}
@@ -46,6 +46,7 @@ use Rattle.csi_orchestrator.proofs.KeptStandings.{MayStand, stands-may, stopped-
 use Rattle.csi_orchestrator.proofs.KeptTidied.{used-tidied, one-tidied, met-used, left-used, gone-used}
 use Rattle.csi_orchestrator.proofs.KeptUses.{use-begins, stop-begins, sending-leads, success-leads, known-at, others-at, due-marked, work-marked}
 use Rattle.csi_orchestrator.proofs.KnownTests.{not_yes}
+use Rattle.csi_orchestrator.proofs.LastEntries.{due-last, use-last}
 use Rattle.csi_orchestrator.proofs.RowRules.{FitsGoal, due-fits-goal}
 use Rattle.csi_orchestrator.proofs.StepsSound.{MaySendDue, first-held, is-made, use-free, changed-may, new-may}
 
@@ -64,12 +65,13 @@ record IsReady (row : RowShown) : Type 0 where
   pub stands : MayStand row.goal row.id row.exists
   pub empty : IsEmptyUnlessMade row.exists row.node_entries
   pub marked : AreMarked IsOnWay row.goal row.node_entries
+  pub last : HasLast row.goal row.node_entries
   pub fit : AreFit row.arguments.capabilities row.node_entries
 
 -- ---- the due call is sent
 
 -- one more try, counted up to 3, is one at least
-tried-more : (goal : Option Goal) (tries : ℕ) (kind : Kind) → FitsGoal goal kind → IsTried goal (min 3 (1 + tries))
+tried-more : (goal : Option Goal) (tries : ℕ) (kind : Kind) → FitsGoal goal kind → HasTries goal (min 3 (1 + tries))
 tried-more None tries kind fits = absurd fits
 tried-more (Some goal) tries kind fits = (omega arith, omega arith)
 
@@ -107,6 +109,7 @@ sent-kept number row due e may ready =
       standing = sent-stands row due case ready.stands;
       empty = sent-empty row due case may ready;
       marked = due-marked (λ kind. Maybe) IsAtWork sending-leads row due case ready.marked;
+      last = due-last (λ kind. Maybe) row due case ready.last;
       allowed = fit.allowed;
       beside = fit.beside;
     }
@@ -188,6 +191,7 @@ dropped-kept row e ready =
       standing = dropped-stands row e ready.stands;
       empty = λ unmade. ap tidied_entries (ready.empty unmade);
       marked = dropped-used row e ready;
+      last = tt;
       allowed = fit.allowed;
       beside = fit.beside;
     }
@@ -203,13 +207,13 @@ sends-due-kept last row may ready = by (due_in row) refl (next_number last)
 
 -- a new row
 pub new-kept : (last : Number) (name : List ℕ) (arguments : Arguments) → KeptAfter (row_sends_due last (new_row name arguments))
-new-kept last name arguments = sends-due-kept last (new_row name arguments) (new-may name arguments) (record { stands = refl; empty = λ unmade. refl; marked = tt; fit = record { allowed = tt; beside = tt } })
+new-kept last name arguments = sends-due-kept last (new_row name arguments) (new-may name arguments) (record { stands = refl; empty = λ unmade. refl; marked = tt; last = tt; fit = record { allowed = tt; beside = tt } })
 
 -- ---- what a step makes of a row
 
 -- the open call is given up
 pub closed-kept : (row : RowShown) → IsSteadyRow row → IsSteadyRow (closed row)
-closed-kept row kept = record { tries = kept.tries; standing = kept.standing; empty = kept.empty; marked = kept.marked; allowed = kept.allowed; beside = kept.beside }
+closed-kept row kept = record { tries = kept.tries; standing = kept.standing; empty = kept.empty; marked = kept.marked; last = kept.last; allowed = kept.allowed; beside = kept.beside }
 
 -- its entries are fit
 kept-fit : (row : RowShown) → IsSteadyRow row → AreFit row.arguments.capabilities row.node_entries
@@ -217,7 +221,7 @@ kept-fit row kept = record { allowed = kept.allowed; beside = kept.beside }
 
 -- a row that keeps the rules is ready, with its open call given up too
 kept-ready : (row : RowShown) → IsSteadyRow row → IsReady (closed row)
-kept-ready row kept = record { stands = stands-may row.goal row.id row.exists kept.standing; empty = kept.empty; marked = work-marked row.goal row.node_entries kept.marked; fit = kept-fit row kept }
+kept-ready row kept = record { stands = stands-may row.goal row.id row.exists kept.standing; empty = kept.empty; marked = work-marked row.goal row.node_entries kept.marked; last = kept.last; fit = kept-fit row kept }
 
 -- its goal is given up
 stopped-ready : (row : RowShown) (goal : Goal) → row.goal ≡ Some goal → IsSteadyRow row → IsReady (wanted_row (stopped_goal goal) row)
@@ -227,6 +231,7 @@ stopped-ready row goal e kept =
       stands = stopped-stands goal row.id row.exists (subst (λ g. MayStand g row.id row.exists) e ready.stands);
       empty = kept.empty;
       marked = over goal (subst (λ g. AreMarked IsOnWay g row.node_entries) e ready.marked);
+      last = unused goal;
       fit = kept-fit row kept;
     }
   where
@@ -236,6 +241,12 @@ stopped-ready row goal e kept =
     over (Stop node target) one = one
     over Delete all = all
 
+    unused : (goal : Goal) → HasLast (Some (stopped_goal goal)) row.node_entries
+    unused Create = tt
+    unused (Use usage) = tt
+    unused (Stop node target) = tt
+    unused Delete = tt
+
 -- its call timed out
 timed-out-ready : (row : RowShown) (goal : Option Goal) → row.goal ≡ goal → IsSteadyRow row → IsReady (timed_out row goal)
 timed-out-ready row None e kept = kept-ready row kept
@@ -244,7 +255,7 @@ timed-out-ready row (Some goal) e kept = by_if IsReady (is_given_up row) _ _ (λ
 -- its call failed
 failed-ready : (row : RowShown) (goal : Option Goal) → row.goal ≡ goal → IsSteadyRow row → IsReady (failed row goal)
 failed-ready row (Some Create) e kept =
-    record { stands = given-up row.id row.exists (subst (λ g. IsStanding g row.id row.exists) e kept.standing); empty = kept.empty; marked = subst (λ g. AreMarked IsAtWork g row.node_entries) e kept.marked; fit = kept-fit row kept }
+    record { stands = given-up row.id row.exists (subst (λ g. IsStanding g row.id row.exists) e kept.standing); empty = kept.empty; marked = subst (λ g. AreMarked IsAtWork g row.node_entries) e kept.marked; last = tt; fit = kept-fit row kept }
   where
     given-up : (id : Option ℕ) (exists : Known) → IsStanding (Some Create) id exists → IsStanding None id exists
     given-up None Maybe own = tt
@@ -286,6 +297,7 @@ succeeded-ready row kind id is brings kept = by (due_in row) refl is
           stands = done-stands row due id case brings (stands-may row.goal row.id row.exists kept.standing);
           empty = done-empty row due case kept;
           marked = due-marked known_by_success_of IsOnWay success-leads row due case (work-marked row.goal row.node_entries kept.marked);
+          last = due-last known_by_success_of row due case kept.last;
           fit = fit-marked row.arguments.capabilities (known_by_success_of (kind_of due.call)) (aspect_of (kind_of due.call)) row.goal row.node_entries (kept-fit row kept);
         }
 
@@ -359,6 +371,7 @@ changed-ready nodes last (steps.Create arguments) row own fits brings kept free 
       stands = subst (λ i. MayStand (Some Create) i row.exists) (sym no_id) unmade;
       empty = kept.empty;
       marked = idle-used row idle kept;
+      last = tt;
       fit = none-fit arguments.capabilities row.node_entries (kept.empty (λ is. not_yes row.exists unmade is));
     }
 changed-ready nodes last (steps.Use usage) row own fits brings kept free room =
@@ -367,6 +380,7 @@ changed-ready nodes last (steps.Use usage) row own fits brings kept free room =
       stands = subst (λ x. IsStanding (Some (Use usage)) row.id x) (sym usable.made) (use-may usage row.id (idle-made row usable.idle usable.made kept));
       empty = λ unmade. absurd (unmade usable.made);
       marked = use-begins usage row own.nodes own.targets (idle-used row usable.idle kept);
+      last = use-last usage row (idle-used row usable.idle kept);
       fit = fit-use usage row (use-admitted nodes usage row free) own.nodes (idle-used row usable.idle kept) (kept-fit row kept);
     }
 changed-ready nodes last (steps.Stop node target) row own fits brings kept free room =
@@ -375,6 +389,7 @@ changed-ready nodes last (steps.Stop node target) row own fits brings kept free 
       stands = subst (λ x. IsStanding (Some (Stop node target)) row.id x) (sym stoppable.made) (stop-may node target row.id (idle-made row stoppable.idle stoppable.made kept));
       empty = kept.empty;
       marked = stop-begins node target row own.nodes own.targets (idle-used row stoppable.idle kept) stoppable.published;
+      last = tt;
       fit = kept-fit row kept;
     }
 changed-ready nodes last steps.Delete row own fits brings kept free room =
@@ -383,6 +398,7 @@ changed-ready nodes last steps.Delete row own fits brings kept free room =
       stands = id-there (λ i. MayStand (Some Delete) i row.exists) row.id (first-held (is_none row.id) faults.NotCreated _ free).0 (λ own. tt);
       empty = kept.empty;
       marked = idle-used row idle kept;
+      last = tt;
       fit = kept-fit row kept;
     }
 changed-ready nodes last steps.TimeOut row own fits brings kept free room = timed-out-ready row row.goal refl kept

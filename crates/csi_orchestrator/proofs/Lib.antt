@@ -22,6 +22,7 @@ pub mod KeptTidied
 pub mod KeptStandings
 pub mod KeptUses
 pub mod KeptEntries
+pub mod LastEntries
 pub mod KeptSteps
 pub mod KeptRows
 pub mod StepsSound
@@ -68,3 +69,4 @@ pub mod StopsOnTheWay
 pub mod UsesOnTheWay
 pub mod RowsComeAbout
 pub mod Restored
+pub mod RowsRestorable

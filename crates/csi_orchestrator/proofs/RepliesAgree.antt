@@ -33,7 +33,8 @@ use Rattle.csi_orchestrator.specs.Model.Moves.{Input, ToCreate, ToUse, ToStop, T
 use Rattle.csi_orchestrator.specs.Model.Agrees.{OrchestratorView, Agrees}
 use Rattle.csi_orchestrator.specs.Private.Following.{after_accepted, after_closed, after_noted}
 use Rattle.csi_orchestrator.specs.Model.Shown.{RowShown, OrchestratorParts, row_of, goal_in, goal_shown, held_on_node, open_in_row, issued_as, orchestrator_view, Shows}
-use Rattle.csi_orchestrator.specs.Private.Shown.{closed, parts_in_session}
+use Rattle.csi_orchestrator.specs.Public.Shown.{closed}
+use Rattle.csi_orchestrator.specs.Private.Shown.{parts_in_session}
 use Rattle.csi_orchestrator.specs.Public.RowDue.{due_in}
 use Rattle.csi_orchestrator.specs.Private.Found.{kind_due}
 use Rattle.csi_orchestrator.specs.Private.RowChanges.{succeeded_row, wanted_row, stopped_goal}

@@ -12,8 +12,8 @@ use Rattle.csi_orchestrator.specs.Model.Moves.{Restarts, Restarted}
 use Rattle.csi_orchestrator.specs.Model.Agrees.{Agrees}
 use Rattle.csi_orchestrator.specs.Private.Following.{after_started}
 use Rattle.csi_orchestrator.specs.Model.Shown.{RowShown, OrchestratorParts, row_of, mark_in, mark_of, goal_in, held_on_node, open_in_row, tries_in, orchestrator_view, Shows}
-use Rattle.csi_orchestrator.specs.Private.Shown.{closed, without_call, parts_in_session}
-use Rattle.csi_orchestrator.specs.Public.Shown.{row_shown}
+use Rattle.csi_orchestrator.specs.Private.Shown.{without_call, parts_in_session}
+use Rattle.csi_orchestrator.specs.Public.Shown.{row_shown, closed}
 use Rattle.csi_orchestrator.specs.declared.state.OrchestratorCore.{OrchestratorCore}
 use Rattle.csi_orchestrator.specs.Public.Catalog.{rows_of}
 use Rattle.csi_orchestrator.specs.Public.CoreParts.{orchestrator_parts_shown}

@@ -16,7 +16,6 @@ use Rattle.csi_orchestrator.specs.declared.thing.Known.{Known}
 use Rattle.csi_orchestrator.specs.Model.Thing.{name_in, same_thing, thing_at, is_thing, is_no}
 use Rattle.csi_orchestrator.specs.Model.Due.{Due}
 use Rattle.csi_orchestrator.specs.Private.Hearing.{marks_marked}
-use Rattle.csi_orchestrator.specs.Public.Kept.{GoalHasEntry}
 use Rattle.csi_orchestrator.specs.Public.Sound.{HasEntry, MayBeWanted}
 use Rattle.csi_orchestrator.specs.Private.RowChanges.{Aspect, Existence, Attachment, Staging, Publication, aspect_of, node_marked, marked_at, at_goal, exists_marked, nodes_marked, marked_row}
 use Rattle.csi_orchestrator.specs.Model.Shown.{NodeEntryShown, RowShown, node_entry_of, target_entry_of, mark_in, publication_known, mark_of, held_on_node, held_at}
@@ -178,6 +177,11 @@ has-target-entry None e = absurd (false≢true (sym e))
 has-target-entry (Some target_entry) e = (target_entry, refl)
 
 -- a goal that may be wanted has the entries that it needs
+abbrev pub GoalHasEntry : RowShown → Option Goal → Type 0
+GoalHasEntry row (Some (Use usage)) = HasEntry row usage
+GoalHasEntry row goal = Unit {0}
+
+-- what may be wanted has them
 pub has-entry : (row : RowShown) (goal : Option Goal) → MayBeWanted row goal → GoalHasEntry row goal
 has-entry row (Some (Use usage)) may = may.entry
 has-entry row goal may = tt

@@ -22,8 +22,7 @@ use Rattle.csi_orchestrator.specs.Model.History.{Held}
 use Rattle.csi_orchestrator.specs.Model.Commands.{is_for_one_node, uses_as_second_writer}
 use Rattle.csi_orchestrator.specs.Model.Due.{Due}
 use Rattle.csi_orchestrator.specs.Model.Shown.{NodeEntryShown, RowShown, node_entry_of, target_entry_of, held_at}
-use Rattle.csi_orchestrator.specs.Private.Shown.{closed}
-use Rattle.csi_orchestrator.specs.Public.Shown.{AreTargetsApart}
+use Rattle.csi_orchestrator.specs.Public.Shown.{AreTargetsApart, closed}
 use Rattle.csi_orchestrator.specs.Public.RowDue.{due_by, due_in}
 use Rattle.csi_orchestrator.specs.Private.RowChanges.{Aspect, Existence, Publication, aspect_of, node_marked, marked_at, at_goal, exists_marked, nodes_marked, marked_row, row_once_sent, known_by_success_of, succeeded_row, wanted_row, is_target_kept, with_kept_targets, is_node_kept, dropped_row, stopped_goal}
 use Rattle.csi_orchestrator.specs.Public.RowRefusals.{is_so_elsewhere}

@@ -30,8 +30,7 @@ use Rattle.csi_orchestrator.specs.Private.Following.{after_accepted, after_close
 use Rattle.csi_orchestrator.specs.Public.Sound.{AreNodesApart}
 use Rattle.csi_orchestrator.specs.Private.RowChanges.{wanted_row, row_wanted_anew, new_row, dropped_row, is_target_kept, is_node_kept, has_targets, with_kept_targets, with_entry, entry_for, with_target, new_target_entry, held_as}
 use Rattle.csi_orchestrator.specs.Model.Shown.{NodeEntryShown, RowShown, OrchestratorParts, row_of, node_entry_of, target_entry_of, mark_in, publication_known, mark_of, held_on_node, held_at, goal_shown, open_in_row, orchestrator_view}
-use Rattle.csi_orchestrator.specs.Private.Shown.{closed}
-use Rattle.csi_orchestrator.specs.Public.Shown.{AreTargetsApart}
+use Rattle.csi_orchestrator.specs.Public.Shown.{AreTargetsApart, closed}
 use Rattle.csi_orchestrator.proofs.TextLists.{text-same}
 use Rattle.csi_orchestrator.proofs.KnownTests.{no_is_no}
 use Rattle.csi_orchestrator.proofs.KeyedSearches.{find-put}

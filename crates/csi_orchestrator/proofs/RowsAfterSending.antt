@@ -34,8 +34,7 @@ use Rattle.csi_orchestrator.proofs.TextLists.{text-same}
 use Rattle.csi_orchestrator.proofs.DueCases.{spelled, attaching, staging, publishing, unpublishing, unstaging, detaching, IsDueFor, ToMake, ToRemove, ToAttach, ToStage, ToPublish, ToUnpublish, ToUnstage, ToDetach}
 use Rattle.csi_orchestrator.proofs.TextLists.{same_text-flip}
 use Rattle.csi_orchestrator.proofs.ViewsFollow.{and-false}
-use Rattle.csi_orchestrator.proofs.RowMarks.{IsMarked, at-work, is-marked, marks-then}
-use Rattle.csi_orchestrator.specs.Public.Kept.{GoalHasEntry}
+use Rattle.csi_orchestrator.proofs.RowMarks.{GoalHasEntry, IsMarked, at-work, is-marked, marks-then}
 use Rattle.csi_orchestrator.proofs.RowViews.{Reads}
 use Rattle.csi_orchestrator.proofs.KnownTests.{not_no}
 

@@ -19,9 +19,11 @@ use Rattle.csi_orchestrator.specs.declared.thing.Known.TheVariants.{Yes, No, May
 use Rattle.csi_orchestrator.specs.Model.Thing.{Issued}
 use Rattle.csi_orchestrator.specs.Model.Due.{Due, call_for}
 use Rattle.csi_orchestrator.specs.Model.Shown.{NodeEntryShown, RowShown, row_of, goal_in, open_in_row}
-use Rattle.csi_orchestrator.specs.Private.Shown.{closed}
+use Rattle.csi_orchestrator.specs.Public.Shown.{closed}
 use Rattle.csi_orchestrator.specs.Private.RowMoves.{is_issued_as, row_replied}
-use Rattle.csi_orchestrator.specs.Private.Restored.{IsComeTo, AreEntriesFit, HasTries, FitsLife, IsRestorable}
+use Rattle.csi_orchestrator.specs.Public.Restored.{AreEntriesFit, FitsLife, IsRestorable}
+use Rattle.csi_orchestrator.specs.Public.Steady.{HasTries}
+use Rattle.csi_orchestrator.specs.Private.Restored.{IsComeTo}
 use Rattle.csi_orchestrator.proofs.DueCases.{making, removing}
 use Rattle.csi_orchestrator.proofs.SplitLists.{find-behind, find-of_none, two-there}
 use Rattle.csi_orchestrator.proofs.LastRow.{Spot, number, opened, RowComes, with-fewer}

@@ -20,7 +20,8 @@ use Rattle.csi_orchestrator.specs.Model.History.{Arguments}
 use Rattle.csi_orchestrator.specs.Private.Hearing.{IsDueSuccess}
 use Rattle.csi_orchestrator.specs.Model.Moves.{Input, ToCreate, ToUse, ToStop, ToDelete, TimesOut, Comes, Restarts, Answer, Sends, Restarted, hears}
 use Rattle.csi_orchestrator.specs.Model.Shown.{RowShown, OrchestratorParts, row_of, open_in_row}
-use Rattle.csi_orchestrator.specs.Private.Shown.{closed, parts_in_session}
+use Rattle.csi_orchestrator.specs.Public.Shown.{closed}
+use Rattle.csi_orchestrator.specs.Private.Shown.{parts_in_session}
 use Rattle.csi_orchestrator.specs.Private.RowChanges.{new_row}
 use Rattle.csi_orchestrator.specs.Private.RowRefusals.{first_fault}
 use Rattle.csi_orchestrator.specs.Private.RowSteps.{MovedRow, row_step}

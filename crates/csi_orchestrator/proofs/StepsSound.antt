@@ -26,7 +26,7 @@ use Rattle.csi_orchestrator.specs.Model.Due.{Due}
 use Rattle.csi_orchestrator.specs.Private.Found.{kind_due}
 use Rattle.csi_orchestrator.specs.Private.Hearing.{IsDueSuccess}
 use Rattle.csi_orchestrator.specs.Model.Shown.{NodeEntryShown, RowShown, node_entry_of, open_in_row}
-use Rattle.csi_orchestrator.specs.Private.Shown.{closed}
+use Rattle.csi_orchestrator.specs.Public.Shown.{closed}
 use Rattle.csi_orchestrator.specs.Public.RowDue.{due_in}
 use Rattle.csi_orchestrator.specs.Private.RowChanges.{known_by_success_of, wanted_row, stopped_goal, new_row}
 use Rattle.csi_orchestrator.specs.Public.RowRefusals.{has_elsewhere}

@@ -17,7 +17,7 @@ use Rattle.csi_orchestrator.specs.declared.thing.Known.TheVariants.{Yes, No, May
 use Rattle.csi_orchestrator.specs.Model.Thing.{is_no}
 use Rattle.csi_orchestrator.specs.Model.Shown.{NodeEntryShown}
 use Rattle.csi_orchestrator.specs.Public.RowDue.{others_in}
-use Rattle.csi_orchestrator.specs.Private.Restored.{IsEntryFit, AreEntriesFit, IsPublished, IsSettled, HasPlace, IsOnTheWay, IsStopOnTheWay}
+use Rattle.csi_orchestrator.specs.Public.Restored.{IsEntryFit, AreEntriesFit, IsPublished, IsSettled, HasPlace, IsOnTheWay, IsStopOnTheWay}
 use Rattle.csi_orchestrator.proofs.TextLists.{text-same}
 use Rattle.csi_orchestrator.proofs.DueCases.{unpublishing, unstaging, detaching}
 use Rattle.csi_orchestrator.proofs.SplitLists.{find-of_none, two-there, two-put_at}

@@ -13,7 +13,7 @@ use Rattle.csi_orchestrator.specs.declared.row.TargetEntry.{TargetEntry}
 use Rattle.csi_orchestrator.specs.declared.thing.Known.{Known}
 use Rattle.csi_orchestrator.specs.declared.thing.Known.TheVariants.{Yes, No, Maybe}
 use Rattle.csi_orchestrator.specs.Model.Shown.{NodeEntryShown}
-use Rattle.csi_orchestrator.specs.Private.Restored.{IsEntryFit, AreEntriesFit, IsSettled, HasPlace, IsOnTheWay, IsUseOnTheWay}
+use Rattle.csi_orchestrator.specs.Public.Restored.{IsEntryFit, AreEntriesFit, IsSettled, HasPlace, IsOnTheWay, IsUseOnTheWay}
 use Rattle.csi_orchestrator.proofs.DueCases.{attaching, staging, publishing}
 use Rattle.csi_orchestrator.proofs.SplitLists.{two-left}
 use Rattle.csi_orchestrator.proofs.LastRow.{Spot, RowComes, with-fewer}

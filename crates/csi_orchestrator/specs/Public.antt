@@ -6,8 +6,8 @@ pub mod RowMoves
 pub mod RowRefusals
 pub mod Bounds
 pub mod Steady
-pub mod Kept
 pub mod Sound
+pub mod Restored
 pub mod Steps
 pub mod Listing
 pub mod Promises

@@ -5,10 +5,12 @@ ghost use Rattle.csi_orchestrator.specs.Private.RowDue.{DueIsTold};
 ghost use Rattle.csi_orchestrator.specs.Public.Steps.{MovesLaw};
 ghost use Rattle.std.specs.List.{AllByRecursion};
 ghost use Rattle.csi_orchestrator.specs.Public.Bounds.{IsBounded};
-ghost use Rattle.csi_orchestrator.specs.Public.Kept.{AreKeptRows};
 ghost use Rattle.csi_orchestrator.specs.Private.Restored.{RecordsAreReached};
 ghost use Rattle.csi_orchestrator.specs.Private.Sound.{RowsTell, RowsStaySound, MovesAreGuarded};
+ghost use Rattle.csi_orchestrator.specs.Public.Restored.{AreRestorable};
+ghost use Rattle.csi_orchestrator.specs.Public.Shown.{closed};
 ghost use Rattle.csi_orchestrator.specs.Public.Sound.{HasHistory, KeepsWhatIsNeeded};
+ghost use Rattle.std.specs.Prelude.{◌≤◌, length, map};
 
 use crate::orchestrator::Orchestrator;
 
@@ -59,11 +61,12 @@ pub fn entries_law(orchestrator: &Orchestrator)
     orchestrator.assert_kept();
 }
 
-/// A law, and nothing that runs: whatever it was asked and whatever came, each row of every orchestrator keeps the rules of a row: its
-/// goal, its tries, its id and its entries go together, each entry is as the volume's arguments allow, any two of them may be held
-/// together, and where a call is at work, it is at one node and one target: elsewhere the volume is in use. This profile's own.
+/// A law, and nothing that runs: whatever it was asked and whatever came, the rows of every orchestrator of at most 64 nodes, once their
+/// open calls are given up, keep the rules of rows: goal, tries, id and entries go together, each entry is as the volume's arguments
+/// allow, any two of them may be held together, and where a use or a stop is on the way, all other entries are settled. There are no
+/// other rules to keep: some orchestrator came to whatever rows keep these. This profile's own.
 pub fn rows_law(orchestrator: &Orchestrator)
-    ensures { AreKeptRows orchestrator.now.rows }
+    ensures { length orchestrator.now.nodes ≤ 64 → AreRestorable orchestrator.now.nodes (map closed orchestrator.now.rows) }
 {
     orchestrator.assert_kept();
 }

@@ -18,7 +18,7 @@ use Rattle.csi_orchestrator.specs.Model.Moves.{is_forward_due}
 use Rattle.csi_orchestrator.specs.Private.RowChanges.{row_once_sent, succeeded_row, wanted_row, row_wanted_anew, dropped_row, stopped_goal, with_entry}
 use Rattle.csi_orchestrator.specs.Private.RowRefusals.{step_refusal, late_refusal}
 use Rattle.csi_orchestrator.specs.Model.Shown.{RowShown}
-use Rattle.csi_orchestrator.specs.Private.Shown.{closed}
+use Rattle.csi_orchestrator.specs.Public.Shown.{closed}
 use Rattle.csi_orchestrator.specs.Public.RowDue.{due_by, due_in}
 
 -- ---- what is sent

@@ -3,15 +3,11 @@ use Rattle.std.specs.Prelude.{ℕ, List, map, None}
 use Rattle.std.specs.List.{AllByRecursion}
 use Rattle.csi_orchestrator.specs.declared.row.Row.{Row}
 use Rattle.csi_orchestrator.specs.Model.Shown.{RowShown, OrchestratorParts}
-use Rattle.csi_orchestrator.specs.Public.Shown.{AreTargetsApart}
+use Rattle.csi_orchestrator.specs.Public.Shown.{AreTargetsApart, closed}
 
 -- a row without its open call, as it is kept and as it is shown
 abbrev pub without_call : Row → Row
 without_call row = record row { open_call = None }
-
--- the row has no open call
-abbrev pub closed : RowShown → RowShown
-closed row = record row { open_call = None }
 
 -- the parts once every open call was given up
 abbrev pub parts_in_session : ℕ → OrchestratorParts → OrchestratorParts

@@ -1,5 +1,5 @@
 -- What an orchestrator shows of itself, by its rows. This profile's own.
-use Rattle.std.specs.Prelude.{◌≡◌, map, false}
+use Rattle.std.specs.Prelude.{◌≡◌, map, false, None}
 use Rattle.csi_lists.specs.Model.Members.{EachTwo}
 use Rattle.csi_types.specs.Model.Same.{same_text}
 use Rattle.csi_orchestrator.specs.declared.row.NodeEntry.{NodeEntry}
@@ -28,3 +28,7 @@ row_shown row =
 -- at each node of each row, a target has one entry
 abbrev pub AreTargetsApart : NodeEntryShown → Type 0
 AreTargetsApart entry = EachTwo (λ (a b : TargetEntry). same_text a.target b.target ≡ false) entry.target_entries
+
+-- the row without its open call
+abbrev pub closed : RowShown → RowShown
+closed row = record row { open_call = None }

@@ -1,5 +1,5 @@
 -- What a row keeps whatever is asked and whatever comes: how its goal, its marks and its entries go together. This profile's own.
-use Rattle.std.specs.Prelude.{◌≡◌, ◌≢◌, ◌⊎◌, ℕ, ◌≤◌, List, [], ◌∷◌, length, true, false, ◌||◌, Option, Some, None}
+use Rattle.std.specs.Prelude.{◌≡◌, ◌≢◌, ◌⊎◌, ℕ, ◌≤◌, List, [], ◌∷◌, length, find, true, false, ◌||◌, Option, Some, None}
 use Rattle.std.specs.List.{AllByRecursion}
 use Rattle.csi_lists.specs.Model.Members.{EachTwo}
 use Rattle.csi_types.specs.declared.capability.Capability.{Capability}
@@ -10,12 +10,13 @@ use Rattle.csi_orchestrator.specs.declared.row.Goal.TheVariants.{Create, Use, St
 use Rattle.csi_orchestrator.specs.declared.row.TargetEntry.{TargetEntry}
 use Rattle.csi_orchestrator.specs.declared.thing.Known.{Known}
 use Rattle.csi_orchestrator.specs.declared.thing.Known.TheVariants.{Yes, No, Maybe}
-use Rattle.csi_orchestrator.specs.Model.Shown.{NodeEntryShown, RowShown}
+use Rattle.csi_orchestrator.specs.Model.Shown.{NodeEntryShown, RowShown, publication_known}
+use Rattle.csi_orchestrator.specs.Model.Thing.{is_yes}
 
 -- without a goal nothing was tried; a goal's call was sent once at least, and is counted up to 3
-abbrev pub IsTried : Option Goal → ℕ → Type 0
-IsTried None tries = tries ≡ 0
-IsTried (Some goal) tries = (1 ≤ tries) × (tries ≤ 3)
+abbrev pub HasTries : Option Goal → ℕ → Type 0
+HasTries None tries = tries ≡ 0
+HasTries (Some goal) tries = (1 ≤ tries) × (tries ≤ 3)
 
 -- of a volume that nothing is wanted of no reply told anything, or it is there, or it was deleted; where its creation or its deletion is
 -- wanted, it may be there or not; where a use or a stop is, it is there
@@ -63,6 +64,23 @@ AreMarked Are (Some (Use usage)) entries = HasOne (λ (entry : NodeEntryShown). 
 AreMarked Are (Some (Stop node target)) entries = HasOne (λ (entry : NodeEntryShown). entry.node) node (HasMarks Are target) IsInUse entries
 AreMarked Are goal entries = AllByRecursion IsInUse entries
 
+-- the last of these has this text
+abbrev pub IsLast : {X : Type 0} → (X → List ℕ) → List ℕ → List X → Type 0
+IsLast key text [] = ⊥
+IsLast key text (x ∷ []) = same_text (key x) text ≡ true
+IsLast key text (x ∷ y ∷ ys) = IsLast key text (y ∷ ys)
+
+-- until the volume is published at a node's target, the target is the last of the node's entry, and the node the last of all if that
+-- is its only target
+pub record CameLast (node target : List ℕ) (entries : List NodeEntryShown) (entry : NodeEntryShown) : Type 0 where
+  pub target_last : is_yes (publication_known target entry) ≡ false → IsLast (λ (t : TargetEntry). t.target) target entry.target_entries
+  pub node_last : is_yes (publication_known target entry) ≡ false → length entry.target_entries ≡ 1 → IsLast (λ (e : NodeEntryShown). e.node) node entries
+
+-- so it is where a use is wanted
+abbrev pub HasLast : Option Goal → List NodeEntryShown → Type 0
+HasLast (Some (Use usage)) entries = (entry : NodeEntryShown) → find (λ (e : NodeEntryShown). same_text e.node usage.node) entries ≡ Some entry → CameLast usage.node usage.target entries entry
+HasLast goal entries = Unit {0}
+
 -- a volume that isn't known to be there has no entries
 abbrev pub IsEmptyUnlessMade : Known → List NodeEntryShown → Type 0
 IsEmptyUnlessMade exists entries = exists ≢ Yes → entries ≡ []
@@ -79,10 +97,11 @@ pub record CanBeBeside (a b : NodeEntryShown) : Type 0 where
 
 -- what a row keeps, beside what `Sound.antt` and `Bounds.antt` say
 pub record IsSteadyRow (row : RowShown) : Type 0 where
-  pub tries : IsTried row.goal row.tries
+  pub tries : HasTries row.goal row.tries
   pub standing : IsStanding row.goal row.id row.exists
   pub empty : IsEmptyUnlessMade row.exists row.node_entries
   pub marked : AreMarked IsAtWork row.goal row.node_entries
+  pub last : HasLast row.goal row.node_entries
   pub allowed : AllByRecursion (IsAllowed row.arguments.capabilities) row.node_entries
   pub beside : EachTwo CanBeBeside row.node_entries
 
