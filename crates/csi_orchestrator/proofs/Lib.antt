@@ -68,3 +68,4 @@ pub mod StopsOnTheWay
 pub mod UsesOnTheWay
 pub mod RowsComeAbout
 pub mod Restored
+pub mod Opened
