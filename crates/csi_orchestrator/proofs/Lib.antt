@@ -69,3 +69,5 @@ pub mod UsesOnTheWay
 pub mod RowsComeAbout
 pub mod Restored
 pub mod Opened
+pub mod Judged
+pub mod JudgedPlaces
