@@ -25,7 +25,8 @@ use Rattle.csi_driver.specs.Public.Driving.{Drives, DrivesSlice}
 use Rattle.csi_driver.specs.Public.State.{State}
 use Rattle.csi_driver.specs.Public.Framing.{Runs, flushed as flushes_more, inner, Reaches, Rests, IsThere, StopsIn}
 use Rattle.csi_driver.specs.Private.Framing.{EndsIn}
-use Rattle.csi_driver.specs.Public.Frames.{AllHandled, IsBehind, Waits, EndsFrames, ReadsFrames}
+use Rattle.csi_driver.specs.Public.Handled.{AllHandled, IsBehind}
+use Rattle.csi_driver.specs.Public.Frames.{Waits, EndsFrames, ReadsFrames}
 use Rattle.csi_driver.proofs.FaultPlaces.{place_within}
 use Rattle.csi_driver.proofs.Streams.{splits_at, front_of, frames_of}
 use Rattle.csi_driver.proofs.Items.{each-push, get-seam, front-taken}
@@ -93,7 +94,7 @@ module _ {H S O F : Type 0} (handles : State H S O → ℕ → Frame → State H
       (same.0, left-open now.own.splitter.fault now.own.splitter.kept rest p.no_fault same.1)
 
   -- all of them were handled
-  all_handled : (fed : List ℕ) (now : State (Frames H) S O) → Rests handles flushes is_flushed first fed now → (frames : List Frame) (rest : List ℕ) → FramesOf fed frames rest → AllHandled handles flushes is_flushed (inner first) (inner now) frames now.own.count
+  all_handled : (fed : List ℕ) (now : State (Frames H) S O) → Rests handles flushes is_flushed first fed now → (frames : List Frame) (rest : List ℕ) → FramesOf fed frames rest → AllHandled (Runs handles flushes (inner first)) is_flushed (inner now) frames now.own.count
   all_handled fed now r frames rest of =
       let same = all_done fed now r frames rest of in
       record {
