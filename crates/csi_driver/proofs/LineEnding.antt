@@ -16,7 +16,7 @@ use Rattle.csi_driver.specs.Public.Lining.{RunsLines, line_handled, lines_flushe
 use Rattle.csi_driver.specs.Public.Handled.{AllHandled, IsBehind}
 use Rattle.csi_driver.specs.Public.Lines.{EndsLines, ReadsLines}
 use Rattle.csi_driver.specs.Private.Lining.{HandlesLast}
-use Rattle.csi_driver.proofs.Items.{get-seam, front-taken}
+use Rattle.csi_driver.proofs.Items.{get-seam, first-within, first-ran, all-handled, first-handled}
 use Rattle.csi_driver.proofs.LineStreams.{lines_of, no_lines, behind_lines, first_is_longer}
 use Rattle.csi_driver.proofs.LineReaching.{number_is}
 
@@ -38,15 +38,6 @@ module _ {H S O F : Type 0} (handles : State H S O → ℕ → List ℕ → Stat
       behind_lines p.done lines (now.own.buffer ++ behind) rest p.each
       (subst (λ (bytes : List ℕ). LinesOf bytes lines rest) (ap (λ (bytes : List ℕ). bytes ++ behind) p.whole ∙ append_assoc (flat_map with_newline p.done) now.own.buffer behind) of)
 
-  -- the lines that were handled are the first ones, as many as are counted
-  first_ran : (fed : List ℕ) (before : State (Lines H) S O) (p : ReachesLines handles flushes first fed before) (lines later : List (List ℕ)) (count : ℕ) → lines ≡ p.done ++ later → count ≡ before.own.count → RunsLines handles flushes (inner_of_lines first) (take count lines) (inner_of_lines before)
-  first_ran fed before p lines later count are is =
-      subst (λ (some : List (List ℕ)). RunsLines handles flushes (inner_of_lines first) some (inner_of_lines before)) (sym (front-taken lines p.done later count are (is ∙ p.counted))) p.runs
-
-  -- and they are no more than all
-  first_within : (fed : List ℕ) (before : State (Lines H) S O) (p : ReachesLines handles flushes first fed before) (lines later : List (List ℕ)) (count : ℕ) → lines ≡ p.done ++ later → count ≡ before.own.count → count ≤ length lines
-  first_within fed before p lines later count are is = omega (arith, is, p.counted, ap length are, length-append p.done later)
-
   -- ---- nothing more is there
 
   -- where it waits for more, its lines are those of the stream
@@ -60,11 +51,7 @@ module _ {H S O F : Type 0} (handles : State H S O → ℕ → List ℕ → Stat
   all_handled : (fed : List ℕ) (now : State (Lines H) S O) → RestsLines handles flushes is_flushed first fed now → (lines : List (List ℕ)) (rest : List ℕ) → LinesOf fed lines rest → AllHandled (RunsLines handles flushes (inner_of_lines first)) is_flushed (inner_of_lines now) lines now.own.count
   all_handled fed now r lines rest of =
       let same = all_done fed now r lines rest of in
-      record {
-        runs = subst (λ (some : List (List ℕ)). RunsLines handles flushes (inner_of_lines first) some (inner_of_lines now)) same.0 r.reached.runs;
-        flushed = r.flushed;
-        counted = r.reached.counted ∙ ap length same.0;
-      }
+      all-handled (RunsLines handles flushes (inner_of_lines first)) is_flushed (inner_of_lines now) lines r.reached.done now.own.count same.0 r.reached.counted r.reached.runs r.flushed
 
   -- the rest isn't too long
   rest_short : (fed : List ℕ) (now : State (Lines H) S O) → RestsLines handles flushes is_flushed first fed now → (lines : List (List ℕ)) (rest : List ℕ) → LinesOf fed lines rest → IsShort rest
@@ -118,9 +105,11 @@ module _ {H S O F : Type 0} (handles : State H S O → ℕ → List ℕ → Stat
       by (Err (faults.Handler fault)) (inl e) = inr (
         there,
         record {
-          within = first_within fed before r.reached (and_last lines rest) (before.own.buffer ∷ []) now.own.count (all_are e.0) e.1;
+          within = first-within (and_last lines rest) r.reached.done (before.own.buffer ∷ []) now.own.count (all_are e.0) (e.1 ∙ r.reached.counted);
           before = inner_of_lines before;
-          runs = first_ran fed before r.reached (and_last lines rest) (before.own.buffer ∷ []) now.own.count (all_are e.0) e.1;
+          runs =
+              first-ran (λ (some : List (List ℕ)). RunsLines handles flushes (inner_of_lines first) some (inner_of_lines before)) (and_last lines rest) r.reached.done (before.own.buffer ∷ []) now.own.count (all_are e.0) (e.1 ∙ r.reached.counted)
+              r.reached.runs;
           line = Some before.own.buffer;
           behind = ap (slice_get (and_last lines rest)) (e.1 ∙ r.reached.counted) ∙ ap (λ (all : List (List ℕ)). slice_get all (length r.reached.done)) (all_are e.0) ∙ get-seam r.reached.done (before.own.buffer ∷ []);
           short = r.short;
@@ -164,28 +153,21 @@ module _ {H S O F : Type 0} (handles : State H S O → ℕ → List ℕ → Stat
               ∙ get-seam p.done (kept.0 ++ rest ∷ []) ∙ there.1;
           long = omega (arith, there.2, long.4);
         },
-        record {
-          within = first_within s.fed s.before p lines kept.0 now.own.count kept.1 s.counted;
-          runs = lines_flushed (take now.own.count lines) (inner_of_lines s.before) (inner_of_lines now) (first_ran s.fed s.before p lines kept.0 now.own.count kept.1 s.counted) s.behind.3;
-          flushed = s.behind.4;
-        },
+        first-handled (RunsLines handles flushes (inner_of_lines first)) is_flushed (inner_of_lines now) lines p.done kept.0 now.own.count kept.1 counted (lines_flushed p.done (inner_of_lines s.before) (inner_of_lines now) p.runs s.behind.3) s.behind.4,
       )
   stopped_in bytes behind now at_end faults.NoMemory s lines rest of =
       let piece = s.behind.0 in
       let whole : bytes ++ behind ≡ s.fed ++ (piece ++ behind) = ap (λ (front : List ℕ). front ++ behind) s.behind.1 ∙ append_assoc s.fed piece behind in
       let kept = kept_lines s.fed (piece ++ behind) s.before s.reached lines rest (subst (λ (all : List ℕ). LinesOf all lines rest) whole of) in
-      record {
-        within = first_within s.fed s.before s.reached lines kept.0 now.own.count kept.1 s.counted;
-        runs = subst (RunsLines handles flushes (inner_of_lines first) (take now.own.count lines)) (sym s.behind.2) (first_ran s.fed s.before s.reached lines kept.0 now.own.count kept.1 s.counted);
-        flushed = s.behind.3;
-      }
+      first-handled (RunsLines handles flushes (inner_of_lines first)) is_flushed (inner_of_lines now) lines s.reached.done kept.0 now.own.count kept.1 (s.counted ∙ s.reached.counted)
+      (subst (RunsLines handles flushes (inner_of_lines first) s.reached.done) (sym s.behind.2) s.reached.runs) s.behind.3
   stopped_in bytes behind now at_end (faults.Handler fault) s lines rest of =
       let p = s.reached in
       let kept = kept_lines s.fed behind s.before p lines rest (subst (λ (all : List ℕ). LinesOf (all ++ behind) lines rest) s.behind.1 of) in
       inl (record {
-        within = first_within s.fed s.before p lines kept.0 now.own.count kept.1 s.counted;
+        within = first-within lines p.done kept.0 now.own.count kept.1 (s.counted ∙ p.counted);
         before = inner_of_lines s.before;
-        runs = first_ran s.fed s.before p lines kept.0 now.own.count kept.1 s.counted;
+        runs = first-ran (λ (some : List (List ℕ)). RunsLines handles flushes (inner_of_lines first) some (inner_of_lines s.before)) lines p.done kept.0 now.own.count kept.1 (s.counted ∙ p.counted) p.runs;
         line = s.behind.0;
         behind = is_behind kept.0 kept.1 kept.2 s.behind.0 s.behind.2;
         short = is_short s.behind.0 s.behind.2;
