@@ -8,6 +8,9 @@ use Rattle.csi_types.specs.Model.Same.{same_text}
 use Rattle.csi_orchestrator.specs.declared.catalog.Catalog.{Catalog}
 use Rattle.csi_orchestrator.specs.declared.row.OpenCall.{OpenCall}
 use Rattle.csi_orchestrator.specs.declared.row.Row.{Row}
+use Rattle.csi_orchestrator.specs.Model.Shown.{RowShown}
+use Rattle.csi_orchestrator.specs.Public.Restored.{IsRestorable}
+use Rattle.csi_orchestrator.specs.Public.Shown.{row_shown}
 use Rattle.csi_orchestrator.specs.Public.Catalog.{rows_of, place_noted, IsIndexed}
 use Rattle.csi_orchestrator.specs.Private.Catalog.{IsReady, IsNextFor}
 use Rattle.csi_orchestrator.proofs.SplitLists.{each-right, two-there}
@@ -54,3 +57,20 @@ new-name front row rear whole is apart = nowhere front (two-there (λ (one other
 -- it has no open call
 pub no-call : (front : List Row) (row : Row) (rear whole : List Row) → front ++ row ∷ rear ≡ whole → AllByRecursion (λ (own : Row). own.open_call ≡ None) whole → row.open_call ≡ None
 no-call front row rear whole is closed = (each-right (λ (own : Row). own.open_call ≡ None) front (row ∷ rear) (subst (AllByRecursion (λ (own : Row). own.open_call ≡ None)) (sym is) closed)).0
+
+-- ---- rows that are shown so
+
+-- what is so of each that is shown is so of each as it is shown
+each-unmapped : {R X : Type 0} (view : R → X) (P : X → Type 0) (rs : List R) → AllByRecursion P (map view rs) → AllByRecursion (λ r. P (view r)) rs
+each-unmapped view P [] all = tt
+each-unmapped view P (r ∷ rs) all = (all.0, each-unmapped view P rs all.1)
+
+-- a record's rows have different names
+pub rows-apart : (rows : List Row) → EachTwo (λ (a b : RowShown). same_text a.name b.name ≡ false) (map row_shown rows) → EachTwo (λ (a b : Row). same_text a.name b.name ≡ false) rows
+rows-apart [] two = tt
+rows-apart (row ∷ rows) two = (each-unmapped row_shown (λ (b : RowShown). same_text row.name b.name ≡ false) rows two.0, rows-apart rows two.1)
+
+-- and no open calls
+pub rows-closed : (nodes : List (List ℕ)) (rows : List Row) → AllByRecursion (IsRestorable nodes) (map row_shown rows) → AllByRecursion (λ (row : Row). row.open_call ≡ None) rows
+rows-closed nodes [] all = tt
+rows-closed nodes (row ∷ rows) all = ((all.0).quiet, rows-closed nodes rows all.1)
