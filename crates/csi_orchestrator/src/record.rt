@@ -7,12 +7,13 @@ use crate::fault::OrchRecordFault;
 use crate::judged_nodes::are_nodes_fit;
 use crate::judged_rows::first_refused;
 use crate::row::Row;
-use csi_types::{NoMemory, NodeId};
+use crate::state::OrchestratorCore;
+use csi_types::{NoMemory, NodeId, Number};
 use std::alloc::Global;
 use std::marker::Model;
 
 /// All that an orchestrator has to keep (this profile's own): its nodes, the session of its last call, and its rows, once its open calls
-/// were given up. It is made of rows by `OrchestratorRecord::try_new`.
+/// were given up. It is what `Orchestrator::into_record` gives, or is made of rows by `OrchestratorRecord::try_new`.
 #[derive(Drop)]
 pub struct OrchestratorRecord {
     nodes: Vec<NodeId>,
@@ -35,9 +36,12 @@ impl Model for OrchestratorRecord {
 }
 
 impl OrchestratorRecord {
+    ghost use Rattle.csi_orchestrator.specs.Public.Catalog.{rows_of};
+    ghost use Rattle.csi_orchestrator.specs.Public.CoreParts.{orchestrator_parts_shown, IsFiled};
     ghost use Rattle.csi_orchestrator.specs.Public.Record.{AreNodesFit, IsRecordRefusal};
     ghost use Rattle.csi_orchestrator.specs.Public.Restored.{AreRestorable};
-    ghost use Rattle.csi_orchestrator.specs.Public.Shown.{row_shown};
+    ghost use Rattle.csi_orchestrator.specs.Public.Shown.{row_shown, closed};
+    ghost use Rattle.csi_orchestrator.specs.Public.Sound.{AreSoundParts};
 
     /// The record of these nodes, this session and these rows (this profile's own). It is refused with `BadNodes` for more than 64 nodes
     /// or a node that stands there twice. It is refused with `BadRow` at the first row that no record has there: it has an open call; its
@@ -95,5 +99,49 @@ impl OrchestratorRecord {
         ensures kept { AreRestorable self.now.nodes self.now.rows }
     {
         self.catalog.rows()
+    }
+
+    // What is opened from it, in this session.
+    pub(crate) fn opened(self, alloc: Global, session: u64) -> OrchestratorCore
+        ensures parts { orchestrator_parts_shown result ≡ record { nodes = self.nodes; last = record { session = session; call = 0 }; rows = self.rows } }
+        ensures filed { IsFiled result }
+        ensures kept { AreRestorable self.nodes self.rows }
+    {
+        let OrchestratorRecord {
+            nodes,
+            session: _,
+            catalog,
+        } = self;
+        OrchestratorCore {
+            alloc,
+            nodes,
+            last: Number { session, call: 0 },
+            catalog,
+        }
+    }
+
+    // The record of what this core keeps, once its open calls are given up.
+    pub(crate) fn of_core(core: OrchestratorCore) -> Result<OrchestratorRecord, OrchRecordFault>
+        requires kept { AreSoundParts (orchestrator_parts_shown core) }
+        requires filed { IsFiled core }
+        ensures value { IfOk result (λ made. made ≡ record { nodes = core.nodes.items; session = core.last.session; rows = map closed (map row_shown (rows_of core.catalog)) }) }
+        ensures fit { OnOk result (AreNodesFit core.nodes.items) }
+        ensures refused { IfErr result (λ fault. (fault ≡ Fault.BadNodes) × (AreNodesFit core.nodes.items → ⊥)) }
+    {
+        let OrchestratorCore {
+            alloc: _,
+            nodes,
+            last,
+            mut catalog,
+        } = core;
+        if !are_nodes_fit(nodes.as_slice()) {
+            return Err(OrchRecordFault::BadNodes);
+        }
+        catalog.close_all();
+        Ok(OrchestratorRecord {
+            nodes,
+            session: last.session,
+            catalog,
+        })
     }
 }
