@@ -1,6 +1,5 @@
 -- What is opened keeps what its type keeps.
 use Rattle.std.proofs.Common.{rules, ◌≡◌, ◌∙◌, ◌+◌, ◌^◌, ◌<◌, sym, subst}
-use Rattle.csi_orchestrator.specs.Model.Shown.{OrchestratorParts}
 use Rattle.csi_orchestrator.specs.Public.CoreParts.{orchestrator_parts_shown}
 use Rattle.csi_orchestrator.specs.Public.Sound.{AreSoundParts}
 use Rattle.csi_orchestrator.specs.Private.Restored.{restored_parts}

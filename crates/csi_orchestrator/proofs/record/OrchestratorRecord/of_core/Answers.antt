@@ -1,7 +1,5 @@
 -- Its rows without their open calls keep the rules.
-use Rattle.std.proofs.Common.{◌≡◌, ◌∙◌, List, map, sym, ap, subst}
-use Rattle.csi_orchestrator.specs.declared.row.Row.{Row}
-use Rattle.csi_orchestrator.specs.Model.Shown.{RowShown}
+use Rattle.std.proofs.Common.{◌≡◌, ◌∙◌, map, sym, ap, subst}
 use Rattle.csi_orchestrator.specs.Public.Catalog.{rows_of}
 use Rattle.csi_orchestrator.specs.Public.CoreParts.{orchestrator_parts_shown}
 use Rattle.csi_orchestrator.specs.Public.Record.{AreNodesFit}
