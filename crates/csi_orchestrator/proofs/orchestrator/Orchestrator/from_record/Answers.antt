@@ -14,3 +14,9 @@ invariant_of-result c =
     let parts : orchestrator_parts_shown c.opened.result ≡ restored_parts kept.nodes kept.session kept.rows
     = c.opened.ensures.parts ∙ (λ i. record { nodes = kept.nodes; last = record { session = next i; call = 0 }; rows = kept.rows }) in
     (subst AreSoundParts (sym parts) (opened kept.nodes kept.session kept.rows c.opened.ensures.kept room), c.opened.ensures.filed)
+
+pub returns-in-Some-clause-value : goal.returns-in-Some-clause-value
+returns-in-Some-clause-value c = search rules
+
+pub returns-in-Some-clause-left : goal.returns-in-Some-clause-left
+returns-in-Some-clause-left c = search rules
