@@ -70,3 +70,4 @@ pub mod UsesOnTheWay
 pub mod RowsComeAbout
 pub mod Restored
 pub mod RowsRestorable
+pub mod Opened

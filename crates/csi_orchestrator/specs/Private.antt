@@ -15,3 +15,4 @@ pub mod Worked
 pub mod RowSteps
 pub mod Decisions
 pub mod Restored
+pub mod Opened
