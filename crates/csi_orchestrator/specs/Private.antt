@@ -16,3 +16,4 @@ pub mod RowSteps
 pub mod Decisions
 pub mod Restored
 pub mod Opened
+pub mod Judging

@@ -10,6 +10,7 @@ mod decision;
 mod due;
 mod entries;
 mod fault;
+mod judging;
 mod laws;
 mod listing;
 mod marks;
