@@ -71,3 +71,5 @@ pub mod RowsComeAbout
 pub mod Restored
 pub mod RowsRestorable
 pub mod Opened
+pub mod Judged
+pub mod JudgedPlaces

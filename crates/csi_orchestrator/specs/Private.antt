@@ -17,3 +17,4 @@ pub mod Decisions
 pub mod Restored
 pub mod Opened
 pub mod Judging
+pub mod Judged
