@@ -15,8 +15,9 @@ use Rattle.csi_orchestrator.specs.declared.thing.Known.TheVariants.{Yes, No, May
 use Rattle.csi_orchestrator.specs.Model.Shown.{NodeEntryShown}
 use Rattle.csi_orchestrator.specs.Model.Thing.{is_yes}
 use Rattle.csi_orchestrator.specs.Public.Shown.{node_entry_shown}
+use Rattle.csi_orchestrator.specs.Public.Restored.{AreHeldTogether, IsEntryFit, AreEntriesFit, IsPublished, IsSettled}
+use Rattle.csi_orchestrator.specs.Public.Steady.{HasTries}
 use Rattle.csi_orchestrator.specs.Private.Judging.{is_published, is_settled, is_other_target, are_targets_apart, is_entry_fit, are_beside, are_entries_fit, has_tries}
-use Rattle.csi_orchestrator.specs.Private.Restored.{AreHeldTogether, IsEntryFit, AreEntriesFit, IsPublished, IsSettled, HasTries}
 
 -- ---- tests
 

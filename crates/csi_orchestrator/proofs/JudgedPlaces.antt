@@ -18,7 +18,7 @@ use Rattle.csi_orchestrator.specs.Model.Shown.{NodeEntryShown}
 use Rattle.csi_orchestrator.specs.Model.Thing.{is_yes}
 use Rattle.csi_orchestrator.specs.Public.Shown.{node_entry_shown, row_shown}
 use Rattle.csi_orchestrator.specs.Private.Judging.{is_published, is_settled, is_way, is_at_target, stops_here, uses_here, is_stop_on_the_way, is_use_on_the_way, is_bare, fits_rest, fits_goal, fits_life, has_tries, are_entries_fit, is_restorable}
-use Rattle.csi_orchestrator.specs.Private.Restored.{IsPublished, IsSettled, HasPlace, IsOnTheWay, IsStopOnTheWay, IsUseOnTheWay, FitsLife, IsRestorable}
+use Rattle.csi_orchestrator.specs.Public.Restored.{IsPublished, IsSettled, HasPlace, IsOnTheWay, IsStopOnTheWay, IsUseOnTheWay, FitsLife, IsRestorable}
 use Rattle.csi_orchestrator.proofs.Judged.{yes-from, all-from, all-shown, settled-from, entries-from, tries-from}
 
 -- ---- the way

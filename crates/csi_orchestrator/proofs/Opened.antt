@@ -1,6 +1,7 @@
 -- Rows that keep the rules of a record keep all that an orchestrator's type keeps of its rows.
 use Rattle.std.proofs.Common.{◌≡◌, ◌≢◌, ◌+◌, ℕ, List, [], ◌∷◌, ◌++◌, length, true, false, refl, sym, ◌∙◌, ap, subst, inl, inr, arith}
-use Rattle.std.specs.Prelude.{Option, Some, None}
+use Rattle.std.specs.Prelude.{Option, Some, None, find}
+use Rattle.std.proofs.lemmas.Option.{same_Some}
 use Rattle.std.specs.List.{AllByRecursion}
 use Rattle.csi_lists.specs.Model.Members.{EachTwo}
 use Rattle.csi_lists.proofs.Each.{each-weaker}
@@ -10,15 +11,17 @@ use Rattle.csi_orchestrator.specs.declared.row.Goal.{Goal}
 use Rattle.csi_orchestrator.specs.declared.row.Goal.TheVariants.{Create, Use, Stop, Delete}
 use Rattle.csi_orchestrator.specs.declared.row.TargetEntry.{TargetEntry}
 use Rattle.csi_orchestrator.specs.declared.request.Arguments.{Arguments}
+use Rattle.csi_orchestrator.specs.declared.request.Usage.{Usage}
 use Rattle.csi_orchestrator.specs.declared.thing.Known.{Known}
 use Rattle.csi_orchestrator.specs.declared.thing.Known.TheVariants.{Yes, No, Maybe}
 use Rattle.csi_orchestrator.specs.Model.Shown.{NodeEntryShown, RowShown}
 use Rattle.csi_orchestrator.specs.Public.Bounds.{AreWithin, IsEntryWithin}
-use Rattle.csi_orchestrator.specs.Public.Steady.{IsTried, IsStanding, HasOne, IsAtWork, HasMarks, IsInUse, AreMarked, IsEmptyUnlessMade, IsAllowed, CanBeBeside, IsSteadyRow}
-use Rattle.csi_orchestrator.specs.Private.Restored.{AreHeldTogether, IsEntryFit, AreEntriesFit, IsPublished, IsSettled, HasPlace, IsOnTheWay, HasTries, FitsLife, IsRestorable}
+use Rattle.csi_orchestrator.specs.Public.Restored.{AreHeldTogether, IsEntryFit, AreEntriesFit, IsPublished, IsSettled, HasPlace, IsOnTheWay, IsUseOnTheWay, FitsLife, IsRestorable}
+use Rattle.csi_orchestrator.specs.Public.Steady.{IsStanding, HasOne, IsAtWork, HasMarks, IsInUse, AreMarked, IsLast, CameLast, HasLast, IsEmptyUnlessMade, IsAllowed, CanBeBeside, IsSteadyRow}
 use Rattle.csi_orchestrator.specs.Private.Opened.{RecordsAreOpened}
 use Rattle.csi_orchestrator.proofs.Restored.{restored}
-use Rattle.csi_orchestrator.proofs.SplitLists.{two-there}
+use Rattle.csi_orchestrator.proofs.RowsRestorable.{alone-sides}
+use Rattle.csi_orchestrator.proofs.SplitLists.{two-there, find-at, find-of_none}
 use Rattle.csi_orchestrator.proofs.StopsOnTheWay.{placed-apart}
 use Rattle.csi_orchestrator.proofs.TextLists.{same_text-flip, text-same}
 
@@ -101,12 +104,48 @@ place-marked nodes arguments entries node target h fit way =
     (subst (EachTwo (λ (a b : NodeEntryShown). same_text a.node b.node ≡ false)) h.entries_are fit.apart) h.of_node
     (all-in-use h.front h.settled_front) (place-marks nodes arguments entries node target h fit way) (all-in-use h.rear h.settled_rear))
 
--- ---- one row
+-- ---- what came last
 
--- its tries
-tries-kept : (goal : Option Goal) (tries : ℕ) → HasTries goal tries → IsTried goal tries
-tries-kept None tries h = h
-tries-kept (Some goal) tries h = h
+-- a list that ends in one of the text
+ends-so : {X : Type 0} (key : X → List ℕ) (text : List ℕ) (front : List X) (x : X) → same_text (key x) text ≡ true → IsLast key text (front ++ x ∷ [])
+ends-so key text [] x own = own
+ends-so key text (y ∷ []) x own = own
+ends-so key text (y ∷ z ∷ front) x own = ends-so key text (z ∷ front) x own
+
+-- so does one with nothing behind it
+ends-there : {X : Type 0} (key : X → List ℕ) (text : List ℕ) (front : List X) (x : X) (rear : List X) → rear ≡ [] → key x ≡ text → IsLast key text (front ++ x ∷ rear)
+ends-there key text front x [] none own = ends-so key text front x (subst (λ k. same_text (key x) k ≡ true) own (text-same (key x)))
+ends-there key text front x (y ∷ ys) none own = absurd (omega (arith, ap length none))
+
+-- the entry of a use's node is found
+found-place : (nodes : List (List ℕ)) (arguments : Arguments) (entries : List NodeEntryShown) (node target : List ℕ) (h : HasPlace entries node target) → AreEntriesFit nodes arguments entries
+    → find (λ (e : NodeEntryShown). same_text e.node node) entries ≡ Some h.entry
+found-place nodes arguments entries node target h fit =
+    let apart = two-there (λ (a b : NodeEntryShown). same_text a.node b.node ≡ false) h.front h.entry h.rear (subst (EachTwo (λ (a b : NodeEntryShown). same_text a.node b.node ≡ false)) h.entries_are fit.apart) in
+    let others = each-weaker (λ (y : NodeEntryShown). same_text y.node (h.entry).node ≡ false) (λ (y : NodeEntryShown). same_text y.node node ≡ false) h.front (λ y e. subst (λ k. same_text y.node k ≡ false) h.of_node e) apart.0 in
+    ap (find (λ (e : NodeEntryShown). same_text e.node node)) h.entries_are
+    ∙ find-at (λ (e : NodeEntryShown). same_text e.node node) h.front h.entry h.rear (find-of_none (λ (e : NodeEntryShown). same_text e.node node) h.front others)
+    (subst (λ k. same_text (h.entry).node k ≡ true) h.of_node (text-same (h.entry).node))
+
+-- at it the target came last, and it itself if the target is its only one
+use-came : (entries : List NodeEntryShown) (usage : Usage) (way : IsUseOnTheWay entries usage) → CameLast usage.node usage.target entries (way.place).entry
+use-came entries usage way =
+    record {
+      target_last = λ unpublished.
+          subst (IsLast (λ (t : TargetEntry). t.target) usage.target) (sym (way.place).targets_are)
+          (ends-there (λ (t : TargetEntry). t.target) usage.target (way.place).first (way.place).target_entry (way.place).last way.last_target (way.place).of_target);
+      node_last = λ unpublished one.
+          subst (IsLast (λ (e : NodeEntryShown). e.node) usage.node) (sym (way.place).entries_are)
+          (ends-there (λ (e : NodeEntryShown). e.node) usage.node (way.place).front (way.place).entry (way.place).rear
+          (way.last_node (alone-sides (way.place).first (way.place).target_entry (way.place).last (sym (ap length (way.place).targets_are) ∙ one)).0) (way.place).of_node);
+    }
+
+-- so it is where a use is on the way
+use-lasts : (nodes : List (List ℕ)) (arguments : Arguments) (entries : List NodeEntryShown) (usage : Usage) → AreEntriesFit nodes arguments entries → IsUseOnTheWay entries usage → HasLast (Some (Use usage)) entries
+use-lasts nodes arguments entries usage fit way = λ entry found.
+    subst (CameLast usage.node usage.target entries) (same_Some (way.place).entry entry (sym (found-place nodes arguments entries usage.node usage.target way.place fit) ∙ found)) (use-came entries usage way)
+
+-- ---- one row
 
 -- its standing
 life-stands : (entries : List NodeEntryShown) (id : Option ℕ) (exists : Known) (goal : Option Goal) → FitsLife entries id exists goal → IsStanding goal id exists
@@ -146,14 +185,27 @@ life-marked nodes arguments entries (Some id) Maybe (Some Delete) fit life = non
 life-marked nodes arguments entries (Some id) No None fit life = none-in-use entries life
 life-marked nodes arguments entries id exists goal fit life = absurd life
 
+-- where a use is wanted, its target came last, and its node
+life-lasts : (nodes : List (List ℕ)) (arguments : Arguments) (entries : List NodeEntryShown) (id : Option ℕ) (exists : Known) (goal : Option Goal) → AreEntriesFit nodes arguments entries → FitsLife entries id exists goal
+    → HasLast goal entries
+life-lasts nodes arguments entries None Maybe None fit life = tt
+life-lasts nodes arguments entries None Maybe (Some Create) fit life = tt
+life-lasts nodes arguments entries (Some id) Yes None fit life = tt
+life-lasts nodes arguments entries (Some id) Yes (Some (Use usage)) fit life = use-lasts nodes arguments entries usage fit life
+life-lasts nodes arguments entries (Some id) Yes (Some (Stop node target)) fit life = tt
+life-lasts nodes arguments entries (Some id) Maybe (Some Delete) fit life = tt
+life-lasts nodes arguments entries (Some id) No None fit life = tt
+life-lasts nodes arguments entries id exists goal fit life = absurd life
+
 -- a row that keeps the rules of a record
 pub restorable-steady : (nodes : List (List ℕ)) (row : RowShown) → IsRestorable nodes row → IsSteadyRow row
 restorable-steady nodes row kept =
     record {
-      tries = tries-kept row.goal row.tries kept.tries;
+      tries = kept.tries;
       standing = life-stands row.node_entries row.id row.exists row.goal kept.life;
       empty = life-empty row.node_entries row.id row.exists row.goal kept.life;
       marked = life-marked nodes row.arguments row.node_entries row.id row.exists row.goal kept.entries kept.life;
+      last = life-lasts nodes row.arguments row.node_entries row.id row.exists row.goal kept.entries kept.life;
       allowed = each-weaker (IsEntryFit nodes row.arguments) (IsAllowed row.arguments.capabilities) row.node_entries (λ entry fit. record { capable = fit.capable; one_target = fit.one }) (kept.entries).each;
       beside = two-more AreHeldTogether CanBeBeside row.node_entries (λ a b held. record { several = (held.then).one_node; one_writer = (held.then).one_writer }) (kept.entries).together;
     }

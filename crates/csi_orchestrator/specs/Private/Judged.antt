@@ -1,9 +1,9 @@
 -- What the tests of a row say: that it keeps the rules. This profile's own.
 use Rattle.std.specs.Prelude.{◌≡◌, ℕ, List, true}
 use Rattle.csi_orchestrator.specs.declared.row.Row.{Row}
+use Rattle.csi_orchestrator.specs.Public.Restored.{IsRestorable}
 use Rattle.csi_orchestrator.specs.Public.Shown.{row_shown}
 use Rattle.csi_orchestrator.specs.Private.Judging.{is_restorable}
-use Rattle.csi_orchestrator.specs.Private.Restored.{IsRestorable}
 
 -- a row that passes them keeps the rules
 abbrev pub PassingKeeps : Type 0
