@@ -73,3 +73,4 @@ pub mod RowsRestorable
 pub mod Opened
 pub mod Judged
 pub mod JudgedPlaces
+pub mod PassedTests
