@@ -74,3 +74,4 @@ pub mod Opened
 pub mod Judged
 pub mod JudgedPlaces
 pub mod PassedTests
+pub mod FirstRefused

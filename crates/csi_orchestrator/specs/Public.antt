@@ -15,3 +15,4 @@ pub mod Catalog
 pub mod CoreParts
 pub mod Laws
 pub mod Refusals
+pub mod Judging

@@ -1,6 +1,7 @@
--- The rules of one row of a record, as tests. This profile's own.
-use Rattle.std.specs.Prelude.{ℕ, ◌==◌, List, [], ◌∷◌, length, Bool, true, false, not, ◌&&◌, ◌||◌, nat_le, Option, Some, None, is_some, is_none, if◌then◌else◌}
+-- The rules of one row of a record, and of one that follows others, as tests. This profile's own.
+use Rattle.std.specs.Prelude.{ℕ, ◌==◌, List, [], ◌∷◌, length, Bool, true, false, not, ◌&&◌, ◌||◌, nat_le, nat_lt, Option, Some, None, is_some, is_none, if◌then◌else◌}
 use Rattle.std.specs.List.{list_all, list_any}
+use Rattle.csi_types.specs.declared.rows.TheConstants.{MAX_ROWS}
 use Rattle.csi_types.specs.Model.Same.{same_text, same_flag, same_capability, has_capability}
 use Rattle.csi_types.specs.Model.Sharing.{is_single_node, are_two_writers, allows_one_target}
 use Rattle.csi_orchestrator.specs.declared.row.Goal.{Goal}
@@ -131,3 +132,9 @@ is_restorable nodes row =
     && (has_tries row.goal row.tries
     && (are_entries_fit nodes row.arguments row.node_entries.items
     && fits_life row.goal (is_some row.id) row.exists row.node_entries.items)))
+
+-- ---- rows
+
+-- it may follow so many others, whatever their names are
+abbrev pub may_follow : List (List ℕ) → ℕ → Row → Bool
+may_follow nodes count row = nat_lt count MAX_ROWS && is_restorable nodes row
