@@ -43,7 +43,7 @@ not-both nodes rows place first kept = first.refused (take-kept nodes rows place
 -- ---- one more row
 
 -- each fails where none passes
-each-fails : {X : Type 0} (p : X → Bool) (xs : List X) → list_any p xs ≡ false → AllByRecursion (λ x. p x ≡ false) xs
+pub each-fails : {X : Type 0} (p : X → Bool) (xs : List X) → list_any p xs ≡ false → AllByRecursion (λ x. p x ≡ false) xs
 each-fails p [] h = tt
 each-fails p (x ∷ xs) h = let parts = or_parts (p x) (list_any p xs) h in (parts.0, each-fails p xs parts.1)
 

@@ -75,3 +75,4 @@ pub mod Judged
 pub mod JudgedPlaces
 pub mod PassedTests
 pub mod FirstRefused
+pub mod NodesFit

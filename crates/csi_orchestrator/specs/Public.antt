@@ -16,3 +16,4 @@ pub mod CoreParts
 pub mod Laws
 pub mod Refusals
 pub mod Judging
+pub mod Record

@@ -10,6 +10,7 @@ mod decision;
 mod due;
 mod entries;
 mod fault;
+mod judged_nodes;
 mod judged_rows;
 mod judging;
 mod laws;

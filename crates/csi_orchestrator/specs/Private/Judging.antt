@@ -133,6 +133,13 @@ is_restorable nodes row =
     && (are_entries_fit nodes row.arguments row.node_entries.items
     && fits_life row.goal (is_some row.id) row.exists row.node_entries.items)))
 
+-- ---- nodes
+
+-- each node is another one than all behind it
+abbrev pub are_nodes_apart : List (List ℕ) → Bool
+are_nodes_apart [] = true
+are_nodes_apart (node ∷ later) = not (list_any (same_text node) later) && are_nodes_apart later
+
 -- ---- rows
 
 -- it may follow so many others, whatever their names are
