@@ -76,3 +76,4 @@ pub mod JudgedPlaces
 pub mod PassedTests
 pub mod FirstRefused
 pub mod NodesFit
+pub mod RowsOfRecord
