@@ -32,4 +32,6 @@ mod worked;
 pub use fault::{Heard, OrchFault};
 pub use laws::{bounds_law, entries_law, form_law, moves_law, rows_law, showing_law};
 pub use orchestrator::Orchestrator;
+pub use request::{Arguments, Usage};
+pub use row::{Goal, NodeEntry, OpenCall, Row, TargetEntry};
 pub use thing::{Known, Thing};

@@ -5,7 +5,7 @@ use csi_types::{Capability, Kind, Name, NodeId, Number, Target, VolumeId};
 
 /// What is requested of a volume.
 #[derive(Drop)]
-pub(crate) enum Goal {
+pub enum Goal {
     /// That it is there, by the row's arguments.
     Create,
     /// That it is published so.
@@ -18,14 +18,14 @@ pub(crate) enum Goal {
 
 /// What a row keeps of a target of a node: whether the volume is published at it.
 #[derive(Drop)]
-pub(crate) struct TargetEntry {
+pub struct TargetEntry {
     pub target: Target,
     pub published: Known,
 }
 
 /// What a row keeps of a node at which the volume is used: how it is held there.
 #[derive(Drop)]
-pub(crate) struct NodeEntry {
+pub struct NodeEntry {
     pub node: NodeId,
     pub capability: Capability,
     pub readonly: bool,
@@ -36,14 +36,14 @@ pub(crate) struct NodeEntry {
 
 /// What a row keeps of its open call, which is the one of this kind for the goal.
 #[derive(Clone, Copy)]
-pub(crate) struct OpenCall {
+pub struct OpenCall {
     pub number: Number,
     pub kind: Kind,
 }
 
 /// A volume's row.
 #[derive(Drop)]
-pub(crate) struct Row {
+pub struct Row {
     pub name: Name,
     pub arguments: Arguments,
     /// The volume's id, once a reply told it.
