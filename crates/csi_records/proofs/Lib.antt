@@ -11,3 +11,4 @@ pub mod Versions
 pub mod PluginLayouts
 pub mod ValueSizes
 pub mod WritingPieces
+pub mod WritingEntries
