@@ -12,3 +12,4 @@ pub mod PluginLayouts
 pub mod ValueSizes
 pub mod WritingPieces
 pub mod WritingEntries
+pub mod OrchestratorReaders

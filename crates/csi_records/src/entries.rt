@@ -1,5 +1,4 @@
-//! What an orchestrator's head and rows have lists of: nodes, nodes' entries, and targets' entries. Each is written as bytes, and so is
-//! a list of them.
+//! What an orchestrator's rows have lists of: nodes' entries, and targets' entries. Each is written as bytes, and so is a list of them.
 ghost use Rattle.std.specs.Prelude.{◌≡◌, ◌≤◌, ◌++◌, List, ℕ, OnOk, length, map};
 ghost use Rattle.std.specs.List.{AllByRecursion};
 ghost use Rattle.csi_orchestrator.specs.Public.Shown.{node_entry_shown};
@@ -11,9 +10,9 @@ use crate::items::Item;
 use crate::known::put_known;
 use csi_frames::{append_byte, append_flag, append_node_id, append_target};
 use csi_orchestrator::{NodeEntry, TargetEntry};
-use csi_types::{NoMemory, NodeId};
+use csi_types::NoMemory;
 
-/// What is in a list of an orchestrator's record. It is written in the present version.
+/// What is in a list of an orchestrator's row. It is written in the present version.
 pub(crate) trait Entry: Drop {
     /// What spells one.
     ghost entry_bytes: { Self → List ℕ };
@@ -28,21 +27,6 @@ pub(crate) trait Entry: Drop {
         requires { is_few self.now }
         ensures written { OnOk result (out.new.items ≡ out.old.items ++ entry_bytes self.now) }
         ensures fits { OnOk result (is_entry self.now) };
-}
-
-impl Entry for NodeId {
-    ghost use Rattle.csi_types.specs.Public.Text.{IsNodeId};
-    ghost use Rattle.csi_frames.specs.Public.Spelling.{text};
-
-    ghost entry_bytes = { text };
-
-    ghost is_entry = { IsNodeId };
-
-    ghost is_few = { λ node. Unit {0} };
-
-    fn put(&self, out: &mut Vec<u8>) -> Result<(), NoMemory> {
-        append_node_id(out, self)
-    }
 }
 
 impl Entry for TargetEntry {

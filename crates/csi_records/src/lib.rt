@@ -1,5 +1,5 @@
 //! Records of the plugins: their parts, which a store keeps, and whole records as bytes, written and read exactly. And the parts of
-//! an orchestrator's record, written.
+//! an orchestrator's record, written, and its head read.
 #![tactic(auto)]
 
 mod answered;
@@ -11,6 +11,7 @@ mod items;
 mod known;
 mod laws;
 mod node_record;
+mod orchestrator_head;
 mod orchestrator_values;
 mod part_value;
 mod plugin_rows;

@@ -7,7 +7,8 @@ ghost use Rattle.csi_records.specs.Public.Spelling.{present};
 ghost use Rattle.csi_records.specs.Public.OrchestratorSpelling.{orchestrator_head, orchestrator_row};
 ghost use Rattle.csi_records.specs.Public.OrchestratorRows.{IsOrchestratorRow, IsRowFew};
 
-use crate::entries::{put_each, put_entries};
+use crate::entries::put_entries;
+use crate::items::put_list;
 use crate::known::{put_arguments, put_goal, put_id, put_known};
 use crate::version::PRESENT;
 use crate::writing::put;
@@ -30,7 +31,7 @@ pub fn orchestrator_head_value(
     let mut out = Vec::new(alloc);
     put(&mut out, &[PRESENT.number(), 2])?;
     append_word(&mut out, session)?;
-    put_each(&mut out, nodes)?;
+    put_list(&mut out, nodes)?;
     Ok(out)
 }
 

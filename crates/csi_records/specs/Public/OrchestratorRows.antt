@@ -1,6 +1,6 @@
 -- The limits of what stands in an orchestrator's record, each by itself, and what its rows keep so that they can be written.
 -- This profile's own.
-use Rattle.std.specs.Prelude.{ℕ, ◌≤◌, List, length, Option, Some, None, IfSome}
+use Rattle.std.specs.Prelude.{◌≡◌, ℕ, ◌≤◌, true, List, length, Option, Some, None, IfSome}
 use Rattle.std.specs.List.{AllByRecursion}
 use Rattle.csi_types.specs.Public.Limits.{IsWord}
 use Rattle.csi_types.specs.Public.Text.{IsName, IsNodeId, IsTarget}
@@ -14,9 +14,22 @@ use Rattle.csi_orchestrator.specs.declared.row.Row.{Row}
 use Rattle.csi_orchestrator.specs.declared.row.TargetEntry.{TargetEntry}
 use Rattle.csi_orchestrator.specs.Model.Shown.{NodeEntryShown, RowShown}
 use Rattle.csi_records.specs.declared.version.RecordVersion.{RecordVersion}
+use Rattle.csi_records.specs.Public.Version.{has_session}
 use Rattle.csi_records.specs.Public.Records.{IsCapabilityIn}
 
--- what a volume was to be created with is within its limits
+-- what an orchestrator's head tells
+pub record OrchestratorHeadShown : Type 0 where
+  pub session : ℕ
+  pub nodes : List (List ℕ)
+
+-- it is within its limits, and of a version whose heads have a session: an earlier one has no record of an orchestrator
+pub record IsOrchestratorHead (version : RecordVersion) (head : OrchestratorHeadShown) : Type 0 where
+  pub later : has_session version ≡ true
+  pub session : IsWord head.session
+  pub count : length head.nodes ≤ 64
+  pub nodes : AllByRecursion IsNodeId head.nodes
+
+-- so is what a volume was to be created with
 pub record AreArguments (version : RecordVersion) (arguments : Arguments) : Type 0 where
   pub required : IsWord arguments.required
   pub limit : IsWord arguments.limit
