@@ -11,6 +11,7 @@ mod items;
 mod known;
 mod laws;
 mod node_record;
+mod orchestrator_fields;
 mod orchestrator_head;
 mod orchestrator_values;
 mod part_value;
