@@ -7,10 +7,11 @@ use Rattle.csi_orchestrator.specs.declared.row.Goal.TheVariants.{Create, Use, St
 use Rattle.csi_orchestrator.specs.declared.row.TargetEntry.{TargetEntry}
 use Rattle.csi_orchestrator.specs.declared.thing.Known.{Known}
 use Rattle.csi_orchestrator.specs.declared.thing.Known.TheVariants.{Yes, No, Maybe}
+use Rattle.csi_orchestrator.specs.Model.Shown.{NodeEntryShown, RowShown}
 use Rattle.csi_records.specs.declared.version.RecordVersion.{RecordVersion}
 use Rattle.csi_records.specs.Public.Version.{has_session}
 use Rattle.csi_records.specs.Public.OrchestratorRows.{OrchestratorHeadShown}
-use Rattle.csi_records.specs.Private.Reading.{Reader, ◌>>=◌, give, nothing, read_tag, read_byte, read_code, read_word, read_flag, read_counted, read_text, read_capability, id_from}
+use Rattle.csi_records.specs.Private.Reading.{Reader, ◌>>=◌, give, nothing, read_tag, read_byte, read_count, read_code, read_word, read_flag, read_counted, read_text, read_capability, id_from}
 
 -- the session and the nodes, where the version has such a head
 unfoldable pub read_orchestrator_head : RecordVersion → Reader OrchestratorHeadShown
@@ -94,3 +95,26 @@ read_target_entry = do
   target ← read_text 1 255
   published ← read_known
   give (record { target = target; published = published })
+
+-- a node, how the volume is held there, what is known of it, and its targets
+unfoldable pub read_node_entry : RecordVersion → Reader NodeEntryShown
+read_node_entry version = do
+  node ← read_text 1 255
+  capability ← read_capability version
+  readonly ← read_flag
+  attached ← read_known
+  staged ← read_known
+  target_entries ← read_counted 16 read_target_entry
+  give (record { node = node; capability = capability; readonly = readonly; attached = attached; staged = staged; target_entries = target_entries })
+
+-- a row, which has no open call
+unfoldable pub read_orchestrator_row : RecordVersion → Reader RowShown
+read_orchestrator_row version = do
+  name ← read_text 1 128
+  arguments ← read_arguments version
+  id ← read_id_if
+  exists ← read_known
+  goal ← read_goal version
+  tries ← read_count 3
+  node_entries ← read_counted 64 (read_node_entry version)
+  give (record { name = name; arguments = arguments; id = id; exists = exists; goal = goal; open_call = None; tries = tries; node_entries = node_entries })
