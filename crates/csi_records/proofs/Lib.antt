@@ -13,3 +13,4 @@ pub mod ValueSizes
 pub mod WritingPieces
 pub mod WritingEntries
 pub mod OrchestratorReaders
+pub mod OrchestratorRowReaders

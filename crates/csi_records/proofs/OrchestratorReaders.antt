@@ -51,11 +51,11 @@ fields_read =
     (after word_reads (λ session. makes (λ nodes. make_head session nodes) (counted_reads IsNodeId spelling.text 64 (text_reads 1 255))))
 
 -- no bytes spell what isn't there
-abbrev SaysNothing : {A : Type 0} → A → List ℕ → Type 0
+abbrev pub SaysNothing : {A : Type 0} → A → List ℕ → Type 0
 SaysNothing value bytes = ⊥
 
 -- a reader that takes nothing reads what no bytes spell
-nothing_reads : {A : Type 0} → Reads (nothing {A = A}) SaysNothing
+pub nothing_reads : {A : Type 0} → Reads (nothing {A = A}) SaysNothing
 nothing_reads = record {
   takes = λ bytes fits x e. absurd cc;
   again = λ value front rest s. absurd s;
