@@ -14,3 +14,4 @@ pub mod WritingPieces
 pub mod WritingEntries
 pub mod OrchestratorReaders
 pub mod OrchestratorRowReaders
+pub mod GoalReaders
