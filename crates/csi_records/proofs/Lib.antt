@@ -15,3 +15,4 @@ pub mod WritingEntries
 pub mod OrchestratorReaders
 pub mod OrchestratorRowReaders
 pub mod GoalReaders
+pub mod EntryReaders
