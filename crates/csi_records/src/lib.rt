@@ -1,5 +1,5 @@
 //! Records of the plugins: their parts, which a store keeps, and whole records as bytes, written and read exactly. And the parts of
-//! an orchestrator's record, written, and its head read.
+//! an orchestrator's record.
 #![tactic(auto)]
 
 mod answered;
@@ -13,6 +13,7 @@ mod laws;
 mod node_record;
 mod orchestrator_fields;
 mod orchestrator_head;
+mod orchestrator_row;
 mod orchestrator_values;
 mod part_value;
 mod plugin_rows;
