@@ -25,10 +25,11 @@ use Rattle.csi_driver.specs.Public.Driving.{Drives, DrivesSlice}
 use Rattle.csi_driver.specs.Public.State.{State}
 use Rattle.csi_driver.specs.Public.Framing.{Runs, flushed as flushes_more, inner, Reaches, Rests, IsThere, StopsIn}
 use Rattle.csi_driver.specs.Private.Framing.{EndsIn}
-use Rattle.csi_driver.specs.Public.Frames.{AllHandled, IsBehind, Waits, EndsFrames, ReadsFrames}
+use Rattle.csi_driver.specs.Public.Handled.{AllHandled, IsBehind}
+use Rattle.csi_driver.specs.Public.Frames.{Waits, EndsFrames, ReadsFrames}
 use Rattle.csi_driver.proofs.FaultPlaces.{place_within}
 use Rattle.csi_driver.proofs.Streams.{splits_at, front_of, frames_of}
-use Rattle.csi_driver.proofs.Items.{each-push, get-seam, front-taken}
+use Rattle.csi_driver.proofs.Items.{each-push, get-seam, first-within, first-ran, all-handled, first-handled}
 use Rattle.csi_driver.proofs.Reaching.{begins_kept, spellings-push}
 
 -- bytes at fault, other than too few, are there
@@ -93,14 +94,10 @@ module _ {H S O F : Type 0} (handles : State H S O → ℕ → Frame → State H
       (same.0, left-open now.own.splitter.fault now.own.splitter.kept rest p.no_fault same.1)
 
   -- all of them were handled
-  all_handled : (fed : List ℕ) (now : State (Frames H) S O) → Rests handles flushes is_flushed first fed now → (frames : List Frame) (rest : List ℕ) → FramesOf fed frames rest → AllHandled handles flushes is_flushed (inner first) (inner now) frames now.own.count
+  all_handled : (fed : List ℕ) (now : State (Frames H) S O) → Rests handles flushes is_flushed first fed now → (frames : List Frame) (rest : List ℕ) → FramesOf fed frames rest → AllHandled (Runs handles flushes (inner first)) is_flushed (inner now) frames now.own.count
   all_handled fed now r frames rest of =
       let same = all_done fed now r frames rest of in
-      record {
-        runs = subst (λ (fs : List Frame). Runs handles flushes (inner first) fs (inner now)) same.0 r.reached.runs;
-        flushed = r.flushed;
-        counted = r.reached.counted ∙ ap length same.0;
-      }
+      all-handled (Runs handles flushes (inner first)) is_flushed (inner now) frames r.reached.done now.own.count same.0 r.reached.counted r.reached.runs r.flushed
 
   -- the rest may be the beginning of a frame
   rest_waits : (fed : List ℕ) (now : State (Frames H) S O) → Rests handles flushes is_flushed first fed now → (frames : List Frame) (rest : List ℕ) → FramesOf fed frames rest → Waits rest
@@ -150,23 +147,14 @@ module _ {H S O F : Type 0} (handles : State H S O → ℕ → Frame → State H
           faulty = same.1;
           here = omega (arith, s.behind.3, p.taken, p.few, within-fed fed s.before p, place_within splitter.kept kind at here.1, ap (λ (fs : List Frame). length (flat_map spelling fs)) done);
         },
-        record {
-          runs = subst (λ (fs : List Frame). Runs handles flushes (inner first) fs (inner now)) done (flushes_more p.done (inner s.before) (inner now) p.runs s.behind.4);
-          flushed = s.behind.5;
-          counted = s.counted ∙ p.counted ∙ ap length done;
-        },
+        all-handled (Runs handles flushes (inner first)) is_flushed (inner now) frames p.done now.own.count done (s.counted ∙ p.counted) (flushes_more p.done (inner s.before) (inner now) p.runs s.behind.4) s.behind.5,
       )
   stopped_in bytes behind now at_end faults.NoMemory are s frames rest of =
       let p = s.reached in
       let piece = s.behind.0 in
       let whole : bytes ++ behind ≡ s.fed ++ (piece ++ behind) = ap (λ (front : List ℕ). front ++ behind) s.behind.1 ∙ append_assoc s.fed piece behind in
       let front = handled_first s.fed (piece ++ behind) s.before p frames rest (subst (λ (all : List ℕ). FramesOf all frames rest) whole of) in
-      let counted : now.own.count ≡ length p.done = s.counted ∙ p.counted in
-      record {
-        within = omega (arith, counted, ap length front.1, length-append p.done front.0);
-        runs = subst (Runs handles flushes (inner first) (take now.own.count frames)) (sym s.behind.2) (subst (λ (fs : List Frame). Runs handles flushes (inner first) fs (inner s.before)) (sym (front-taken frames p.done front.0 now.own.count front.1 counted)) p.runs);
-        flushed = s.behind.3;
-      }
+      first-handled (Runs handles flushes (inner first)) is_flushed (inner now) frames p.done front.0 now.own.count front.1 (s.counted ∙ p.counted) (subst (Runs handles flushes (inner first) p.done) (sym s.behind.2) p.runs) s.behind.3
   stopped_in bytes behind now at_end (faults.Handler fault) are s frames rest of =
       let p = s.reached in
       let whole : bytes ++ behind ≡ s.fed ++ behind = ap (λ (front : List ℕ). front ++ behind) s.behind.1 in
@@ -174,9 +162,9 @@ module _ {H S O F : Type 0} (handles : State H S O → ℕ → Frame → State H
       let front = handled_first s.fed behind s.before p frames rest of' in
       let counted : now.own.count ≡ length p.done = s.counted ∙ p.counted in
       record {
-        within = omega (arith, counted, ap length front.1, length-append p.done front.0);
+        within = first-within frames p.done front.0 now.own.count front.1 counted;
         before = inner s.before;
-        runs = subst (λ (fs : List Frame). Runs handles flushes (inner first) fs (inner s.before)) (sym (front-taken frames p.done front.0 now.own.count front.1 counted)) p.runs;
+        runs = first-ran (λ (fs : List Frame). Runs handles flushes (inner first) fs (inner s.before)) frames p.done front.0 now.own.count front.1 counted p.runs;
         frame = s.behind.0;
         behind = is_behind s.behind.0 s.behind.2;
         stopped = s.behind.3;

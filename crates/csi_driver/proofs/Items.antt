@@ -1,8 +1,10 @@
 -- Lists of items, frames or lines, that were handled.
-use Rattle.std.proofs.Common.{◌≡◌, ◌∙◌, ap, refl, ℕ, List, [], ◌∷◌, ◌++◌, length, take}
+use Rattle.std.proofs.Common.{◌≡◌, ◌∙◌, sym, ap, subst, refl, ℕ, ◌≤◌, List, [], ◌∷◌, ◌++◌, length, take, arith, length-append}
 use Rattle.std.specs.Prelude.{slice_get}
 use Rattle.std.specs.List.{AllByRecursion}
 use Rattle.std.proofs.Math.Seq.{take-append_seam}
+use Rattle.csi_driver.specs.Public.Handled.{AllHandled, FirstHandled}
+use Rattle.csi_driver.specs.Public.State.{State}
 
 -- what holds of each item, and of one more, holds of each of them
 pub each-push : {X : Type 0} (P : X → Type 0) (items : List X) (item : X) → AllByRecursion P items → P item → AllByRecursion P (items ++ item ∷ [])
@@ -17,3 +19,24 @@ get-seam (d ∷ ds) later = get-seam ds later
 -- the items at the front
 pub front-taken : {X : Type 0} (items done later : List X) (k : ℕ) → items ≡ done ++ later → k ≡ length done → take k items ≡ done
 front-taken items done later k are is = ap (λ n. take n items) is ∙ ap (take (length done)) are ∙ take-append_seam done later
+
+-- they are no more than all
+pub first-within : {X : Type 0} (items done later : List X) (count : ℕ) → items ≡ done ++ later → count ≡ length done → count ≤ length items
+first-within items done later count are is = omega (arith, is, ap length are, length-append done later)
+
+-- what holds of the items that were handled holds of as many at the front
+pub first-ran : {X : Type 0} (P : List X → Type 0) (items done later : List X) (count : ℕ) → items ≡ done ++ later → count ≡ length done → P done → P (take count items)
+first-ran P items done later count are is ran = subst P (sym (front-taken items done later count are is)) ran
+
+module _ {H S O X : Type 0} (leads : List X → State H S O → Type 0) (is_flushed : H → Type 0) (now : State H S O) where
+  -- the items that were handled are all
+  pub all-handled : (items done : List X) (count : ℕ) → done ≡ items → count ≡ length done → leads done now → is_flushed now.own → AllHandled leads is_flushed now items count
+  all-handled items done count same is ran none = record { runs = subst (λ (some : List X). leads some now) same ran; flushed = none; counted = is ∙ ap length same }
+
+  -- they are the first
+  pub first-handled : (items done later : List X) (count : ℕ) → items ≡ done ++ later → count ≡ length done → leads done now → is_flushed now.own → FirstHandled leads is_flushed now items count
+  first-handled items done later count are is ran none = record {
+    within = first-within items done later count are is;
+    runs = first-ran (λ (some : List X). leads some now) items done later count are is ran;
+    flushed = none;
+  }

@@ -155,7 +155,10 @@ impl<H> Frames<H> {
     where
         H: FrameHandler<S, O>,
         ensures reads { self.old.splitter ≡ new_splitting → self.old.count ≡ 0 → H.is_flushed self.old.handler → 0 < length piece.old →
-            ReadsFrames H.handles H.flushes H.is_flushed H.stops (record { own = self.old.handler; store = store.old; out = out.old }) (record { own = self.new.handler; store = store.new; out = out.new }) self.new.count (R.remaining reader.old.inner) (R.remaining reader.new.inner) result }
+            ReadsFrames H.handles H.flushes H.is_flushed H.stops
+            (record { own = self.old.handler; store = store.old; out = out.old })
+            (record { own = self.new.handler; store = store.new; out = out.new })
+            self.new.count (R.remaining reader.old.inner) (R.remaining reader.new.inner) result }
         ensures reader { TellsReader reader.old.faults reader.new.faults result }
     {
         match drive(self, store, out, reader, piece) {
@@ -179,7 +182,10 @@ impl<H> Frames<H> {
         ensures bytes { AreBytes input.now }
         ensures reads { self.old.splitter ≡ new_splitting → self.old.count ≡ 0 → H.is_flushed self.old.handler →
             (frames : List FrameParts) (rest : List ℕ) → FramesOf input.now frames rest →
-            EndsFrames H.handles H.flushes H.is_flushed H.stops (record { own = self.old.handler; store = store.old; out = out.old }) (record { own = self.new.handler; store = store.new; out = out.new }) self.new.count frames rest (Unit {0}) result }
+            EndsFrames H.handles H.flushes H.is_flushed H.stops
+            (record { own = self.old.handler; store = store.old; out = out.old })
+            (record { own = self.new.handler; store = store.new; out = out.new })
+            self.new.count frames rest (Unit {0}) result }
     {
         match drive_slice(self, store, out, input) {
             Ok(()) => self.end(),

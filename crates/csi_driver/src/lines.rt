@@ -3,8 +3,8 @@ ghost use Rattle.std.specs.Prelude.{◌≡◌, ◌<◌, ◌+◌, ◌-◌, ◌^�
 ghost use Rattle.csi_driver.specs.Public.State.{State};
 ghost use Rattle.csi_driver.specs.Public.Driving.{TellsReader};
 ghost use Rattle.csi_driver.specs.Public.LinesOf.{LinesOf};
-ghost use Rattle.csi_driver.specs.Public.Lining.{Reaches, Rests, StopsIn};
-ghost use Rattle.csi_driver.specs.Private.Lining.{HandlesNext, EndsIn};
+ghost use Rattle.csi_driver.specs.Public.Lining.{ReachesLines, RestsLines, StopsInLines};
+ghost use Rattle.csi_driver.specs.Private.Lining.{HandlesNextLine, HandlesLast};
 ghost use Rattle.csi_driver.specs.Public.Lines.{ReadsLines, EndsLines};
 
 use crate::consumer::Consumer;
@@ -43,11 +43,9 @@ fn handle_next<S, O, H: LineHandler<S, O>>(
     out: &mut O,
     number: u64,
 ) -> Result<bool, LinesFault<H::Fault>>
-    ensures { HandlesNext H.handles H.flushes H.is_flushed H.stops number buffer.old buffer.new (record {
-      own = handler.old;
-      store = store.old;
-      out = out.old;
-    }) (record { own = handler.new; store = store.new; out = out.new }) result }
+    ensures { HandlesNextLine H.handles H.flushes H.is_flushed H.stops number buffer.old buffer.new
+        (record { own = handler.old; store = store.old; out = out.old })
+        (record { own = handler.new; store = store.new; out = out.new }) result }
 {
     match buffer.front() {
         Front::Line(len) => match handler.handle(store, out, number, buffer.first(len)) {
@@ -71,11 +69,11 @@ fn handle_next<S, O, H: LineHandler<S, O>>(
 impl<S, O, H: LineHandler<S, O>> Consumer<S, O> for Lines<H> {
     type Fault = LinesFault<H::Fault>;
 
-    ghost reaches = { Reaches H.handles H.flushes };
+    ghost reaches = { ReachesLines H.handles H.flushes };
 
-    ghost rests = { Rests H.handles H.flushes H.is_flushed };
+    ghost rests = { RestsLines H.handles H.flushes H.is_flushed };
 
-    ghost stops = { StopsIn H.handles H.flushes H.is_flushed H.stops };
+    ghost stops = { StopsInLines H.handles H.flushes H.is_flushed H.stops };
 
     ghost kept = { λ lines. length lines.buffer };
 
@@ -131,11 +129,10 @@ impl<H> Lines<H> {
     fn end<S, O>(&mut self, store: &mut S, out: &mut O) -> Result<(), LinesFault<H::Fault>>
     where
         H: LineHandler<S, O>,
-        ensures { EndsIn H.handles H.flushes H.is_flushed H.stops (min (self.old.count + 1) (2 ^ 64 - 1)) self.old.buffer self.old.count (record {
-          own = self.old.handler;
-          store = store.old;
-          out = out.old;
-        }) self.new.count (record { own = self.new.handler; store = store.new; out = out.new }) result }
+        ensures { HandlesLast H.handles H.flushes H.is_flushed H.stops
+            (min (self.old.count + 1) (2 ^ 64 - 1)) self.old.buffer self.old.count
+            (record { own = self.old.handler; store = store.old; out = out.old })
+            self.new.count (record { own = self.new.handler; store = store.new; out = out.new }) result }
     {
         let len = self.buffer.len();
         if len == 0 {
@@ -170,7 +167,10 @@ impl<H> Lines<H> {
     where
         H: LineHandler<S, O>,
         ensures reads { self.old.buffer ≡ [] → self.old.count ≡ 0 → H.is_flushed self.old.handler → 0 < length piece.old →
-            ReadsLines H.handles H.flushes H.is_flushed H.stops (record { own = self.old.handler; store = store.old; out = out.old }) (record { own = self.new.handler; store = store.new; out = out.new }) self.new.count (R.remaining reader.old.inner) (R.remaining reader.new.inner) result }
+            ReadsLines H.handles H.flushes H.is_flushed H.stops
+            (record { own = self.old.handler; store = store.old; out = out.old })
+            (record { own = self.new.handler; store = store.new; out = out.new })
+            self.new.count (R.remaining reader.old.inner) (R.remaining reader.new.inner) result }
         ensures reader { TellsReader reader.old.faults reader.new.faults result }
     {
         match drive(self, store, out, reader, piece) {
@@ -193,7 +193,10 @@ impl<H> Lines<H> {
         H: LineHandler<S, O>,
         ensures { self.old.buffer ≡ [] → self.old.count ≡ 0 → H.is_flushed self.old.handler →
             (lines : List (List ℕ)) (rest : List ℕ) → LinesOf input.now lines rest →
-            EndsLines H.handles H.flushes H.is_flushed H.stops (record { own = self.old.handler; store = store.old; out = out.old }) (record { own = self.new.handler; store = store.new; out = out.new }) self.new.count lines rest (Unit {0}) result }
+            EndsLines H.handles H.flushes H.is_flushed H.stops
+            (record { own = self.old.handler; store = store.old; out = out.old })
+            (record { own = self.new.handler; store = store.new; out = out.new })
+            self.new.count lines rest (Unit {0}) result }
     {
         match drive_slice(self, store, out, input) {
             Ok(()) => self.end(store, out),

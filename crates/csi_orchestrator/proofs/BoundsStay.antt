@@ -367,14 +367,14 @@ no-longer (x ∷ xs) ys apart there =
     let rest = no-longer xs less.rest apart.1 (λ y among. less.others y (there y (inr among)) (λ same. each_of (λ b. x ≡ b → ⊥) xs y apart.0 among (sym same))) in
     omega (arith, long, rest)
 
--- a row has no more entries than there are nodes
-few-nodes : (nodes : List (List ℕ)) (row : RowShown) → IsSoundRow row → AreWithin nodes row → HasFewNodes nodes row
-few-nodes nodes row own all =
-    let texts = map (λ (entry : NodeEntryShown). entry.node) row.node_entries in
-    let long = length-map row.node_entries (λ (entry : NodeEntryShown). entry.node) in
+-- there are no more entries of different nodes than there are nodes
+pub few-entries : (nodes : List (List ℕ)) (entries : List NodeEntryShown) → AreNodesApart entries → AllByRecursion (IsEntryWithin nodes) entries → length entries ≤ length nodes
+few-entries nodes entries apart all =
+    let texts = map (λ (entry : NodeEntryShown). entry.node) entries in
+    let long = length-map entries (λ (entry : NodeEntryShown). entry.node) in
     let least = no-longer texts nodes
-    (two-map (λ (a b : List ℕ). a ≡ b → ⊥) (λ (entry : NodeEntryShown). entry.node) row.node_entries (two-apart row.node_entries own.nodes))
-    (λ text among. each_of (λ (t : List ℕ). IsAmong t nodes) texts text (each-map (IsEntryWithin nodes) (λ (t : List ℕ). IsAmong t nodes) (λ (entry : NodeEntryShown). entry.node) row.node_entries (λ entry within. known entry.node within.among) all) among) in
+    (two-map (λ (a b : List ℕ). a ≡ b → ⊥) (λ (entry : NodeEntryShown). entry.node) entries (two-apart entries apart))
+    (λ text among. each_of (λ (t : List ℕ). IsAmong t nodes) texts text (each-map (IsEntryWithin nodes) (λ (t : List ℕ). IsAmong t nodes) (λ (entry : NodeEntryShown). entry.node) entries (λ entry within. known entry.node within.among) all) among) in
     omega (arith, long, least)
   where
     known : (text : List ℕ) → list_any (same_text text) nodes ≡ true → IsAmong text nodes
@@ -387,6 +387,10 @@ few-nodes nodes row own all =
           (λ b e same. false≢true (sym e ∙ (same_text-tells entry.node b.node).1 same)) apart.0,
       two-apart entries apart.1,
     )
+
+-- a row has no more entries than there are nodes
+few-nodes : (nodes : List (List ℕ)) (row : RowShown) → IsSoundRow row → AreWithin nodes row → HasFewNodes nodes row
+few-nodes nodes row own all = few-entries nodes row.node_entries own.nodes all
 
 -- what the type keeps bounds what is kept
 pub bounded : (parts : OrchestratorParts) → AreSoundRows parts.rows → IsWithin parts → IsBounded parts

@@ -70,3 +70,10 @@ pub mod UsesOnTheWay
 pub mod RowsComeAbout
 pub mod Restored
 pub mod RowsRestorable
+pub mod Opened
+pub mod Judged
+pub mod JudgedPlaces
+pub mod PassedTests
+pub mod FirstRefused
+pub mod NodesFit
+pub mod RowsOfRecord

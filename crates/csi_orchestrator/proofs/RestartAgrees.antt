@@ -58,10 +58,20 @@ abbrev pub IsRestarted : OrchestratorCore → OrchestratorCore → Type 0
 IsRestarted old new =
     IsTrue (nat_lt (old.last.session + 1) (2 ^ 64)) × (new.last ≡ record { session = old.last.session + 1; call = 0 }) × (rows_of new.catalog ≡ map without_call (rows_of old.catalog)) × (new.nodes.items ≡ old.nodes.items)
 
+-- what is shown of them
+shown-restarted : (old new : OrchestratorCore) → IsRestarted old new → orchestrator_parts_shown new ≡ parts_in_session (old.last.session + 1) (orchestrator_parts_shown old)
+shown-restarted old new facts = same-parts (orchestrator_parts_shown new) (parts_in_session (old.last.session + 1) (orchestrator_parts_shown old)) facts.3 facts.1 (ap (map row_shown) facts.2 ∙ shown-closed (rows_of old.catalog))
+
+-- once it succeeds
+pub shown-once : {R : Type 0} (result : Result R OrchFault) (was : OrchestratorParts) (old new : OrchestratorCore) → orchestrator_parts_shown old ≡ was → OnOk result (IsRestarted old new)
+    → OnOk result (orchestrator_parts_shown new ≡ parts_in_session (was.last.session + 1) was)
+shown-once (Ok r) was old new is facts = subst (λ (p : OrchestratorParts). orchestrator_parts_shown new ≡ parts_in_session (p.last.session + 1) p) is (shown-restarted old new facts)
+shown-once (Err fault) was old new is facts = tt
+
 -- such a change is the restart that the rows tell
 restarted : (old new : OrchestratorCore) → IsRestarted old new → row_moves (orchestrator_parts_shown old) Restarts ≡ Ok (let t : MovedRows = record { answer = Restarted; parts = orchestrator_parts_shown new } in t)
 restarted old new facts =
-    let is : orchestrator_parts_shown new ≡ parts_in_session (old.last.session + 1) (orchestrator_parts_shown old) = same-parts (orchestrator_parts_shown new) (parts_in_session (old.last.session + 1) (orchestrator_parts_shown old)) facts.3 facts.1 (ap (map row_shown) facts.2 ∙ shown-closed (rows_of old.catalog)) in
+    let is = shown-restarted old new facts in
     ap (λ b. cond b (moved_rows (parts_in_session (old.last.session + 1) (orchestrator_parts_shown old)) Restarted) (Err faults.NumbersSpent)) facts.0 ∙ ap (λ (p : OrchestratorParts). moved_rows p Restarted) (sym is)
 
 -- where no session is left the rows refuse it

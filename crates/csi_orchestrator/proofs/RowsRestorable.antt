@@ -89,7 +89,7 @@ none-behind key text Q [] own (y ∷ ys) all last = absurd (ends-otherwise key t
 none-behind key text Q (x ∷ front) own rear all last = none-behind key text Q front own rear all (last-rest key text x front own rear last)
 
 -- nothing stands in front or behind where there is one
-alone-sides : {X : Type 0} (front : List X) (own : X) (rear : List X) → length (front ++ own ∷ rear) ≡ 1 → (front ≡ []) × (rear ≡ [])
+pub alone-sides : {X : Type 0} (front : List X) (own : X) (rear : List X) → length (front ++ own ∷ rear) ≡ 1 → (front ≡ []) × (rear ≡ [])
 alone-sides [] own [] one = (refl, refl)
 alone-sides [] own (y ∷ ys) one = absurd (omega (arith, one))
 alone-sides (x ∷ xs) own rear one = let long = length-append xs (own ∷ rear) in absurd (omega (arith, one, long))

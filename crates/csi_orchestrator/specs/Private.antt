@@ -15,3 +15,6 @@ pub mod Worked
 pub mod RowSteps
 pub mod Decisions
 pub mod Restored
+pub mod Opened
+pub mod Judging
+pub mod Judged

@@ -15,3 +15,5 @@ pub mod Catalog
 pub mod CoreParts
 pub mod Laws
 pub mod Refusals
+pub mod Judging
+pub mod Record

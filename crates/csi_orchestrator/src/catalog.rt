@@ -1,6 +1,8 @@
 //! An orchestrator's rows by name, and by the numbers of their open calls. No look-up walks them.
 ghost use Rattle.std.specs.Prelude.{◌≡◌, ℕ, ◌+◌, ◌++◌, ◌∷◌, ◌<◌, ◌≤◌, [], Option, Some, None, length, map, false, slice_get, position, OnOk, OnErr, IfOk, IfErr, IfSome};
 ghost use Rattle.indexmap.specs.IndexMap.{values, spare, index_map_len};
+ghost use Rattle.std.specs.List.{AllByRecursion};
+ghost use Rattle.csi_lists.specs.Model.Members.{EachTwo};
 ghost use Rattle.csi_lists.specs.Public.Places.{IsAt};
 ghost use Rattle.csi_types.specs.Model.Same.{same_text};
 ghost use Rattle.csi_orchestrator.specs.Public.Catalog.{rows_of, by_name, place_noted, IsNoted, IsIndexed, AreUpTo, HasFewNotes};
@@ -38,6 +40,22 @@ impl Catalog {
             rows: IndexMap::new(alloc),
             calls: IndexMap::new(alloc),
         }
+    }
+
+    /// The catalog of these rows, none of which has an open call.
+    pub fn of_rows(alloc: Global, rows: Vec<Row>) -> Result<Catalog, OrchFault>
+        requires names { EachTwo (λ one other. same_text one.name other.name ≡ false) rows.items }
+        requires closed { AllByRecursion (λ row. row.open_call ≡ None) rows.items }
+        ensures rows { IfOk result (λ catalog. rows_of catalog ≡ rows.items) }
+        ensures indexed { IfOk result IsIndexed }
+        ensures known { IfOk result (λ catalog. AreUpTo 0 catalog) }
+        ensures err { IfErr result (λ fault. fault ≡ OrchFault.NoMemory) }
+    {
+        let mut catalog = Catalog::new(alloc);
+        for row in rows {
+            catalog.add(row)?;
+        }
+        Ok(catalog)
     }
 
     /// The rows in order.

@@ -85,6 +85,20 @@ impl<T: Drop> From<AllocFailed<T>> for OrchFault {
     }
 }
 
+/// Why an orchestrator's record isn't made (this profile's own).
+#[derive(Clone, Copy, Debug, PartialEq, Eq, Error)]
+pub enum OrchRecordFault {
+    /// There are more than 64 nodes, or one stands there twice.
+    #[error("no record has these nodes")]
+    BadNodes,
+    /// The place, counted from 1, of the first row that no record has there.
+    #[error("no record has row {0}")]
+    BadRow(u64),
+    /// An allocation was refused.
+    #[error("out of memory")]
+    NoMemory,
+}
+
 /// What became of a frame that came.
 #[derive(Clone, Debug, PartialEq, Eq, Drop)]
 pub enum Heard {

@@ -6,6 +6,7 @@ ghost use Rattle.csi_orchestrator.specs.Public.Steps.{MovesLaw};
 ghost use Rattle.std.specs.List.{AllByRecursion};
 ghost use Rattle.csi_orchestrator.specs.Public.Bounds.{IsBounded};
 ghost use Rattle.csi_orchestrator.specs.Private.Restored.{RecordsAreReached};
+ghost use Rattle.csi_orchestrator.specs.Private.Opened.{RecordsAreOpened};
 ghost use Rattle.csi_orchestrator.specs.Private.Sound.{RowsTell, RowsStaySound, MovesAreGuarded};
 ghost use Rattle.csi_orchestrator.specs.Public.Restored.{AreRestorable};
 ghost use Rattle.csi_orchestrator.specs.Public.Shown.{closed};
@@ -33,9 +34,10 @@ fn rows_follow()
 {}
 
 // What is restored from a record is what some orchestrator came to: whatever rows keep the rules of rows without open calls are
-// those of an orchestrator of these nodes, once it gave its calls up.
+// those of an orchestrator of these nodes, once it gave its calls up. In the next session they keep all that its type keeps.
 fn records_are_reached()
-    ensures { RecordsAreReached }
+    ensures reached { RecordsAreReached }
+    ensures opened { RecordsAreOpened }
 {}
 
 /// A law, and nothing that runs: whatever comes, each call that an orchestrator sends has the next number and may be sent

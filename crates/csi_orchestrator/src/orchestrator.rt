@@ -1,13 +1,15 @@
 //! The orchestrator.
-ghost use Rattle.std.specs.Prelude.{◌≡◌, length, None, IfOk, OnErr, IfErr, IsOk};
+ghost use Rattle.std.specs.Prelude.{◌≡◌, ◌+◌, ◌<◌, ◌^◌, length, map, None, IfOk, OnOk, OnErr, IfErr, IsOk};
 ghost use Rattle.csi_orchestrator.specs.declared.fault.OrchFault.{OrchFault as Fault};
+ghost use Rattle.csi_orchestrator.specs.declared.fault.OrchRecordFault.{OrchRecordFault as RecordFaultShown};
 ghost use Rattle.csi_orchestrator.specs.declared.fault.Heard.{Heard as HeardShown};
 ghost use Rattle.csi_orchestrator.specs.declared.thing.Known.TheVariants.{No};
 ghost use Rattle.csi_orchestrator.specs.declared.thing.Thing.{Thing as ThingShown};
 
 use crate::catalog::Catalog;
-use crate::fault::{Heard, OrchFault};
+use crate::fault::{Heard, OrchFault, OrchRecordFault};
 use crate::listing::things_in;
+use crate::record::OrchestratorRecord;
 use crate::request::{Arguments, Usage};
 use crate::state::{OrchestratorCore, known_in};
 use crate::step::Step;
@@ -47,6 +49,8 @@ impl Orchestrator {
     ghost use Rattle.csi_orchestrator.specs.Public.Listing.{ListsKnown, IsInOrder};
     ghost use Rattle.csi_orchestrator.specs.Public.Sound.{AreSoundParts};
     ghost use Rattle.csi_orchestrator.specs.Public.Bounds.{AreFew};
+    ghost use Rattle.csi_orchestrator.specs.Public.Record.{AreNodesFit};
+    ghost use Rattle.csi_orchestrator.specs.Public.Shown.{closed};
 
     // What its type keeps of what it shows. It does nothing.
     pub(crate) fn assert_kept(&self)
@@ -83,6 +87,35 @@ impl Orchestrator {
                 catalog: Catalog::new(alloc),
             },
         }
+    }
+
+    /// The orchestrator of a record (this profile's own), as a restart leaves it: in the next session, with the record's nodes and rows,
+    /// and no open call. Refused with `NumbersSpent` where the record's session is the last one, and never otherwise. It takes no memory.
+    pub fn from_record(alloc: Global, kept: OrchestratorRecord) -> Result<Orchestrator, OrchFault>
+        ensures value { IfOk result (λ made. made ≡ record { nodes = kept.nodes; last = record { session = kept.session + 1; call = 0 }; rows = kept.rows }) }
+        ensures left { OnOk result (kept.session + 1 < 2 ^ 64) }
+        ensures spent { IfErr result (λ fault. (fault ≡ Fault.NumbersSpent) × (kept.session + 1 ≡ 2 ^ 64)) }
+    {
+        match kept.session().checked_add(1) {
+            Some(session) => Ok(Orchestrator {
+                core: kept.opened(alloc, session),
+            }),
+            None => {
+                drop(kept);
+                Err(OrchFault::NumbersSpent)
+            }
+        }
+    }
+
+    /// Its record (this profile's own): its nodes, its session, and its rows, once its open calls are given up. Refused with `BadNodes` for
+    /// more than 64 nodes or a node that stands there twice, and never otherwise. It takes no memory.
+    pub fn into_record(self) -> Result<OrchestratorRecord, OrchRecordFault>
+        ensures value { IfOk result (λ kept. kept ≡ record { nodes = self.nodes; session = self.last.session; rows = map closed self.rows }) }
+        ensures fit { OnOk result (AreNodesFit self.nodes) }
+        ensures refused { IfErr result (λ fault. (fault ≡ RecordFaultShown.BadNodes) × (AreNodesFit self.nodes → ⊥)) }
+    {
+        let Orchestrator { core } = self;
+        OrchestratorRecord::of_core(core)
     }
 
     /// The session in which its next call is numbered.
@@ -273,8 +306,9 @@ impl Orchestrator {
     }
 
     /// Starts the next session: every open call is given up, and nothing is sent. Refused with `NumbersSpent` in the
-    /// last session, which changes nothing. It takes no memory.
+    /// last session, which changes nothing. It takes no memory. What it leaves is what is opened from its record.
     pub fn restart(&mut self) -> Result<(), OrchFault>
+        ensures value { OnOk result (self.new ≡ record { nodes = self.old.nodes; last = record { session = self.old.last.session + 1; call = 0 }; rows = map closed self.old.rows }) }
         ensures ok { (history : History) → IsWellFormed history → Shows self.old history →
             IfOk result (λ done. FollowsUnrefused history (moves self.old.nodes history Restarts) Restarted self.new) }
         ensures err { (history : History) → IsWellFormed history → Shows self.old history → IfErr result (IsRefusal (moves self.old.nodes history Restarts)) }

@@ -3,7 +3,7 @@ use csi_types::{Capability, CapabilityList, NodeId, Target};
 
 /// What a volume is to be created with, in bytes.
 #[derive(Drop)]
-pub(crate) struct Arguments {
+pub struct Arguments {
     pub required: u64,
     /// 0 for none.
     pub limit: u64,
@@ -12,7 +12,7 @@ pub(crate) struct Arguments {
 
 /// Where and how a volume is to be used.
 #[derive(Drop)]
-pub(crate) struct Usage {
+pub struct Usage {
     pub node: NodeId,
     pub target: Target,
     pub capability: Capability,

@@ -5,7 +5,7 @@ use csi_types::{Capability, Kind, Name, NodeId, Number, Target, VolumeId};
 
 /// What is requested of a volume.
 #[derive(Drop)]
-pub(crate) enum Goal {
+pub enum Goal {
     /// That it is there, by the row's arguments.
     Create,
     /// That it is published so.
@@ -18,40 +18,50 @@ pub(crate) enum Goal {
 
 /// What a row keeps of a target of a node: whether the volume is published at it.
 #[derive(Drop)]
-pub(crate) struct TargetEntry {
+pub struct TargetEntry {
     pub target: Target,
+    /// Whether the volume is published there.
     pub published: Known,
 }
 
 /// What a row keeps of a node at which the volume is used: how it is held there.
 #[derive(Drop)]
-pub(crate) struct NodeEntry {
+pub struct NodeEntry {
     pub node: NodeId,
+    /// How it is used there.
     pub capability: Capability,
     pub readonly: bool,
+    /// Whether it is attached at the node.
     pub attached: Known,
+    /// Whether it is staged there.
     pub staged: Known,
+    /// The targets at which it may be published.
     pub target_entries: Vec<TargetEntry>,
 }
 
 /// What a row keeps of its open call, which is the one of this kind for the goal.
 #[derive(Clone, Copy)]
-pub(crate) struct OpenCall {
+pub struct OpenCall {
     pub number: Number,
     pub kind: Kind,
 }
 
 /// A volume's row.
 #[derive(Drop)]
-pub(crate) struct Row {
+pub struct Row {
     pub name: Name,
+    /// What it was requested to be created with.
     pub arguments: Arguments,
     /// The volume's id, once a reply told it.
     pub id: Option<VolumeId>,
+    /// Whether it is made.
     pub exists: Known,
+    /// What is requested of it and isn't done.
     pub goal: Option<Goal>,
+    /// The call that is open. The rows of a record have none.
     pub open_call: Option<OpenCall>,
     /// How often a call was sent since the goal was set or a success was heard, counted up to 3.
     pub tries: u64,
+    /// The nodes at which it is used, or may be.
     pub node_entries: Vec<NodeEntry>,
 }

@@ -11,3 +11,8 @@ pub mod Versions
 pub mod PluginLayouts
 pub mod ValueSizes
 pub mod WritingPieces
+pub mod WritingEntries
+pub mod OrchestratorReaders
+pub mod OrchestratorRowReaders
+pub mod GoalReaders
+pub mod EntryReaders

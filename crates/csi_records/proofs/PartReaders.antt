@@ -259,7 +259,7 @@ abbrev pub IsHeadKey : ℕ → Type 0
 IsHeadKey key = 0 ≡ key
 
 -- heads that are read behind the version are read as what spells them
-head_read : {H : Type 0} {read : Reader H} (version : RecordVersion) (Fits : H → Type 0) (body : H → List ℕ) → Reads read (Spelled Fits body)
+pub head_read : {H : Type 0} {read : Reader H} (version : RecordVersion) (Fits : H → Type 0) (body : H → List ℕ) → Reads read (Spelled Fits body)
     → IsReadWhole version (λ key. read) IsHeadKey Fits (λ first. make_part 0 (record_version_number version ∷ body first))
 head_read version Fits body reads = record {
   takes = λ key value first is fits e.

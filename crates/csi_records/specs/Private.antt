@@ -1,4 +1,5 @@
 pub mod Version
 pub mod Reading
+pub mod OrchestratorReading
 pub mod Stopping
 pub mod Worked

@@ -2,6 +2,8 @@ pub mod Version
 pub mod Spelling
 pub mod Records
 pub mod Writing
+pub mod OrchestratorSpelling
+pub mod OrchestratorRows
 pub mod Places
 pub mod Laws
 pub mod Worked

@@ -1,13 +1,20 @@
-//! Records of the plugins: their parts, which a store keeps, and whole records as bytes, written and read exactly.
+//! Records of the plugins: their parts, which a store keeps, and whole records as bytes, written and read exactly. And the parts of
+//! an orchestrator's record.
 #![tactic(auto)]
 
 mod answered;
 mod controller_record;
+mod entries;
 mod fault;
 mod fields;
 mod items;
+mod known;
 mod laws;
 mod node_record;
+mod orchestrator_fields;
+mod orchestrator_head;
+mod orchestrator_row;
+mod orchestrator_values;
 mod part_value;
 mod plugin_rows;
 mod record;
@@ -23,6 +30,7 @@ mod writing;
 
 pub use fault::RecordStop;
 pub use laws::record_laws;
+pub use orchestrator_values::{orchestrator_head_value, orchestrator_row_value};
 pub use record::{Record, read_record, record_of_node, write_record};
 pub use removals::push_removals;
 pub use row_values::{answered_value, controller_head_value, node_head_value, volume_value};

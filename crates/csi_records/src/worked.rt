@@ -1,5 +1,5 @@
 //! Worked examples of the spelling of records. Each function proves a statement, and does nothing.
-ghost use Rattle.csi_records.specs.Private.Worked.{CreatedRow, EmptyRow};
+ghost use Rattle.csi_records.specs.Private.Worked.{CreatedRow, EmptyRow, OnTheWayRow};
 
 fn created()
     ensures { CreatedRow }
@@ -7,4 +7,8 @@ fn created()
 
 fn empty()
     ensures { EmptyRow }
+{}
+
+fn on_the_way()
+    ensures { OnTheWayRow }
 {}

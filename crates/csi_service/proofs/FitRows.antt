@@ -28,7 +28,7 @@ use Rattle.csi_stores.specs.Public.Part.{StoredPart}
 use Rattle.csi_records.specs.declared.version.RecordVersion.{RecordVersion}
 use Rattle.csi_records.specs.Public.Spelling.{present, VolumeRow, volume_row, volume_part, answered_part}
 use Rattle.csi_records.specs.Public.Records.{IsCapabilityIn, IsHolding, IsVolumeRow, IsStagedSo, IsAnsweredRow, controller_record_of, node_record_of, IsControllerOf, IsNodeOf}
-use Rattle.csi_service.specs.Public.Services.{AreFitControllerRows, IsNamedControllerRowFit, row_id}
+use Rattle.csi_service.specs.Public.Services.{AreFitControllerRows, IsNamedControllerRowFit, controller_row_id}
 use Rattle.csi_service.specs.Public.NodeServices as nodes
 use Rattle.csi_service.proofs.ControllerChanges.{same-shown, named_row, named-at, by-id}
 use Rattle.csi_service.proofs.NodeChanges as told
@@ -104,7 +104,7 @@ module _ (old new : ControllerParts) (row : Option ℕ) (number : Number) (risin
 -- so they do by the place of the row that it changed
 pub controller-fit : (old new : ControllerParts) (place : Option ℕ) (number : Number) → AreRisingRows new.rows → ChangesAt place number old new → AreFitControllerRows old.rows → IsNamedControllerRowFit place new.rows → AreFitControllerRows new.rows
 controller-fit old new place number rising changes fit named =
-    all-fit old new (row_id place new.rows) number rising (by-id place number old new changes) fit
+    all-fit old new (controller_row_id place new.rows) number rising (by-id place number old new changes) fit
     (subst (λ (o : Option ControllerRow). IfSome o (λ (r : ControllerRow). IsVolumeRow present (volume_row r))) (named-at place new.rows rising) named)
 
 -- ---- a call of a node

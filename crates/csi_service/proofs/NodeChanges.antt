@@ -31,7 +31,7 @@ use Rattle.csi_stores.specs.Public.Content.{put_in, all_changed, AreRisingParts}
 use Rattle.csi_records.specs.Public.Spelling.{present, answered_part}
 use Rattle.csi_service.specs.declared.changed.Changed.{Changed}
 use Rattle.csi_service.specs.Public.Changed.{head_change}
-use Rattle.csi_service.specs.Public.NodeServices.{head_of_node, node_row_change, row_at, row_id, last_in_node, NodeDiffers}
+use Rattle.csi_service.specs.Public.NodeServices.{head_of_node, node_row_change, node_row_at, node_row_id, last_in_node, NodeDiffers}
 use Rattle.csi_service.specs.Private.NodeServices.{parts_of_node, forgotten_by_node}
 use Rattle.csi_service.proofs.RecordParts.{IsRisingById, answered-rising}
 use Rattle.csi_service.proofs.StayingRows.{gone-taken, gone-there, gone-nowhere, headed-changed, above-zero}
@@ -137,7 +137,7 @@ got-id (r ∷ rs) zero row is = ap (λ (x : NodeRowShown). x.id) (same_Some r ro
 got-id (r ∷ rs) (suc place) row is = got-id rs place row is
 
 -- the row at a place is the one that is found by its id
-pub named-at : (place : Option ℕ) (rows : List NodeRowShown) → IsRisingById rows → row_at place rows ≡ named_row (row_id place rows) rows
+pub named-at : (place : Option ℕ) (rows : List NodeRowShown) → IsRisingById rows → node_row_at place rows ≡ named_row (node_row_id place rows) rows
 named-at None rows rising = refl
 named-at (Some place) rows rising = by (slice_get rows place) refl
   where
@@ -151,7 +151,7 @@ named-at (Some place) rows rising = by (slice_get rows place) refl
         is ∙ ap Some (sym stands) ∙ sym (found-at rows row.id place row rising (record { within = slice_get_within rows place row is; has_id = got-id rows place row is })) ∙ ap named (sym is)
 
 -- what a call changed at a place is what it changed of that row's volume
-pub by-id : (place : Option ℕ) (number : Number) (old new : NodeParts) → ChangesAt place number old new → Changes (row_id place (parts new.rows)) number old new
+pub by-id : (place : Option ℕ) (number : Number) (old new : NodeParts) → ChangesAt place number old new → Changes (node_row_id place (parts new.rows)) number old new
 by-id None number old new changes = changes
 by-id (Some place) number old new changes = subst (λ (o : Option NodeRowShown). Changes (option_map (λ (r : NodeRowShown). r.id) o) number old new) (sym changes.1) changes.2
 
@@ -236,19 +236,19 @@ module _ (old new : NodeParts) (row : Option ℕ) (number : Number) (rising : Is
 module _ (old new : NodeParts) (place : Option ℕ) (number : Number) (rising : IsRisingById (parts old.rows)) (changes : ChangesAt place number old new) where
   -- what a call changed, by the row's place, makes the parts of the old node those of the new one
   pub parts-changed : (is_new : Bool) (forgotten : List ℕ) → IsRisingById (parts new.rows) → new.id ≡ old.id → (is_new ≡ false → new.session ≡ old.session) → forgotten ≡ forgotten_by_node number old
-      → AllByRecursion IsVolumeId forgotten → IfSome (row_id place (parts new.rows)) IsVolumeId
-      → parts_of_node new ≡ all_changed (head_change is_new (head_of_node new) ++ take_all forgotten ++ node_row_change (row_at place (parts new.rows))) (parts_of_node old)
+      → AllByRecursion IsVolumeId forgotten → IfSome (node_row_id place (parts new.rows)) IsVolumeId
+      → parts_of_node new ≡ all_changed (head_change is_new (head_of_node new) ++ take_all forgotten ++ node_row_change (node_row_at place (parts new.rows))) (parts_of_node old)
   parts-changed is_new forgotten rising_too id same are fit fits =
       subst (λ (o : Option NodeRowShown). parts_of_node new ≡ all_changed (head_change is_new (head_of_node new) ++ take_all forgotten ++ node_row_change o) (parts_of_node old))
       (sym (named-at place (parts new.rows) rising_too))
-      (id-changed old new (row_id place (parts new.rows)) number rising (by-id place number old new changes) is_new forgotten id same are fit fits)
+      (id-changed old new (node_row_id place (parts new.rows)) number rising (by-id place number old new changes) is_new forgotten id same are fit fits)
 
   -- all that is told is other than it was
   pub all-differ : (changed : Changed) → changed.row ≡ place → (changed.new_head ≡ true → new.session ≡ old.session → ⊥) → changed.forgotten.items ≡ forgotten_by_node number old → NodeDiffers changed old new
   all-differ changed is head are = record {
     head = head;
-    rows = λ id told. rows-differ old new (row_id place (parts new.rows)) number rising (by-id place number old new changes) changed.forgotten.items are id
-        (elim told [ inl among ↦ inl among | inr named ↦ inr (ap (λ (o : Option ℕ). row_id o (parts new.rows)) (sym is) ∙ named) ]);
+    rows = λ id told. rows-differ old new (node_row_id place (parts new.rows)) number rising (by-id place number old new changes) changed.forgotten.items are id
+        (elim told [ inl among ↦ inl among | inr named ↦ inr (ap (λ (o : Option ℕ). node_row_id o (parts new.rows)) (sym is) ∙ named) ]);
   }
 
 -- sessions that the test finds equal are, and those that it tells apart aren't

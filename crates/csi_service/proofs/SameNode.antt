@@ -11,7 +11,7 @@ use Rattle.csi_node.specs.Model.Record.{NodeParts, Shows, parts}
 use Rattle.csi_stores.specs.Public.Part.{take_all}
 use Rattle.csi_service.specs.declared.changed.Changed.{Changed}
 use Rattle.csi_service.specs.Public.Changed.{head_change}
-use Rattle.csi_service.specs.Public.NodeServices.{head_of_node, node_row_change, row_at, node_changes_of, last_in_node, NodeDiffers}
+use Rattle.csi_service.specs.Public.NodeServices.{head_of_node, node_row_change, node_row_at, node_changes_of, last_in_node, NodeDiffers}
 
 -- the last number, of the list that has what is kept
 abbrev first-number : List AnsweredVolume → Option Number
@@ -34,7 +34,7 @@ pub nothing-told : (one other : NodeParts) (state : NodeState) → Shows one sta
 nothing-told one other state shows shows_too changed differ =
     let head = no-head changed.new_head refl in
     let ids = no-ids changed.forgotten.items refl in
-    let row = no-row (row_at changed.row (parts other.rows)) refl in
+    let row = no-row (node_row_at changed.row (parts other.rows)) refl in
     λ i. head_change (head i) (head_of_node other) ++ take_all (ids i) ++ row i
   where
     same-last : (id : ℕ) → last_in_node other id ≡ last_in_node one id
@@ -48,6 +48,6 @@ nothing-told one other state shows shows_too changed differ =
     no-ids [] e = e
     no-ids (id ∷ ids) e = absurd (differ.rows id (inl (rw e (inl refl))) (same-last id))
 
-    no-row : (row : Option NodeRowShown) → row_at changed.row (parts other.rows) ≡ row → node_row_change (row_at changed.row (parts other.rows)) ≡ []
+    no-row : (row : Option NodeRowShown) → node_row_at changed.row (parts other.rows) ≡ row → node_row_change (node_row_at changed.row (parts other.rows)) ≡ []
     no-row None e = ap node_row_change e
     no-row (Some row) e = absurd (differ.rows row.id (inr (ap (option_map (λ (r : NodeRowShown). r.id)) e)) (same-last row.id))

@@ -17,7 +17,7 @@ use Rattle.csi_stores.specs.Public.Part.{StoredChange, take_all}
 use Rattle.csi_records.specs.Public.Spelling.{present, VolumeRow, volume_row, volume_part}
 use Rattle.csi_service.specs.declared.changed.Changed.{Changed}
 use Rattle.csi_service.specs.Public.Changed.{head_change}
-use Rattle.csi_service.specs.Public.Services.{head_of_controller, parts_of_controller, controller_row_change, row_at, row_id, controller_changes_of, last_in_controller, ControllerDiffers}
+use Rattle.csi_service.specs.Public.Services.{head_of_controller, parts_of_controller, controller_row_change, controller_row_at, controller_row_id, controller_changes_of, last_in_controller, ControllerDiffers}
 use Rattle.csi_service.proofs.RisingParts.{same-parts}
 use Rattle.csi_service.proofs.ControllerChanges.{shown_parts, at-shown, rising-shown, named_row, named-at}
 
@@ -108,7 +108,7 @@ module _ (one other : ControllerParts) (state : ControllerState) (shown : Shows 
       ∙ slice_get-map volume_of_row other.rows place
 
   -- so at each place both have the row of the same id, or none
-  same-id : (place : Option ℕ) → row_id place one.rows ≡ row_id place other.rows
+  same-id : (place : Option ℕ) → controller_row_id place one.rows ≡ controller_row_id place other.rows
   same-id None = refl
   same-id (Some place) = id-told (slice_get one.rows place) ∙ ap (option_map (λ (v : Volume). v.id)) (stands place) ∙ sym (id-told (slice_get other.rows place))
 
@@ -118,15 +118,15 @@ module _ (one other : ControllerParts) (state : ControllerState) (shown : Shows 
   same-named (Some id) = same-row_at id
 
   -- so do rows at the same place
-  same-place : (place : Option ℕ) → AreRisingRows one.rows → AreRisingRows other.rows → option_map volume_row (row_at place one.rows) ≡ option_map volume_row (row_at place other.rows)
+  same-place : (place : Option ℕ) → AreRisingRows one.rows → AreRisingRows other.rows → option_map volume_row (controller_row_at place one.rows) ≡ option_map volume_row (controller_row_at place other.rows)
   same-place place rising rising_too =
-      ap (option_map volume_row) (named-at place one.rows rising) ∙ same-named (row_id place one.rows)
+      ap (option_map volume_row) (named-at place one.rows rising) ∙ same-named (controller_row_id place one.rows)
       ∙ ap (λ (id : Option ℕ). option_map volume_row (named_row id other.rows)) (same-id place) ∙ ap (option_map volume_row) (sym (named-at place other.rows rising_too))
 
   -- and tell the same changes
   pub same-changes : (changed : Changed) → AreRisingRows one.rows → AreRisingRows other.rows → controller_changes_of changed one ≡ controller_changes_of changed other
   same-changes changed rising rising_too =
-      let row = change-shown (row_at changed.row one.rows) ∙ ap shown_change (same-place changed.row rising rising_too) ∙ sym (change-shown (row_at changed.row other.rows)) in
+      let row = change-shown (controller_row_at changed.row one.rows) ∙ ap shown_change (same-place changed.row rising rising_too) ∙ sym (change-shown (controller_row_at changed.row other.rows)) in
       λ i. head_change changed.new_head (same-head i) ++ take_all changed.forgotten.items ++ row i
 
   -- and the same last numbers
@@ -145,7 +145,7 @@ module _ (one other : ControllerParts) (state : ControllerState) (shown : Shows 
   nothing-told changed differ =
       let head = no-head changed.new_head refl in
       let ids = no-ids changed.forgotten.items refl in
-      let row = no-row (row_at changed.row other.rows) refl in
+      let row = no-row (controller_row_at changed.row other.rows) refl in
       λ i. head_change (head i) (head_of_controller other) ++ take_all (ids i) ++ row i
     where
       no-head : (b : Bool) → changed.new_head ≡ b → changed.new_head ≡ false
@@ -156,6 +156,6 @@ module _ (one other : ControllerParts) (state : ControllerState) (shown : Shows 
       no-ids [] e = e
       no-ids (id ∷ ids) e = absurd (differ.rows id (inl (rw e (inl refl))) (same-last id))
 
-      no-row : (row : Option ControllerRow) → row_at changed.row other.rows ≡ row → controller_row_change (row_at changed.row other.rows) ≡ []
+      no-row : (row : Option ControllerRow) → controller_row_at changed.row other.rows ≡ row → controller_row_change (controller_row_at changed.row other.rows) ≡ []
       no-row None e = ap controller_row_change e
       no-row (Some row) e = absurd (differ.rows row.id (inr (ap (option_map (λ (r : ControllerRow). r.id)) e)) (same-last row.id))

@@ -4,7 +4,7 @@ ghost use Rattle.std.specs.List.{AllByRecursion};
 ghost use Rattle.csi_types.specs.Public.VolumeId.{IsVolumeId};
 ghost use Rattle.csi_stores.specs.Public.Part.{part_change};
 ghost use Rattle.csi_service.specs.Private.Services.{forgotten_by_controller};
-ghost use Rattle.csi_service.specs.Public.Services.{row_id, row_at, controller_row_change, IsNamedControllerRowFit};
+ghost use Rattle.csi_service.specs.Public.Services.{controller_row_id, controller_row_at, controller_row_change, IsNamedControllerRowFit};
 
 use crate::changed::ids_law;
 use csi_controller::{Controller, sound_law};
@@ -21,7 +21,7 @@ pub(crate) fn push_row(
     place: Option<usize>,
 ) -> Result<(), NoMemory>
     ensures parts { OnOk result (map part_change parts.new.items ≡ map part_change parts.old.items ++ controller_row_change
-        (row_at place controller.now.rows)) }
+        (controller_row_at place controller.now.rows)) }
     ensures fit { OnOk result (IsNamedControllerRowFit place controller.now.rows) }
 {
     sound_law(controller);
@@ -39,7 +39,7 @@ pub(crate) fn push_row(
 
 /// For the proof alone: the id of the row at a place is a number from 1.
 pub(crate) fn id_law(controller: &Controller, place: Option<usize>)
-    ensures { IfSome (row_id place controller.now.rows) IsVolumeId }
+    ensures { IfSome (controller_row_id place controller.now.rows) IsVolumeId }
 {
     if let Some(place) = place {
         if let Some(row) = controller.row_at(place) {

@@ -5,7 +5,7 @@ ghost use Rattle.csi_types.specs.Public.VolumeId.{IsVolumeId};
 ghost use Rattle.csi_node.specs.Model.Record.{parts as rows_shown};
 ghost use Rattle.csi_stores.specs.Public.Part.{part_change};
 ghost use Rattle.csi_service.specs.Private.NodeServices.{forgotten_by_node};
-ghost use Rattle.csi_service.specs.Public.NodeServices.{row_id, row_at, node_row_change, IsNamedNodeRowFit};
+ghost use Rattle.csi_service.specs.Public.NodeServices.{node_row_id, node_row_at, node_row_change, IsNamedNodeRowFit};
 
 use crate::changed::ids_law;
 use csi_node::Node;
@@ -21,7 +21,7 @@ pub(crate) fn push_row(
     node: &Node,
     place: Option<usize>,
 ) -> Result<(), NoMemory>
-    ensures parts { OnOk result (map part_change parts.new.items ≡ map part_change parts.old.items ++ node_row_change (row_at place
+    ensures parts { OnOk result (map part_change parts.new.items ≡ map part_change parts.old.items ++ node_row_change (node_row_at place
         (rows_shown node.now.rows))) }
     ensures fit { OnOk result (IsNamedNodeRowFit place (rows_shown node.now.rows)) }
 {
@@ -39,7 +39,7 @@ pub(crate) fn push_row(
 
 /// For the proof alone: the id of the row at a place is a number from 1.
 pub(crate) fn id_law(node: &Node, place: Option<usize>)
-    ensures { IfSome (row_id place (rows_shown node.now.rows)) IsVolumeId }
+    ensures { IfSome (node_row_id place (rows_shown node.now.rows)) IsVolumeId }
 {
     if let Some(place) = place {
         if let Some(row) = node.row_at(place) {

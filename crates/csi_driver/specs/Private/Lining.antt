@@ -5,7 +5,7 @@ use Rattle.csi_driver.specs.declared.line_buffer.Front.TheVariants as front
 use Rattle.csi_driver.specs.declared.lines.LinesFault.{LinesFault}
 use Rattle.csi_driver.specs.declared.lines.LinesFault.TheVariants as faults
 use Rattle.csi_driver.specs.Public.LinesOf.{HasNoNewline, IsShort}
-use Rattle.csi_driver.specs.Public.Lining.{HasLine, HasLongLine, IsThere}
+use Rattle.csi_driver.specs.Public.Lining.{HasLine, HasLongLine, IsLineThere}
 use Rattle.csi_driver.specs.Public.State.{State}
 
 -- what the bytes that are kept begin with: a line of so many bytes; or they wait for more; or a line that is too long
@@ -15,18 +15,18 @@ IsFront kept front.Part = HasNoNewline kept × IsShort kept
 IsFront kept front.Long = HasLongLine kept
 
 -- The next line was handled; or none is there, or it is too long, and what waited was written; or it stopped.
-abbrev pub HandlesNext : {H S O F : Type 0} → (State H S O → ℕ → List ℕ → State H S O → Type 0) → (State H S O → State H S O → Type 0) → (H → Type 0) → (State H S O → Option (List ℕ) → State H S O → F → Type 0) → ℕ → List ℕ → List ℕ → State H S O → State H S O → Result Bool (LinesFault F) → Type 0
-HandlesNext handles flushes is_flushed stops number old new before now (Ok true) = (line : List ℕ) × HasLine old line new × handles before number line now
-HandlesNext handles flushes is_flushed stops number old new before now (Ok false) = HasNoNewline old × IsShort old × (new ≡ old) × flushes before now × is_flushed now.own
-HandlesNext handles flushes is_flushed stops number old new before now (Err (faults.Long at)) = HasLongLine old × (at ≡ number) × flushes before now × is_flushed now.own
-HandlesNext handles flushes is_flushed stops number old new before now (Err faults.NoMemory) = ⊥
-HandlesNext handles flushes is_flushed stops number old new before now (Err (faults.Handler fault)) = (line : Option (List ℕ)) × IsThere old line × stops before line now fault
+abbrev pub HandlesNextLine : {H S O F : Type 0} → (State H S O → ℕ → List ℕ → State H S O → Type 0) → (State H S O → State H S O → Type 0) → (H → Type 0) → (State H S O → Option (List ℕ) → State H S O → F → Type 0) → ℕ → List ℕ → List ℕ → State H S O → State H S O → Result Bool (LinesFault F) → Type 0
+HandlesNextLine handles flushes is_flushed stops number old new before now (Ok true) = (line : List ℕ) × HasLine old line new × handles before number line now
+HandlesNextLine handles flushes is_flushed stops number old new before now (Ok false) = HasNoNewline old × IsShort old × (new ≡ old) × flushes before now × is_flushed now.own
+HandlesNextLine handles flushes is_flushed stops number old new before now (Err (faults.Long at)) = HasLongLine old × (at ≡ number) × flushes before now × is_flushed now.own
+HandlesNextLine handles flushes is_flushed stops number old new before now (Err faults.NoMemory) = ⊥
+HandlesNextLine handles flushes is_flushed stops number old new before now (Err (faults.Handler fault)) = (line : Option (List ℕ)) × IsLineThere old line × stops before line now fault
 
 -- What is left at the end was handled, with this number, and what waited was written, or nothing is left; or it stopped, at it or behind it.
-abbrev pub EndsIn : {H S O F : Type 0} → (State H S O → ℕ → List ℕ → State H S O → Type 0) → (State H S O → State H S O → Type 0) → (H → Type 0) → (State H S O → Option (List ℕ) → State H S O → F → Type 0) → ℕ → List ℕ → ℕ → State H S O → ℕ → State H S O → Result (Unit {0}) (LinesFault F) → Type 0
-EndsIn {H} {S} {O} handles flushes is_flushed stops number kept count before count' now (Ok done) =
+abbrev pub HandlesLast : {H S O F : Type 0} → (State H S O → ℕ → List ℕ → State H S O → Type 0) → (State H S O → State H S O → Type 0) → (H → Type 0) → (State H S O → Option (List ℕ) → State H S O → F → Type 0) → ℕ → List ℕ → ℕ → State H S O → ℕ → State H S O → Result (Unit {0}) (LinesFault F) → Type 0
+HandlesLast {H} {S} {O} handles flushes is_flushed stops number kept count before count' now (Ok done) =
     ((kept ≡ []) × (count' ≡ count) × (now ≡ before)) ⊎ ((mid : State H S O) × (kept ≢ []) × (count' ≡ number) × handles before number kept mid × flushes mid now × is_flushed now.own)
-EndsIn handles flushes is_flushed stops number kept count before count' now (Err (faults.Long at)) = ⊥
-EndsIn handles flushes is_flushed stops number kept count before count' now (Err faults.NoMemory) = ⊥
-EndsIn {H} {S} {O} handles flushes is_flushed stops number kept count before count' now (Err (faults.Handler fault)) =
+HandlesLast handles flushes is_flushed stops number kept count before count' now (Err (faults.Long at)) = ⊥
+HandlesLast handles flushes is_flushed stops number kept count before count' now (Err faults.NoMemory) = ⊥
+HandlesLast {H} {S} {O} handles flushes is_flushed stops number kept count before count' now (Err (faults.Handler fault)) =
     ((kept ≢ []) × (count' ≡ count) × stops before (Some kept) now fault) ⊎ ((mid : State H S O) × (kept ≢ []) × (count' ≡ number) × handles before number kept mid × stops mid None now fault)

@@ -1,5 +1,5 @@
 -- How the frames of a stream were handled, to its end. This profile's own.
-use Rattle.std.specs.Prelude.{◌≡◌, ◌≢◌, ◌<◌, ◌≤◌, ◌+◌, ◌^◌, ℕ, List, [], length, take, slice_get, Option, Some, None, Result, Ok, Err}
+use Rattle.std.specs.Prelude.{◌≡◌, ◌≢◌, ◌<◌, ◌≤◌, ◌+◌, ◌^◌, ℕ, List, [], length, take, Option, Result, Ok, Err}
 use Rattle.std.specs.List.{flat_map}
 use Rattle.std.specs.Io.KnownBytes.{Consumes, IsAtEnd}
 use Rattle.csi_types.specs.Model.Frame.{Frame}
@@ -9,11 +9,12 @@ use Rattle.csi_frames.specs.Public.Fault.{IsFaulty}
 use Rattle.csi_frames.specs.Public.Spelling.{spelling}
 use Rattle.csi_frames.specs.Public.Stream.{FramesOf}
 use Rattle.csi_driver.specs.declared.driver.Stop.{Stop}
-use Rattle.csi_driver.specs.declared.driver.Stop.TheVariants as stop
 use Rattle.csi_driver.specs.declared.frames.FramesFault.{FramesFault}
 use Rattle.csi_driver.specs.declared.frames.FramesFault.TheVariants as faults
 use Rattle.csi_driver.specs.Public.State.{State}
 use Rattle.csi_driver.specs.Public.Framing.{Runs}
+pub use Rattle.csi_driver.specs.Public.Handled.{IsBehind}
+use Rattle.csi_driver.specs.Public.Handled.{AllHandled, FirstHandled, EndsReading}
 
 -- the first fault of the rest, which isn't empty; its place counts from the front of the stream
 pub record IsFaultOf (frames : List Frame) (rest : List ℕ) (kind : FaultKind) (place : ℕ) : Type 0 where
@@ -21,17 +22,6 @@ pub record IsFaultOf (frames : List Frame) (rest : List ℕ) (kind : FaultKind) 
   pub something : rest ≢ []
   pub faulty : IsFaulty rest kind at
   pub here : place ≡ length (flat_map spelling frames) + at
-
--- all of these frames were handled, and nothing waits to be written
-pub record AllHandled {H S O : Type 0} (handles : State H S O → ℕ → Frame → State H S O → Type 0) (flushes : State H S O → State H S O → Type 0) (is_flushed : H → Type 0) (first now : State H S O) (frames : List Frame) (count : ℕ) : Type 0 where
-  pub runs : Runs handles flushes first frames now
-  pub flushed : is_flushed now.own
-  pub counted : count ≡ length frames
-
--- behind so many frames stands this one, or it stopped where it wrote what waited
-abbrev pub IsBehind : List Frame → ℕ → Option Frame → Type 0
-IsBehind frames count None = Unit {0}
-IsBehind frames count (Some frame) = slice_get frames count ≡ Some frame
 
 -- the first frames were handled, as many as are counted, and then it stopped
 pub record Halts {H S O F : Type 0} (handles : State H S O → ℕ → Frame → State H S O → Type 0) (flushes : State H S O → State H S O → Type 0) (stops : State H S O → Option Frame → State H S O → F → Type 0) (first now : State H S O) (frames : List Frame) (count : ℕ) (fault : F) : Type 0 where
@@ -42,30 +32,17 @@ pub record Halts {H S O F : Type 0} (handles : State H S O → ℕ → Frame →
   pub behind : IsBehind frames count frame
   pub stopped : stops before frame now fault
 
--- the first frames were handled, as many as are counted, and there was no memory for more
-pub record RunsOut {H S O : Type 0} (handles : State H S O → ℕ → Frame → State H S O → Type 0) (flushes : State H S O → State H S O → Type 0) (is_flushed : H → Type 0) (first now : State H S O) (frames : List Frame) (count : ℕ) : Type 0 where
-  pub within : count ≤ length frames
-  pub runs : Runs handles flushes first (take count frames) now
-  pub flushed : is_flushed now.own
-
 -- How a stream of these frames and this rest ends: all were handled, and no byte is left over; or the rest is at fault; or memory ran out;
 -- or what handles the frames stopped.
 abbrev pub EndsFrames : {H S O F : Type 0} → (State H S O → ℕ → Frame → State H S O → Type 0) → (State H S O → State H S O → Type 0) → (H → Type 0) → (State H S O → Option Frame → State H S O → F → Type 0) → State H S O → State H S O → ℕ → List Frame → List ℕ → Type 0 → Result (Unit {0}) (FramesFault F) → Type 0
-EndsFrames handles flushes is_flushed stops first now count frames rest at_end (Ok done) = at_end × (rest ≡ []) × AllHandled handles flushes is_flushed first now frames count
-EndsFrames handles flushes is_flushed stops first now count frames rest at_end (Err (faults.Frame kind place)) = (kind ≡ Short → at_end) × IsFaultOf frames rest kind place × AllHandled handles flushes is_flushed first now frames count
-EndsFrames handles flushes is_flushed stops first now count frames rest at_end (Err faults.NoMemory) = RunsOut handles flushes is_flushed first now frames count
+EndsFrames handles flushes is_flushed stops first now count frames rest at_end (Ok done) = at_end × (rest ≡ []) × AllHandled (Runs handles flushes first) is_flushed now frames count
+EndsFrames handles flushes is_flushed stops first now count frames rest at_end (Err (faults.Frame kind place)) = (kind ≡ Short → at_end) × IsFaultOf frames rest kind place × AllHandled (Runs handles flushes first) is_flushed now frames count
+EndsFrames handles flushes is_flushed stops first now count frames rest at_end (Err faults.NoMemory) = FirstHandled (Runs handles flushes first) is_flushed now frames count
 EndsFrames handles flushes is_flushed stops first now count frames rest at_end (Err (faults.Handler fault)) = Halts handles flushes stops first now frames count fault
 
 -- the rest waits for more: it is less than a length and its body take, or nothing
 abbrev pub Waits : List ℕ → Type 0
 Waits rest = IsFaulty rest Short (length rest)
-
--- how a reader's stream ends: as above; or the reader failed, or gave 2^63 bytes, where no fault was read
-abbrev pub EndsReading : {H S O F : Type 0} → (State H S O → ℕ → Frame → State H S O → Type 0) → (State H S O → State H S O → Type 0) → (H → Type 0) → (State H S O → Option Frame → State H S O → F → Type 0) → State H S O → State H S O → ℕ → List ℕ → List Frame → List ℕ → Type 0 → Result (Unit {0}) (Stop (FramesFault F)) → Type 0
-EndsReading handles flushes is_flushed stops first now count read frames rest at_end (Ok done) = EndsFrames handles flushes is_flushed stops first now count frames rest at_end (Ok done)
-EndsReading handles flushes is_flushed stops first now count read frames rest at_end (Err stop.Input) = Waits rest × AllHandled handles flushes is_flushed first now frames count
-EndsReading handles flushes is_flushed stops first now count read frames rest at_end (Err stop.Endless) = (2 ^ 63 ≤ length read) × Waits rest × AllHandled handles flushes is_flushed first now frames count
-EndsReading handles flushes is_flushed stops first now count read frames rest at_end (Err (stop.Consumer fault)) = EndsFrames handles flushes is_flushed stops first now count frames rest at_end (Err fault)
 
 -- some bytes were read, which are frames and a rest, and so it ended
 pub record ReadsFrames {H S O F : Type 0} (handles : State H S O → ℕ → Frame → State H S O → Type 0) (flushes : State H S O → State H S O → Type 0) (is_flushed : H → Type 0) (stops : State H S O → Option Frame → State H S O → F → Type 0) (first now : State H S O) (count : ℕ) (left_before left_after : Option (List ℕ)) (result : Result (Unit {0}) (Stop (FramesFault F))) : Type 0 where
@@ -75,4 +52,4 @@ pub record ReadsFrames {H S O F : Type 0} (handles : State H S O → ℕ → Fra
   pub frames : List Frame
   pub rest : List ℕ
   pub stream : FramesOf read frames rest
-  pub ends : EndsReading handles flushes is_flushed stops first now count read frames rest (IsAtEnd left_after) result
+  pub ends : EndsReading (EndsFrames handles flushes is_flushed stops first now count frames rest (IsAtEnd left_after)) (Waits rest) (AllHandled (Runs handles flushes first) is_flushed now frames count) read result

@@ -8,27 +8,27 @@ use Rattle.csi_driver.specs.Public.LinesOf.{HasNoNewline, with_newline, IsShort}
 use Rattle.csi_driver.specs.Public.State.{State}
 
 -- From the first state these lines, none of them too long, handled one after another, led to this one; now and then what waited was written.
-pub data Runs {H S O : Type 0} (handles : State H S O → ℕ → List ℕ → State H S O → Type 0) (flushes : State H S O → State H S O → Type 0) (first : State H S O) : List (List ℕ) → State H S O → Type 0 where
-  begins : Runs handles flushes first [] first
-  handled : (lines : List (List ℕ)) (now : State H S O) (line : List ℕ) (next : State H S O) → Runs handles flushes first lines now → IsShort line → handles now (length lines + 1) line next → Runs handles flushes first (lines ++ line ∷ []) next
-  flushed : (lines : List (List ℕ)) (now next : State H S O) → Runs handles flushes first lines now → flushes now next → Runs handles flushes first lines next
+pub data RunsLines {H S O : Type 0} (handles : State H S O → ℕ → List ℕ → State H S O → Type 0) (flushes : State H S O → State H S O → Type 0) (first : State H S O) : List (List ℕ) → State H S O → Type 0 where
+  no_line : RunsLines handles flushes first [] first
+  line_handled : (lines : List (List ℕ)) (now : State H S O) (line : List ℕ) (next : State H S O) → RunsLines handles flushes first lines now → IsShort line → handles now (length lines + 1) line next → RunsLines handles flushes first (lines ++ line ∷ []) next
+  lines_flushed : (lines : List (List ℕ)) (now next : State H S O) → RunsLines handles flushes first lines now → flushes now next → RunsLines handles flushes first lines next
 
 -- the state of what handles the lines
-abbrev pub inner : {H S O : Type 0} → State (Lines H) S O → State H S O
-inner state = record { own = state.own.handler; store = state.store; out = state.out }
+abbrev pub inner_of_lines : {H S O : Type 0} → State (Lines H) S O → State H S O
+inner_of_lines state = record { own = state.own.handler; store = state.store; out = state.out }
 
 -- These bytes were fed, and the lines that were taken off their front were handled.
-pub record Reaches {H S O : Type 0} (handles : State H S O → ℕ → List ℕ → State H S O → Type 0) (flushes : State H S O → State H S O → Type 0) (first : State (Lines H) S O) (fed : List ℕ) (now : State (Lines H) S O) : Type 0 where
+pub record ReachesLines {H S O : Type 0} (handles : State H S O → ℕ → List ℕ → State H S O → Type 0) (flushes : State H S O → State H S O → Type 0) (first : State (Lines H) S O) (fed : List ℕ) (now : State (Lines H) S O) : Type 0 where
   pub few : length fed < 2 ^ 64
   pub done : List (List ℕ)
   pub each : AllByRecursion HasNoNewline done
   pub whole : fed ≡ flat_map with_newline done ++ now.own.buffer
   pub counted : now.own.count ≡ length done
-  pub runs : Runs handles flushes (inner first) done (inner now)
+  pub runs : RunsLines handles flushes (inner_of_lines first) done (inner_of_lines now)
 
 -- the same; what is kept waits for more, and nothing waits to be written
-pub record Rests {H S O : Type 0} (handles : State H S O → ℕ → List ℕ → State H S O → Type 0) (flushes : State H S O → State H S O → Type 0) (is_flushed : H → Type 0) (first : State (Lines H) S O) (fed : List ℕ) (now : State (Lines H) S O) : Type 0 where
-  pub reached : Reaches handles flushes first fed now
+pub record RestsLines {H S O : Type 0} (handles : State H S O → ℕ → List ℕ → State H S O → Type 0) (flushes : State H S O → State H S O → Type 0) (is_flushed : H → Type 0) (first : State (Lines H) S O) (fed : List ℕ) (now : State (Lines H) S O) : Type 0 where
+  pub reached : ReachesLines handles flushes first fed now
   pub waits : HasNoNewline now.own.buffer
   pub short : IsShort now.own.buffer
   pub flushed : is_flushed now.own.handler
@@ -42,21 +42,21 @@ abbrev pub HasLongLine : List ℕ → Type 0
 HasLongLine kept = (line behind : List ℕ) × (kept ≡ line ++ behind) × HasNoNewline line × (65536 < length line)
 
 -- the next line, if it stops there
-abbrev pub IsThere : List ℕ → Option (List ℕ) → Type 0
-IsThere kept None = Unit {0}
-IsThere kept (Some line) = (behind : List ℕ) × HasLine kept line behind
+abbrev pub IsLineThere : List ℕ → Option (List ℕ) → Type 0
+IsLineThere kept None = Unit {0}
+IsLineThere kept (Some line) = (behind : List ℕ) × HasLine kept line behind
 
 -- Why it stopped in these bytes, behind those that were fed and in a state that was reached before: the next line is too long, and what
 -- waited was written; or there was no memory for a piece; or what handles the lines stopped.
-abbrev pub StopsBehind : {H S O F : Type 0} → (State H S O → State H S O → Type 0) → (H → Type 0) → (State H S O → Option (List ℕ) → State H S O → F → Type 0) → List ℕ → List ℕ → State (Lines H) S O → State (Lines H) S O → LinesFault F → Type 0
-StopsBehind flushes is_flushed stops bytes fed before now (faults.Long number) = (bytes ≡ fed) × HasLongLine before.own.buffer × (number ≡ before.own.count + 1) × flushes (inner before) (inner now) × is_flushed now.own.handler
-StopsBehind flushes is_flushed stops bytes fed before now faults.NoMemory = (piece : List ℕ) × (bytes ≡ fed ++ piece) × (inner now ≡ inner before) × is_flushed now.own.handler
-StopsBehind flushes is_flushed stops bytes fed before now (faults.Handler fault) = (line : Option (List ℕ)) × (bytes ≡ fed) × IsThere before.own.buffer line × stops (inner before) line (inner now) fault
+abbrev pub StopsBehindLines : {H S O F : Type 0} → (State H S O → State H S O → Type 0) → (H → Type 0) → (State H S O → Option (List ℕ) → State H S O → F → Type 0) → List ℕ → List ℕ → State (Lines H) S O → State (Lines H) S O → LinesFault F → Type 0
+StopsBehindLines flushes is_flushed stops bytes fed before now (faults.Long number) = (bytes ≡ fed) × HasLongLine before.own.buffer × (number ≡ before.own.count + 1) × flushes (inner_of_lines before) (inner_of_lines now) × is_flushed now.own.handler
+StopsBehindLines flushes is_flushed stops bytes fed before now faults.NoMemory = (piece : List ℕ) × (bytes ≡ fed ++ piece) × (inner_of_lines now ≡ inner_of_lines before) × is_flushed now.own.handler
+StopsBehindLines flushes is_flushed stops bytes fed before now (faults.Handler fault) = (line : Option (List ℕ)) × (bytes ≡ fed) × IsLineThere before.own.buffer line × stops (inner_of_lines before) line (inner_of_lines now) fault
 
 -- it stopped so
-pub record StopsIn {H S O F : Type 0} (handles : State H S O → ℕ → List ℕ → State H S O → Type 0) (flushes : State H S O → State H S O → Type 0) (is_flushed : H → Type 0) (stops : State H S O → Option (List ℕ) → State H S O → F → Type 0) (first : State (Lines H) S O) (bytes : List ℕ) (now : State (Lines H) S O) (fault : LinesFault F) : Type 0 where
+pub record StopsInLines {H S O F : Type 0} (handles : State H S O → ℕ → List ℕ → State H S O → Type 0) (flushes : State H S O → State H S O → Type 0) (is_flushed : H → Type 0) (stops : State H S O → Option (List ℕ) → State H S O → F → Type 0) (first : State (Lines H) S O) (bytes : List ℕ) (now : State (Lines H) S O) (fault : LinesFault F) : Type 0 where
   pub fed : List ℕ
   pub before : State (Lines H) S O
-  pub reached : Reaches handles flushes first fed before
+  pub reached : ReachesLines handles flushes first fed before
   pub counted : now.own.count ≡ before.own.count
-  pub behind : StopsBehind flushes is_flushed stops bytes fed before now fault
+  pub behind : StopsBehindLines flushes is_flushed stops bytes fed before now fault

@@ -25,18 +25,18 @@ node_row_change None = []
 node_row_change (Some row) = put_all (answered_part present row ∷ [])
 
 -- the row at a place, if one is named and there
-abbrev pub row_at : Option ℕ → List NodeRowShown → Option NodeRowShown
-row_at None rows = None
-row_at (Some place) rows = slice_get rows place
+abbrev pub node_row_at : Option ℕ → List NodeRowShown → Option NodeRowShown
+node_row_at None rows = None
+node_row_at (Some place) rows = slice_get rows place
 
 -- the id of that row
-abbrev pub row_id : Option ℕ → List NodeRowShown → Option ℕ
-row_id place rows = option_map (λ row. row.id) (row_at place rows)
+abbrev pub node_row_id : Option ℕ → List NodeRowShown → Option ℕ
+node_row_id place rows = option_map (λ row. row.id) (node_row_at place rows)
 
 -- what an answer changed, as the node has it now: the head, where a session began; the rows that were forgotten are taken out; and then one
 -- row is put in
 abbrev pub node_changes_of : Changed → NodeParts → List StoredChange
-node_changes_of changed node = head_change changed.new_head (head_of_node node) ++ take_all changed.forgotten.items ++ node_row_change (row_at changed.row (parts node.rows))
+node_changes_of changed node = head_change changed.new_head (head_of_node node) ++ take_all changed.forgotten.items ++ node_row_change (node_row_at changed.row (parts node.rows))
 
 -- the same, of its last answer
 abbrev pub node_service_changes : NodeService → List StoredChange
@@ -48,7 +48,7 @@ last_in_node node id = option_map (λ row. row.kept.number) (row_by_id id (parts
 
 -- what an answer tells as changed is other than it was
 abbrev pub NodeDiffers : Changed → NodeParts → NodeParts → Type 0
-NodeDiffers changed old new = AllDiffer changed (row_id changed.row (parts new.rows)) old.session new.session (last_in_node old) (last_in_node new)
+NodeDiffers changed old new = AllDiffer changed (node_row_id changed.row (parts new.rows)) old.session new.session (last_in_node old) (last_in_node new)
 
 -- all that rows have is within its limits
 abbrev pub AreFitNodeRows : List NodeRowShown → Type 0
@@ -56,7 +56,7 @@ AreFitNodeRows rows = AllByRecursion (IsAnsweredRow present) rows
 
 -- so is all that the row at a place has, if one is named and there
 abbrev pub IsNamedNodeRowFit : Option ℕ → List NodeRowShown → Type 0
-IsNamedNodeRowFit place rows = IfSome (row_at place rows) (IsAnsweredRow present)
+IsNamedNodeRowFit place rows = IfSome (node_row_at place rows) (IsAnsweredRow present)
 
 -- where all that the old rows have is, and what an answer changed, all that the new rows have is
 abbrev pub NodeStaysFit : NodeService → NodeService → Type 0

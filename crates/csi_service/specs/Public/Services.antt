@@ -38,19 +38,19 @@ controller_row_change None = []
 controller_row_change (Some row) = put_all (volume_part present (volume_row row) ∷ [])
 
 -- the row at a place, if one is named and there
-abbrev pub row_at : Option ℕ → List ControllerRow → Option ControllerRow
-row_at None rows = None
-row_at (Some place) rows = slice_get rows place
+abbrev pub controller_row_at : Option ℕ → List ControllerRow → Option ControllerRow
+controller_row_at None rows = None
+controller_row_at (Some place) rows = slice_get rows place
 
 -- the id of that row
-abbrev pub row_id : Option ℕ → List ControllerRow → Option ℕ
-row_id place rows = option_map (λ row. row.id) (row_at place rows)
+abbrev pub controller_row_id : Option ℕ → List ControllerRow → Option ℕ
+controller_row_id place rows = option_map (λ row. row.id) (controller_row_at place rows)
 
 -- what an answer changed, as the controller has it now: the head, where a volume was made or a session began; the rows that were
 -- forgotten are taken out; and then one row is put in
 abbrev pub controller_changes_of : Changed → ControllerParts → List StoredChange
 controller_changes_of changed controller =
-    head_change changed.new_head (head_of_controller controller) ++ take_all changed.forgotten.items ++ controller_row_change (row_at changed.row controller.rows)
+    head_change changed.new_head (head_of_controller controller) ++ take_all changed.forgotten.items ++ controller_row_change (controller_row_at changed.row controller.rows)
 
 -- the same, of its last answer
 abbrev pub controller_service_changes : ControllerService → List StoredChange
@@ -62,7 +62,7 @@ last_in_controller controller id = option_map (λ row. row.last) (row_by_id id c
 
 -- what an answer tells as changed is other than it was
 abbrev pub ControllerDiffers : Changed → ControllerParts → ControllerParts → Type 0
-ControllerDiffers changed old new = AllDiffer {H = ℕ × ℕ} changed (row_id changed.row new.rows) (old.next_id, old.session) (new.next_id, new.session) (last_in_controller old) (last_in_controller new)
+ControllerDiffers changed old new = AllDiffer {H = ℕ × ℕ} changed (controller_row_id changed.row new.rows) (old.next_id, old.session) (new.next_id, new.session) (last_in_controller old) (last_in_controller new)
 
 -- all that rows have is within its limits
 abbrev pub AreFitControllerRows : List ControllerRow → Type 0
@@ -70,7 +70,7 @@ AreFitControllerRows rows = AllByRecursion (IsVolumeRow present) (map volume_row
 
 -- so is all that the row at a place has, if one is named and there
 abbrev pub IsNamedControllerRowFit : Option ℕ → List ControllerRow → Type 0
-IsNamedControllerRowFit place rows = IfSome (row_at place rows) (λ row. IsVolumeRow present (volume_row row))
+IsNamedControllerRowFit place rows = IfSome (controller_row_at place rows) (λ row. IsVolumeRow present (volume_row row))
 
 -- where all that the old rows have is, and what an answer changed, all that the new rows have is
 abbrev pub ControllerStaysFit : ControllerService → ControllerService → Type 0

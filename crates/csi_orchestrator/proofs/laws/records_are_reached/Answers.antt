@@ -1,6 +1,10 @@
 -- Row after row.
 use Rattle.csi_orchestrator.proofs.Restored.{restored}
+use Rattle.csi_orchestrator.proofs.Opened.{opened}
 use Rattle.csi_orchestrator.proofs.laws.records_are_reached.Goals as goal
 
-pub returns : goal.returns
-returns c = restored
+pub returns-clause-reached : goal.returns-clause-reached
+returns-clause-reached c = restored
+
+pub returns-clause-opened : goal.returns-clause-opened
+returns-clause-opened c = opened

@@ -1,5 +1,5 @@
 -- By the rows.
-use Rattle.csi_orchestrator.proofs.RestartAgrees.{restart-told, only-spent}
+use Rattle.csi_orchestrator.proofs.RestartAgrees.{restart-told, only-spent, shown-once}
 use Rattle.csi_orchestrator.proofs.PromisesTold.{ok-promised, err-promised, kept-promised, nodes-promised}
 use Rattle.csi_orchestrator.proofs.orchestrator.Orchestrator.restart.Goals as goal
 
@@ -25,3 +25,6 @@ returns-clause-nodes c =
 
 pub returns-clause-spent : goal.returns-clause-spent
 returns-clause-spent c = only-spent c.restart.result c.self.inside.core c.restart.ensures.err
+
+pub returns-clause-value : goal.returns-clause-value
+returns-clause-value c = shown-once c.restart.result _ c.self.inside.core c.restart.new.self c.self.view_is c.restart.ensures.ok

@@ -1,0 +1,152 @@
+-- The first row that no record has there, and the walk that finds it.
+use Rattle.std.proofs.Common.{◌≡◌, ◌<◌, ◌≤◌, ◌+◌, ◌-◌, ℕ, length, map, get_or, take, drop, Bool, true, false, List, [], ◌∷◌, ◌++◌, refl, sym, ◌∙◌, ap, subst, arith}
+use Rattle.std.specs.Prelude.{◌||◌, nat_lt}
+use Rattle.std.specs.List.{AllByRecursion, list_any}
+use Rattle.std.proofs.lemmas.Bool.{and_from, and_parts, false≢true, true≢false, lt-ltb, ltb-true, or_parts}
+use Rattle.std.proofs.lemmas.List.{length-append, length-map, length-take-le, length_push, map_push, take-append-drop, take-map, take_all, take_more}
+use Rattle.std.proofs.lemmas.List.Folds.{list_any-append}
+use Rattle.csi_lists.proofs.Each.{each-append_one}
+use Rattle.csi_lists.proofs.Members.{each_of}
+use Rattle.csi_lists.proofs.Pairs.{two-append}
+use Rattle.csi_types.specs.Model.Same.{same_text}
+use Rattle.csi_orchestrator.specs.declared.row.Row.{Row}
+use Rattle.csi_orchestrator.specs.Model.Shown.{RowShown}
+use Rattle.csi_orchestrator.specs.Public.Judging.{IsFirstRefused}
+use Rattle.csi_orchestrator.specs.Public.Restored.{IsRestorable, AreRestorable}
+use Rattle.csi_orchestrator.specs.Public.Shown.{row_shown}
+use Rattle.csi_orchestrator.specs.Private.Judging.{is_restorable, may_follow}
+use Rattle.csi_orchestrator.proofs.JudgedPlaces.{restorable-from}
+use Rattle.csi_orchestrator.proofs.PassedTests.{from-restorable}
+use Rattle.csi_orchestrator.proofs.SplitLists.{any-of_none, each-left, each-right, two-left, two-there}
+
+-- ---- the rules of the first rows
+
+-- a front of a record's rows is a record's
+front-kept : (nodes : List (List ℕ)) (rows more : List RowShown) → AreRestorable nodes (rows ++ more) → AreRestorable nodes rows
+front-kept nodes rows more kept =
+    record {
+      few_nodes = kept.few_nodes;
+      few = let few = kept.few in let long : length (rows ++ more) ≡ length rows + length more = length-append rows more in omega (arith, few, long);
+      names = two-left (λ (a b : RowShown). same_text a.name b.name ≡ false) rows more kept.names;
+      each = each-left (IsRestorable nodes) rows more kept.each;
+    }
+
+-- the first rows of a record's are a record's
+pub take-kept : (nodes : List (List ℕ)) (rows : List RowShown) (k : ℕ) → AreRestorable nodes rows → AreRestorable nodes (take k rows)
+take-kept nodes rows k kept = front-kept nodes (take k rows) (drop k rows) (subst (AreRestorable nodes) (sym (take-append-drop k rows)) kept)
+
+-- rows that are a record's have no first one that no record has there
+pub not-both : (nodes : List (List ℕ)) (rows : List RowShown) (place : ℕ) → IsFirstRefused (AreRestorable nodes) rows place → AreRestorable nodes rows → ⊥
+not-both nodes rows place first kept = first.refused (take-kept nodes rows place kept)
+
+-- ---- one more row
+
+-- each fails where none passes
+pub each-fails : {X : Type 0} (p : X → Bool) (xs : List X) → list_any p xs ≡ false → AllByRecursion (λ x. p x ≡ false) xs
+each-fails p [] h = tt
+each-fails p (x ∷ xs) h = let parts = or_parts (p x) (list_any p xs) h in (parts.0, each-fails p xs parts.1)
+
+-- a record's rows, and one that may follow them under a name that none of them has, are a record's
+kept-more : (nodes : List (List ℕ)) (rows : List RowShown) (row : Row) → AreRestorable nodes rows → may_follow nodes (length rows) row ≡ true → list_any (λ (r : RowShown). same_text r.name row.name) rows ≡ false
+    → AreRestorable nodes (rows ++ row_shown row ∷ [])
+kept-more nodes rows row kept follows none =
+    let parts = and_parts (nat_lt (length rows) 4096) (is_restorable nodes row) follows in
+    record {
+      few_nodes = kept.few_nodes;
+      few =
+          let room : length rows < 4096 = ltb-true (length rows) 4096 parts.0 in
+          let long : length (rows ++ row_shown row ∷ []) ≡ length rows + 1 = length_push rows (row_shown row) in omega (arith, room, long);
+      names =
+          two-append (λ (a b : RowShown). same_text a.name b.name ≡ false) rows (row_shown row) kept.names
+          (λ r among. each_of (λ (r : RowShown). same_text r.name row.name ≡ false) rows r (each-fails (λ (r : RowShown). same_text r.name row.name) rows none) among);
+      each = each-append_one (IsRestorable nodes) rows (row_shown row) kept.each (restorable-from nodes row parts.1);
+    }
+
+-- the last of a record's rows may follow those before it
+kept-follows : (nodes : List (List ℕ)) (rows : List RowShown) (row : Row) → AreRestorable nodes (rows ++ row_shown row ∷ []) → may_follow nodes (length rows) row ≡ true
+kept-follows nodes rows row kept =
+    let few = kept.few in
+    let long : length (rows ++ row_shown row ∷ []) ≡ length rows + 1 = length_push rows (row_shown row) in
+    and_from (nat_lt (length rows) 4096) (is_restorable nodes row) (lt-ltb (length rows) 4096 (omega (arith, few, long)))
+    (from-restorable nodes row (each-right (IsRestorable nodes) rows (row_shown row ∷ []) kept.each).0)
+
+-- no row before the last of a record's has its name
+new-name : (nodes : List (List ℕ)) (rows : List RowShown) (row : Row) → AreRestorable nodes (rows ++ row_shown row ∷ []) → list_any (λ (r : RowShown). same_text r.name row.name) rows ≡ false
+new-name nodes rows row kept =
+    any-of_none (λ (r : RowShown). same_text r.name row.name) rows (two-there (λ (a b : RowShown). same_text a.name b.name ≡ false) rows (row_shown row) [] kept.names).0
+
+-- ---- the walk
+
+-- the rows before a place, as they are shown
+abbrev so_far : List Row → ℕ → List RowShown
+so_far rows place = map row_shown (take place rows)
+
+-- they are a record's, and these are their names
+pub record SoFar (nodes : List (List ℕ)) (rows : List Row) (place : ℕ) (has : List ℕ → Bool) : Type 0 where
+  pub kept : AreRestorable nodes (so_far rows place)
+  pub names : (name : List ℕ) → has name ≡ list_any (λ (row : RowShown). same_text row.name name) (so_far rows place)
+
+-- the rows up to a place and with it are those before it, and then the row there
+one-more : (rows : List Row) (place : ℕ) (row : Row) → place < length rows → row ≡ get_or rows place row → so_far rows (place + 1) ≡ so_far rows place ++ row_shown row ∷ []
+one-more rows place row inside is =
+    ap (map row_shown) (take_more rows place row inside ∙ ap (λ (r : Row). take place rows ++ r ∷ []) (sym is)) ∙ map_push row_shown (take place rows) row
+
+-- as many are before a place as its number
+count-so_far : (rows : List Row) (place : ℕ) → place ≤ length rows → length (so_far rows place) ≡ place
+count-so_far rows place inside = length-map (take place rows) row_shown ∙ length-take-le place rows inside
+
+-- two tests in the other order, with one that fails between, come to the same
+or-turned : (a b : Bool) → (a || b) ≡ (b || (a || false))
+or-turned true true = refl
+or-turned true false = refl
+or-turned false true = refl
+or-turned false false = refl
+
+-- the walk begins so, before the first row and while no name is had
+pub begins : (nodes : List (List ℕ)) (rows : List Row) (has : List ℕ → Bool) → length nodes ≤ 64 → ((name : List ℕ) → has name ≡ false) → SoFar nodes rows 0 has
+begins nodes rows has few none = record { kept = record { few_nodes = few; few = omega arith; names = tt; each = tt }; names = none }
+
+-- it goes on so after a row that may follow and has a new name, once that name is put in
+pub goes_on : (nodes : List (List ℕ)) (rows : List Row) (place : ℕ) (has now_has : List ℕ → Bool) (row : Row) → SoFar nodes rows place has → place < length rows → row ≡ get_or rows place row
+    → may_follow nodes place row ≡ true → has row.name ≡ false → ((name : List ℕ) → now_has name ≡ (same_text row.name name || has name)) → SoFar nodes rows (place + 1) now_has
+goes_on nodes rows place has now_has row so inside is follows absent adds =
+    let before = so_far rows place in
+    let more : so_far rows (place + 1) ≡ before ++ row_shown row ∷ [] = one-more rows place row inside is in
+    record {
+      kept =
+          subst (AreRestorable nodes) (sym more)
+          (kept-more nodes before row so.kept (ap (λ k. may_follow nodes k row) (count-so_far rows place (omega (arith, inside))) ∙ follows) (sym (so.names row.name) ∙ absent));
+      names = λ name.
+          let among : List RowShown → Bool = list_any (λ (r : RowShown). same_text r.name name) in
+          adds name ∙ ap (λ b. same_text row.name name || b) (so.names name) ∙ or-turned (same_text row.name name) (among before)
+          ∙ sym (list_any-append (λ (r : RowShown). same_text r.name name) before (row_shown row ∷ [])) ∙ ap among (sym more);
+    }
+
+-- where the rows before a place are a record's, and with the row there they aren't, that row is the first refused one
+refused-there : (nodes : List (List ℕ)) (rows : List Row) (place : ℕ) (row : Row) → AreRestorable nodes (so_far rows place) → place < length rows → row ≡ get_or rows place row
+    → (AreRestorable nodes (so_far rows place ++ row_shown row ∷ []) → ⊥) → IsFirstRefused (AreRestorable nodes) (map row_shown rows) (place + 1)
+refused-there nodes rows place row kept inside is fails =
+    let back : place ≡ place + 1 - 1 = omega arith in
+    record {
+      from = omega arith;
+      to = let long = length-map rows row_shown in omega (arith, inside, long);
+      before = subst (λ k. AreRestorable nodes (take k (map row_shown rows))) back (subst (AreRestorable nodes) (sym (take-map row_shown place rows)) kept);
+      refused = λ whole. fails (subst (AreRestorable nodes) (take-map row_shown (place + 1) rows ∙ one-more rows place row inside is) whole);
+    }
+
+-- so is a row that may not follow those before it
+pub refused-rules : (nodes : List (List ℕ)) (rows : List Row) (place : ℕ) (has : List ℕ → Bool) (row : Row) → SoFar nodes rows place has → place < length rows → row ≡ get_or rows place row
+    → may_follow nodes place row ≡ false → IsFirstRefused (AreRestorable nodes) (map row_shown rows) (place + 1)
+refused-rules nodes rows place has row so inside is fails =
+    refused-there nodes rows place row so.kept inside is
+    (λ whole. false≢true (sym fails ∙ sym (ap (λ k. may_follow nodes k row) (count-so_far rows place (omega (arith, inside)))) ∙ kept-follows nodes (so_far rows place) row whole))
+
+-- and one whose name an earlier row has
+pub refused-name : (nodes : List (List ℕ)) (rows : List Row) (place : ℕ) (has : List ℕ → Bool) (row : Row) → SoFar nodes rows place has → place < length rows → row ≡ get_or rows place row
+    → has row.name ≡ true → IsFirstRefused (AreRestorable nodes) (map row_shown rows) (place + 1)
+refused-name nodes rows place has row so inside is there =
+    refused-there nodes rows place row so.kept inside is (λ whole. true≢false (sym there ∙ so.names row.name ∙ new-name nodes (so_far rows place) row whole))
+
+-- at the end of the rows they are all a record's
+pub ends : (nodes : List (List ℕ)) (rows : List Row) (place : ℕ) (has : List ℕ → Bool) → SoFar nodes rows place has → length rows ≤ place → AreRestorable nodes (map row_shown rows)
+ends nodes rows place has so end = subst (λ (rs : List Row). AreRestorable nodes (map row_shown rs)) (take_all place rows end) so.kept

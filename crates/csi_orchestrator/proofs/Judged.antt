@@ -1,0 +1,200 @@
+-- The tests of a row are passed exactly where it keeps the rules.
+use Rattle.std.proofs.Common.{◌≡◌, ℕ, length, map, Bool, true, false, not, List, [], ◌∷◌, refl, ap}
+use Rattle.std.specs.Prelude.{Option, Some, None, ◌&&◌, ◌||◌, nat_le}
+use Rattle.std.specs.List.{AllByRecursion, list_all, list_any}
+use Rattle.std.proofs.lemmas.Bool.{and_from, and_parts, or_from, or_parts, eq-eqb, eqb-true, false≢true, le-leb, leb-true, not-true, not_from_false}
+use Rattle.csi_lists.specs.Model.Members.{EachTwo}
+use Rattle.csi_types.specs.Model.Same.{same_text, has_capability}
+use Rattle.csi_types.specs.Model.Sharing.{is_single_node, are_two_writers, allows_one_target}
+use Rattle.csi_orchestrator.specs.declared.row.Goal.{Goal}
+use Rattle.csi_orchestrator.specs.declared.row.TargetEntry.{TargetEntry}
+use Rattle.csi_orchestrator.specs.declared.row.NodeEntry.{NodeEntry}
+use Rattle.csi_orchestrator.specs.declared.request.Arguments.{Arguments}
+use Rattle.csi_orchestrator.specs.declared.thing.Known.{Known}
+use Rattle.csi_orchestrator.specs.declared.thing.Known.TheVariants.{Yes, No, Maybe}
+use Rattle.csi_orchestrator.specs.Model.Shown.{NodeEntryShown}
+use Rattle.csi_orchestrator.specs.Model.Thing.{is_yes}
+use Rattle.csi_orchestrator.specs.Public.Shown.{node_entry_shown}
+use Rattle.csi_orchestrator.specs.Public.Restored.{AreHeldTogether, IsEntryFit, AreEntriesFit, IsPublished, IsSettled}
+use Rattle.csi_orchestrator.specs.Public.Steady.{HasTries}
+use Rattle.csi_orchestrator.specs.Private.Judging.{is_published, is_settled, is_other_target, are_targets_apart, is_entry_fit, are_beside, are_entries_fit, has_tries}
+
+-- ---- tests
+
+-- where the first of two is passed, the second is
+pub implied-from : (a b : Bool) → (not a || b) ≡ true → a ≡ true → b ≡ true
+implied-from true b h e = h
+implied-from false b h e = absurd (false≢true e)
+
+-- and back
+pub from-implied : (a b : Bool) → (a ≡ true → b ≡ true) → (not a || b) ≡ true
+from-implied true b f = f refl
+from-implied false b f = refl
+
+-- in the other order
+or-flip : (a b : Bool) → (a || b) ≡ false → (b || a) ≡ false
+or-flip a b h = let parts = or_parts a b h in or_from b a parts.1 parts.0
+
+-- what is known as `Yes`
+pub yes-from : (known : Known) → is_yes known ≡ true → known ≡ Yes
+yes-from Yes e = refl
+yes-from No e = absurd (false≢true e)
+yes-from Maybe e = absurd (false≢true e)
+
+-- what is so of each that passes is so of all, where all pass; and back
+pub all-from : {X : Type 0} (p : X → Bool) (P : X → Type 0) (xs : List X) → ((x : X) → p x ≡ true → P x) → list_all p xs ≡ true → AllByRecursion P xs
+all-from p P [] f h = tt
+all-from p P (x ∷ xs) f h = let parts = and_parts (p x) (list_all p xs) h in (f x parts.0, all-from p P xs f parts.1)
+
+pub from-all : {X : Type 0} (p : X → Bool) (P : X → Type 0) (xs : List X) → ((x : X) → P x → p x ≡ true) → AllByRecursion P xs → list_all p xs ≡ true
+from-all p P [] f all = refl
+from-all p P (x ∷ xs) f all = and_from (p x) (list_all p xs) (f x all.0) (from-all p P xs f all.1)
+
+-- the same, as they are shown
+pub all-shown : {R X : Type 0} (view : R → X) (p : R → Bool) (P : X → Type 0) (rs : List R) → ((r : R) → p r ≡ true → P (view r)) → list_all p rs ≡ true → AllByRecursion P (map view rs)
+all-shown view p P [] f h = tt
+all-shown view p P (r ∷ rs) f h = let parts = and_parts (p r) (list_all p rs) h in (f r parts.0, all-shown view p P rs f parts.1)
+
+pub shown-all : {R X : Type 0} (view : R → X) (p : R → Bool) (P : X → Type 0) (rs : List R) → ((r : R) → P (view r) → p r ≡ true) → AllByRecursion P (map view rs) → list_all p rs ≡ true
+shown-all view p P [] f all = refl
+shown-all view p P (r ∷ rs) f all = and_from (p r) (list_all p rs) (f r all.0) (shown-all view p P rs f all.1)
+
+-- ---- an entry that is settled
+
+-- by the tests
+pub settled-from : (entry : NodeEntry) → is_settled entry ≡ true → IsSettled (node_entry_shown entry)
+settled-from entry h =
+    let targets = entry.target_entries.items in
+    let first = and_parts (is_yes entry.attached) (is_yes entry.staged && (nat_le 1 (length targets) && list_all is_published targets)) h in
+    let second = and_parts (is_yes entry.staged) (nat_le 1 (length targets) && list_all is_published targets) first.1 in
+    let third = and_parts (nat_le 1 (length targets)) (list_all is_published targets) second.1 in
+    record {
+      attached = yes-from entry.attached first.0;
+      staged = yes-from entry.staged second.0;
+      published = all-from is_published IsPublished targets (λ target_entry e. yes-from target_entry.published e) third.1;
+      some = leb-true 1 (length targets) third.0;
+    }
+
+-- and back
+pub from-settled : (entry : NodeEntry) → IsSettled (node_entry_shown entry) → is_settled entry ≡ true
+from-settled entry settled =
+    let targets = entry.target_entries.items in
+    and_from (is_yes entry.attached) (is_yes entry.staged && (nat_le 1 (length targets) && list_all is_published targets)) (ap is_yes settled.attached)
+    (and_from (is_yes entry.staged) (nat_le 1 (length targets) && list_all is_published targets) (ap is_yes settled.staged)
+    (and_from (nat_le 1 (length targets)) (list_all is_published targets) (le-leb 1 (length targets) settled.some)
+    (from-all is_published IsPublished targets (λ target_entry e. ap is_yes e) settled.published)))
+
+-- ---- an entry that is fit
+
+-- targets that are apart
+targets-from : (targets : List TargetEntry) → are_targets_apart targets ≡ true → EachTwo (λ (a b : TargetEntry). same_text a.target b.target ≡ false) targets
+targets-from [] h = tt
+targets-from (t ∷ later) h =
+    let parts = and_parts (list_all (is_other_target t) later) (are_targets_apart later) h in
+    (all-from (is_other_target t) (λ (b : TargetEntry). same_text t.target b.target ≡ false) later (λ b e. not-true (same_text t.target b.target) e) parts.0, targets-from later parts.1)
+
+from-targets : (targets : List TargetEntry) → EachTwo (λ (a b : TargetEntry). same_text a.target b.target ≡ false) targets → are_targets_apart targets ≡ true
+from-targets [] two = refl
+from-targets (t ∷ later) two =
+    and_from (list_all (is_other_target t) later) (are_targets_apart later)
+    (from-all (is_other_target t) (λ (b : TargetEntry). same_text t.target b.target ≡ false) later (λ b e. not_from_false (same_text t.target b.target) e) two.0) (from-targets later two.1)
+
+-- by the tests
+fit-from : (nodes : List (List ℕ)) (arguments : Arguments) (entry : NodeEntry) → is_entry_fit nodes arguments entry ≡ true → IsEntryFit nodes arguments (node_entry_shown entry)
+fit-from nodes arguments entry h =
+    let targets = entry.target_entries.items in
+    let one = not (allows_one_target entry.capability.mode) || nat_le (length targets) 1 in
+    let listed = list_any (same_text entry.node) nodes in
+    let capable = has_capability arguments.capabilities entry.capability in
+    let first = and_parts (nat_le (length targets) 16) (one && (listed && (capable && are_targets_apart targets))) h in
+    let second = and_parts one (listed && (capable && are_targets_apart targets)) first.1 in
+    let third = and_parts listed (capable && are_targets_apart targets) second.1 in
+    let fourth = and_parts capable (are_targets_apart targets) third.1 in
+    record {
+      listed = third.0;
+      capable = fourth.0;
+      few = leb-true (length targets) 16 first.0;
+      apart = targets-from targets fourth.1;
+      one = λ e. leb-true (length targets) 1 (implied-from (allows_one_target entry.capability.mode) (nat_le (length targets) 1) second.0 e);
+    }
+
+-- and back
+from-fit : (nodes : List (List ℕ)) (arguments : Arguments) (entry : NodeEntry) → IsEntryFit nodes arguments (node_entry_shown entry) → is_entry_fit nodes arguments entry ≡ true
+from-fit nodes arguments entry fit =
+    let targets = entry.target_entries.items in
+    let one = not (allows_one_target entry.capability.mode) || nat_le (length targets) 1 in
+    let listed = list_any (same_text entry.node) nodes in
+    let capable = has_capability arguments.capabilities entry.capability in
+    and_from (nat_le (length targets) 16) (one && (listed && (capable && are_targets_apart targets))) (le-leb (length targets) 16 fit.few)
+    (and_from one (listed && (capable && are_targets_apart targets)) (from-implied (allows_one_target entry.capability.mode) (nat_le (length targets) 1) (λ e. le-leb (length targets) 1 (fit.one e)))
+    (and_from listed (capable && are_targets_apart targets) fit.listed (and_from capable (are_targets_apart targets) fit.capable (from-targets targets fit.apart))))
+
+-- ---- two entries
+
+-- by the tests
+beside-from : (a b : NodeEntry) → are_beside a b ≡ true → (same_text a.node b.node ≡ false) × AreHeldTogether (node_entry_shown a) (node_entry_shown b)
+beside-from a b h =
+    let single = is_single_node a.capability.mode || is_single_node b.capability.mode in
+    let then = are_two_writers a.capability.mode a.readonly b.capability.mode b.readonly in
+    let before = are_two_writers b.capability.mode b.readonly a.capability.mode a.readonly in
+    let first = and_parts (not (same_text a.node b.node)) (not single && (not then && not before)) h in
+    let second = and_parts (not single) (not then && not before) first.1 in
+    let third = and_parts (not then) (not before) second.1 in
+    let several = not-true single second.0 in (
+      not-true (same_text a.node b.node) first.0,
+      record {
+        then = record { one_node = several; one_writer = not-true then third.0 };
+        before = record { one_node = or-flip (is_single_node a.capability.mode) (is_single_node b.capability.mode) several; one_writer = not-true before third.1 };
+      },
+    )
+
+-- and back
+from-beside : (a b : NodeEntry) → same_text a.node b.node ≡ false → AreHeldTogether (node_entry_shown a) (node_entry_shown b) → are_beside a b ≡ true
+from-beside a b apart held =
+    let single = is_single_node a.capability.mode || is_single_node b.capability.mode in
+    let then = are_two_writers a.capability.mode a.readonly b.capability.mode b.readonly in
+    let before = are_two_writers b.capability.mode b.readonly a.capability.mode a.readonly in
+    and_from (not (same_text a.node b.node)) (not single && (not then && not before)) (not_from_false (same_text a.node b.node) apart)
+    (and_from (not single) (not then && not before) (not_from_false single (held.then).one_node)
+    (and_from (not then) (not before) (not_from_false then (held.then).one_writer) (not_from_false before (held.before).one_writer)))
+
+-- one beside all of a list
+from-each_beside : (a : NodeEntry) (later : List NodeEntry) → AllByRecursion (λ (b : NodeEntryShown). same_text a.node b.node ≡ false) (map node_entry_shown later) → AllByRecursion (AreHeldTogether (node_entry_shown a)) (map node_entry_shown later)
+    → list_all (are_beside a) later ≡ true
+from-each_beside a [] apart held = refl
+from-each_beside a (b ∷ later) apart held = and_from (are_beside a b) (list_all (are_beside a) later) (from-beside a b apart.0 held.0) (from-each_beside a later apart.1 held.1)
+
+-- ---- all entries
+
+-- by the tests
+pub entries-from : (nodes : List (List ℕ)) (arguments : Arguments) (entries : List NodeEntry) → are_entries_fit nodes arguments entries ≡ true → AreEntriesFit nodes arguments (map node_entry_shown entries)
+entries-from nodes arguments [] h = record { each = tt; apart = tt; together = tt }
+entries-from nodes arguments (entry ∷ later) h =
+    let first = and_parts (is_entry_fit nodes arguments entry) (list_all (are_beside entry) later && are_entries_fit nodes arguments later) h in
+    let second = and_parts (list_all (are_beside entry) later) (are_entries_fit nodes arguments later) first.1 in
+    let rest = entries-from nodes arguments later second.1 in
+    record {
+      each = (fit-from nodes arguments entry first.0, rest.each);
+      apart = (all-shown node_entry_shown (are_beside entry) (λ (b : NodeEntryShown). same_text entry.node b.node ≡ false) later (λ b e. (beside-from entry b e).0) second.0, rest.apart);
+      together = (all-shown node_entry_shown (are_beside entry) (AreHeldTogether (node_entry_shown entry)) later (λ b e. (beside-from entry b e).1) second.0, rest.together);
+    }
+
+-- and back
+pub from-entries : (nodes : List (List ℕ)) (arguments : Arguments) (entries : List NodeEntry) → AreEntriesFit nodes arguments (map node_entry_shown entries) → are_entries_fit nodes arguments entries ≡ true
+from-entries nodes arguments [] fit = refl
+from-entries nodes arguments (entry ∷ later) fit =
+    and_from (is_entry_fit nodes arguments entry) (list_all (are_beside entry) later && are_entries_fit nodes arguments later) (from-fit nodes arguments entry (fit.each).0)
+    (and_from (list_all (are_beside entry) later) (are_entries_fit nodes arguments later) (from-each_beside entry later (fit.apart).0 (fit.together).0)
+    (from-entries nodes arguments later (record { each = (fit.each).1; apart = (fit.apart).1; together = (fit.together).1 })))
+
+-- ---- tries
+
+-- by the tests
+pub tries-from : (goal : Option Goal) (tries : ℕ) → has_tries goal tries ≡ true → HasTries goal tries
+tries-from None tries h = eqb-true tries 0 h
+tries-from (Some goal) tries h = let parts = and_parts (nat_le 1 tries) (nat_le tries 3) h in (leb-true 1 tries parts.0, leb-true tries 3 parts.1)
+
+-- and back
+pub from-tries : (goal : Option Goal) (tries : ℕ) → HasTries goal tries → has_tries goal tries ≡ true
+from-tries None tries h = eq-eqb tries 0 h
+from-tries (Some goal) tries h = and_from (nat_le 1 tries) (nat_le tries 3) (le-leb 1 tries h.0) (le-leb tries 3 h.1)

@@ -1,0 +1,30 @@
+//! The nodes of a record: at most 64, all different.
+ghost use Rattle.std.specs.Prelude.{◌≡◌, true, false};
+ghost use Rattle.csi_orchestrator.specs.Public.Record.{AreNodesFit};
+ghost use Rattle.csi_orchestrator.specs.Private.Judging.{are_nodes_apart as are_apart};
+
+use crate::sharing::has_node;
+use csi_types::NodeId;
+
+// How many nodes a record has at most.
+const MAX_NODES: usize = 64;
+
+// Whether each node is another one than all behind it.
+fn are_nodes_apart(nodes: &[NodeId]) -> bool
+    ensures { result ≡ are_apart nodes.now }
+{
+    for (place, node) in nodes.iter().enumerate() {
+        if has_node(&nodes[place + 1..], node) {
+            return false;
+        }
+    }
+    true
+}
+
+/// Whether a record may have these nodes. They are compared where they are few.
+pub(crate) fn are_nodes_fit(nodes: &[NodeId]) -> bool
+    ensures fit { result ≡ true → AreNodesFit nodes.now }
+    ensures unfit { result ≡ false → AreNodesFit nodes.now → ⊥ }
+{
+    nodes.len() <= MAX_NODES && are_nodes_apart(nodes)
+}

@@ -1,0 +1,95 @@
+//! What an orchestrator knows, asked for and wants, written as bytes.
+ghost use Rattle.std.specs.Prelude.{◌≡◌, ◌++◌, IfSome, OnOk};
+ghost use Rattle.csi_types.specs.Public.Text.{IsNodeId, IsTarget};
+ghost use Rattle.csi_types.specs.Public.VolumeId.{IsVolumeId};
+ghost use Rattle.csi_frames.specs.Public.Spelling.{text};
+ghost use Rattle.csi_records.specs.Public.Spelling.{present};
+ghost use Rattle.csi_records.specs.Public.OrchestratorSpelling.{known_byte as byte_of, known_bytes, arguments_bytes, id_bytes, usage_bytes, goal_bytes};
+ghost use Rattle.csi_records.specs.Public.OrchestratorRows.{AreArguments, IsUsage, IsGoal};
+
+use crate::items::{Item, put_list};
+use csi_frames::{append_byte, append_flag, append_node_id, append_target, append_word};
+use csi_orchestrator::{Arguments, Goal, Known, Usage};
+use csi_types::{NoMemory, NodeId, Target, VolumeId};
+
+// The byte of what is known.
+fn known_byte(known: Known) -> u8
+    ensures { result ≡ byte_of known }
+{
+    match known {
+        Known::No => 0,
+        Known::Yes => 1,
+        Known::Maybe => 2,
+    }
+}
+
+/// What is known.
+pub(crate) fn put_known(out: &mut Vec<u8>, known: Known) -> Result<(), NoMemory>
+    ensures { OnOk result (out.new.items ≡ out.old.items ++ known_bytes known) }
+{
+    append_byte(out, known_byte(known))
+}
+
+/// An id, if there is one.
+pub(crate) fn put_id(out: &mut Vec<u8>, id: Option<VolumeId>) -> Result<(), NoMemory>
+    ensures written { OnOk result (out.new.items ≡ out.old.items ++ id_bytes id) }
+    ensures fits { OnOk result (IfSome id IsVolumeId) }
+{
+    match id {
+        None => append_byte(out, 0),
+        Some(id) => {
+            append_byte(out, 1)?;
+            append_word(out, id.number())
+        }
+    }
+}
+
+/// What a volume was to be created with.
+pub(crate) fn put_arguments(out: &mut Vec<u8>, arguments: &Arguments) -> Result<(), NoMemory>
+    ensures written { OnOk result (out.new.items ≡ out.old.items ++ arguments_bytes arguments.now) }
+    ensures fits { OnOk result (AreArguments present arguments.now) }
+{
+    append_word(out, arguments.required)?;
+    append_word(out, arguments.limit)?;
+    put_list(out, arguments.capabilities.as_slice())
+}
+
+// Where and how a volume is to be used.
+fn put_usage(out: &mut Vec<u8>, usage: &Usage) -> Result<(), NoMemory>
+    ensures written { OnOk result (out.new.items ≡ out.old.items ++ usage_bytes usage.now) }
+    ensures fits { OnOk result (IsUsage present usage.now) }
+{
+    append_node_id(out, &usage.node)?;
+    append_target(out, &usage.target)?;
+    usage.capability.put(out)?;
+    append_flag(out, usage.readonly)
+}
+
+// Where a volume is to be used no longer.
+fn put_place(out: &mut Vec<u8>, node: &NodeId, target: &Target) -> Result<(), NoMemory>
+    ensures written { OnOk result (out.new.items ≡ out.old.items ++ (text node.now ++ text target.now)) }
+    ensures fits { OnOk result (IsNodeId node.now × IsTarget target.now) }
+{
+    append_node_id(out, node)?;
+    append_target(out, target)
+}
+
+/// A goal, if there is one.
+pub(crate) fn put_goal(out: &mut Vec<u8>, goal: &Option<Goal>) -> Result<(), NoMemory>
+    ensures written { OnOk result (out.new.items ≡ out.old.items ++ goal_bytes goal.now) }
+    ensures fits { OnOk result (IsGoal present goal.now) }
+{
+    match goal {
+        None => append_byte(out, 0),
+        Some(Goal::Create) => append_byte(out, 1),
+        Some(Goal::Use(usage)) => {
+            append_byte(out, 2)?;
+            put_usage(out, usage)
+        }
+        Some(Goal::Stop { node, target }) => {
+            append_byte(out, 3)?;
+            put_place(out, node, target)
+        }
+        Some(Goal::Delete) => append_byte(out, 4),
+    }
+}
