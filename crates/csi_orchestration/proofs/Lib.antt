@@ -1,0 +1,3 @@
+pub mod GrowingAnswers
+pub mod LinesProgress
+pub mod LinesServed

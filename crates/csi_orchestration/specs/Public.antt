@@ -1,0 +1,3 @@
+pub mod LinesServing
+pub mod LinesAnswering
+pub mod LinesFailing
