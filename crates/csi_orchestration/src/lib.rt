@@ -2,8 +2,10 @@
 //! says a type that implements a trait. This profile's own.
 #![tactic(auto)]
 
+mod lines_runs;
 mod lines_serving;
 mod responder;
 
+pub use lines_runs::{StoredResponder, lines_runs_law};
 pub use lines_serving::{LinesServeFault, LinesServeFaultKind, ServedLines, serve_lines};
 pub use responder::Responder;

@@ -20,13 +20,17 @@ pub(crate) struct Answering<C> {
 impl<C: Responder, K: Keep, W: Write> LineHandler<K, Counted<W>> for Answering<C> {
     type Fault = LineStop;
 
-    ghost handles = { λ old number line new. IsHandled (AnswersInRecord C.is_fit C.spells C.parts_of C.answers) C.parts_of old.own.responder new.own.responder (K.store old.store) (K.store new.store) (W.contents old.out.inner) (W.contents new.out.inner) old.out.faults new.out.faults line };
+    ghost handles = { λ old number line new.
+        IsHandled (AnswersInRecord C.is_fit C.spells C.parts_of C.answers) C.parts_of old.own.responder new.own.responder (K.store old.store)
+        (K.store new.store) (W.contents old.out.inner) (W.contents new.out.inner) old.out.faults new.out.faults line };
 
     ghost flushes = { λ old new. new ≡ old };
 
     ghost is_flushed = { λ answering. Unit {0} };
 
-    ghost stops = { λ old line new. StopsAt (AnswersInRecord C.is_fit C.spells C.parts_of C.answers) C.parts_of old.own.responder new.own.responder (K.store old.store) (K.store new.store) (W.contents old.out.inner) (W.contents new.out.inner) old.out.faults new.out.faults line };
+    ghost stops = { λ old line new.
+        StopsAt (AnswersInRecord C.is_fit C.spells C.parts_of C.answers) C.parts_of old.own.responder new.own.responder (K.store old.store)
+        (K.store new.store) (W.contents old.out.inner) (W.contents new.out.inner) old.out.faults new.out.faults line };
 
     fn handle(
         &mut self,
