@@ -1,6 +1,6 @@
 -- Which row a call changes: that of the name that it is about, or the one whose open call a frame is the reply to.
 use Rattle.std.proofs.Common.{◌≡◌, ◌+◌, ℕ, zero, suc, List, [], ◌∷◌, true, length, map, drop, refl, sym, ◌∙◌, ap, subst, arith}
-use Rattle.std.specs.Prelude.{Option, Some, None, find, Result, Ok, Err, IfOk, OnOk}
+use Rattle.std.specs.Prelude.{Option, Some, None, Result, Ok, Err, IfOk, OnOk}
 use Rattle.std.proofs.lemmas.Option.{none-some, same_Some}
 use Rattle.csi_lists.specs.Public.Places.{IsAt, FirstAt}
 use Rattle.csi_lists.proofs.Places.{same-at, position-first, FirstAt-is_at, FirstAt-within}
@@ -16,7 +16,6 @@ use Rattle.csi_types.specs.Model.Same.{same_text}
 use Rattle.csi_types.proofs.Equality.{same_number-tells}
 use Rattle.csi_orchestrator.specs.declared.fault.Heard.{Heard}
 use Rattle.csi_orchestrator.specs.declared.fault.OrchFault.{OrchFault}
-use Rattle.csi_orchestrator.specs.declared.row.Row.{Row}
 use Rattle.csi_orchestrator.specs.declared.state.OrchestratorCore.{OrchestratorCore}
 use Rattle.csi_orchestrator.specs.declared.step.Step.{Step}
 use Rattle.csi_orchestrator.specs.declared.step.Step.TheVariants as steps
@@ -24,16 +23,16 @@ use Rattle.csi_orchestrator.specs.Model.History.{Arguments}
 use Rattle.csi_orchestrator.specs.Model.Moves.{Input, ToCreate, ToUse, ToStop, ToDelete, TimesOut, Comes, Restarts, Answer, Sends, Hears, hears}
 use Rattle.csi_orchestrator.specs.Model.Shown.{RowShown, OrchestratorParts, row_of, open_in_row}
 use Rattle.csi_orchestrator.specs.Public.Catalog.{rows_of, IsIndexed}
-use Rattle.csi_orchestrator.specs.Public.Changed.{place_by_name, is_numbered, place_by_call, AreChangedAt, ChangesRowAt, ChangesRowOf, ChangesAsHeard}
+use Rattle.csi_orchestrator.specs.Public.Changed.{place_by_name, is_numbered, place_by_call, AreChangedAt, ChangesRowOf, ChangesAsHeard}
 use Rattle.csi_orchestrator.specs.Public.CoreParts.{orchestrator_parts_shown, IsFiled}
 use Rattle.csi_orchestrator.specs.Public.RowMoves.{MovedRows}
 use Rattle.csi_orchestrator.specs.Public.Shown.{row_shown}
 use Rattle.csi_orchestrator.specs.Public.Sound.{AreSoundRows, AreSoundParts}
 use Rattle.csi_orchestrator.specs.Private.RowChanges.{new_row}
-use Rattle.csi_orchestrator.specs.Private.RowMoves.{put, outgoing_frame, all_rows_moved, steps_at, creates, is_issued_as, row_replied, step_heard, hears_reply, receives, row_moves, IsMoveOf}
+use Rattle.csi_orchestrator.specs.Private.RowMoves.{put, all_rows_moved, steps_at, creates, is_issued_as, row_replied, step_heard, hears_reply, receives, row_moves, IsMoveOf}
 use Rattle.csi_orchestrator.specs.Private.RowRefusals.{first_fault}
 use Rattle.csi_orchestrator.specs.Private.RowSteps.{MovedRow, row_sends_due, row_unless, row_step}
-use Rattle.csi_orchestrator.proofs.OpenCallPlaces.{placed, numbered-call, numbered-noted}
+use Rattle.csi_orchestrator.proofs.OpenCallPlaces.{placed, numbered-noted}
 use Rattle.csi_orchestrator.proofs.OpenCalls.{GoesOn, sends-due-goes, unless-goes, step-goes}
 use Rattle.csi_orchestrator.proofs.PutPlaces.{find-first, first-apart, IsPutAt, put-at, put-last}
 use Rattle.csi_orchestrator.proofs.RepliedRows.{hears-it}

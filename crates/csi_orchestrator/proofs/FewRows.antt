@@ -1,5 +1,5 @@
 -- Why what has to be spelled of a row is bounded.
-use Rattle.std.proofs.Common.{◌≡◌, ◌≤◌, ℕ, List, length, map, ◌∙◌, sym, subst, arith}
+use Rattle.std.proofs.Common.{◌≡◌, ◌≤◌, ℕ, List, length, map, subst, arith}
 use Rattle.std.specs.Prelude.{Option, Some, None}
 use Rattle.std.specs.List.{AllByRecursion}
 use Rattle.std.proofs.lemmas.List.{length-map}

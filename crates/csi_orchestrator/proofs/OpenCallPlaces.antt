@@ -11,7 +11,6 @@ use Rattle.csi_lists.proofs.Searches.{find-no_place}
 use Rattle.csi_types.specs.declared.call.Kind.{Kind}
 use Rattle.csi_types.specs.declared.call.Party.{Party}
 use Rattle.csi_types.specs.declared.number.Number.{Number}
-use Rattle.csi_types.specs.Model.Same.{same_number}
 use Rattle.csi_types.proofs.Equality.{same_number-tells}
 use Rattle.csi_orchestrator.specs.declared.row.OpenCall.{OpenCall}
 use Rattle.csi_orchestrator.specs.declared.row.Row.{Row}

@@ -1,6 +1,6 @@
 -- Where an entry stands that was put in by its text, and that all others are as they were.
 use Rattle.std.proofs.Common.{◌≡◌, ℕ, zero, suc, List, [], ◌∷◌, Bool, true, false, cond, length, take, drop, refl, sym, ◌∙◌, ap, subst}
-use Rattle.std.specs.Prelude.{Option, Some, None, find}
+use Rattle.std.specs.Prelude.{Some, None, find}
 use Rattle.std.proofs.lemmas.Option.{none-some, same_Some}
 use Rattle.csi_lists.specs.Model.Members.{EachTwo}
 use Rattle.csi_lists.specs.Public.Places.{IsAt, FirstAt}

@@ -1,8 +1,7 @@
 -- Where a use or a delete is answered with no call, it is so already, and all stays as it was.
-use Rattle.std.proofs.Common.{◌≡◌, ℕ, List, Bool, true, false, cond, refl, sym, ◌∙◌, ap, subst}
+use Rattle.std.proofs.Common.{◌≡◌, ℕ, List, false, cond, refl, sym, ◌∙◌, ap, subst}
 use Rattle.std.specs.Prelude.{Option, Some, None, is_none, option_and_then, Result, Ok, Err, IfOk}
 use Rattle.std.proofs.lemmas.Bool.{false≢true}
-use Rattle.std.proofs.lemmas.Option.{none-some}
 use Rattle.csi_lists.specs.Public.Places.{FirstAt}
 use Rattle.csi_types.specs.declared.number.Number.{Number}
 use Rattle.csi_types.specs.Model.Frame.{Frame}
@@ -16,7 +15,7 @@ use Rattle.csi_orchestrator.specs.declared.step.Step.{Step}
 use Rattle.csi_orchestrator.specs.declared.step.Step.TheVariants as steps
 use Rattle.csi_orchestrator.specs.Model.Commands.{next_number}
 use Rattle.csi_orchestrator.specs.Model.Due.{Due}
-use Rattle.csi_orchestrator.specs.Model.Moves.{Input, ToUse, ToDelete, Answer, Sends}
+use Rattle.csi_orchestrator.specs.Model.Moves.{Input, ToUse, ToDelete, Sends}
 use Rattle.csi_orchestrator.specs.Model.Shown.{RowShown, OrchestratorParts, row_of}
 use Rattle.csi_orchestrator.specs.Model.Thing.{is_no}
 use Rattle.csi_orchestrator.specs.Public.RowDue.{marks_of_volume, delete_due, due_in}
