@@ -13,6 +13,7 @@ mod listed;
 mod long;
 mod pictures;
 mod pieces;
+mod requests;
 mod running;
 mod runs;
 mod schedules;

@@ -22,7 +22,7 @@ use Rattle.csi_endings.specs.declared.ending.Ending.{Ending}
 use Rattle.csi_endings.specs.declared.ending.Ending.TheVariants as endings
 use Rattle.csi_commands.specs.Public.Ending.{EndsAs}
 use Rattle.csi_commands.specs.Public.Running.{Drawing, Plays, IsScheduleRefused}
-use Rattle.csi_commands.specs.Public.Streaming.{StreamsAs, StreamEndsAs, WasCut, TellsDevice}
+use Rattle.csi_commands.specs.Public.Streaming.{StreamsAs, StreamEndsAs, TellsDevice}
 use Rattle.csi_commands.specs.Private.Streaming.{HasRead, ReadsWhole, ending_of_stream, ending_of_written}
 
 -- all bytes begin with themselves

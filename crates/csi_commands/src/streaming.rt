@@ -78,8 +78,9 @@ fn play_from<D: Draws, R: Read, W: Write>(
 /// Does with the bytes of a reader what `file` does with the bytes of a file, and writes to `out`, and flushes, what `file`
 /// appends. Frames are read in pieces of at most 65,536 bytes, and what is given for the frames that are there is written before
 /// more is read; a schedule is read whole, and what it gives is written at the end. `Device` says that the reader or the writer
-/// failed, as neither did at any other ending, and then a front of what `file` would append is written; `Endless` that the frames' reader gave 2^63 bytes, and then
-/// all is written that is given for the frames that are there; the ending is never `Usage`. Of a reader or a writer that doesn't tell its bytes nothing is said.
+/// failed, as neither did at any other ending, and then a front of what `file` would append is written; `Endless` that the
+/// frames' reader gave 2^63 bytes, and then all is written that is given for the frames that are there; the ending is never
+/// `Usage`. Of a reader or a writer that doesn't tell its bytes nothing is said.
 pub fn stream<D: Draws, R: Read, W: Write>(
     alloc: Global,
     command: FileCommand,

@@ -1,5 +1,6 @@
 //! A controller's rows by id and by name. No look-up walks them.
-ghost use Rattle.std.specs.Prelude.{◌≡◌, ◌==◌, ◌++◌, ◌∷◌, [], List, None, Some, length, map, filter, find, position, option_map, OnOk, OnErr, IfOk, IfSome, ◌<◌};
+ghost use Rattle.std.specs.Prelude.{◌≡◌, ◌==◌, ◌++◌, ◌∷◌, [], List, None, Some, length, map, filter, find, position};
+ghost use Rattle.std.specs.Prelude.{option_map, OnOk, OnErr, IfOk, IfSome, ◌<◌};
 ghost use Rattle.std.specs.String.{string_bytes};
 ghost use Rattle.indexmap.specs.IndexMap.{index_map_len, values};
 ghost use Rattle.csi_types.specs.Model.Same.{same_text};

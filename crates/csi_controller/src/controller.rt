@@ -114,9 +114,9 @@ impl Controller {
     }
 
     /// Answers a call as `step` answers a frame of it, by the kind and the reply that the frame of the answer has (those that were
-    /// kept, where the call comes again), and says where the row is that it changed or made. Another plugin's call, and a call with a text outside its limits, which no frame has, get no
-    /// answer, change nothing and take no memory. Beyond that it takes memory where `step` does. A refusal for want of memory leaves
-    /// the controller as it was.
+    /// kept, where the call comes again), and says where the row is that it changed or made. Another plugin's call, and a call
+    /// with a text outside its limits, which no frame has, get no answer, change nothing and take no memory. Beyond that it
+    /// takes memory where `step` does. A refusal for want of memory leaves the controller as it was.
     #[inline(always)]
     pub fn answer(
         &mut self,
@@ -126,7 +126,8 @@ impl Controller {
         // what a frame of the call gets, for any plugin that it is for
         ensures reply { (state : ControllerState) (party : OneParty) → Shows self.old state → IsAllowed party (Body.Call (lent_call call.now)) →
             HasFitTexts (lent_call call.now)
-            → IfOk result (λ answer. option_map (answer_frame number) answer ≡ (fenced self.old.config state (call_frame number party (lent_call call.now))).reply) }
+            → IfOk result (λ answer. option_map (answer_frame number) answer ≡
+            (fenced self.old.config state (call_frame number party (lent_call call.now))).reply) }
         ensures state { (state : ControllerState) (party : OneParty) → Shows self.old state → IsAllowed party (Body.Call (lent_call call.now)) →
             HasFitTexts (lent_call call.now)
             → OnOk result (Shows self.new (fenced self.old.config state (call_frame number party (lent_call call.now))).state) }

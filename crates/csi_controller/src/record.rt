@@ -40,7 +40,8 @@ impl Model for ControllerRecord {
 
     ghost view = { λ record_. record { next_id = record_.next_id; session = record_.session; rows = rows_of record_.catalog } };
 
-    ghost invariant = { λ record_. AreSoundRows record_.next_id (rows_of record_.catalog) × IsCurrent record_.session (rows_of record_.catalog) × IsIndexed record_.catalog };
+    ghost invariant = { λ record_. AreSoundRows record_.next_id (rows_of record_.catalog) ×
+        IsCurrent record_.session (rows_of record_.catalog) × IsIndexed record_.catalog };
 }
 
 impl ControllerRecord {

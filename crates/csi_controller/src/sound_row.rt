@@ -2,7 +2,8 @@
 ghost use Rattle.std.specs.Prelude.{◌≡◌, nat_lt};
 ghost use Rattle.std.specs.List.{list_all};
 ghost use Rattle.csi_controller.specs.Public.Core.{next_shown};
-ghost use Rattle.csi_controller.specs.Private.SoundRow.{has_fit_numbers as are_fit_numbers, has_own_reply as is_own_reply, are_beside as beside, are_fit as is_each_fit, has_fit_holdings as are_fit_holdings, is_sound_row as is_sound};
+ghost use Rattle.csi_controller.specs.Private.SoundRow.{has_fit_numbers as are_fit_numbers, has_own_reply as is_own_reply, are_beside as beside};
+ghost use Rattle.csi_controller.specs.Private.SoundRow.{are_fit as is_each_fit, has_fit_holdings as are_fit_holdings, is_sound_row as is_sound};
 
 use crate::controller::holdings::{MAX_HOLDINGS, use_of};
 use crate::row::{ControllerRow, NodeHolding};

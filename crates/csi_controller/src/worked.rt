@@ -1,5 +1,6 @@
 //! Worked examples of the controller's table and fence. The function proves them, and does nothing.
-ghost use Rattle.csi_controller.specs.Private.Worked.{OneNodeRow, BothModesRow, SingleWriterRow, SlotsRow, NameRow, FenceRow, SessionRow, EmptyIsShown, LawsTellPublish};
+ghost use Rattle.csi_controller.specs.Private.Worked.{OneNodeRow, BothModesRow, SingleWriterRow, SlotsRow, NameRow, FenceRow, SessionRow};
+ghost use Rattle.csi_controller.specs.Private.Worked.{EmptyIsShown, LawsTellPublish};
 
 fn examples()
     ensures one_node { OneNodeRow }

@@ -92,9 +92,9 @@ module _ {H S O : Type 0} (handles : State H S O → ℕ → List ℕ → State 
   }
 
 -- nothing was read yet
-pub begun : {H S O : Type 0} (handles : State H S O → ℕ → List ℕ → State H S O → Type 0) (flushes : State H S O → State H S O → Type 0) (is_flushed : H → Type 0) (first : State (Lines H) S O)
+pub begun-lines : {H S O : Type 0} (handles : State H S O → ℕ → List ℕ → State H S O → Type 0) (flushes : State H S O → State H S O → Type 0) (is_flushed : H → Type 0) (first : State (Lines H) S O)
     → first.own.buffer ≡ [] → first.own.count ≡ 0 → is_flushed first.own.handler → RestsLines handles flushes is_flushed first [] first
-begun handles flushes is_flushed first new none nothing = record {
+begun-lines handles flushes is_flushed first new none nothing = record {
   reached = record { few = omega arith; done = []; each = tt; whole = sym new; counted = none; runs = no_line };
   waits = subst HasNoNewline (sym new) tt;
   short = omega (arith, ap length new);

@@ -25,11 +25,14 @@ pub trait Consumer<S, O> {
     fn feed(&mut self, piece: &[u8]) -> Result<(), Self::Fault>
         ensures { (first : State Self S O) (bytes : List ℕ) (store : S) (out : O) →
             rests first bytes (record { own = self.old; store = store; out = out }) → length bytes + length piece.now < 2 ^ 64 →
-            Feeds (reaches first (bytes ++ piece.now) (record { own = self.new; store = store; out = out })) (stops first (bytes ++ piece.now) (record { own = self.new; store = store; out = out })) result };
+            Feeds (reaches first (bytes ++ piece.now) (record { own = self.new; store = store; out = out }))
+            (stops first (bytes ++ piece.now) (record { own = self.new; store = store; out = out })) result };
 
     /// Handles the next item, and says whether it was there. Where none is, what waits is written.
     fn next(&mut self, store: &mut S, out: &mut O) -> Result<bool, Self::Fault>
         ensures next { (first : State Self S O) (bytes : List ℕ) → reaches first bytes (record { own = self.old; store = store.old; out = out.old }) →
-            Nexts (reaches first bytes (record { own = self.new; store = store.new; out = out.new })) (rests first bytes (record { own = self.new; store = store.new; out = out.new })) (stops first bytes (record { own = self.new; store = store.new; out = out.new })) result }
+            Nexts (reaches first bytes (record { own = self.new; store = store.new; out = out.new }))
+            (rests first bytes (record { own = self.new; store = store.new; out = out.new }))
+            (stops first bytes (record { own = self.new; store = store.new; out = out.new })) result }
         ensures less { result ≡ Ok true → kept self.new < kept self.old };
 }

@@ -34,7 +34,8 @@ fn take<S, O, C: Consumer<S, O>>(
     ensures bytes { AreBytes piece.now }
     ensures takes { (first : State C S O) (bytes : List ℕ) → C.rests first bytes (record { own = consumer.old; store = store.old; out = out.old }) →
         length bytes + length piece.now < 2 ^ 64 →
-        Feeds (C.rests first (bytes ++ piece.now) (record { own = consumer.new; store = store.new; out = out.new })) (C.stops first (bytes ++ piece.now) (record { own = consumer.new; store = store.new; out = out.new })) result }
+        Feeds (C.rests first (bytes ++ piece.now) (record { own = consumer.new; store = store.new; out = out.new }))
+        (C.stops first (bytes ++ piece.now) (record { own = consumer.new; store = store.new; out = out.new })) result }
 {
     consumer.feed(piece)?;
     while consumer.next(store, out)? {}
@@ -50,12 +51,11 @@ pub fn drive<S, O, C: Consumer<S, O>, R: Read>(
     reader: &mut Counted<R>,
     piece: &mut [u8],
 ) -> Result<(), Stop<C::Fault>>
-    ensures drives { C.rests (record { own = consumer.old; store = store.old; out = out.old }) [] (record {
-      own = consumer.old;
-      store = store.old;
-      out = out.old;
-    }) → 0 < length piece.old →
-        Drives C.rests C.stops (record { own = consumer.old; store = store.old; out = out.old }) (record { own = consumer.new; store = store.new; out = out.new }) (R.remaining reader.old.inner) (R.remaining reader.new.inner) result }
+    ensures drives { C.rests (record { own = consumer.old; store = store.old; out = out.old }) []
+        (record { own = consumer.old; store = store.old; out = out.old }) → 0 < length piece.old →
+        Drives C.rests C.stops (record { own = consumer.old; store = store.old; out = out.old })
+        (record { own = consumer.new; store = store.new; out = out.new })
+        (R.remaining reader.old.inner) (R.remaining reader.new.inner) result }
     ensures reader { TellsReader reader.old.faults reader.new.faults result }
 {
     let mut read = 0;
@@ -81,8 +81,10 @@ pub fn drive_slice<S, O, C: Consumer<S, O>>(
     out: &mut O,
     input: &[u8],
 ) -> Result<(), C::Fault>
-    ensures { C.rests (record { own = consumer.old; store = store.old; out = out.old }) [] (record { own = consumer.old; store = store.old; out = out.old }) →
-        DrivesSlice C.rests C.stops (record { own = consumer.old; store = store.old; out = out.old }) (record { own = consumer.new; store = store.new; out = out.new }) input.now result }
+    ensures { C.rests (record { own = consumer.old; store = store.old; out = out.old }) []
+        (record { own = consumer.old; store = store.old; out = out.old }) →
+        DrivesSlice C.rests C.stops (record { own = consumer.old; store = store.old; out = out.old })
+        (record { own = consumer.new; store = store.new; out = out.new }) input.now result }
 {
     let mut rest = input;
     while !rest.is_empty() {

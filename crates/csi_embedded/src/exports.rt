@@ -1,9 +1,11 @@
 //! What a C program calls, as `include/tufayon.h` declares it. No call leaves anything half done: where it isn't done the handle's plugin, and what
 //! the store has to be given, are as they were.
 ghost use Rattle.std.specs.Prelude.{◌≡◌, ◌≢◌, ◌≤◌, None, Some, length, take};
-ghost use Rattle.csi_embedded.specs.Public.Calls.{AnswersFrame, HandleAnswers, HasFailed, AnswersRecord, HasRemained, HasTold, IsUnanswered, Remains, TellsAt, TellsRecord};
+ghost use Rattle.csi_embedded.specs.Public.Calls.{AnswersFrame, HandleAnswers, HasFailed, AnswersRecord, IsUnanswered};
+ghost use Rattle.csi_embedded.specs.Public.Calls.{Remains, HasRemained, TellsAt, TellsRecord, HasTold};
 ghost use Rattle.csi_embedded.specs.Private.Making.{GivesHandle};
-ghost use Rattle.csi_embedded.specs.Public.Making.{Makes, IsNewController, IsNewNode, IsReadController, IsReadNode, EndsDone, IsNoConfig, IsNoId, IsNoReadController, IsNoReadNode};
+ghost use Rattle.csi_embedded.specs.Public.Making.{Makes, IsNewController, IsNewNode, IsReadController, IsReadNode, EndsDone};
+ghost use Rattle.csi_embedded.specs.Public.Making.{IsNoConfig, IsNoId, IsNoReadController, IsNoReadNode};
 
 use crate::copying::{copy, copy_part};
 use crate::embedded::Embedded;

@@ -2,7 +2,8 @@
 ghost use Rattle.std.specs.Prelude.{◌≡◌, ◌∷◌, [], Ok, map, IfOk, IfErr};
 ghost use Rattle.csi_json.specs.Public.Configs.{text_config};
 ghost use Rattle.csi_stores.specs.Public.Part.{part_change, put_all};
-ghost use Rattle.csi_embedded.specs.Public.Making.{IsNewController, IsNewNode, IsReadController, IsReadNode, EndsDone, IsNoConfig, IsNoId, IsNoReadController, IsNoReadNode, Renews};
+ghost use Rattle.csi_embedded.specs.Public.Making.{IsNewController, IsNewNode, IsReadController, IsReadNode, EndsDone, Renews};
+ghost use Rattle.csi_embedded.specs.Public.Making.{IsNoConfig, IsNoId, IsNoReadController, IsNoReadNode};
 ghost use Rattle.csi_embedded.specs.Private.Making.{IsEndingOf};
 
 use crate::embedded::Embedded;

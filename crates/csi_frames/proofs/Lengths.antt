@@ -95,6 +95,6 @@ length-frame_body frame fits =
     omega (arith, length-append (spelling.party frame.party) (spelling.body_fields frame.body), length-party_and_fields frame.party frame.body fits.party_fits fits.body_fits fits.allowed)
 
 -- and the longest frame 1217
-pub length-spelling : (frame : Frame) → IsFrame frame → length (spelling.spelling frame) ≤ 1217
+pub short-spelling : (frame : Frame) → IsFrame frame → length (spelling.spelling frame) ≤ 1217
 unfolding spelling.spelling
-length-spelling frame fits = omega (arith, length-frame_body frame fits)
+short-spelling frame fits = omega (arith, length-frame_body frame fits)

@@ -6,7 +6,8 @@ ghost use Rattle.csi_types.specs.Public.Listed.{listed};
 ghost use Rattle.csi_frames.specs.Public.Borrowed.{lent_reply};
 ghost use Rattle.csi_frames.specs.Public.Gives.{Gives};
 ghost use Rattle.csi_frames.specs.Public.Version.{is_new_mode, owes_new_mode};
-ghost use Rattle.csi_frames.specs.Public.Reading.{id_at, access_at, mode_at, owed_capability_at, capability_at, capabilities_at, create_at, call_at, status_at, reply_id_of, reply_id_at, reply_at};
+ghost use Rattle.csi_frames.specs.Public.Reading.{id_at, access_at, mode_at, owed_capability_at, capability_at, capabilities_at};
+ghost use Rattle.csi_frames.specs.Public.Reading.{create_at, call_at, status_at, reply_id_of, reply_id_at, reply_at};
 
 use crate::borrowed::ReplyRef;
 use crate::fault::FaultKind;

@@ -7,7 +7,8 @@ ghost use Rattle.csi_types.specs.Public.Limits.{IsNumber, IsAccess, IsCapability
 ghost use Rattle.csi_types.specs.Model.Replies.{call_frame, reply_frame};
 ghost use Rattle.csi_types.specs.Public.Status.{status_code};
 ghost use Rattle.csi_frames.specs.Private.Appends.{Appends, HasRoom};
-ghost use Rattle.csi_frames.specs.Public.Spelling.{word, text, flag, access, capability, party, reply_id, call_fields, call_capabilities, reply_fields, body_kind, has_new_mode, spelling, Spells};
+ghost use Rattle.csi_frames.specs.Public.Spelling.{word, text, flag, access, capability, party, reply_id};
+ghost use Rattle.csi_frames.specs.Public.Spelling.{call_fields, call_capabilities, reply_fields, body_kind, has_new_mode, spelling, Spells};
 ghost use Rattle.csi_frames.specs.Private.Spelling.{head};
 
 use crate::body_kind::{kind_number, reply_kind_number};

@@ -1,6 +1,7 @@
 //! Versions of frames. What a version has is told here and nowhere else.
 ghost use Rattle.std.specs.Prelude.{◌≡◌, false};
-ghost use Rattle.csi_frames.specs.Public.Version.{version_number, version_from_number, has_mode, is_new_mode, has_kind, least_count, owes_new_mode, version_with, mode_in, kind_in_version};
+ghost use Rattle.csi_frames.specs.Public.Version.{version_number, version_from_number, version_with, least_count, owes_new_mode};
+ghost use Rattle.csi_frames.specs.Public.Version.{has_mode, is_new_mode, mode_in, has_kind, kind_in_version};
 
 use crate::body_kind::BodyKind;
 use csi_types::{Kind, Mode};

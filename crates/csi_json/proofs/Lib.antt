@@ -5,3 +5,5 @@ pub mod ReadEvents
 pub mod PlainTexts
 pub mod PlainSchedules
 pub mod UsualCommands
+pub mod HexTexts
+pub mod LineTexts

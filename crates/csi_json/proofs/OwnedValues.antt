@@ -1,5 +1,5 @@
 -- Values of JSON that borrow their texts, beside the values that are made of them.
-use Rattle.std.proofs.Common.{◌≡◌, ℕ, zero, suc, ◌<◌, ◌≤◌, ◌^◌, ◌+◌, List, [], ◌∷◌, ◌++◌, length, drop, get_or, Global, String, Bor, refl, sym, ap, ◌∙◌, arith, lt-ltb, ne_eqb}
+use Rattle.std.proofs.Common.{◌≡◌, ℕ, ◌<◌, ◌≤◌, ◌^◌, ◌+◌, List, [], ◌∷◌, ◌++◌, length, drop, get_or, Global, Bor, refl, sym, ap, ◌∙◌, lt-ltb, ne_eqb}
 use Rattle.std.specs.Prelude.{Option, Some, None, option_map, SomeIff, IfSome}
 use Rattle.std.proofs.lemmas.List.{drop_more, drop_all}
 use Rattle.fast_float.specs.Text.{scan, digits_of, IsInteger}

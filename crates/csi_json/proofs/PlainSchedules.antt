@@ -1,6 +1,6 @@
 -- Values of JSON that borrow their texts, read as the parts of a schedule.
-use Rattle.std.proofs.Common.{◌≡◌, ℕ, zero, suc, ◌<◌, ◌≤◌, ◌+◌, List, [], ◌∷◌, ◌++◌, length, map, get_or, Global, Vec, Bor, refl, sym, ap, ap₂, ◌∙◌, arith, le-ltb, true, rules}
-use Rattle.std.specs.Prelude.{Option, Some, None, option_map, option_and_then, Ok, codes, IfSome}
+use Rattle.std.proofs.Common.{◌≡◌, ℕ, suc, ◌≤◌, List, [], ◌∷◌, length, map, get_or, Global, Vec, Bor, refl, sym, ap, ap₂, ◌∙◌, arith, le-ltb, true, rules}
+use Rattle.std.specs.Prelude.{Option, Some, None, option_and_then, Ok, codes, IfSome}
 use Rattle.std.specs.Str.{bytes_eq}
 use Rattle.std.proofs.lemmas.Slice.Eq.{bytes_eq-Decides}
 use Rattle.json.specs.Token.{Token}
@@ -10,8 +10,8 @@ use Rattle.json.specs.Value.{value_view, items_view as items_seen, members_view 
 use Rattle.json.specs.declared.value.Value.{Value, the_lemmas}
 use Rattle.json.specs.declared.value.Value.TheVariants.{Number, Array, Object}
 use Rattle.json.proofs.Trees.{view-Array, view-Object}
-use Rattle.serde_json.specs.Data.{Data, Items, no_items, item, number, array, unsigned}
-use Rattle.serde_json.specs.Read.{number_of as number_in, of_json, of_items, of_members, read}
+use Rattle.serde_json.specs.Data.{Data, Items, no_items, item, unsigned}
+use Rattle.serde_json.specs.Read.{number_of as number_in, of_json, of_items, read}
 use Rattle.csi_types.specs.Model.Config.{Config}
 use Rattle.csi_types.specs.declared.event.Event.{Event}
 use Rattle.csi_types.specs.declared.event.Event.TheVariants.{Deliver}

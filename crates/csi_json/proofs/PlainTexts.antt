@@ -1,6 +1,6 @@
 -- Texts and capabilities of a schedule, read where they stand.
-use Rattle.std.proofs.Common.{◌≡◌, ℕ, ◌<◌, ◌≤◌, List, [], ◌∷◌, length, get_or, Global, Vec, Bor, Bool, true, refl, sym, ap, ◌∙◌, inl, inr, arith, rules}
-use Rattle.std.specs.Prelude.{◌↔◌, Option, Some, option_and_then, codes, Result, Ok, Err, IsErrOf}
+use Rattle.std.proofs.Common.{◌≡◌, ℕ, ◌<◌, ◌≤◌, List, [], ◌∷◌, length, get_or, Global, Vec, Bor, true, refl, sym, ap, ◌∙◌, inl, inr, arith, rules}
+use Rattle.std.specs.Prelude.{◌↔◌, Some, option_and_then, codes, Result, Ok, Err, IsErrOf}
 use Rattle.std.specs.Str.{bytes_eq}
 use Rattle.std.proofs.lemmas.Bool.{le-leb}
 use Rattle.std.proofs.lemmas.Bool.Decides.{leb_tells}

@@ -1,6 +1,6 @@
 -- Commands of the usual form, as data.
-use Rattle.std.proofs.Common.{◌≡◌, ℕ, ◌<◌, ◌≤◌, List, [], ◌∷◌, length, get_or, Global, Vec, Bor, Bool, true, refl, sym, ap, ap₂, ◌∙◌, arith, rules}
-use Rattle.std.specs.Prelude.{Option, Some, option_and_then, codes, Result, Ok, Err, IfOk}
+use Rattle.std.proofs.Common.{◌≡◌, ℕ, List, [], ◌∷◌, length, get_or, Global, Vec, Bool, true, refl, sym, ap, ◌∙◌, arith, rules}
+use Rattle.std.specs.Prelude.{Some, option_and_then, codes, Result, Ok, Err, IfOk}
 use Rattle.std.specs.Str.{bytes_eq}
 use Rattle.std.proofs.lemmas.Slice.Eq.{bytes_eq-Decides}
 use Rattle.json.specs.Json as json

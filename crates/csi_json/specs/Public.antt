@@ -4,3 +4,5 @@ pub mod Configs
 pub mod Faults
 pub mod Events
 pub mod Schedule
+pub mod Hexadecimal
+pub mod Requests

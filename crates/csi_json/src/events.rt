@@ -101,9 +101,9 @@ fn restart_node_event(alloc: Global, value: &Value) -> Result<Event, Flaw>
     Ok(Event::RestartNode(id))
 }
 
-// The event at this key of an object.
+/// The event at this key of an object.
 #[tactic(auto, unfolding(crate::specs::Public::Events::event_at))]
-fn event_at(alloc: Global, key: &str, value: &Value) -> Result<Event, Flaw>
+pub fn event_at(alloc: Global, key: &str, value: &Value) -> Result<Event, Flaw>
     ensures { Reads (λ event. event) result (at_key key.now (view value.now)) }
 {
     match key {

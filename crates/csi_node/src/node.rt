@@ -1,5 +1,6 @@
 //! The node plugin.
-ghost use Rattle.std.specs.Prelude.{◌≡◌, ◌≤◌, ◌+◌, ◌==◌, false, Some, None, is_some, is_none, [], length, filter, count_by, IfOk, OnOk, OnErr, Ok, IsOk, IfSome, option_map, map, slice_get};
+ghost use Rattle.std.specs.Prelude.{◌≡◌, ◌≤◌, ◌+◌, ◌==◌, false, Some, None, is_some, is_none, [], length, filter, count_by};
+ghost use Rattle.std.specs.Prelude.{IfOk, OnOk, OnErr, Ok, IsOk, IfSome, option_map, map, slice_get};
 ghost use Rattle.std.specs.Option.{option_copied};
 ghost use Rattle.csi_types.specs.Public.Lent.{lent_call};
 ghost use Rattle.csi_types.specs.Model.Same.{same_text};
@@ -144,9 +145,9 @@ impl Node {
     }
 
     /// Answers a call as `step` answers a frame of it to this node, by the kind and the reply that the frame of the answer
-    /// has: those that were kept, where the call comes again; and tells where the row is that the call changed or made. The controller's call,
-    /// and a call with a text outside its limits, which no frame has, get no answer, change nothing, so that they begin no session,
-    /// and take no memory. An `Err`, an allocation that was refused, leaves the node as it was.
+    /// has: those that were kept, where the call comes again; and tells where the row is that the call changed or made. The
+    /// controller's call, and a call with a text outside its limits, which no frame has, get no answer, change nothing, so that
+    /// they begin no session, and take no memory. An `Err`, an allocation that was refused, leaves the node as it was.
     pub fn answer(
         &mut self,
         number: Number,
@@ -155,7 +156,8 @@ impl Node {
         // What a frame of the call gets.
         ensures reply { (state : NodeState) → Shows self.old state → IsAllowed (OfNode self.old.id) (CallBody (lent_call call.now)) →
             HasFitTexts (lent_call call.now) →
-            IfOk result (λ answer. option_map (answer_frame self.old.id number) answer ≡ (fenced self.old.id state (call_frame number (OfNode self.old.id) (lent_call call.now))).reply) }
+            IfOk result (λ answer. option_map (answer_frame self.old.id number) answer ≡
+            (fenced self.old.id state (call_frame number (OfNode self.old.id) (lent_call call.now))).reply) }
         ensures state { (state : NodeState) → Shows self.old state → IsAllowed (OfNode self.old.id) (CallBody (lent_call call.now)) →
             HasFitTexts (lent_call call.now) →
             OnOk result (Shows self.new (fenced self.old.id state (call_frame number (OfNode self.old.id) (lent_call call.now))).state) }

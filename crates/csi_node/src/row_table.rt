@@ -10,7 +10,8 @@ ghost use Rattle.csi_node.specs.Model.OneRow.{node_row_shown};
 ghost use Rattle.csi_node.specs.Public.OneRow.{state_shown, target_among, published_by, IsSoundRow};
 ghost use Rattle.csi_node.specs.Private.OneRow.{target_of_row, publish_by_row, call_change, CanChange, HasRoomFor, IsNew};
 ghost use Rattle.csi_node.specs.Model.State.{volume_of, published_at, PublishedVolume};
-ghost use Rattle.csi_node.specs.Model.Table.{Change, Stages, Unstages, Publishes, Unpublishes, stage, unstage, refused, met, publish, publish_new, unpublish, lifecycle_row, begins_with_slash};
+ghost use Rattle.csi_node.specs.Model.Table.{Change, Stages, Unstages, Publishes, Unpublishes};
+ghost use Rattle.csi_node.specs.Model.Table.{stage, unstage, refused, met, publish, publish_new, unpublish, lifecycle_row, begins_with_slash};
 
 use crate::line::Line;
 use crate::row::{NodeRow, NodeTarget};
@@ -115,7 +116,8 @@ fn publish_staged_line<'a>(
       capability = lent_capability capability.now;
       readonly = readonly;
     } in
-        publish_by_row (node_row_shown row.now) staged.now published (target_of_row (node_row_shown row.now) target.now) ≡ outcome_shown (Publishes published) result }
+        publish_by_row (node_row_shown row.now) staged.now published (target_of_row (node_row_shown row.now) target.now)
+        ≡ outcome_shown (Publishes published) result }
     ensures ready { WhereDone result (IsNew (node_row_shown row.now) staged.now target.now (lent_capability capability.now)) }
 {
     match find_target(row.targets.as_slice(), target) {

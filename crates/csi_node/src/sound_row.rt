@@ -2,7 +2,8 @@
 ghost use Rattle.std.specs.Prelude.{◌≡◌};
 ghost use Rattle.csi_types.specs.Public.Call.{is_node_kind as is_own_kind};
 ghost use Rattle.csi_node.specs.Model.OneRow.{node_row_shown};
-ghost use Rattle.csi_node.specs.Private.SoundRow.{has_own_reply as is_own_reply, fits_mode as is_fit_for, are_fit as is_each_fit, has_fit_targets as are_fit_targets, is_sound_row as is_sound};
+ghost use Rattle.csi_node.specs.Private.SoundRow.{has_own_reply as is_own_reply, fits_mode as is_fit_for};
+ghost use Rattle.csi_node.specs.Private.SoundRow.{are_fit as is_each_fit, has_fit_targets as are_fit_targets, is_sound_row as is_sound};
 
 use crate::row::{NodeRow, NodeTarget};
 use crate::row_table::{MAX_TARGETS, find_target, is_absolute};

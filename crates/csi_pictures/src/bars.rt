@@ -3,7 +3,8 @@
 ghost use Rattle.std.specs.Prelude.{◌≡◌, ◌+◌, ◌++◌, ◌<◌, ◌==◌, ◌&&◌, ◌||◌, ℕ, [], false, IfOk, OnOk, length, get_or, slice_get, string_bytes};
 ghost use Rattle.std.specs.List.{flat_map};
 ghost use Rattle.csi_types.specs.Model.Same.{same_text};
-ghost use Rattle.csi_pictures.specs.Public.Bars.{undoes_call, ends as ends_by, end_row as end_by, is_same_thing as same_thing, lasting_of as lasting_by, with_lasting, with_both, bars_to, bar_class, bar as bar_drawn};
+ghost use Rattle.csi_pictures.specs.Public.Bars.{undoes_call, ends as ends_by, end_row as end_by, is_same_thing as same_thing};
+ghost use Rattle.csi_pictures.specs.Public.Bars.{lasting_of as lasting_by, with_lasting, with_both, bars_to, bar_class, bar as bar_drawn};
 ghost use Rattle.csi_pictures.specs.Private.Begun.{asks_again as asks_again_by, IsOfChain, AreMarked, IsDelivery, IsBegunKept};
 ghost use Rattle.csi_pictures.specs.Private.Links.{AreLinks};
 

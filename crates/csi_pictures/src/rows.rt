@@ -1,7 +1,8 @@
 //! What is written of an event in its row: its words and what came of it, a mark at the lane where it happened, and the frame
 //! that it sent.
 ghost use Rattle.std.specs.Prelude.{◌≡◌, ◌++◌, OnOk, Some, string_bytes};
-ghost use Rattle.csi_pictures.specs.Public.Rows.{words, is_wrong as is_wrong_by, outcome_class, mark_shape, mark_lane as mark_lane_by, row_text, is_delivery as is_delivery_by, mark, call_label, reply_class as reply_class_by, reply_label, label, lost_of};
+ghost use Rattle.csi_pictures.specs.Public.Rows.{words, is_wrong as is_wrong_by, outcome_class, mark_shape, mark_lane as mark_lane_by, row_text};
+ghost use Rattle.csi_pictures.specs.Public.Rows.{is_delivery as is_delivery_by, mark, call_label, reply_class as reply_class_by, reply_label, label, lost_of};
 
 use crate::escaping::Escaped;
 use crate::scene::{is_ok, lane_of, node_lane};

@@ -1,7 +1,8 @@
 //! Where things of a run stand in its picture: the lanes of parties, and the rows of events, from 1.
 ghost use Rattle.std.specs.Prelude.{◌≡◌};
 ghost use Rattle.csi_types.specs.Model.Same.{same_text};
-ghost use Rattle.csi_pictures.specs.Public.Scene.{node_lane as node_lane_by, lane_of as lane_by, sender as sender_by, receiver as receiver_by, sent_number as number_sent, came as has_come, is_ok as is_status_ok, was_answered_ok, way_of as way_by};
+ghost use Rattle.csi_pictures.specs.Public.Scene.{node_lane as node_lane_by, lane_of as lane_by, sender as sender_by, receiver as receiver_by};
+ghost use Rattle.csi_pictures.specs.Public.Scene.{sent_number as number_sent, came as has_come, is_ok as is_status_ok, was_answered_ok, way_of as way_by};
 
 use csi_node::Node;
 use csi_types::{Body, Frame, NodeId, Party, Status};

@@ -19,7 +19,7 @@ use Rattle.csi_service.specs.Public.Serving.{AnswersEach, Serves, StopsBy, frame
 use Rattle.csi_service.proofs.GrowingAnswers.{answers-push}
 use Rattle.csi_service.specs.Public.Opening.{Records, IsOpeningCommit, OpensTo, IsOpenFault}
 use Rattle.csi_endings.specs.declared.ending.Ending.{Ending}
-use Rattle.csi_plugins.specs.Public.Service.{Streams, IsServed, setting_of}
+use Rattle.csi_plugins.specs.Public.Service.{Streams, setting_of}
 use Rattle.csi_plugins.specs.Public.Running.{IsOpeningRefused, IsOpened, Runs}
 use Rattle.csi_plugins.specs.Public.Joined.{Reopens, AreMadeBy, AreMade, RunsAgain, IsHindrance, IsHindered, AreOneRun, Joins}
 

@@ -1,6 +1,7 @@
 //! How a plugin's process ends.
 ghost use Rattle.std.specs.Prelude.{◌≡◌};
-ghost use Rattle.csi_plugins.specs.Public.Ending.{ending_of_store as by_store, ending_unopened as by_opening, ending_of_kind as by_kind, ending_of_serving as by_serving};
+ghost use Rattle.csi_plugins.specs.Public.Ending.{ending_of_store as by_store, ending_unopened as by_opening};
+ghost use Rattle.csi_plugins.specs.Public.Ending.{ending_of_kind as by_kind, ending_of_serving as by_serving};
 
 use csi_endings::Ending;
 use csi_service::{KeepFault, ServeFault, ServeFaultKind, Served};

@@ -61,7 +61,8 @@ fn controller_of(rt: &(impl Files + AllocGlobal), path: &str) -> Result<Plugin, 
 /// in the SQLite file at `store`, which is made where there is none. The answer is how the process ends: `Device` or `Memory` where
 /// that file can't be read, or as `Plugin::of_config` says; `StoreNotOpened`, or `Memory` where that was the cause; and then
 /// as `plugin` says, but `Device` in place of `Done`, or `Memory`, where the log couldn't be put back: then each commit is in the
-/// file and its log, and not in the file alone. The store is opened after the configuration was taken, and standard input is read after that. This profile's own.
+/// file and its log, and not in the file alone. The store is opened after the configuration was taken, and standard input is
+/// read after that. This profile's own.
 pub fn serve_controller(rt: &HostRuntime, store: &str, config: &str) -> Ending {
     match controller_of(rt, config) {
         Ok(asked) => serve_from(rt, store, asked),

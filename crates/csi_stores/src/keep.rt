@@ -65,7 +65,8 @@ pub trait Keep {
         ensures done { (store self.new).honest → (content : List StoredPart) → (store self.old).holds content →
             OnOk result (IsOnly (store self.new) (Parts (all_changed (map part_change parts.now) content))) }
         ensures refused { (store self.new).honest → (content : List StoredPart) → (store self.old).holds content →
-            OnErr result ((other : Found) → (store self.new).leaves other → (store self.old).leaves other ⊎ (other ≡ Parts (all_changed (map part_change parts.now) content))) }
+            OnErr result ((other : Found) → (store self.new).leaves other →
+            (store self.old).leaves other ⊎ (other ≡ Parts (all_changed (map part_change parts.now) content))) }
         ensures some { (store self.new).honest → (content : List StoredPart) → IsOnly (store self.old) (Parts content) → FindsSome (store self.new) }
         ensures room { (content : List StoredPart) → (store self.old).fits content → (store self.new).fits content }
         ensures no_more_room { (content : List StoredPart) → (store self.new).fits content → (store self.old).fits content }

@@ -119,7 +119,8 @@ pub fn answer(alloc: Global, input: &[u8], out: &mut Vec<u8>) -> Result<u64, Ans
 /// The same of the frames that `reader` has: reads at most 65,536 bytes at a time, and writes and flushes the replies to the frames
 /// that are there before it reads on, so that it takes no more memory however long the stream. What was given before an `Err`
 /// is written: at `Frame` and `Input` all replies to the frames that were read, at `NoMemory` those to some of the first, at
-/// `Output` a front of them. The reader failed at `Input` and at no other end, the writer at `Output`. Of a reader or a writer that doesn't tell its bytes nothing is said.
+/// `Output` a front of them. The reader failed at `Input` and at no other end, the writer at `Output`. Of a reader or a writer
+/// that doesn't tell its bytes nothing is said.
 pub fn answer_from<R: Read, W: Write>(
     alloc: Global,
     reader: &mut Counted<R>,

@@ -62,9 +62,13 @@ pub(crate) struct Writing<H> {
 impl<H: Handler, W: Write> FrameHandler<(), Counted<W>> for Writing<H> {
     type Fault = GivingFault;
 
-    ghost handles = { λ old place frame new. Gives H.has_handled H.gives old.own.handler place frame new.own.handler old.own.out.items new.own.out.items × (new.out ≡ old.out) };
+    ghost handles = { λ old place frame new.
+        Gives H.has_handled H.gives old.own.handler place frame new.own.handler old.own.out.items new.own.out.items ×
+        (new.out ≡ old.out) };
 
-    ghost flushes = { λ old new. WritesGiven old.own.handler new.own.handler old.own.out.items new.own.out.items (W.contents old.out.inner) (W.contents new.out.inner) old.out.faults new.out.faults };
+    ghost flushes = { λ old new.
+        WritesGiven old.own.handler new.own.handler old.own.out.items new.own.out.items
+        (W.contents old.out.inner) (W.contents new.out.inner) old.out.faults new.out.faults };
 
     ghost is_flushed = { λ writing. writing.out.items ≡ [] };
 

@@ -1,7 +1,8 @@
 //! Frames as text, one line each. This profile's own.
 ghost use Rattle.std.specs.Prelude.{◌≡◌, Some};
 ghost use Rattle.std.specs.Fmt.{WritesOnOk};
-ghost use Rattle.csi_streams.specs.Public.Shown.{shown_byte, quoted, party_word, capability_word, flag_word, shown_id, use_words, undo_words, capability_words, call_words, reply_words, frame_words};
+ghost use Rattle.csi_streams.specs.Public.Shown.{shown_byte, quoted, party_word, capability_word, flag_word, shown_id};
+ghost use Rattle.csi_streams.specs.Public.Shown.{use_words, undo_words, capability_words, call_words, reply_words, frame_words};
 ghost use Rattle.csi_streams.specs.Private.Showing.{after_blanks};
 
 use csi_types::{Access, Body, Call, Capability, CapabilityList, Frame, Party, Reply, VolumeId};

@@ -1,6 +1,7 @@
 //! What the access modes allow. Which mode allows what is told here and nowhere else.
 ghost use Rattle.std.specs.Prelude.{◌≡◌, not, ◌&&◌};
-ghost use Rattle.csi_types.specs.Model.Sharing.{is_single_node, is_multi_node, is_single_writer, writes as writes_in, are_two_writers, allows_one_target as allows_one};
+ghost use Rattle.csi_types.specs.Model.Sharing.{is_single_node, is_multi_node, is_single_writer};
+ghost use Rattle.csi_types.specs.Model.Sharing.{writes as writes_in, are_two_writers, allows_one_target as allows_one};
 
 use crate::mode::Mode;
 

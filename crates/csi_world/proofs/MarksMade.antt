@@ -1,5 +1,5 @@
 -- Marks beside what is noted, one for each entry: whether its thing is among those that were gone through.
-use Rattle.std.proofs.Common.{◌≡◌, ℕ, zero, suc, ◌+◌, ◌<◌, List, [], ◌∷◌, ◌++◌, length, set, replicate, get_or, map, Bool, true, false, ◌&&◌, ◌||◌, take, Some, None, position, refl, sym, ◌∙◌, ap, subst, inl, inr, arith}
+use Rattle.std.proofs.Common.{◌≡◌, ℕ, zero, suc, ◌+◌, ◌<◌, List, [], ◌∷◌, ◌++◌, length, set, replicate, get_or, map, Bool, true, false, ◌||◌, take, Some, None, position, refl, sym, ◌∙◌, ap, subst, inl, inr}
 use Rattle.std.specs.List.{list_any, list_all}
 use Rattle.std.proofs.lemmas.Bool.{and_from}
 use Rattle.std.proofs.lemmas.List.{get_or_default, take_more}
@@ -15,7 +15,7 @@ use Rattle.csi_orchestrator.specs.declared.thing.Known.{Known}
 use Rattle.csi_orchestrator.specs.declared.thing.Known.TheVariants.{Yes}
 use Rattle.csi_orchestrator.specs.Public.Listing.{IsInOrder}
 use Rattle.csi_orchestrator.specs.Model.Thing.{same_thing}
-use Rattle.csi_world.specs.Private.Listed.{is_listed, is_entry_listed, is_entry_of, is_noted}
+use Rattle.csi_world.specs.Private.Listed.{is_entry_listed, is_entry_of, is_noted}
 use Rattle.csi_world.proofs.MarksTold.{same-itself, same-tells}
 use Rattle.csi_world.proofs.FoundByHalving.{at-place, later-other}
 

@@ -1,5 +1,6 @@
 //! Worked runs of events. Each function proves a statement, and does nothing.
-ghost use Rattle.csi_world.specs.Private.Worked.{WorkedUse, UseIsSafe, UseIsMadeOfSteps, WorkedLateStage, WorkedLateDetach, WorkedLateReply, WorkedRestart, WorkedUndone, WorkedNothing};
+ghost use Rattle.csi_world.specs.Private.Worked.{WorkedUse, UseIsSafe, UseIsMadeOfSteps};
+ghost use Rattle.csi_world.specs.Private.Worked.{WorkedLateStage, WorkedLateDetach, WorkedLateReply, WorkedRestart, WorkedUndone, WorkedNothing};
 
 use crate::laws::{runs_are_steps, runs_law};
 

@@ -94,9 +94,10 @@ pub fn stale(alloc: Global, kind: Kind) -> Result<Answer, CoreFault>
     answer_of(alloc, kind, &refused(Status::Aborted, "stale"))
 }
 
-/// Answers a call of the volume of the row at this place: a refusal where a later call was answered, the kept kind and reply where this one was, and
-/// else what the table answers, and only then the answer has the place. An `Err` changes nothing. A kept reply without a detail takes no memory, nor does a DeleteVolume or
-/// a ControllerUnpublishVolume that the table answers 0.
+/// Answers a call of the volume of the row at this place: a refusal where a later call was answered, the kept kind and reply
+/// where this one was, and else what the table answers, and only then the answer has the place. An `Err` changes nothing. A
+/// kept reply without a detail takes no memory, nor does a DeleteVolume or a ControllerUnpublishVolume that the table answers
+/// 0.
 pub fn answer_at_row(
     row: &mut ControllerRow,
     place: usize,

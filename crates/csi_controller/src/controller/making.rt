@@ -47,9 +47,11 @@ impl ControllerCore {
         wished: CapabilitiesRef<'_>,
     ) -> Result<(VolumeId, u64), Line<'static>>
         ensures line { (name : List ℕ) → MatchResult result
-            (λ made. made_line (fault_told required limit (lent_capabilities wished.entry)) (new_line self.now.config.greatest count (next_shown self.now.next_id) name required limit (lent_capabilities wished.entry))
+            (λ made. made_line (fault_told required limit (lent_capabilities wished.entry))
+            (new_line self.now.config.greatest count (next_shown self.now.next_id) name required limit (lent_capabilities wished.entry))
             ≡ record { reply = ok_reply_with made.0; change = Makes name made.1 (lent_capabilities wished.entry) })
-            (λ line. made_line (fault_told required limit (lent_capabilities wished.entry)) (new_line self.now.config.greatest count (next_shown self.now.next_id) name required limit (lent_capabilities wished.entry))
+            (λ line. made_line (fault_told required limit (lent_capabilities wished.entry))
+            (new_line self.now.config.greatest count (next_shown self.now.next_id) name required limit (lent_capabilities wished.entry))
             ≡ record { reply = reply_shown line; change = Stays }) }
         ensures id { IfOk result (λ made. made.0 ≡ self.now.next_id) }
         ensures from { IfOk result (λ made. 0 < made.0) }

@@ -8,7 +8,8 @@ ghost use Rattle.csi_types.specs.Public.Lent.{lent_call};
 ghost use Rattle.csi_types.specs.Public.Reply.{has_id_by_rule};
 ghost use Rattle.csi_controller.specs.Private.Counts.{is_node_full};
 ghost use Rattle.csi_controller.specs.Private.Line.{reply_shown};
-ghost use Rattle.csi_controller.specs.Private.RowTable.{by_line, delete_line as delete_told, unpublish_line as unpublish_told, publish_line as publish_told, row_line, row_change};
+ghost use Rattle.csi_controller.specs.Private.RowTable.{by_line, row_line, row_change};
+ghost use Rattle.csi_controller.specs.Private.RowTable.{delete_line as delete_told, unpublish_line as unpublish_told, publish_line as publish_told};
 ghost use Rattle.csi_controller.specs.Private.OneRow.{held_so};
 ghost use Rattle.csi_controller.specs.Private.OneRow.RowChange.{RowEnds, RowAttaches, RowDetaches};
 

@@ -1,5 +1,5 @@
 -- Capabilities, in JSON. This profile's own.
-use Rattle.std.specs.Prelude.{ℕ, nat_le, if◌then◌else◌, List, length, Option, Some, None, codes, bytes_eq}
+use Rattle.std.specs.Prelude.{nat_le, if◌then◌else◌, List, length, Option, Some, None, codes, bytes_eq}
 use Rattle.serde_json.specs.Data.{Data}
 use Rattle.serde_json.specs.Find.{get, as_str}
 use Rattle.csi_types.specs.declared.capability.Access.{Access}

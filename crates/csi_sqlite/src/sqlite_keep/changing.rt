@@ -20,9 +20,11 @@ fn change<S: Alter>(transaction: &mut Transaction<'_, S>, part: &Part) -> Result
         HasParts (state S.Store transaction.old.conn.now) content
         → OnOk result (HasParts (state S.Store transaction.new.conn.now) (changed_to (part_change part.now).key (part_change part.now).value content)) }
     ensures made { HasCleanDisk (state S.Store transaction.new.conn.now) → IsTrue (state S.Store transaction.old.conn.now).in_transaction
-        → OnOk result (MakesChange (part_change part.now).key (part_change part.now).value (state S.Store transaction.old.conn.now) (state S.Store transaction.new.conn.now)) }
+        → OnOk result (MakesChange (part_change part.now).key (part_change part.now).value
+        (state S.Store transaction.old.conn.now) (state S.Store transaction.new.conn.now)) }
     ensures refused { HasCleanDisk (state S.Store transaction.new.conn.now) → IsTrue (state S.Store transaction.old.conn.now).in_transaction
-        → IfErr result (RefusesChange (part_change part.now).key (part_change part.now).value (state S.Store transaction.old.conn.now) (state S.Store transaction.new.conn.now)) }
+        → IfErr result (RefusesChange (part_change part.now).key (part_change part.now).value
+        (state S.Store transaction.old.conn.now) (state S.Store transaction.new.conn.now)) }
     ensures survives { Survives (state S.Store transaction.old.conn.now) (state S.Store transaction.new.conn.now) (λ _. ⊥) }
 {
     let key = part.key.to_be_bytes();
@@ -40,7 +42,8 @@ fn change_all<S: Alter>(transaction: &mut Transaction<'_, S>, parts: &[Part]) ->
         → OnOk result (HasParts (state S.Store transaction.new.conn.now) (all_changed (map part_change parts.now) content)) }
     ensures made { HasCleanDisk (state S.Store transaction.new.conn.now) → IsTrue (state S.Store transaction.old.conn.now).in_transaction →
         (after : Held S) (error : Error)
-        → FailsToCommit (state S.Store transaction.new.conn.now) (state S.Store after) error → OnOk result (RefusesOneOf S.Store (map part_change parts.now) transaction.old.conn.now after error) }
+        → FailsToCommit (state S.Store transaction.new.conn.now) (state S.Store after) error
+        → OnOk result (RefusesOneOf S.Store (map part_change parts.now) transaction.old.conn.now after error) }
     ensures refused { HasCleanDisk (state S.Store transaction.new.conn.now) → IsTrue (state S.Store transaction.old.conn.now).in_transaction → (after : Held S)
         → IsUndone S.Store transaction.new.conn.now after → IfErr result (RefusesOneOf S.Store (map part_change parts.now) transaction.old.conn.now after) }
     ensures survives { Survives (state S.Store transaction.old.conn.now) (state S.Store transaction.new.conn.now) (λ _. ⊥) }

@@ -106,7 +106,8 @@ impl<K: Keep> Keep for FailingKeep<K> {
         ensures done { (K.store self.new.inner).honest → (content : List StoredPart) → (K.store self.old.inner).holds content →
             OnOk result (IsOnly (K.store self.new.inner) (Parts (all_changed (map part_change parts.now) content))) }
         ensures refused { (K.store self.new.inner).honest → (content : List StoredPart) → (K.store self.old.inner).holds content →
-            OnErr result ((other : Found) → (K.store self.new.inner).leaves other → (K.store self.old.inner).leaves other ⊎ (other ≡ Parts (all_changed (map part_change parts.now) content))) }
+            OnErr result ((other : Found) → (K.store self.new.inner).leaves other →
+            (K.store self.old.inner).leaves other ⊎ (other ≡ Parts (all_changed (map part_change parts.now) content))) }
         ensures some { (K.store self.new.inner).honest → (content : List StoredPart) → IsOnly (K.store self.old.inner) (Parts content) →
             FindsSome (K.store self.new.inner) }
         ensures room { (content : List StoredPart) → (K.store self.old.inner).fits content → (K.store self.new.inner).fits content }
@@ -116,10 +117,12 @@ impl<K: Keep> Keep for FailingKeep<K> {
             (K.store self.new.inner)) (all_changed (map part_change parts.now)) fault) }
         ensures fails { is_due self.old.commit ≡ true → IsErr result }
         ensures leaves_old { is_due self.old.commit ≡ true → self.old.left ≡ Left.Old →
-            (result ≡ Err KeepFault.Device) × (self.new ≡ record self.old { commit = passing_after_call self.old.commit; failures = one_more self.old.failures }) }
+            (result ≡ Err KeepFault.Device) ×
+            (self.new ≡ record self.old { commit = passing_after_call self.old.commit; failures = one_more self.old.failures }) }
         ensures leaves_new { is_due self.old.commit ≡ true → self.old.left ≡ Left.New → (self.new.failures ≡ self.old.failures) ⊎
             (result ≡ Err KeepFault.Device) × (self.new.failures ≡ one_more self.old.failures) ×
-            ((K.store self.new.inner).honest → (content : List StoredPart) → (K.store self.old.inner).holds content → IsOnly (K.store self.new.inner) (Parts (all_changed (map part_change parts.now) content))) }
+            ((K.store self.new.inner).honest → (content : List StoredPart) → (K.store self.old.inner).holds content →
+            IsOnly (K.store self.new.inner) (Parts (all_changed (map part_change parts.now) content))) }
         ensures passes { is_due self.old.commit ≡ false → self.new.failures ≡ self.old.failures }
         ensures next { self.new ≡ record self.old { inner = self.new.inner; commit = passing_after_call self.old.commit; failures = self.new.failures } }
     {

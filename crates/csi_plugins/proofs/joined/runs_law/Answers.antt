@@ -1,5 +1,5 @@
 -- By the plugin that was asked for.
-use Rattle.std.proofs.Common.{◌≡◌, ◌∙◌, ℕ, [], None, Some, map, length, sym, ap, subst, arith}
+use Rattle.std.proofs.Common.{◌≡◌, ◌∙◌, ℕ, None, Some, map, length, sym, ap, subst, arith}
 use Rattle.std.specs.Prelude.{List}
 use Rattle.csi_node.specs.Model.OneRow.{node_row_shown}
 use Rattle.csi_stores.specs.Public.Stores.{Store}

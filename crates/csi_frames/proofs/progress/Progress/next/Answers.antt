@@ -3,7 +3,7 @@ use Rattle.csi_types.specs.Model.Frame.{Frame}
 use Rattle.csi_frames.specs.Public.Borrowed.{lent_borrowed_frame}
 use Rattle.csi_frames.specs.Public.Lent.{lent_frame}
 use Rattle.csi_frames.proofs.Bytes.{AreBytes-drop}
-use Rattle.csi_frames.proofs.Lengths.{length-spelling}
+use Rattle.csi_frames.proofs.Lengths.{short-spelling}
 use Rattle.csi_frames.proofs.Splitting.{IsNext-found, IsNext-only, AreBytes-spelling, behind-frame, behind-none, behind-fault, shown-frame}
 use Rattle.csi_frames.proofs.progress.Progress.next.Goals as goal
 
@@ -30,7 +30,7 @@ returns-in-Ok-clause-start c =
 pub returns-in-Ok-clause-step : goal.returns-in-Ok-clause-step
 returns-in-Ok-clause-step c =
     let found = behind-frame c.args.self.now.start c.args.buffer.now (lent_borrowed_frame c.in-Ok.frame) c.in-Ok.size (λ i. omega (arith, c.type_inv.buffer i)) c.in-Ok.ensures in
-    omega (arith, found.1, length-spelling (lent_borrowed_frame c.in-Ok.frame) found.0.spelled.fits)
+    omega (arith, found.1, short-spelling (lent_borrowed_frame c.in-Ok.frame) found.0.spelled.fits)
 
 pub returns-in-Ok-clause-after : goal.returns-in-Ok-clause-after
 returns-in-Ok-clause-after c =

@@ -1,0 +1,162 @@
+//! Lines that are read as an orchestrator's requests, or have a fault.
+use csi_json::{Request, RequestFault, read_request};
+use csi_types::{Event, Mode};
+use std::alloc::{AllocError, Global};
+
+// What a line is to be read as: the command of the volume `v` that stands in the table, the bytes of a frame, or a fault.
+#[derive(Clone, Copy)]
+enum Read {
+    Create,
+    Use,
+    Stop,
+    Delete,
+    Timeout,
+    Bytes(&'static [u8]),
+    Fault(RequestFault),
+}
+
+const BAD_LINE: Read = Read::Fault(RequestFault::BadLine);
+
+const BAD_FRAME: Read = Read::Fault(RequestFault::BadFrame);
+
+const NO_JSON: Read = Read::Fault(RequestFault::NotJson);
+
+fn is_command(event: &Event, read: Read) -> bool {
+    match event {
+        Event::Create {
+            name,
+            required,
+            limit,
+            capabilities,
+        } => {
+            let is_create = matches!(read, Read::Create);
+            let is_whole = *required == 10 && *limit == 20 && capabilities.as_slice().len() == 1;
+            is_create && is_whole && name.as_str() == "v"
+        }
+        Event::Use {
+            name,
+            node,
+            target,
+            capability,
+            readonly,
+        } => {
+            let is_use = matches!(read, Read::Use);
+            let is_there = node.as_str() == "n1" && target.as_str() == "/a" && *readonly;
+            let is_so = matches!(capability.mode, Mode::MultiNodeMultiWriter);
+            is_use && is_there && is_so && name.as_str() == "v"
+        }
+        Event::Stop { name, node, target } => {
+            let is_stop = matches!(read, Read::Stop);
+            let is_there = node.as_str() == "n1" && target.as_str() == "/a";
+            is_stop && is_there && name.as_str() == "v"
+        }
+        Event::Delete(name) => matches!(read, Read::Delete) && name.as_str() == "v",
+        Event::Timeout(name) => matches!(read, Read::Timeout) && name.as_str() == "v",
+        _ => false,
+    }
+}
+
+// Whether a line is read so. Where memory is refused it is read the second time.
+fn is_read(alloc: Global, line: &[u8], read: Read) -> bool {
+    let request = match read_request(alloc, line) {
+        Err(RequestFault::NoMemory) => read_request(alloc, line),
+        request => request,
+    };
+    match request {
+        Ok(Request::Command(event)) => is_command(&event, read),
+        Ok(Request::Reply(bytes)) => match read {
+            Read::Bytes(wanted) => bytes.as_slice() == wanted,
+            _ => false,
+        },
+        Err(fault) => match read {
+            Read::Fault(wanted) => fault == wanted,
+            _ => false,
+        },
+    }
+}
+
+const LINES: &[(&str, Read)] = &[
+    (
+        "{\"create\":{\"capabilities\":[{\"access\":\"block\",\"mode\":1}],\"limit\":20,\"name\":\"v\",\"required\":10}}",
+        Read::Create,
+    ),
+    (
+        "{\"use\":{\"capability\":{\"access\":\"mount\",\"fs\":\"ext4\",\"mode\":5},\"name\":\"v\",\"node\":\"n1\",\"readonly\":true,\"target\":\"/a\"}}",
+        Read::Use,
+    ),
+    (
+        " {\"stop\" : {\"target\":\"/a\", \"node\":\"n1\", \"name\":\"v\"}}\r",
+        Read::Stop,
+    ),
+    ("{\"delete\":\"v\"}", Read::Delete),
+    ("{\"timeout\":\"v\"}", Read::Timeout),
+    ("{\"delete\":\"w\",\"delete\":\"v\"}", Read::Delete),
+    ("{\"reply\":\"\"}", Read::Bytes(&[])),
+    ("{\"reply\":\"00\"}", Read::Bytes(&[0])),
+    (
+        "{\"reply\":\"0123456789abcdefff\"}",
+        Read::Bytes(&[1, 35, 69, 103, 137, 171, 205, 239, 255]),
+    ),
+    ("{\"reply\":\"\\u0030a\"}", Read::Bytes(&[10])),
+    ("{\"reply\":\"0\"}", BAD_FRAME),
+    ("{\"reply\":\"0A\"}", BAD_FRAME),
+    ("{\"reply\":\"0g\"}", BAD_FRAME),
+    ("{\"reply\":\"0G\"}", BAD_FRAME),
+    ("{\"reply\":\"00 00\"}", BAD_FRAME),
+    ("{\"reply\":\"0x00\"}", BAD_FRAME),
+    ("{\"reply\":\"00\\n\"}", BAD_FRAME),
+    ("{\"reply\":0}", BAD_FRAME),
+    ("{\"reply\":null}", BAD_FRAME),
+    ("", NO_JSON),
+    ("\r", NO_JSON),
+    ("{", NO_JSON),
+    ("{\"delete\":\"v\"} {}", NO_JSON),
+    ("{}", BAD_LINE),
+    ("[]", BAD_LINE),
+    ("\"v\"", BAD_LINE),
+    ("{\"delete\":\"v\",\"timeout\":\"v\"}", BAD_LINE),
+    ("{\"delete\":\"\"}", BAD_LINE),
+    ("{\"delete\":1}", BAD_LINE),
+    ("{\"use\":{\"name\":\"v\"}}", BAD_LINE),
+    ("{\"deliver\":1}", BAD_LINE),
+    ("{\"restart\":\"orchestrator\"}", BAD_LINE),
+    ("{\"restart_node\":\"n1\"}", BAD_LINE),
+    ("{\"Delete\":\"v\"}", BAD_LINE),
+];
+
+#[test]
+fn a_line_is_one_request(rt: HostRuntime) {
+    for (index, (line, read)) in LINES.iter().enumerate() {
+        assert!(&rt; is_read(rt.alloc(), line.as_bytes(), *read), "line {index}");
+    }
+}
+
+// A byte that is no text, where a name would be.
+const NO_TEXT: &[u8] = &[
+    123, 34, 100, 101, 108, 101, 116, 101, 34, 58, 34, 255, 34, 125,
+];
+
+#[test]
+fn a_line_that_is_no_text_is_no_json(rt: HostRuntime) {
+    assert!(&rt; is_read(rt.alloc(), NO_TEXT, NO_JSON));
+}
+
+// A reply that takes a line of 65,536 bytes.
+fn long_reply(alloc: Global) -> Result<String, AllocError> {
+    let mut text = String::from_str(alloc, "{\"reply\":\"")?;
+    for _ in 0..32762u64 {
+        text.push_str("7f")?;
+    }
+    text.push_str("\"}")?;
+    Ok(text)
+}
+
+#[test]
+fn a_reply_may_take_a_whole_line(rt: HostRuntime) {
+    let line = long_reply(rt.alloc()).expect(&rt, "memory");
+    assert_eq!(&rt; line.len(), 65536);
+    match read_request(rt.alloc(), line.as_bytes()) {
+        Ok(Request::Reply(bytes)) => assert_eq!(&rt; bytes.len(), 32762),
+        _ => assert!(&rt; false, "no reply"),
+    }
+}

@@ -1,0 +1,4 @@
+pub mod GrowingAnswers
+pub mod LinesProgress
+pub mod LinesServed
+pub mod JoinedLines

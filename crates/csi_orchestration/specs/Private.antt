@@ -1,0 +1,3 @@
+pub mod LinesAnswering
+pub mod LinesHandling
+pub mod LinesFailing

@@ -1,0 +1,4 @@
+pub mod LinesServing
+pub mod LinesAnswering
+pub mod LinesFailing
+pub mod LinesRuns
