@@ -1,0 +1,1 @@
+"""What tools/audit reads, and what it looks for."""
