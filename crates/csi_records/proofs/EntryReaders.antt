@@ -14,7 +14,7 @@ use Rattle.csi_records.specs.declared.version.RecordVersion.{RecordVersion}
 use Rattle.csi_records.specs.Public.Spelling.{list_spelling}
 use Rattle.csi_records.specs.Public.OrchestratorSpelling.{known_bytes, arguments_bytes, id_bytes, goal_bytes, target_entry_bytes, node_entry_bytes, orchestrator_part}
 use Rattle.csi_records.specs.Public.Records.{IsCapabilityIn}
-use Rattle.csi_records.specs.Public.OrchestratorRows.{AreArguments, IsGoal, IsTargetEntry, IsNodeEntry, IsOrchestratorRow, IsClosedRow}
+use Rattle.csi_records.specs.Public.OrchestratorRows.{AreArguments, IsGoal, IsTargetEntry, IsNodeEntry, IsClosedRow}
 use Rattle.csi_records.specs.Private.Reading.{IsReadWhole}
 use Rattle.csi_records.specs.Private.OrchestratorReading.{read_node_entry, read_orchestrator_row}
 use Rattle.csi_records.proofs.Readers.{Reads, in_words, Spelled, After, Made, after, makes, Always}

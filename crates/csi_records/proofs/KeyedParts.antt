@@ -1,10 +1,9 @@
 -- An orchestrator's rows and their parts, read and written one after another.
-use Rattle.std.proofs.Common.{◌≡◌, ℕ, suc, ◌+◌, ◌<◌, List, [], ◌∷◌, ◌++◌, length, take, map, get_or, refl, sym, ap, subst, ◌∙◌, arith}
+use Rattle.std.proofs.Common.{◌≡◌, ℕ, ◌+◌, ◌<◌, List, [], ◌∷◌, ◌++◌, length, take, map, get_or, sym, ap, subst, ◌∙◌, arith}
 use Rattle.std.specs.List.{AllByRecursion}
 use Rattle.std.proofs.lemmas.List.{length-map, length-take-le, map_push}
 use Rattle.csi_lists.proofs.Each.{each-append_one}
 use Rattle.csi_orchestrator.specs.declared.row.Row.{Row}
-use Rattle.csi_orchestrator.specs.Model.Shown.{RowShown}
 use Rattle.csi_orchestrator.specs.Public.Shown.{row_shown}
 use Rattle.csi_stores.specs.declared.part.Part.{Part}
 use Rattle.csi_stores.specs.Public.Part.{StoredPart, StoredChange, stored_in, all_stored_in, put_all}

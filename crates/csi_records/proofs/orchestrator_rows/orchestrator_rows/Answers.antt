@@ -1,4 +1,4 @@
-use Rattle.std.proofs.Common.{◌≡◌, suc, ◌+◌, length, map, arith}
+use Rattle.std.proofs.Common.{suc, ◌+◌, length, map, arith}
 use Rattle.std.proofs.lemmas.List.{length-map}
 use Rattle.csi_orchestrator.specs.Public.Shown.{row_shown}
 use Rattle.csi_stores.specs.Public.Part.{stored_in}

@@ -2,8 +2,6 @@ use Rattle.std.proofs.Common.{◌≡◌, ◌∙◌, ap, map, arith, List, ℕ, s
 use Rattle.std.specs.List.{AllByRecursion}
 use Rattle.std.proofs.lemmas.Result.{IfOk-weaker}
 use Rattle.csi_types.specs.Public.Text.{IsNodeId}
-use Rattle.csi_orchestrator.specs.Model.Shown.{RowShown}
-use Rattle.csi_orchestrator.specs.Public.Record.{AreNodesFit}
 use Rattle.csi_orchestrator.specs.Public.Restored.{IsRestorable}
 use Rattle.csi_orchestrator.specs.Public.Shown.{row_shown}
 use Rattle.csi_stores.specs.Public.Part.{put_all}
