@@ -13,7 +13,8 @@ from .whole import Whole
 DEVICE = ended(3, "device")
 CREATE = b'{"create":{"capabilities":[],"limit":0,"name":"v","required":1}}'
 SCHEDULE = b'{"config":{"greatest":1,"nodes":[]},"events":[%s]}' % CREATE
-TRACED = "write,pwrite64,ftruncate,fsync,fdatasync"
+# The calls of the system that write, cut or sync; the program is to use the first five alone.
+TRACED = "write,pwrite64,ftruncate,fsync,fdatasync,writev,pwritev,pwritev2,truncate,fallocate,sync_file_range,msync,sync,syncfs,copy_file_range,sendfile"
 
 
 # ---- streams
@@ -213,6 +214,7 @@ def at_each(box, plugin, over):
     ran, calls = traced(box, plugin, whole.word, whole.fresh("db"), whole.given())
     wanted("the run that is traced", ran, ended(0, out=whole.right()))
     writing = {"pwrite64": "ENOSPC", "ftruncate": "EIO", "fsync": "EIO", "fdatasync": "EIO"}
+    wanted("calls that write otherwise", sorted({*calls} - {*writing, "write"}), [])
     for name, error in writing.items():
         for at in range(1, counted(calls).get(name, 0) + 1):
             inject = f"{name}:error={error}:when={at}"
