@@ -34,6 +34,8 @@ def with_output():
     for name in ("run", "frames", "draw"):
         yield [name, "schedule"]
     yield ["record", "old.db"]
+    yield ["--help"]
+    yield ["node", "--help"]
     yield ["controller", "c.db", "config"]
     yield ["node", "n.db", "n1"]
 
@@ -49,7 +51,7 @@ def output(box, how):
     """Each ends so where its output fails; a plugin's commit stays, and another run replies."""
     prepare(box)
     for words in with_output():
-        given = {} if words[0] not in PLUGINS else {"given": given_of(PLUGINS[words[0]][1])}
+        given = {} if words[0] not in PLUGINS or words[1] == "--help" else {"given": given_of(PLUGINS[words[0]][1])}
         box.wants(DEVICE, *words, **given, **how())
     for name, (word, pairs) in PLUGINS.items():
         box.wants(ended(0, out=replies_of(pairs)), name, f"{name[0]}.db", word, given=given_of(pairs))

@@ -35,12 +35,12 @@ def counts(box):
 def hyphens(box):
     """A file whose name begins with a hyphen stands behind `--`, but for one that is called `-`."""
     line = ended(0, out=b'0 1.1 controller CreateVolume "v" 10 0 block/1\n')
-    for name in ("-", "-f", "--help", "--", " "):
+    for name in ("-", "-f", "-h", "--help", "--", " "):
         box.put(name, create((1, 1), "v"))
         box.wants(line, "show", "--", name)
     box.wants(line, "show", "-")
     box.wants(line, "show", " ")
-    for name in ("-f", "--help", "--"):
+    for name in ("-f", "--"):
         box.wants(USAGE, "show", name)
 
 
@@ -69,11 +69,15 @@ ROWS = [
     ("a blank behind it", refused, "show ", "f"),
     ("help", refused, "help"),
     ("help on one", refused, "help", "show"),
-    ("--help", refused, "--help"),
-    ("-h", refused, "-h"),
-    ("--version", refused, "--version"),
-    ("--help behind one", refused, "show", "--help"),
-    ("-h behind one", refused, "controller", "-h"),
+    ("--help before one", refused, "--help", "show"),
+    ("--help behind its words", refused, "show", "f", "--help"),
+    ("-h behind one of two words", refused, "controller", "db", "-h"),
+    ("--help behind no subcommand", refused, "f", "--help"),
+    ("--help in capitals", refused, "--HELP"),
+    ("--help with a value", refused, "--help=show"),
+    ("--help twice", refused, "--help", "--help"),
+    ("-V", refused, "-V"),
+    ("--version behind one", refused, "show", "--version"),
     ("an option", refused, "show", "-x", "f"),
     ("an option before", refused, "--quiet", "show", "f"),
     ("an option with a value", refused, "show", "--file=f"),

@@ -4,7 +4,7 @@ use crate::stores::{serve_controller, serve_node, tell};
 use csi_commands::stream;
 use csi_endings::{Ending, FileCommand};
 use csi_stores::Counted;
-use csi_words::{CommandLine, parse};
+use csi_words::{CommandLine, Help, give_text, parse};
 use std::process::ExitCode;
 use std::rt::Files;
 use std::{fs, io};
@@ -19,9 +19,16 @@ fn over_file(rt: &(impl Files + Print + AllocGlobal), command: FileCommand, path
     stream::<Pictures, _, _>(rt.alloc(), command, &mut input, &mut out)
 }
 
+// Gives help.
+fn help_on(rt: &impl Print, help: Help) -> Ending {
+    let mut out = Counted::new(io::writer(rt));
+    give_text(help.text(), &mut out)
+}
+
 // Does what a command line names.
 fn carry_out(rt: &HostRuntime, line: CommandLine<'_>) -> Ending {
     match line {
+        CommandLine::Help(help) => help_on(rt, help),
         CommandLine::File(command, path) => over_file(rt, command, path),
         CommandLine::Controller { store, config } => serve_controller(rt, store, config),
         CommandLine::Node { store, id } => serve_node(rt, store, id),
@@ -41,7 +48,8 @@ fn run(rt: &HostRuntime) -> Result<Ending, Ending> {
 }
 
 /// Does what the words of this process name, and says on standard error how it ended, unless all was done; the answer is the exit
-/// status. A store is opened after the words, the configuration or the id were taken, and standard input is read after that.
+/// status. Help goes to standard output, and nothing else is opened then. A store is opened after the words, the configuration or the id
+/// were taken, and standard input is read after that.
 pub fn ended(rt: &HostRuntime) -> ExitCode {
     let ending = match run(rt) {
         Ok(ending) => ending,

@@ -47,7 +47,7 @@ fn config(rt: &(impl Abort + AllocGlobal), text: &str) -> Config {
 const NO_NODES: &str = "{\"greatest\":1000,\"nodes\":[]}";
 
 // Room for so many bytes. Where memory is refused it is made the second time.
-fn room(rt: &(impl Abort + AllocGlobal), count: usize) -> Vec<u8> {
+pub(crate) fn room(rt: &(impl Abort + AllocGlobal), count: usize) -> Vec<u8> {
     match Vec::with_capacity(rt.alloc(), count) {
         Ok(bytes) => bytes,
         Err(_) => Vec::with_capacity(rt.alloc(), count).expect(rt, "memory"),

@@ -1,6 +1,8 @@
 //! The words of the command line, and the status of a process that was started with others.
+use crate::service::room;
 use csi_endings::{Ending, FileCommand, ScheduleCommand};
-use csi_words::{CommandLine, parse};
+use csi_stores::{Counted, FailingWriter};
+use csi_words::{CommandLine, Help, give_text, parse};
 use std::alloc::{AllocError, Global};
 use std::process::{Abort, ExitCode};
 
@@ -73,6 +75,38 @@ const NAMED: &[(&[&str], CommandLine<'static>)] = &[
         &["csi-replay", "record", "a.db"],
         CommandLine::Record("a.db"),
     ),
+    (&["csi-replay", "--help"], CommandLine::Help(Help::Program)),
+    (&["csi-replay", "-h"], CommandLine::Help(Help::Program)),
+    (
+        &["csi-replay", "--version"],
+        CommandLine::Help(Help::Version),
+    ),
+    (
+        &["csi-replay", "answer", "--help"],
+        CommandLine::Help(Help::Answer),
+    ),
+    (&["csi-replay", "show", "-h"], CommandLine::Help(Help::Show)),
+    (
+        &["csi-replay", "run", "--help"],
+        CommandLine::Help(Help::Run),
+    ),
+    (
+        &["csi-replay", "frames", "--help"],
+        CommandLine::Help(Help::Frames),
+    ),
+    (
+        &["csi-replay", "draw", "--help"],
+        CommandLine::Help(Help::Draw),
+    ),
+    (
+        &["csi-replay", "controller", "--help"],
+        CommandLine::Help(Help::Controller),
+    ),
+    (&["csi-replay", "node", "-h"], CommandLine::Help(Help::Node)),
+    (
+        &["csi-replay", "record", "--help"],
+        CommandLine::Help(Help::Record),
+    ),
 ];
 
 #[test]
@@ -94,15 +128,40 @@ const REFUSED: &[&[&str]] = &[
     &["csi-replay", "node", "a", "n1", "n2"],
     &["csi-replay", "record"],
     &["csi-replay", "record", "a", "b"],
-    &["csi-replay", "--help"],
     &["csi-replay", "help"],
-    &["csi-replay", "node", "--help"],
+    &["csi-replay", "help", "node"],
+    &["csi-replay", "-V"],
+    &["csi-replay", "--help", "node"],
+    &["csi-replay", "reply", "--help"],
+    &["csi-replay", "node", "--version"],
+    &["csi-replay", "node", "a", "--help"],
+    &["csi-replay", "show", "a", "--help"],
 ];
 
 #[test]
 fn other_words_are_refused(rt: HostRuntime) {
     for texts in REFUSED {
         assert!(&rt; is_read_as(&rt, texts, Err(Ending::Usage)));
+    }
+}
+
+// How many writes and flushes of a text pass before one fails, if one does; what is written, a byte a call, and how that ends.
+const GIVEN: &[(Option<u64>, Option<u64>, &[u8], Ending)] = &[
+    (None, None, b"help\n", Ending::Done),
+    (Some(0), None, b"", Ending::Device),
+    (Some(3), None, b"hel", Ending::Device),
+    (None, Some(0), b"help\n", Ending::Device),
+];
+
+#[test]
+fn a_text_is_given_up_to_the_call_that_fails(rt: HostRuntime) {
+    for (write, flush, front, wanted) in GIVEN {
+        let mut out = Counted::new(FailingWriter::new(room(&rt, 8), 1, *write, *flush));
+        let ending = give_text("help\n", &mut out);
+        let written = out.into_inner().into_inner();
+        let is_so = ending == *wanted && written.as_slice() == *front;
+        drop(written);
+        assert!(&rt; is_so);
     }
 }
 

@@ -1,2 +1,3 @@
 mod Entered
 mod FilesAdded
+mod HelpBehind

@@ -2,17 +2,22 @@
 ghost use Rattle.std.specs.Prelude.{◌≡◌, IfOk, IfErr, map, option_map, is_some, string_bytes, codes, true};
 ghost use Rattle.clap.specs.Words.{Shape, app_of, first_of, found_of, kind_of, new_app, rows_of, subcommand_of, subcommand_rows_of, takes, with_subcommand};
 ghost use Rattle.clap.specs.declared.error.kind.ErrorKind.TheVariants.{OutOfMemory};
+ghost use Rattle.csi_words.specs.declared.help.Help.{Help as OneHelp};
+ghost use Rattle.csi_words.specs.Public.Help.{help_asked as asked};
 ghost use Rattle.csi_words.specs.Public.Words.{command_entered, command_in as named_in, controller_in, node_in, record_in, on_file_in, named_by, read, EndsWords, program as all_words, with_word};
 ghost use Rattle.csi_words.specs.Private.Words.{IsAddedAs, ending_of_words, with_file_commands as with_files};
 
+use crate::help::{Help, help_asked};
 use clap::error::ErrorKind;
 use clap::{Arg, ArgMatches, Command, Error};
 use csi_endings::{Ending, FileCommand, ScheduleCommand};
 use std::alloc::{AllocError, Global};
 
-/// What the words name: a command, with the texts behind it.
+/// What the words name: a command, with the texts behind it, or the help that they ask for.
 #[derive(Clone, Copy, Debug, PartialEq, Eq)]
 pub enum CommandLine<'a> {
+    /// `--help` or `-h`, alone or behind the name of a subcommand, or `--version` alone: what the help is about.
+    Help(Help),
     /// `answer FILE`, `show FILE`, `run FILE`, `frames FILE` and `draw FILE`: what is done, and the path of the file.
     File(FileCommand, &'a str),
     /// `controller DB CONFIG`: the paths of the store and of the file of the configuration.
@@ -177,14 +182,19 @@ fn command_in<'a>(matches: &ArgMatches<'a>) -> Option<CommandLine<'a>>
     command_of(name, command)
 }
 
-/// The command that the words name, with the texts behind it; `words` begins with the program's own name. `Usage` for all other
-/// words, a call for help among them, and `Memory` where an allocation was refused. Nothing is asked of the texts.
+/// The command that the words name, with the texts behind it, or the help that they ask for, which takes no memory; `words` begins with the
+/// program's own name. `Usage` for all other words, and `Memory` where an allocation was refused. Nothing is asked of the texts.
 pub fn parse<'a>(alloc: Global, words: &'a [String]) -> Result<CommandLine<'a>, Ending>
-    ensures read { IfOk result (λ line. read (map string_bytes words.entry.now) ≡ Some (named_by line)) }
+    ensures help { (help : OneHelp) → asked (map string_bytes words.entry.now) ≡ Some help → result ≡ Ok (CommandLine.Help help) }
+    ensures read { asked (map string_bytes words.entry.now) ≡ None
+        → IfOk result (λ line. read (map string_bytes words.entry.now) ≡ Some (named_by line)) }
     ensures refused { IfErr result (λ ending. is_some (read (map string_bytes words.entry.now)) ≡ true
         → takes all_words (map string_bytes words.entry.now) ≡ true → ending ≡ Ending.Memory) }
     ensures ends { IfErr result EndsWords }
 {
+    if let Some(help) = help_asked(words) {
+        return Ok(CommandLine::Help(help));
+    }
     let matches = match matches_of(alloc, words) {
         Ok(matches) => matches,
         Err(error) => return Err(ending_of(error.kind())),

@@ -6,11 +6,13 @@ use Rattle.csi_endings.specs.declared.command.FileCommand.TheVariants.{Answer, S
 use Rattle.csi_endings.specs.declared.command.ScheduleCommand.TheVariants.{Run, Frames, Draw}
 use Rattle.csi_endings.specs.declared.ending.Ending.{Ending}
 use Rattle.csi_endings.specs.declared.ending.Ending.TheVariants.{Usage, Memory}
+use Rattle.csi_words.specs.declared.help.Help.{Help as HelpOn}
 use Rattle.csi_words.specs.declared.command_line.CommandLine.{CommandLine}
 use Rattle.csi_words.specs.declared.command_line.CommandLine.TheVariants as lines
 
--- a command, and the texts behind it
+-- a command, and the texts behind it; or help
 pub data Named : Type 0 where
+  Help : HelpOn → Named
   File : FileCommand → List ℕ → Named
   Controller : (store config : List ℕ) → Named
   Node : (store id : List ℕ) → Named
@@ -18,6 +20,7 @@ pub data Named : Type 0 where
 
 -- what a command line has
 abbrev pub named_by : CommandLine → Named
+named_by (lines.Help about) = Help about
 named_by (lines.File command path) = File command path.now
 named_by (lines.Controller store config) = Controller store.now config.now
 named_by (lines.Node store id) = Node store.now id.now
