@@ -1,5 +1,6 @@
 pub mod Places
 pub mod WrittenLists
 pub mod WrittenSteps
+pub mod SeenInPlace
 pub mod OneOrder
 pub mod OneReport

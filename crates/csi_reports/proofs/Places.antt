@@ -44,3 +44,7 @@ published_places a b n m s t f g = rw (flags f g) (sym (simp then-equal refl))
 -- places are totally ordered
 pub order-total : IsTotalOrder place_order
 order-total = lists_total (lists_total nat_cmp_total)
+
+-- comparing names is comparing their places
+pub name_places : (n m : List ℕ) → texts n m ≡ place_order (n ∷ []) (m ∷ [])
+name_places n m = sym (simp then-equal refl)

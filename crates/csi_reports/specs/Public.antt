@@ -5,3 +5,7 @@ pub mod Records
 pub mod Outcomes
 pub mod Gathered
 pub mod Report
+pub mod Goals
+pub mod ByName
+pub mod OrchestratorRecords
+pub mod Responses

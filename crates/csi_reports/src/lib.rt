@@ -1,16 +1,21 @@
-//! What machines have, in order, as JSON: the report of a simulated world, and the line of a plugin's record. This profile's own.
+//! What machines have, in order, as JSON: the report of a simulated world, the line of a record, and the lines in which an orchestrator
+//! answers. This profile's own.
 #![tactic(auto)]
 
+mod by_name;
 mod document;
 mod entries;
 mod gathering;
+mod goals;
 mod laws;
 mod lists;
 mod live_volumes;
 mod members;
+mod orchestrator_records;
 mod order;
 mod outcomes;
 mod records;
+mod responses;
 mod things;
 mod writer;
 
@@ -20,5 +25,7 @@ pub use laws::report_law;
 pub use lists::{attached, published, staged};
 pub use live_volumes::write_volumes;
 pub use members::put_array;
+pub use orchestrator_records::orchestrator_line;
 pub use records::{controller_line, node_line};
+pub use responses::{RequestOutcome, Sending, answer_line, fault_line, ignored_line, opened_line};
 pub use writer::JsonWriter;

@@ -9,7 +9,7 @@ use crate::writer::JsonWriter;
 use csi_orchestrator::{Known, Thing};
 use std::alloc::AllocError;
 
-fn known_text(known: Known) -> &'static str
+pub(crate) fn known_text(known: Known) -> &'static str
     ensures { result.now ≡ text_of_known known }
 {
     match known {

@@ -91,6 +91,13 @@ impl JsonWriter {
         self.out.string(text)
     }
 
+    /// Writes a whole number.
+    pub fn number(&mut self, number: u64) -> Result<(), AllocError>
+        ensures { OnOk result (self.new ≡ self.old ++ number_token (decimal number) ∷ []) }
+    {
+        self.out.u64(number)
+    }
+
     /// Writes the value that is none.
     pub fn null(&mut self) -> Result<(), AllocError>
         ensures { OnOk result (self.new ≡ self.old ++ null_token ∷ []) }

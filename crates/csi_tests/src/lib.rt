@@ -7,6 +7,8 @@ mod assembled;
 #[cfg(test)]
 mod full;
 #[cfg(test)]
+mod lines;
+#[cfg(test)]
 mod orchestrator;
 #[cfg(test)]
 mod values;

@@ -1,0 +1,22 @@
+-- Member by member.
+use Rattle.std.proofs.Common.{ap, refl, codes, ◌∷◌, []}
+use Rattle.std.proofs.lemmas.Result.{on_ok_weaker}
+use Rattle.json.specs.Token.{begin_object, key}
+use Rattle.json.specs.Tree.{json_tokens}
+use Rattle.serde_json.specs.Data.{string}
+use Rattle.serde_json.specs.Written.{outline}
+use Rattle.csi_reports.specs.Public.Goals.{goal_entry}
+use Rattle.csi_reports.specs.Public.Responses.{goal_now, request_outcome_text}
+use Rattle.csi_reports.proofs.WrittenSteps.{next, of_text}
+use Rattle.csi_reports.proofs.responses.write_answer.Goals as goal
+
+pub returns : goal.returns
+returns c =
+    on_ok_weaker c.write_last.result
+    (λ last. next _ _ _ _ (begin_object ∷ []) _ c.in_ok-begin_object.ensures refl
+    (next _ _ _ _ (key (codes "goal") ∷ []) _ c.in_ok-key.ensures refl
+    (next _ _ _ _ (json_tokens (outline (goal_entry c.args.name.now (goal_now c.args.row)))) _ c.in_ok-write_goal_now.ensures refl
+    (next _ _ _ _ _ _ c.in_ok-put_text.ensures (ap (of_text (codes "name")) c.as_str.ensures.value)
+    (next _ _ _ _ (key (codes "outcome") ∷ []) _ c.in_ok-key-2.ensures refl
+    (next _ _ _ _ (json_tokens (outline (string (request_outcome_text c.args.outcome)))) _ c.in_ok-write_outcome_text.ensures refl last))))))
+    c.write_last.ensures
