@@ -20,6 +20,42 @@ typedef struct call {
 
 static size_t open; /* handles that have a plugin */
 
+/* ---- endings */
+
+#define IS(ending) (1u << TUFAYON_##ending)
+#define OF_NEW (IS(DONE) | IS(NO_MEMORY) | IS(FULL) | IS(BAD_NAME))
+#define OF_RECORD (OF_NEW | IS(BAD_RECORD) | IS(RENEWED))
+
+/* Each call of the header that answers, and the endings that it says of it. */
+static const struct {
+    const char *name;
+    unsigned endings;
+} CALLS[] = {
+    {"tufayon_controller_new", OF_NEW},
+    {"tufayon_node_new", OF_NEW},
+    {"tufayon_controller_from_record", OF_RECORD},
+    {"tufayon_node_from_record", OF_RECORD},
+    {"tufayon_answer", IS(DONE) | IS(NO_MEMORY) | IS(EMPTY) | IS(SHORT) | IS(BAD_FRAME) | IS(NO_ROOM)},
+    {"tufayon_changed", IS(DONE) | IS(NO_MEMORY) | IS(EMPTY) | IS(NO_ROOM) | IS(TAKE_OUT) | IS(NO_MORE)},
+    {"tufayon_record", IS(DONE) | IS(NO_MEMORY) | IS(EMPTY) | IS(NO_ROOM)},
+};
+static unsigned seen_of[sizeof CALLS / sizeof *CALLS]; /* the endings that each of them had so far */
+
+static void see(const call *it, uint32_t ending) {
+    size_t making = 2 * (size_t)it->how.from_record + (size_t)!it->how.is_controller;
+    size_t place = it->what == MAKE ? making : 3 + (size_t)(it->what - MAKE);
+    must(ending <= TUFAYON_NO_MORE, "a call has an ending that the header doesn't have");
+    seen_of[place] |= 1u << ending;
+}
+
+void test_endings(void) {
+    for (size_t at = 0; at < sizeof CALLS / sizeof *CALLS; at++) {
+        snprintf(doing, sizeof doing, "%s, with endings %#x", CALLS[at].name, seen_of[at]);
+        must((seen_of[at] & ~CALLS[at].endings) == 0, "a call has an ending that the header doesn't say of it");
+        must(seen_of[at] == CALLS[at].endings, "a call was never seen to end in one of the ways that the header says");
+    }
+}
+
 static const uint8_t *bytes_of(const bytes *it) {
     static const uint8_t none[1];
     return it->size > 0 ? it->at : none; /* no pointer is null */
@@ -48,6 +84,7 @@ static uint32_t attempt(call *it) {
     uint32_t ending = call_it(it);
     for (size_t at = 0; at < GUARD; at++) must(it->to[it->room + at] == 0xa5, "it wrote behind its room");
     cases++;
+    see(it, ending);
     return ending;
 }
 

@@ -110,5 +110,6 @@ void test_frames(void);
 void test_records(void);
 void test_damaged(void);
 void test_full(void);
+void test_endings(void); /* after the others: each call has had each of its endings */
 
 #endif
