@@ -73,31 +73,16 @@ shows_so draws left now had has result s = record { bytes = s.read; consumed = s
 
 -- a schedule that is refused gives nothing
 pub refused_so : (draws : Drawing) (command : ScheduleCommand) (at_end : Type 0) (bytes : List ℕ) (ending : Ending) → at_end → IsScheduleRefused bytes ending → StreamEndsAs draws (Schedule command) at_end bytes [] ending
-refused_so draws command at_end bytes endings.Done end refused = absurd refused
-refused_so draws command at_end bytes (endings.FrameFault kind place) end refused = absurd refused
 refused_so draws command at_end bytes (endings.ScheduleFault fault) end refused = (end, (λ frames rest of. tt, (refused, refl)))
 refused_so draws command at_end bytes endings.NotUtf8 end refused = (end, (λ frames rest of. tt, (refused, refl)))
-refused_so draws command at_end bytes endings.ConfigRefused end refused = absurd refused
-refused_so draws command at_end bytes (endings.RecordFault place) end refused = absurd refused
-refused_so draws command at_end bytes endings.Usage end refused = absurd refused
-refused_so draws command at_end bytes endings.Device end refused = absurd refused
-refused_so draws command at_end bytes endings.StoreNotOpened end refused = absurd refused
-refused_so draws command at_end bytes endings.Endless end refused = absurd refused
 refused_so draws command at_end bytes endings.Memory end refused = refl
+refused_so draws command at_end bytes ending end refused = absurd refused
 
 -- where the reader failed, or memory ran out, nothing is given
 pub unread_so : (draws : Drawing) (command : ScheduleCommand) (left now has : Option (List ℕ)) (before after : ℕ) (old new : List ℕ) (ending : Ending) → ReadsWhole left now before after old new (Err ending) → StreamsAs draws (Schedule command) left now has has ending
 unread_so draws command left now has before after old new endings.Device unread = record { bytes = unread.0; consumed = unread.1; out = []; written = Appends-nil has; ends = record { all = []; appended = inl refl; grows = grows-none [] } }
 unread_so draws command left now has before after old new endings.Memory unread = record { bytes = unread.0; consumed = unread.1; out = []; written = Appends-nil has; ends = refl }
-unread_so draws command left now has before after old new endings.Done unread = absurd unread
-unread_so draws command left now has before after old new (endings.FrameFault kind place) unread = absurd unread
-unread_so draws command left now has before after old new (endings.ScheduleFault fault) unread = absurd unread
-unread_so draws command left now has before after old new endings.NotUtf8 unread = absurd unread
-unread_so draws command left now has before after old new endings.ConfigRefused unread = absurd unread
-unread_so draws command left now has before after old new (endings.RecordFault place) unread = absurd unread
-unread_so draws command left now has before after old new endings.Usage unread = absurd unread
-unread_so draws command left now has before after old new endings.StoreNotOpened unread = absurd unread
-unread_so draws command left now has before after old new endings.Endless unread = absurd unread
+unread_so draws command left now has before after old new ending unread = absurd unread
 
 -- what came into an empty vector was read
 pub read_in : (left now : Option (List ℕ)) (before after bytes : List ℕ) → before ≡ [] → bytes ≡ after → HasRead left now before after → Consumes left now bytes
@@ -137,15 +122,7 @@ told_so reader_before reader_after writer_before writer_after (Err stops.Endless
 pub unread_told : (left now : Option (List ℕ)) (before after writer : ℕ) (old new : List ℕ) (ending : Ending) → ReadsWhole left now before after old new (Err ending) → TellsDevice before after writer writer ending
 unread_told left now before after writer old new endings.Device unread = inl unread.2
 unread_told left now before after writer old new endings.Memory unread = (unread.2, refl)
-unread_told left now before after writer old new endings.Done unread = absurd unread
-unread_told left now before after writer old new (endings.FrameFault kind place) unread = absurd unread
-unread_told left now before after writer old new (endings.ScheduleFault fault) unread = absurd unread
-unread_told left now before after writer old new endings.NotUtf8 unread = absurd unread
-unread_told left now before after writer old new endings.ConfigRefused unread = absurd unread
-unread_told left now before after writer old new (endings.RecordFault place) unread = absurd unread
-unread_told left now before after writer old new endings.Usage unread = absurd unread
-unread_told left now before after writer old new endings.StoreNotOpened unread = absurd unread
-unread_told left now before after writer old new endings.Endless unread = absurd unread
+unread_told left now before after writer old new ending unread = absurd unread
 
 -- the ending of a schedule that is refused tells no failure of a device
 pub refused_told : (bytes : List ℕ) (before after writer : ℕ) (ending : Ending) → IsScheduleRefused bytes ending → after ≡ before → TellsDevice before after writer writer ending

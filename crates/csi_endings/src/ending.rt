@@ -26,6 +26,10 @@ pub enum Ending {
     ConfigRefused,
     /// The store has no record of this plugin: the position, from 0, of the first part that is refused.
     RecordFault(u64),
+    /// The line of this number, from 1, is too long.
+    LineFault(u64),
+    /// No session is left for an orchestrator that begins another.
+    NumbersSpent,
     /// The words on the command line are no command.
     Usage,
     /// A file, a stream or the store failed, or the store is full.
@@ -48,6 +52,7 @@ impl Ending {
             Ending::Done => 0,
             Ending::FrameFault(..) | Ending::ScheduleFault(_) | Ending::NotUtf8 => 1,
             Ending::ConfigRefused | Ending::RecordFault(_) => 1,
+            Ending::LineFault(_) | Ending::NumbersSpent => 1,
             Ending::Usage => 2,
             Ending::Device | Ending::StoreNotOpened | Ending::Endless | Ending::Memory => 3,
         }
@@ -127,6 +132,8 @@ impl fmt::Display for Ending {
             Ending::NotUtf8 => write!(f, "csi-replay: not UTF-8"),
             Ending::ConfigRefused => write!(f, "csi-replay: config refused"),
             Ending::RecordFault(place) => write!(f, "csi-replay: record fault at {place}"),
+            Ending::LineFault(number) => write!(f, "csi-replay: line fault at {number}"),
+            Ending::NumbersSpent => write!(f, "csi-replay: numbers spent"),
             Ending::Usage => write!(f, "csi-replay: usage"),
             Ending::Device => write!(f, "csi-replay: device"),
             Ending::StoreNotOpened => write!(f, "csi-replay: store not opened"),

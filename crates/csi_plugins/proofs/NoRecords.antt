@@ -108,12 +108,4 @@ refused_node parts first place front other (inr at) = inr (record {
 pub for_node : (parts : List StoredPart) (first : ℕ) → first ≡ 0 → ((parts ≡ []) × (first ≡ 0)) ⊎ IsRefusedAt IsControllerRecord parts first → (ending : Ending) → HasNoNodeLine parts ending → HasNoLine parts ending
 for_node parts first zero other (endings.RecordFault place) why = refused_node parts first place zero other why
 for_node parts first zero other endings.Memory why = tt
-for_node parts first zero other endings.Done why = why
-for_node parts first zero other (endings.FrameFault kind place) why = why
-for_node parts first zero other (endings.ScheduleFault fault) why = why
-for_node parts first zero other endings.NotUtf8 why = why
-for_node parts first zero other endings.ConfigRefused why = why
-for_node parts first zero other endings.Usage why = why
-for_node parts first zero other endings.Device why = why
-for_node parts first zero other endings.StoreNotOpened why = why
-for_node parts first zero other endings.Endless why = why
+for_node parts first zero other ending why = absurd why

@@ -15,15 +15,7 @@ use Rattle.csi_plugins.specs.Private.Recording.{HasNoLine}
 pub not_told : (before after : Store) (parts : List StoredPart) → (after.honest → (content : List StoredPart) → before.holds content → parts ≡ content) → (ending : Ending) → HasNoLine parts ending → IsNotTold before after ending
 not_told before after parts are (endings.RecordFault place) why = λ honest content holds. subst (λ (p : List StoredPart). IsNoRecordAt p place) (are honest content holds) why
 not_told before after parts are endings.Memory why = tt
-not_told before after parts are endings.Done why = why
-not_told before after parts are (endings.FrameFault kind place) why = why
-not_told before after parts are (endings.ScheduleFault fault) why = why
-not_told before after parts are endings.NotUtf8 why = why
-not_told before after parts are endings.ConfigRefused why = why
-not_told before after parts are endings.Usage why = why
-not_told before after parts are endings.Device why = absurd why
-not_told before after parts are endings.StoreNotOpened why = why
-not_told before after parts are endings.Endless why = why
+not_told before after parts are ending why = absurd why
 
 -- a store that refuses
 pub load_refused : (before after : Store) (fault : KeepFault) → IsLoadFault before after fault → IsNotTold before after (ending_of_store fault)
@@ -48,11 +40,4 @@ pub records_refused : (before after : Store) (had : Writer) (ending : Ending) �
 records_refused before after had endings.Device why = inl (refl, why)
 records_refused before after had (endings.RecordFault place) why = (refl, why)
 records_refused before after had endings.Memory why = (refl, why)
-records_refused before after had endings.Done why = absurd why
-records_refused before after had (endings.FrameFault kind place) why = absurd why
-records_refused before after had (endings.ScheduleFault fault) why = absurd why
-records_refused before after had endings.NotUtf8 why = absurd why
-records_refused before after had endings.ConfigRefused why = absurd why
-records_refused before after had endings.Usage why = absurd why
-records_refused before after had endings.StoreNotOpened why = absurd why
-records_refused before after had endings.Endless why = absurd why
+records_refused before after had ending why = absurd why

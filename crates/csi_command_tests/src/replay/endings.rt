@@ -37,6 +37,13 @@ const ENDINGS: &[(Ending, &str, u8)] = &[
         "csi-replay: record fault at 4096",
         1,
     ),
+    (Ending::LineFault(1), "csi-replay: line fault at 1", 1),
+    (
+        Ending::LineFault(18_446_744_073_709_551_615),
+        "csi-replay: line fault at 18446744073709551615",
+        1,
+    ),
+    (Ending::NumbersSpent, "csi-replay: numbers spent", 1),
     (Ending::Usage, "csi-replay: usage", 2),
     (Ending::Device, "csi-replay: device", 3),
     (Ending::StoreNotOpened, "csi-replay: store not opened", 3),
