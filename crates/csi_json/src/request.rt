@@ -4,7 +4,8 @@ ghost use Rattle.serde_json.specs.Read.{read};
 ghost use Rattle.serde_json.specs.View.{view};
 ghost use Rattle.csi_json.specs.Private.Json.{Reads};
 ghost use Rattle.csi_json.specs.Public.Json.{only_member as sole};
-ghost use Rattle.csi_json.specs.Public.Requests.{request_shown, is_command_key, bytes_of, request_at as at_key, request_of, request_read, line_request, IsRequestFault};
+ghost use Rattle.csi_json.specs.Public.Requests.{request_shown, is_command_key, bytes_of, request_at as at_key, request_of, request_read};
+ghost use Rattle.csi_json.specs.Public.Requests.{line_request, IsRequestFault};
 
 use crate::events::event_at;
 use crate::hexadecimal::hex_bytes;

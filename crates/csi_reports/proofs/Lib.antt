@@ -4,3 +4,4 @@ pub mod WrittenSteps
 pub mod SeenInPlace
 pub mod OneOrder
 pub mod OneReport
+pub mod OneLine

@@ -44,7 +44,7 @@ places-ties : (a b : List (List ℕ)) → pointwise (pointwise nat_eq) a b ≡ e
 places-ties = lists_ties (slice_cmp nat_cmp) text-ties
 
 -- places that tie in the order are equal
-one-place : (a b : List (List ℕ)) → place_order a b ≡ Equal → a ≡ b
+pub one-place : (a b : List (List ℕ)) → place_order a b ≡ Equal → a ≡ b
 one-place a b e = (pointwise_decides bytes_decides a b).0 (places-ties a b ∙ ap is_eq e)
 
 -- flags that have the same number are equal

@@ -21,7 +21,7 @@ mod writer;
 
 pub use document::report;
 pub use entries::{Entry, PublishedAt, StagedAt};
-pub use laws::report_law;
+pub use laws::{opened_line_law, orchestrator_line_law, report_law};
 pub use lists::{attached, published, staged};
 pub use live_volumes::write_volumes;
 pub use members::put_array;

@@ -4,7 +4,8 @@ ghost use Rattle.json.specs.Tree.{json_tokens};
 ghost use Rattle.serde_json.specs.Data.{string};
 ghost use Rattle.serde_json.specs.Written.{outline};
 ghost use Rattle.csi_orchestrator.specs.Public.Shown.{node_entry_shown, row_shown};
-ghost use Rattle.csi_reports.specs.Public.OrchestratorRecords.{kept_target_entry, kept_node_entry, kept_entry, id_entry, orchestrator_entry, IsOrchestratorLine};
+ghost use Rattle.csi_reports.specs.Public.OrchestratorRecords.{kept_target_entry, kept_node_entry, kept_entry, id_entry};
+ghost use Rattle.csi_reports.specs.Public.OrchestratorRecords.{orchestrator_entry, IsOrchestratorLine};
 
 use crate::by_name::rows_by_name;
 use crate::entries::Entry;

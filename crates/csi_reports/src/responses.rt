@@ -5,7 +5,8 @@ ghost use Rattle.serde_json.specs.Data.{string};
 ghost use Rattle.serde_json.specs.Written.{outline, members_outline, compact_text};
 ghost use Rattle.csi_orchestrator.specs.Public.Shown.{row_shown};
 ghost use Rattle.csi_reports.specs.Public.Goals.{goal_entry};
-ghost use Rattle.csi_reports.specs.Public.Responses.{party_text as text_of_party, kind_in as kind_of_body, send_entry, send_member, sending_shown, goal_now, request_outcome_text, answer_entry, ignored_entry, fault_entry, opened_entry, IsOpenedLine};
+ghost use Rattle.csi_reports.specs.Public.Responses.{party_text as text_of_party, kind_in as kind_of_body, send_entry, send_member, sending_shown};
+ghost use Rattle.csi_reports.specs.Public.Responses.{goal_now, request_outcome_text, answer_entry, ignored_entry, fault_entry, opened_entry, IsOpenedLine};
 
 use crate::by_name::wanted_by_name;
 use crate::entries::Entry;

@@ -26,7 +26,8 @@ request_shown (requests.Reply bytes) = Reply bytes.items
 -- the keys of a schedule's commands and timeouts
 abbrev pub is_command_key : List ℕ → Bool
 is_command_key key =
-    bytes_eq key (codes "create") || bytes_eq key (codes "use") || bytes_eq key (codes "stop") || bytes_eq key (codes "delete") || bytes_eq key (codes "timeout")
+    bytes_eq key (codes "create") || bytes_eq key (codes "use") || bytes_eq key (codes "stop")
+    || bytes_eq key (codes "delete") || bytes_eq key (codes "timeout")
 
 -- a command or a timeout, or the fault that it is none
 abbrev pub command_or_fault : Option Event → Result RequestShown RequestFault

@@ -56,3 +56,7 @@ pub record IsOrchestratorLine (kept : RecordParts) (text : List ℕ) : Type 0 wh
   pub rows : List RowShown
   pub of : IsInPlace row_place kept.rows rows
   pub written : text ≡ compact_text (orchestrator_entry kept.nodes kept.session rows)
+
+-- two texts that are the line of this record are the same
+abbrev pub HasOneLine : RecordParts → Type 0
+HasOneLine kept = (a b : List ℕ) → IsOrchestratorLine kept a → IsOrchestratorLine kept b → a ≡ b

@@ -94,3 +94,7 @@ pub record IsOpenedLine (session : ℕ) (rows : List RowShown) (text : List ℕ)
   pub wanted : List (List ℕ)
   pub of : IsInPlace name_place (wanted_names rows) wanted
   pub written : text ≡ compact_text (opened_entry session wanted)
+
+-- two texts that are this first line are the same
+abbrev pub HasOneOpenedLine : ℕ → List RowShown → Type 0
+HasOneOpenedLine session rows = (a b : List ℕ) → IsOpenedLine session rows a → IsOpenedLine session rows b → a ≡ b
