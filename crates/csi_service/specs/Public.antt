@@ -1,6 +1,7 @@
 pub mod Serving
 pub mod Answering
 pub mod Failing
+pub mod StoreOpening
 pub mod Opening
 pub mod Changed
 pub mod Services
