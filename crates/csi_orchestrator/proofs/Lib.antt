@@ -77,3 +77,7 @@ pub mod PassedTests
 pub mod FirstRefused
 pub mod NodesFit
 pub mod RowsOfRecord
+pub mod PutPlaces
+pub mod ChangedRows
+pub mod RestingRows
+pub mod FewRows

@@ -1,4 +1,5 @@
--- Where the row of an open call stands: the place that is noted for the call's number.
+-- Where the row of an open call stands: the place that is noted for the call's number, if the row there passes a test that only the row of
+-- such a call passes.
 use Rattle.std.proofs.Common.{◌≡◌, ℕ, List, get_or, Bool, true, false, refl, sym, ◌∙◌, ap, subst}
 use Rattle.std.specs.Prelude.{Option, Some, None, position, slice_get}
 use Rattle.std.proofs.lemmas.Bool.{false≢true, false_from_ne_true}
@@ -10,65 +11,89 @@ use Rattle.csi_lists.proofs.Searches.{find-no_place}
 use Rattle.csi_types.specs.declared.call.Kind.{Kind}
 use Rattle.csi_types.specs.declared.call.Party.{Party}
 use Rattle.csi_types.specs.declared.number.Number.{Number}
+use Rattle.csi_types.proofs.Equality.{same_number-tells}
+use Rattle.csi_orchestrator.specs.declared.row.OpenCall.{OpenCall}
 use Rattle.csi_orchestrator.specs.declared.row.Row.{Row}
 use Rattle.csi_orchestrator.specs.declared.catalog.Catalog.{Catalog}
 use Rattle.csi_orchestrator.specs.Public.Catalog.{rows_of, place_noted, IsIndexed}
+use Rattle.csi_orchestrator.specs.Public.Changed.{is_numbered}
 use Rattle.csi_orchestrator.specs.Private.RowMoves.{is_issued_as}
 use Rattle.csi_orchestrator.specs.Public.Shown.{row_shown}
 use Rattle.csi_orchestrator.specs.Model.Shown.{open_in_row}
 use Rattle.csi_orchestrator.proofs.ListPlaces.{at-of_get, get-of_at}
 use Rattle.csi_orchestrator.proofs.RepliedRows.{hears-it}
 
--- the row that passes a test, if it is the only one, and that none passes
-unplaced : (p : Row → Bool) (rows : List Row) → ((j : ℕ) (row : Row) → IsAt rows j row → p row ≡ true → ⊥) → None ≡ position p rows
-unplaced p rows none = position-none p rows (λ k d inside. false_from_ne_true (p (get_or rows k d)) (λ e. none k (get_or rows k d) (at-index rows k d inside) e))
+-- what passes a test, if it is the only one, and that none passes
+unplaced : {X : Type 0} (p : X → Bool) (xs : List X) → ((j : ℕ) (x : X) → IsAt xs j x → p x ≡ true → ⊥) → None ≡ position p xs
+unplaced p xs none = position-none p xs (λ k d inside. false_from_ne_true (p (get_or xs k d)) (λ e. none k (get_or xs k d) (at-index xs k d inside) e))
 
--- the place of a row that alone passes a test is the one that a search by the test gives
-placed : (p : Row → Bool) (rows : List Row) (i : ℕ) (row : Row) → IsAt rows i row → p row ≡ true → ((j : ℕ) (r : Row) → IsAt rows j r → p r ≡ true → j ≡ i) → Some i ≡ position p rows
-placed p rows i row at passes only = by (position p rows) refl
+-- the place of what alone passes a test is the one that a search by the test gives
+pub placed : {X : Type 0} (p : X → Bool) (xs : List X) (i : ℕ) (x : X) → IsAt xs i x → p x ≡ true → ((j : ℕ) (y : X) → IsAt xs j y → p y ≡ true → j ≡ i) → Some i ≡ position p xs
+placed p xs i x at passes only = by (position p xs) refl
   where
-    by : (o : Option ℕ) → position p rows ≡ o → Some i ≡ o
-    by None e = absurd (find-not_none p rows i row at passes (find-no_place p rows e))
-    by (Some j) e = let there = position-Some p rows j row e in ap Some (sym (only j (get_or rows j row) (at-index rows j row there.0) there.1))
+    by : (o : Option ℕ) → position p xs ≡ o → Some i ≡ o
+    by None e = absurd (find-not_none p xs i x at passes (find-no_place p xs e))
+    by (Some j) e = let there = position-Some p xs j x e in ap Some (sym (only j (get_or xs j x) (at-index xs j x there.0) there.1))
 
--- the reply is to the row's open call
-abbrev Replied : Number → Party → Kind → Row → Bool
-Replied number party kind row = is_issued_as number party kind (open_in_row (row_shown row))
+-- ---- the place that is noted
 
--- the place of a row that a reply is to is noted for the reply's number
-noted-at : (catalog : Catalog) (number : Number) (party : Party) (kind : Kind) → IsIndexed catalog → (j : ℕ) (row : Row) → IsAt (rows_of catalog) j row → Replied number party kind row ≡ true → place_noted catalog number.call ≡ Some j
-noted-at catalog number party kind indexed j row at passes =
-    let it = hears-it (row_shown row) number party kind passes in
-    subst (λ (n : Number). place_noted catalog n.call ≡ Some j) it.has_number (indexed.noted.found j row it.kept at it.own)
+-- the place of each row that passes the test is noted for this call
+abbrev pub AreNoted : Catalog → ℕ → (Row → Bool) → Type 0
+AreNoted catalog call p = (j : ℕ) (row : Row) → IsAt (rows_of catalog) j row → p row ≡ true → place_noted catalog call ≡ Some j
 
--- no call of the number is noted
-pub replied-unnoted : (catalog : Catalog) (number : Number) (party : Party) (kind : Kind) → IsIndexed catalog → place_noted catalog number.call ≡ None
-    → None ≡ position (λ (row : Row). is_issued_as number party kind (open_in_row (row_shown row))) (rows_of catalog)
-replied-unnoted catalog number party kind indexed none =
-    unplaced (Replied number party kind) (rows_of catalog) (λ j row at passes. none-some j (sym none ∙ noted-at catalog number party kind indexed j row at passes))
+-- none is noted
+pub none-noted : (catalog : Catalog) (call : ℕ) (p : Row → Bool) → AreNoted catalog call p → place_noted catalog call ≡ None → None ≡ position p (rows_of catalog)
+none-noted catalog call p noted none = unplaced p (rows_of catalog) (λ j row at passes. none-some j (sym none ∙ noted j row at passes))
 
 -- no row stands at its place
-pub replied-nowhere : (catalog : Catalog) (number : Number) (party : Party) (kind : Kind) (place : ℕ) → IsIndexed catalog → place_noted catalog number.call ≡ Some place → slice_get (rows_of catalog) place ≡ None
-    → None ≡ position (λ (row : Row). is_issued_as number party kind (open_in_row (row_shown row))) (rows_of catalog)
-replied-nowhere catalog number party kind place indexed noted none =
-    unplaced (Replied number party kind) (rows_of catalog)
+pub noted-nowhere : (catalog : Catalog) (call : ℕ) (p : Row → Bool) (place : ℕ) → AreNoted catalog call p → place_noted catalog call ≡ Some place → slice_get (rows_of catalog) place ≡ None → None ≡ position p (rows_of catalog)
+noted-nowhere catalog call p place noted is none =
+    unplaced p (rows_of catalog)
     (λ j row at passes.
-    let same : place ≡ j = same_Some place j (sym noted ∙ noted-at catalog number party kind indexed j row at passes) in
+    let same : place ≡ j = same_Some place j (sym is ∙ noted j row at passes) in
     none-some row (sym none ∙ ap (slice_get (rows_of catalog)) same ∙ get-of_at (rows_of catalog) j row at))
 
 -- the row there is not the one
-pub replied-otherwise : (catalog : Catalog) (number : Number) (party : Party) (kind : Kind) (place : ℕ) (row : Row) → IsIndexed catalog → place_noted catalog number.call ≡ Some place → slice_get (rows_of catalog) place ≡ Some row
-    → is_issued_as number party kind (open_in_row (row_shown row)) ≡ false → None ≡ position (λ (row : Row). is_issued_as number party kind (open_in_row (row_shown row))) (rows_of catalog)
-replied-otherwise catalog number party kind place row indexed noted there fails =
-    unplaced (Replied number party kind) (rows_of catalog)
+pub noted-otherwise : (catalog : Catalog) (call : ℕ) (p : Row → Bool) (place : ℕ) (row : Row) → AreNoted catalog call p → place_noted catalog call ≡ Some place → slice_get (rows_of catalog) place ≡ Some row → p row ≡ false
+    → None ≡ position p (rows_of catalog)
+noted-otherwise catalog call p place row noted is there fails =
+    unplaced p (rows_of catalog)
     (λ j other at passes.
-    let same : place ≡ j = same_Some place j (sym noted ∙ noted-at catalog number party kind indexed j other at passes) in
+    let same : place ≡ j = same_Some place j (sym is ∙ noted j other at passes) in
     let own : row ≡ other = same_Some row other (sym there ∙ ap (slice_get (rows_of catalog)) same ∙ get-of_at (rows_of catalog) j other at) in
-    false≢true (sym fails ∙ ap (Replied number party kind) own ∙ passes))
+    false≢true (sym fails ∙ ap p own ∙ passes))
 
 -- it is
-pub replied-there : (catalog : Catalog) (number : Number) (party : Party) (kind : Kind) (place : ℕ) (row : Row) → IsIndexed catalog → place_noted catalog number.call ≡ Some place → slice_get (rows_of catalog) place ≡ Some row
-    → is_issued_as number party kind (open_in_row (row_shown row)) ≡ true → Some place ≡ position (λ (row : Row). is_issued_as number party kind (open_in_row (row_shown row))) (rows_of catalog)
-replied-there catalog number party kind place row indexed noted there passes =
-    placed (Replied number party kind) (rows_of catalog) place row (at-of_get (rows_of catalog) place row there) passes
-    (λ j other at pass. sym (same_Some place j (sym noted ∙ noted-at catalog number party kind indexed j other at pass)))
+pub noted-there : (catalog : Catalog) (call : ℕ) (p : Row → Bool) (place : ℕ) (row : Row) → AreNoted catalog call p → place_noted catalog call ≡ Some place → slice_get (rows_of catalog) place ≡ Some row → p row ≡ true
+    → Some place ≡ position p (rows_of catalog)
+noted-there catalog call p place row noted is there passes =
+    placed p (rows_of catalog) place row (at-of_get (rows_of catalog) place row there) passes (λ j other at pass. sym (same_Some place j (sym is ∙ noted j other at pass)))
+
+-- ---- the tests
+
+-- the reply is to the row's open call
+abbrev pub Replied : Number → Party → Kind → Row → Bool
+Replied number party kind row = is_issued_as number party kind (open_in_row (row_shown row))
+
+-- the place of a row that a reply is to is noted for the reply's number
+pub replied-noted : (catalog : Catalog) (number : Number) (party : Party) (kind : Kind) → IsIndexed catalog → AreNoted catalog number.call (Replied number party kind)
+replied-noted catalog number party kind indexed j row at passes =
+    let it = hears-it (row_shown row) number party kind passes in
+    subst (λ (n : Number). place_noted catalog n.call ≡ Some j) it.has_number (indexed.noted.found j row it.kept at it.own)
+
+-- the open call has this number
+pub record IsNumbered (number : Number) (o : Option OpenCall) : Type 0 where
+  pub kept : OpenCall
+  pub own : o ≡ Some kept
+  pub has_number : kept.number ≡ number
+
+-- what passes the test is such a call
+pub numbered-call : (number : Number) (o : Option OpenCall) → is_numbered number o ≡ true → IsNumbered number o
+numbered-call number None e = absurd (false≢true e)
+numbered-call number (Some kept) e = record { kept = kept; own = refl; has_number = (same_number-tells kept.number number).0 e }
+
+-- the place of a row whose open call has this number is noted for it
+pub numbered-noted : (catalog : Catalog) (number : Number) → IsIndexed catalog → AreNoted catalog number.call (λ (row : Row). is_numbered number row.open_call)
+numbered-noted catalog number indexed j row at passes =
+    let it = numbered-call number row.open_call passes in
+    subst (λ (n : Number). place_noted catalog n.call ≡ Some j) it.has_number (indexed.noted.found j row it.kept at it.own)

@@ -15,6 +15,7 @@ use Rattle.csi_orchestrator.specs.declared.catalog.Catalog.{Catalog}
 use Rattle.csi_orchestrator.specs.Public.Catalog.{rows_of, IsIndexed, AreUpTo}
 use Rattle.csi_orchestrator.specs.Private.Catalog.{IsReady, IsNextFor, outgoing_call_number, IsNumberedAfter}
 use Rattle.csi_orchestrator.specs.Model.Commands.{next_number}
+use Rattle.csi_orchestrator.specs.Private.RowMoves.{last_after}
 use Rattle.csi_orchestrator.specs.Private.RowRefusals.{step_refusal, late_refusal}
 use Rattle.csi_orchestrator.specs.Private.RowSteps.{MovedRow, outgoing_by, sent_or_dropped, row_moved, row_sends_due, row_rests, row_unless, is_step_met, waits, is_given_up, timed_out, failed, row_before_call, row_takes, row_step}
 use Rattle.csi_orchestrator.specs.Model.Due.{Due}
@@ -46,6 +47,14 @@ numbered last number is = by (nat_lt (last.call + 1) (2 ^ 64)) is
     by true e = sym (ap (λ (n : Number). n.call) (some-is _ number e))
     by false e = absurd (none-some number e)
 
+-- it is one of the session
+sessioned : (last number : Number) → next_number last ≡ Some number → number.session ≡ last.session
+sessioned last number is = by (nat_lt (last.call + 1) (2 ^ 64)) is
+  where
+    by : (b : Bool) → cond b (Some (let n : Number = record { session = last.session; call = last.call + 1 } in n)) None ≡ Some number → number.session ≡ last.session
+    by true e = sym (ap (λ (n : Number). n.session) (some-is _ number e))
+    by false e = absurd (none-some number e)
+
 -- a call that is sent comes right after the last one
 after-sent : (last : Number) (due : Option Due) (next : Option Outgoing) → outgoing_by due (next_number last) ≡ Ok next → IsNumberedAfter last.call next
 after-sent last due next is = by due (next_number last) refl is
@@ -56,11 +65,21 @@ after-sent last due next is = by due (next_number last) refl is
     by (Some due) (Some number) own e =
         λ call named. sym (some-is number.call call (ap outgoing_call_number (ok-is _ next e) ∙ named)) ∙ numbered last number own
 
+-- and in the same session
+session-after : (last : Number) (due : Option Due) (next : Option Outgoing) → outgoing_by due (next_number last) ≡ Ok next → (last_after last next).session ≡ last.session
+session-after last due next is = by due (next_number last) refl is
+  where
+    by : (due : Option Due) (number : Option Number) → next_number last ≡ number → outgoing_by due number ≡ Ok next → (last_after last next).session ≡ last.session
+    by None number own e = ap (λ (n : Option Outgoing). (last_after last n).session) (sym (ok-is None next e))
+    by (Some due) None own e = cc
+    by (Some due) (Some number) own e = ap (λ (n : Option Outgoing). (last_after last n).session) (sym (ok-is _ next e)) ∙ sessioned last number own
+
 -- the row's name stays, its open call was open or is sent, and what is sent comes right after the last call
 pub record IsOn (last : Number) (row : RowShown) (moved_row : MovedRow) : Type 0 where
   pub name : (moved_row.row).name ≡ row.name
   pub opened : IsOpened row.open_call moved_row.outgoing (moved_row.row).open_call
   pub after : IsNumberedAfter last.call moved_row.outgoing
+  pub session : (last_after last moved_row.outgoing).session ≡ last.session
 
 -- so it is, unless it is refused
 abbrev pub GoesOn : Number → RowShown → Result MovedRow OrchFault → Type 0
@@ -83,10 +102,10 @@ sends-due-goes last row then same = by (outgoing_by (due_in then) (next_number l
   where
     by : (next : Result (Option Outgoing) OrchFault) → outgoing_by (due_in then) (next_number last) ≡ next → GoesOn last row (row_moved then next)
     by (Err fault) e = tt
-    by (Ok next) e = record { name = sent_or_dropped-name next then ∙ same; opened = sent_or_dropped-opened row.open_call next then; after = after-sent last (due_in then) next e }
+    by (Ok next) e = record { name = sent_or_dropped-name next then ∙ same; opened = sent_or_dropped-opened row.open_call next then; after = after-sent last (due_in then) next e; session = session-after last (due_in then) next e }
 
 -- a row that goes on so does where it isn't refused
-unless-goes : (last : Number) (row : RowShown) (fault : Option OrchFault) (moved_row : Result MovedRow OrchFault) → GoesOn last row moved_row → GoesOn last row (row_unless fault moved_row)
+pub unless-goes : (last : Number) (row : RowShown) (fault : Option OrchFault) (moved_row : Result MovedRow OrchFault) → GoesOn last row moved_row → GoesOn last row (row_unless fault moved_row)
 unless-goes last row None moved_row goes = goes
 unless-goes last row (Some fault) moved_row goes = tt
 
@@ -110,9 +129,9 @@ changed-name step row = refl
 pub step-goes : (nodes : List (List ℕ)) (last : Number) (step : Step) (row : RowShown) → GoesOn last row (row_step nodes last step row)
 step-goes nodes last step row =
     unless-goes last row (step_refusal nodes last step row) (row_takes last step row)
-    (by_if (GoesOn last row) (is_step_met step row) (row_rests row) _ (λ e. record { name = refl; opened = λ kept is. inl is; after = none-after last.call })
+    (by_if (GoesOn last row) (is_step_met step row) (row_rests row) _ (λ e. record { name = refl; opened = λ kept is. inl is; after = none-after last.call; session = refl })
     (λ e. by_if (GoesOn last row) (waits step row) (row_rests (closed row)) _
-    (λ f. record { name = refl; opened = λ kept is. absurd (none-some kept is); after = none-after last.call })
+    (λ f. record { name = refl; opened = λ kept is. absurd (none-some kept is); after = none-after last.call; session = refl })
     (λ f. unless-goes last row (late_refusal last step row) (row_sends_due last (row_before_call step row)) (sends-due-goes last row (row_before_call step row) (changed-name step row)))))
 
 -- once a row took a step, only the call that is sent for it isn't noted yet

@@ -16,9 +16,11 @@ use Rattle.csi_orchestrator.specs.declared.thing.Known.{Known}
 use Rattle.csi_orchestrator.specs.declared.thing.Known.TheVariants.{Yes, No, Maybe}
 use Rattle.csi_orchestrator.specs.Model.Shown.{NodeEntryShown, RowShown}
 use Rattle.csi_orchestrator.specs.Public.Bounds.{AreWithin, IsEntryWithin}
+use Rattle.csi_orchestrator.specs.Public.Laws.{RecordsLaw}
 use Rattle.csi_orchestrator.specs.Public.Restored.{AreHeldTogether, IsEntryFit, AreEntriesFit, IsPublished, IsSettled, HasPlace, IsOnTheWay, IsUseOnTheWay, FitsLife, IsRestorable}
 use Rattle.csi_orchestrator.specs.Public.Steady.{IsStanding, HasOne, IsAtWork, HasMarks, IsInUse, AreMarked, IsLast, CameLast, HasLast, IsEmptyUnlessMade, IsAllowed, CanBeBeside, IsSteadyRow}
 use Rattle.csi_orchestrator.specs.Private.Opened.{RecordsAreOpened}
+use Rattle.csi_orchestrator.proofs.ComeTo.{is-come}
 use Rattle.csi_orchestrator.proofs.Restored.{restored}
 use Rattle.csi_orchestrator.proofs.RowsRestorable.{alone-sides}
 use Rattle.csi_orchestrator.proofs.SplitLists.{two-there, find-at, find-of_none}
@@ -226,3 +228,10 @@ opened nodes session rows kept room =
       within = record { rows = kept.few; entries = each-weaker (IsRestorable nodes) (AreWithin nodes) rows (restorable-within nodes) kept.each };
       told = made.told room;
     }
+
+-- some orchestrator came to what keeps the rules
+pub records-reached : RecordsLaw
+records-reached kept rules =
+    let made = restored kept.nodes kept.session kept.rows rules in
+    let came = is-come kept.nodes _ made.parts made.came in
+    record { parts = made.parts; told = came.told; same_nodes = came.same_nodes; same_session = made.same_session; same_rows = made.same_rows; opened = made.told }

@@ -50,7 +50,7 @@ session-agrees parts history session agrees =
     same read = closed-row read read parts.rows refl
 
 -- parts of the same nodes, last number and rows are the same
-same-parts : (a b : OrchestratorParts) → a.nodes ≡ b.nodes → a.last ≡ b.last → a.rows ≡ b.rows → a ≡ b
+pub same-parts : (a b : OrchestratorParts) → a.nodes ≡ b.nodes → a.last ≡ b.last → a.rows ≡ b.rows → a ≡ b
 same-parts a b nodes last rows = λ i. record { nodes = nodes i; last = last i; rows = rows i }
 
 -- the parts that a restart leaves

@@ -60,7 +60,7 @@ no-call front row rear whole is closed = (each-right (λ (own : Row). own.open_c
 -- ---- rows that are shown so
 
 -- what is so of each that is shown is so of each as it is shown
-each-unmapped : {R X : Type 0} (view : R → X) (P : X → Type 0) (rs : List R) → AllByRecursion P (map view rs) → AllByRecursion (λ r. P (view r)) rs
+pub each-unmapped : {R X : Type 0} (view : R → X) (P : X → Type 0) (rs : List R) → AllByRecursion P (map view rs) → AllByRecursion (λ r. P (view r)) rs
 each-unmapped view P [] all = tt
 each-unmapped view P (r ∷ rs) all = (all.0, each-unmapped view P rs all.1)
 

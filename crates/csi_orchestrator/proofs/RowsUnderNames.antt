@@ -37,7 +37,7 @@ position_or_len-map f p q (x ∷ xs) same =
     λ i. cond (not (own i)) (1 + rest i) 0
 
 -- a test finds the same place in what a list is changed to as the test that comes to the same finds in the list
-position-map : {X Y : Type 0} (f : X → Y) (p : Y → Bool) (q : X → Bool) (xs : List X) → ((x : X) → p (f x) ≡ q x) → position p (map f xs) ≡ position q xs
+pub position-map : {X Y : Type 0} (f : X → Y) (p : Y → Bool) (q : X → Bool) (xs : List X) → ((x : X) → p (f x) ≡ q x) → position p (map f xs) ≡ position q xs
 position-map f p q xs same =
     let at = position_or_len-map f p q xs same in
     let long = length-map xs f in

@@ -17,3 +17,4 @@ pub mod Laws
 pub mod Refusals
 pub mod Judging
 pub mod Record
+pub mod Changed

@@ -1,5 +1,5 @@
 //! Laws of what an orchestrator does. Each function proves a statement, and does nothing.
-ghost use Rattle.csi_orchestrator.specs.Public.Laws.{MovesKeepForm};
+ghost use Rattle.csi_orchestrator.specs.Public.Laws.{MovesKeepForm, RecordsLaw};
 ghost use Rattle.csi_orchestrator.specs.Private.Following.{ViewFollows};
 ghost use Rattle.csi_orchestrator.specs.Private.RowDue.{DueIsTold};
 ghost use Rattle.csi_orchestrator.specs.Public.Steps.{MovesLaw};
@@ -72,6 +72,13 @@ pub fn rows_law(orchestrator: &Orchestrator)
 {
     orchestrator.assert_kept();
 }
+
+/// A law, and nothing that runs: whatever rows keep the rules of rows (`rows_law`), some orchestrator of these nodes, in this session, came
+/// to them, but for open calls, which it gives up; and what is opened from a record of them has a history, in the next session if one is
+/// left, so that what contracts say of an orchestrator is said of it. Every `OrchestratorRecord` is such a record. This profile's own.
+pub fn records_law()
+    ensures { RecordsLaw }
+{}
 
 /// A law, and nothing that runs: every orchestrator keeps at most 4,096 names, for each of them at most as many entries as there are
 /// nodes, and for each entry at most 16 targets, however many it was asked for. This profile's own.

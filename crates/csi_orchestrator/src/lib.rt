@@ -31,7 +31,7 @@ mod thing;
 mod worked;
 
 pub use fault::{Heard, OrchFault, OrchRecordFault};
-pub use laws::{bounds_law, entries_law, form_law, moves_law, rows_law, showing_law};
+pub use laws::{bounds_law, entries_law, form_law, moves_law, records_law, rows_law, showing_law};
 pub use orchestrator::Orchestrator;
 pub use record::OrchestratorRecord;
 pub use request::{Arguments, Usage};

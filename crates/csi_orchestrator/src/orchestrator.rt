@@ -1,5 +1,6 @@
 //! The orchestrator.
-ghost use Rattle.std.specs.Prelude.{◌≡◌, ◌+◌, ◌<◌, ◌^◌, length, map, None, IfOk, OnOk, OnErr, IfErr, IsOk};
+ghost use Rattle.std.specs.Prelude.{◌≡◌, ◌+◌, ◌<◌, ◌≤◌, ◌^◌, length, map, None, IfOk, OnOk, OnErr, IfErr, IsOk};
+ghost use Rattle.std.specs.List.{AllByRecursion};
 ghost use Rattle.csi_orchestrator.specs.declared.fault.OrchFault.{OrchFault as Fault};
 ghost use Rattle.csi_orchestrator.specs.declared.fault.OrchRecordFault.{OrchRecordFault as RecordFaultShown};
 ghost use Rattle.csi_orchestrator.specs.declared.fault.Heard.{Heard as HeardShown};
@@ -10,7 +11,9 @@ use crate::catalog::Catalog;
 use crate::fault::{Heard, OrchFault, OrchRecordFault};
 use crate::listing::things_in;
 use crate::record::OrchestratorRecord;
+use crate::replies::index_numbered;
 use crate::request::{Arguments, Usage};
+use crate::row::Row;
 use crate::state::{OrchestratorCore, known_in};
 use crate::step::Step;
 use crate::thing::{Known, Thing};
@@ -48,9 +51,10 @@ impl Orchestrator {
     ghost use Rattle.csi_orchestrator.specs.Public.Promises.{FollowsUnrefused, IsAnsweredAs, IsHeardAs};
     ghost use Rattle.csi_orchestrator.specs.Public.Listing.{ListsKnown, IsInOrder};
     ghost use Rattle.csi_orchestrator.specs.Public.Sound.{AreSoundParts};
-    ghost use Rattle.csi_orchestrator.specs.Public.Bounds.{AreFew};
+    ghost use Rattle.csi_orchestrator.specs.Public.Bounds.{AreFew, IsRowFew};
+    ghost use Rattle.csi_orchestrator.specs.Public.Changed.{place_by_name, place_by_call, ChangesRowOf, ChangesAsHeard};
     ghost use Rattle.csi_orchestrator.specs.Public.Record.{AreNodesFit};
-    ghost use Rattle.csi_orchestrator.specs.Public.Shown.{closed};
+    ghost use Rattle.csi_orchestrator.specs.Public.Shown.{row_shown, closed};
 
     // What its type keeps of what it shows. It does nothing.
     pub(crate) fn assert_kept(&self)
@@ -126,6 +130,36 @@ impl Orchestrator {
         self.core.last.session
     }
 
+    /// Its nodes.
+    pub fn nodes(&self) -> &[NodeId]
+        ensures { result.now ≡ self.now.nodes }
+    {
+        self.core.nodes.as_slice()
+    }
+
+    /// Its rows, in the order of the first creates (this profile's own). What has to be spelled of a row is bounded, where there are at
+    /// most 64 nodes: at most 64 entries, each of at most 16 targets, and tries up to 3.
+    pub fn rows(&self) -> &[Row]
+        ensures value { map row_shown result.now ≡ self.now.rows }
+        ensures few { length self.now.nodes ≤ 64 → AllByRecursion IsRowFew result.now }
+    {
+        self.core.catalog.rows()
+    }
+
+    /// Where the row of this name stands among the rows. It takes no memory.
+    pub fn place_of(&self, name: &Name) -> Option<usize>
+        ensures { result ≡ place_by_name name.now self.now.rows }
+    {
+        self.core.catalog.index_of(name)
+    }
+
+    /// Where the row whose open call has this number stands among the rows. It takes no memory.
+    pub fn place_of_call(&self, number: Number) -> Option<usize>
+        ensures { result ≡ place_by_call number self.now.rows }
+    {
+        index_numbered(&self.core.catalog, number)
+    }
+
     /// What it knows of a thing. It takes no memory.
     pub fn known(&self, thing: &Thing) -> Known
         ensures agrees { (history : History) → Shows self.now history → result ≡ known history thing.now }
@@ -167,6 +201,7 @@ impl Orchestrator {
             })))) }
         ensures stays { OnErr result (self.new ≡ self.old) }
         ensures nodes { self.new.nodes ≡ self.old.nodes }
+        ensures changed { OnOk result (ChangesRowOf name self.old self.new) }
     {
         let arguments = Arguments {
             required,
@@ -212,6 +247,8 @@ impl Orchestrator {
             }))) → IsOk result }
         ensures stays { OnErr result (self.new ≡ self.old) }
         ensures nodes { self.new.nodes ≡ self.old.nodes }
+        ensures changed { OnOk result (ChangesRowOf name.now self.old self.new) }
+        ensures rests { IfOk result (λ sent. sent ≡ None → self.new ≡ self.old) }
     {
         let usage = Usage {
             node,
@@ -238,6 +275,7 @@ impl Orchestrator {
             IfErr result (IsRefusal (moves self.old.nodes history (ToStop name.now node target))) }
         ensures stays { OnErr result (self.new ≡ self.old) }
         ensures nodes { self.new.nodes ≡ self.old.nodes }
+        ensures changed { OnOk result (ChangesRowOf name.now self.old self.new) }
     {
         self.core.ask(name, Step::Stop { node, target })
     }
@@ -253,6 +291,8 @@ impl Orchestrator {
         ensures memory { IfErr result (λ fault. fault ≡ Fault.NoMemory → ⊥) }
         ensures stays { OnErr result (self.new ≡ self.old) }
         ensures nodes { self.new.nodes ≡ self.old.nodes }
+        ensures changed { OnOk result (ChangesRowOf name.now self.old self.new) }
+        ensures rests { IfOk result (λ sent. sent ≡ None → self.new ≡ self.old) }
     {
         self.core.ask(name, Step::Delete)
     }
@@ -268,6 +308,7 @@ impl Orchestrator {
             IfErr result (IsRefusal (moves self.old.nodes history (TimesOut name.now))) }
         ensures stays { OnErr result (self.new ≡ self.old) }
         ensures nodes { self.new.nodes ≡ self.old.nodes }
+        ensures changed { OnOk result (ChangesRowOf name.now self.old self.new) }
     {
         self.core.ask(name, Step::TimeOut)
     }
@@ -288,6 +329,7 @@ impl Orchestrator {
             IsHeardAs (HeardShown.Taken None) (moves self.old.nodes history (Comes frame.now)) → IsOk result }
         ensures stays { OnErr result (self.new ≡ self.old) }
         ensures nodes { self.new.nodes ≡ self.old.nodes }
+        ensures changed { IfOk result (λ heard. ChangesAsHeard frame.now.number heard self.old self.new) }
     {
         self.core.deliver(frame)
     }

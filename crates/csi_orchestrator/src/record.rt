@@ -36,6 +36,8 @@ impl Model for OrchestratorRecord {
 }
 
 impl OrchestratorRecord {
+    ghost use Rattle.std.specs.List.{AllByRecursion};
+    ghost use Rattle.csi_orchestrator.specs.Public.Bounds.{IsRowFew};
     ghost use Rattle.csi_orchestrator.specs.Public.Catalog.{rows_of};
     ghost use Rattle.csi_orchestrator.specs.Public.CoreParts.{orchestrator_parts_shown, IsFiled};
     ghost use Rattle.csi_orchestrator.specs.Public.Record.{AreNodesFit, IsRecordRefusal};
@@ -93,10 +95,12 @@ impl OrchestratorRecord {
         self.session
     }
 
-    /// The rows, in the order of the first creates.
+    /// The rows, in the order of the first creates. What has to be spelled of a row is bounded: at most 64 entries, each of at most 16
+    /// targets, and tries up to 3.
     pub fn rows(&self) -> &[Row]
         ensures value { map row_shown result.now ≡ self.now.rows }
         ensures kept { AreRestorable self.now.nodes self.now.rows }
+        ensures few { AllByRecursion IsRowFew result.now }
     {
         self.catalog.rows()
     }

@@ -8,6 +8,7 @@ ghost use Rattle.csi_orchestrator.specs.Model.Moves.{Comes, Hears, hears};
 ghost use Rattle.csi_orchestrator.specs.Public.Shown.{row_shown};
 ghost use Rattle.csi_orchestrator.specs.Model.Shown.{open_in_row};
 ghost use Rattle.csi_orchestrator.specs.Private.RowMoves.{is_issued_as, row_moves, step_heard, RowsAnswer, IsMoveOf};
+ghost use Rattle.csi_orchestrator.specs.Public.Changed.{is_numbered};
 ghost use Rattle.csi_orchestrator.specs.Public.Sound.{AreSoundRows};
 ghost use Rattle.csi_orchestrator.specs.Public.Catalog.{rows_of, IsIndexed};
 ghost use Rattle.csi_orchestrator.specs.Public.CoreParts.{orchestrator_parts_shown, IsFiled};
@@ -56,6 +57,36 @@ fn index_replied(catalog: &Catalog, number: Number, party: &Party, kind: Kind) -
         Some(index) => match catalog.rows().get(index) {
             Some(row) => {
                 if is_replied(row, number, party, kind) {
+                    Some(index)
+                } else {
+                    None
+                }
+            }
+            None => None,
+        },
+        None => None,
+    }
+}
+
+// Whether the row's open call has this number.
+fn is_open_as(row: &Row, number: Number) -> bool
+    ensures { result ≡ is_numbered number row.now.open_call }
+{
+    match row.open_call {
+        Some(OpenCall { number: open, .. }) => same_number(open, number),
+        None => false,
+    }
+}
+
+/// Where the row whose open call has this number stands.
+pub(crate) fn index_numbered(catalog: &Catalog, number: Number) -> Option<usize>
+    requires { IsIndexed catalog.now }
+    ensures { result ≡ position (λ row. is_numbered number row.open_call) (rows_of catalog.now) }
+{
+    match catalog.index_of_call(number.call) {
+        Some(index) => match catalog.rows().get(index) {
+            Some(row) => {
+                if is_open_as(row, number) {
                     Some(index)
                 } else {
                     None

@@ -3,6 +3,8 @@ use Rattle.std.specs.Prelude.{◌≡◌, ℕ, ◌+◌, ◌*◌, ◌≤◌, List,
 use Rattle.std.specs.List.{AllByRecursion, list_any}
 use Rattle.csi_types.specs.declared.rows.TheConstants.{MAX_ROWS}
 use Rattle.csi_types.specs.Model.Same.{same_text}
+use Rattle.csi_orchestrator.specs.declared.row.NodeEntry.{NodeEntry}
+use Rattle.csi_orchestrator.specs.declared.row.Row.{Row}
 use Rattle.csi_orchestrator.specs.Model.Shown.{NodeEntryShown, RowShown, OrchestratorParts}
 
 -- at a node's entry: at most 16 targets
@@ -36,3 +38,13 @@ pub record IsWithin (parts : OrchestratorParts) : Type 0 where
 -- the calls that are noted: at most one more than twice as many as there are rows
 abbrev pub AreFew : ℕ → ℕ → Type 0
 AreFew noted rows = noted ≤ 2 * rows + 1
+
+-- a node's entry, as it is kept, has at most 16 targets
+abbrev pub AreTargetsFew : NodeEntry → Type 0
+AreTargetsFew entry = length entry.target_entries.items ≤ 16
+
+-- what has to be spelled of a row: tries up to 3, and at most 64 entries, each of few targets
+pub record IsRowFew (row : Row) : Type 0 where
+  pub tries : row.tries ≤ 3
+  pub count : length row.node_entries.items ≤ 64
+  pub targets : AllByRecursion AreTargetsFew row.node_entries.items

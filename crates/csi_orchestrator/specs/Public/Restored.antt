@@ -1,5 +1,5 @@
 -- Which rows an orchestrator has, and may be given back, once its open calls were given up: the rules of such rows. `rows_law` says that
--- each orchestrator keeps them, `RecordsAreReached` that some orchestrator came to whatever rows keep them. This profile's own.
+-- each orchestrator keeps them, `records_law` that some orchestrator came to whatever rows keep them. This profile's own.
 use Rattle.std.specs.Prelude.{◌≡◌, ℕ, ◌≤◌, List, [], ◌∷◌, ◌++◌, length, true, false, Option, Some, None}
 use Rattle.std.specs.List.{AllByRecursion, list_any}
 use Rattle.csi_lists.specs.Model.Members.{EachTwo}

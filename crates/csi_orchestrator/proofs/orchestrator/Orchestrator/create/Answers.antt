@@ -1,4 +1,6 @@
 -- By the rows.
+use Rattle.std.proofs.Common.{refl}
+use Rattle.csi_orchestrator.proofs.ChangedRows.{changed-promised}
 use Rattle.csi_orchestrator.proofs.PromisesTold.{ok-promised, err-promised, kept-promised, nodes-promised}
 use Rattle.csi_orchestrator.proofs.orchestrator.Orchestrator.create.Goals as goal
 
@@ -13,3 +15,6 @@ returns-clause-err c = err-promised c.self.view_is c.self.invariant.0.sound c.cr
 
 pub returns-clause-nodes : goal.returns-clause-nodes
 returns-clause-nodes c = nodes-promised c.self.view_is c.self.invariant.0.sound c.create.ensures.told
+
+pub returns-clause-changed : goal.returns-clause-changed
+returns-clause-changed c = changed-promised c.args.name c.self.view_is refl c.create.ensures.told

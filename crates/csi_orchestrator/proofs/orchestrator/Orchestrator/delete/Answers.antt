@@ -1,6 +1,8 @@
 -- By the rows.
 use Rattle.std.proofs.Common.{refl}
+use Rattle.csi_orchestrator.proofs.ChangedRows.{changed-promised}
 use Rattle.csi_orchestrator.proofs.PromisesTold.{ok-promised, err-promised, kept-promised, nodes-promised}
+use Rattle.csi_orchestrator.proofs.RestingRows.{rests-promised}
 use Rattle.csi_orchestrator.proofs.orchestrator.Orchestrator.delete.Goals as goal
 
 pub invariant_of-self : goal.invariant_of-self
@@ -14,3 +16,9 @@ returns-clause-err c = err-promised c.self.view_is c.self.invariant.0.sound (c.a
 
 pub returns-clause-nodes : goal.returns-clause-nodes
 returns-clause-nodes c = nodes-promised c.self.view_is c.self.invariant.0.sound (c.ask.ensures.told _ refl)
+
+pub returns-clause-changed : goal.returns-clause-changed
+returns-clause-changed c = changed-promised c.args.name.now c.self.view_is refl (c.ask.ensures.told _ refl)
+
+pub returns-clause-rests : goal.returns-clause-rests
+returns-clause-rests c = rests-promised c.self.view_is tt (c.ask.ensures.told _ refl)

@@ -2,6 +2,7 @@
 use Rattle.std.proofs.Common.{None}
 use Rattle.csi_orchestrator.specs.declared.fault.Heard.TheVariants.{Ignored}
 use Rattle.csi_orchestrator.specs.Model.Moves.{Comes, Hears, hears}
+use Rattle.csi_orchestrator.proofs.ChangedRows.{heard-promised}
 use Rattle.csi_orchestrator.proofs.PromisesTold.{ok-promised, err-promised, kept-promised, nodes-promised, answered-promised}
 use Rattle.csi_orchestrator.proofs.orchestrator.Orchestrator.deliver.Goals as goal
 
@@ -23,3 +24,6 @@ returns-clause-ignored c = λ history form agrees heard. c.deliver.ensures.ignor
 
 pub returns-clause-quiet : goal.returns-clause-quiet
 returns-clause-quiet c = λ history form agrees heard. c.deliver.ensures.quiet (answered-promised (Comes c.args.frame.now) (hears None) c.self.view_is c.self.invariant.0.sound history form agrees heard)
+
+pub returns-clause-changed : goal.returns-clause-changed
+returns-clause-changed c = heard-promised c.self.inside.core c.args.frame.now c.self.view_is c.self.invariant.0 c.self.invariant.1 c.deliver.ensures.told

@@ -1,5 +1,6 @@
 -- By the rows.
 use Rattle.std.proofs.Common.{refl}
+use Rattle.csi_orchestrator.proofs.ChangedRows.{changed-promised}
 use Rattle.csi_orchestrator.proofs.PromisesTold.{ok-promised, err-promised, kept-promised, nodes-promised}
 use Rattle.csi_orchestrator.proofs.orchestrator.Orchestrator.stop.Goals as goal
 
@@ -14,3 +15,6 @@ returns-clause-err c = err-promised c.self.view_is c.self.invariant.0.sound (c.a
 
 pub returns-clause-nodes : goal.returns-clause-nodes
 returns-clause-nodes c = nodes-promised c.self.view_is c.self.invariant.0.sound (c.ask.ensures.told _ refl)
+
+pub returns-clause-changed : goal.returns-clause-changed
+returns-clause-changed c = changed-promised c.args.name.now c.self.view_is refl (c.ask.ensures.told _ refl)

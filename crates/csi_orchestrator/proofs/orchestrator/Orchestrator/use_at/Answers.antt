@@ -1,7 +1,9 @@
 -- By the rows.
 use Rattle.std.proofs.Common.{None, refl}
 use Rattle.csi_orchestrator.specs.Model.Moves.{ToUse, Sends}
+use Rattle.csi_orchestrator.proofs.ChangedRows.{changed-promised}
 use Rattle.csi_orchestrator.proofs.PromisesTold.{ok-promised, err-promised, kept-promised, nodes-promised, answered-promised}
+use Rattle.csi_orchestrator.proofs.RestingRows.{rests-promised}
 use Rattle.csi_orchestrator.proofs.orchestrator.Orchestrator.use_at.Goals as goal
 
 pub invariant_of-self : goal.invariant_of-self
@@ -20,3 +22,9 @@ pub returns-clause-met : goal.returns-clause-met
 returns-clause-met c = λ history form agrees answered. c.ask.ensures.quiet _ refl
     (answered-promised (ToUse c.args.name.now (record { node = c.args.node; target = c.args.target; capability = c.args.capability; readonly = c.args.readonly }))
     (Sends None) c.self.view_is c.self.invariant.0.sound history form agrees answered)
+
+pub returns-clause-changed : goal.returns-clause-changed
+returns-clause-changed c = changed-promised c.args.name.now c.self.view_is refl (c.ask.ensures.told _ refl)
+
+pub returns-clause-rests : goal.returns-clause-rests
+returns-clause-rests c = rests-promised c.self.view_is tt (c.ask.ensures.told _ refl)

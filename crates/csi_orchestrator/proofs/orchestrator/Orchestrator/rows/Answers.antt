@@ -1,0 +1,17 @@
+-- The rows of the catalog, by what the type keeps of them.
+use Rattle.std.proofs.Common.{◌≤◌, length, map, refl, sym, ◌∙◌, ap, subst}
+use Rattle.std.specs.List.{AllByRecursion}
+use Rattle.csi_orchestrator.specs.Model.Shown.{OrchestratorParts}
+use Rattle.csi_orchestrator.specs.Public.Bounds.{IsRowFew}
+use Rattle.csi_orchestrator.specs.Public.CoreParts.{orchestrator_parts_shown}
+use Rattle.csi_orchestrator.specs.Public.Shown.{row_shown}
+use Rattle.csi_orchestrator.proofs.FewRows.{rows-few}
+use Rattle.csi_orchestrator.proofs.orchestrator.Orchestrator.rows.Goals as goal
+
+pub returns-clause-value : goal.returns-clause-value
+returns-clause-value c = ap (map row_shown) c.rows.ensures ∙ ap (λ (p : OrchestratorParts). p.rows) c.self.view_is
+
+pub returns-clause-few : goal.returns-clause-few
+returns-clause-few c = λ most.
+    subst (AllByRecursion IsRowFew) (sym c.rows.ensures)
+    (rows-few (orchestrator_parts_shown c.self.inside.core) _ c.self.invariant.0 refl (subst (λ (p : OrchestratorParts). length p.nodes ≤ 64) (sym c.self.view_is) most))
