@@ -12,15 +12,17 @@ use Rattle.csi_orchestrator.specs.declared.thing.Known.{Known}
 use Rattle.csi_orchestrator.specs.Model.Shown.{NodeEntryShown, RowShown}
 use Rattle.csi_records.specs.declared.version.RecordVersion.{RecordVersion}
 use Rattle.csi_records.specs.Public.Spelling.{list_spelling}
-use Rattle.csi_records.specs.Public.OrchestratorSpelling.{known_bytes, arguments_bytes, id_bytes, goal_bytes, target_entry_bytes, node_entry_bytes}
+use Rattle.csi_records.specs.Public.OrchestratorSpelling.{known_bytes, arguments_bytes, id_bytes, goal_bytes, target_entry_bytes, node_entry_bytes, orchestrator_part}
 use Rattle.csi_records.specs.Public.Records.{IsCapabilityIn}
-use Rattle.csi_records.specs.Public.OrchestratorRows.{AreArguments, IsGoal, IsTargetEntry, IsNodeEntry, IsOrchestratorRow}
+use Rattle.csi_records.specs.Public.OrchestratorRows.{AreArguments, IsGoal, IsTargetEntry, IsNodeEntry, IsClosedRow}
+use Rattle.csi_records.specs.Private.Reading.{IsReadWhole}
 use Rattle.csi_records.specs.Private.OrchestratorReading.{read_node_entry, read_orchestrator_row}
 use Rattle.csi_records.proofs.Readers.{Reads, in_words, Spelled, After, Made, after, makes, Always}
 use Rattle.csi_records.proofs.FieldReaders.{one_byte, IsCount, count_reads, flag_reads, text_reads, capability_reads}
 use Rattle.csi_records.proofs.ValueReaders.{AreFew, counted_reads}
 use Rattle.csi_records.proofs.OrchestratorRowReaders.{known_reads, id_if_reads, arguments_reads, target_entry_reads}
 use Rattle.csi_records.proofs.GoalReaders.{goal_reads}
+use Rattle.csi_records.proofs.PartReaders.{read_under}
 
 -- ---- a node's entry
 
@@ -120,15 +122,10 @@ node_entry_reads version =
 -- ---- a row
 
 -- a row's value behind the version
-abbrev pub row_body : RowShown → List ℕ
+abbrev row_body : RowShown → List ℕ
 row_body row =
     spelling.text row.name ++ arguments_bytes row.arguments ++ id_bytes row.id ++ known_bytes row.exists ++ goal_bytes row.goal
     ++ row.tries ∷ list_spelling node_entry_bytes row.node_entries
-
--- a row within its limits that has no open call
-pub record IsClosedRow (version : RecordVersion) (row : RowShown) : Type 0 where
-  pub fits : IsOrchestratorRow version row
-  pub closed : row.open_call ≡ None
 
 -- a row without an open call is equal to one of its fields
 abbrev make_row : List ℕ → Arguments → Option ℕ → Known → Option Goal → ℕ → List NodeEntryShown → RowShown
@@ -224,7 +221,7 @@ row-back version value bytes s =
     }
 
 -- the reader of an orchestrator's row reads what spells it, behind the version
-pub orchestrator_row_reads : (version : RecordVersion) → Reads (read_orchestrator_row version) (Spelled (IsClosedRow version) row_body)
+orchestrator_row_reads : (version : RecordVersion) → Reads (read_orchestrator_row version) (Spelled (IsClosedRow version) row_body)
 unfolding read_orchestrator_row
 orchestrator_row_reads version =
     in_words (Spelled (IsClosedRow version) row_body) (row-there version) (row-back version)
@@ -235,3 +232,8 @@ orchestrator_row_reads version =
     after (goal_reads version) (λ goal.
     after (count_reads 3) (λ tries.
     makes (λ node_entries. make_row name arguments id exists goal tries node_entries) (counted_reads (IsNodeEntry version) node_entry_bytes 64 (node_entry_reads version)))))))))
+
+-- an orchestrator's row under this key is read as what spells it
+pub orchestrator_row_read : (version : RecordVersion) (own : ℕ)
+    → IsReadWhole version (λ key. read_orchestrator_row version) (λ key. own ≡ key) (IsClosedRow version) (λ row. orchestrator_part version (record { key = own; row = row }))
+orchestrator_row_read version own = read_under own version (IsClosedRow version) row_body (orchestrator_row_reads version)

@@ -5,7 +5,7 @@ use Rattle.std.specs.List.{AllByRecursion}
 use Rattle.std.proofs.lemmas.List.{append-nil, length-map, length-take, take-append-drop, take-map, drop_more, map-append}
 use Rattle.csi_stores.specs.Public.Part.{StoredPart}
 use Rattle.csi_records.specs.Public.Records.{Layout, AreParts, IsRecordOf, IsRefusedAt}
-use Rattle.csi_records.specs.Private.Stopping.{AreRead}
+use Rattle.csi_records.specs.Private.Stopping.{StopsAtRow, AreRead}
 
 -- parts are spelled by one value each, and a front of a record is one
 pub record IsOneToOne {H R : Type 0} (layout : Layout H R) : Type 0 where
@@ -66,10 +66,21 @@ pub all-read : {X H R : Type 0} (layout : Layout H R) (shown : X → R) (first :
     → layout.are_rows first (map shown rows) → AreParts layout first (map shown rows) (layout.head first ∷ parts)
 all-read layout shown first rows parts fits read rules = record { head_fits = fits; rows_fit = read.fit; rules = rules; are = ap (λ (ps : List StoredPart). layout.head first ∷ ps) read.stops }
 
--- the rows so far keep the rules, and the next part is no row
-pub row-unread : {H R : Type 0} (layout : Layout H R) (first : H) (rs : List R) (part : StoredPart) (rest parts : List StoredPart) → layout.is_head first → AllByRecursion layout.is_row rs → layout.are_rows first rs
-    → parts ≡ map layout.row rs ++ part ∷ rest → ((row : R) → layout.is_row row → layout.row row ≡ part → ⊥) → IsRefusedAt (IsRecordOf layout) (layout.head first ∷ parts) (length rs + 1)
-row-unread {H} {R} layout first rs part rest parts fits each rules are none =
+-- rows that end in one of this part, behind so many others
+record EndsIn {H R : Type 0} (layout : Layout H R) (rows : List R) (place : ℕ) (part : StoredPart) : Type 0 where
+  front : List R
+  row : R
+  are : rows ≡ front ++ row ∷ []
+  count : length front ≡ place
+  fits : layout.is_row row
+  same : layout.row row ≡ part
+
+-- the rows so far keep the rules, and the next part is no row that may stand behind so many
+pub row-unread : {H R : Type 0} (layout : Layout H R) (Next : R → Type 0) (first : H) (rs : List R) (part : StoredPart) (rest parts : List StoredPart)
+    → ((head : H) (front : List R) (row : R) → layout.is_row row → layout.are_rows head (front ++ row ∷ []) → length front ≡ length rs → Next row)
+    → layout.is_head first → AllByRecursion layout.is_row rs → layout.are_rows first rs
+    → parts ≡ map layout.row rs ++ part ∷ rest → ((row : R) → Next row → layout.row row ≡ part → ⊥) → IsRefusedAt (IsRecordOf layout) (layout.head first ∷ parts) (length rs + 1)
+row-unread {H} {R} layout Next first rs part rest parts next fits each rules are none =
     record {
       before = layout.head first ∷ map layout.row rs;
       part = part;
@@ -77,18 +88,30 @@ row-unread {H} {R} layout first rs part rest parts fits each rules are none =
       are = ap (λ (ps : List StoredPart). layout.head first ∷ ps) are;
       here = omega (arith, length-map rs layout.row);
       begins = inr (is-record layout first rs (map layout.row rs) fits each rules refl);
-      refused = λ is. last is.first is.rows (map layout.row rs) is.spelled.rows_fit (tail (layout.head first) (layout.head is.first) (map layout.row rs ++ part ∷ []) (map layout.row is.rows) is.spelled.are);
+      refused = λ is.
+          let end = last is.rows (map layout.row rs) is.spelled.rows_fit (tail (layout.head first) (layout.head is.first) (map layout.row rs ++ part ∷ []) (map layout.row is.rows) is.spelled.are) in
+          none end.row (next is.first end.front end.row end.fits (subst (layout.are_rows is.first) end.are is.spelled.rules) (end.count ∙ length-map rs layout.row)) end.same;
     }
   where
     tail : (a b : StoredPart) (ps qs : List StoredPart) → a ∷ ps ≡ b ∷ qs → ps ≡ qs
     tail a b ps qs e = cc
 
+    empty : (ss : List R) → [] ≡ map layout.row ss → ss ≡ []
+    empty [] e = refl
+    empty (s ∷ ss) e = absurd cc
+
     -- the last of the rows is the part
-    last : (f : H) (ss : List R) (front : List StoredPart) → AllByRecursion layout.is_row ss → front ++ part ∷ [] ≡ map layout.row ss → ⊥
-    last f [] [] all e = absurd cc
-    last f [] (p ∷ front) all e = absurd cc
-    last f (s ∷ ss) [] all e = let same : layout.row s ≡ part = cc in none s (all.0) same
-    last f (s ∷ ss) (p ∷ front) all e = let rest : front ++ part ∷ [] ≡ map layout.row ss = cc in last f ss front (all.1) rest
+    last : (ss : List R) (before : List StoredPart) → AllByRecursion layout.is_row ss → before ++ part ∷ [] ≡ map layout.row ss → EndsIn layout ss (length before) part
+    last [] [] all e = absurd cc
+    last [] (p ∷ before) all e = absurd cc
+    last (s ∷ ss) [] all e =
+        let same : layout.row s ≡ part = cc in
+        let rest : [] ≡ map layout.row ss = cc in
+        record { front = []; row = s; are = ap (λ (rows : List R). s ∷ rows) (empty ss rest); count = refl; fits = all.0; same = same }
+    last (s ∷ ss) (p ∷ before) all e =
+        let rest : before ++ part ∷ [] ≡ map layout.row ss = cc in
+        let end = last ss before all.1 rest in
+        record { front = s ∷ end.front; row = end.row; are = ap (λ (rows : List R). s ∷ rows) end.are; count = ap suc end.count; fits = end.fits; same = end.same }
 
 -- the rows are read at least so far, and the first so many break a rule
 pub row-refused : {H R : Type 0} (layout : Layout H R) → IsOneToOne layout → (first : H) (rs : List R) (place : ℕ) (more parts : List StoredPart) → layout.is_head first → AllByRecursion layout.is_row rs
@@ -131,35 +154,32 @@ row-refused {H} {R} layout one first (r ∷ rs) (suc k) more parts fits each fro
         subst (λ (x : H). layout.are_rows x (take (suc k) (r ∷ rs))) (sym h) (subst (layout.are_rows f) (sym ts) spelled.rules)
 
 -- what was read before the first part that is no row
-abbrev rest_of : {R : Type 0} → (row_part : R → StoredPart) (IsRow : R → Type 0) (parts : List StoredPart) (rows : List R) (all : Bool) → AreRead row_part IsRow parts rows all → (more : List StoredPart) × (parts ≡ map row_part rows ++ more)
-rest_of row_part IsRow parts rows true read = ([], read.stops ∙ sym (append-nil (map row_part rows)))
-rest_of row_part IsRow parts rows false read = (read.stops.0 ∷ read.stops.1, read.stops.2)
+abbrev pub rest_of : {R : Type 0} → (row_part : R → StoredPart) (IsRow : R → Type 0) (parts : List StoredPart) (rows : List R) (all : Bool) → StopsAtRow row_part IsRow parts rows all
+    → (more : List StoredPart) × (parts ≡ map row_part rows ++ more)
+rest_of row_part IsRow parts rows true stops = ([], stops ∙ sym (append-nil (map row_part rows)))
+rest_of row_part IsRow parts rows false stops = (stops.0 ∷ stops.1, stops.2)
 
 -- where a plugin's rows so far keep the rules and the next part is no row, that part is refused
 pub rows-unread : {X H R : Type 0} (layout : Layout H R) (shown : X → R) (first : H) (rows : List X) (parts : List StoredPart) → layout.is_head first → AreRead layout.row layout.is_row parts (map shown rows) false
     → layout.are_rows first (map shown rows) → IsRefusedAt (IsRecordOf layout) (layout.head first ∷ parts) (length rows + 1)
 rows-unread layout shown first rows parts fits read rules =
     subst (λ (n : ℕ). IsRefusedAt (IsRecordOf layout) (layout.head first ∷ parts) (n + 1)) (length-map rows shown)
-    (row-unread layout first (map shown rows) read.stops.0 read.stops.1 parts fits read.fit rules read.stops.2 read.stops.3)
+    (row-unread layout layout.is_row first (map shown rows) read.stops.0 read.stops.1 parts (λ head front row own rules count. own) fits read.fit rules read.stops.2 read.stops.3)
 
 -- where a row is the first with which a plugin's rows break the rules, its part is the first that is refused
 pub rows-refused : {X H R : Type 0} (layout : Layout H R) → IsOneToOne layout → (shown : X → R) (first : H) (rows : List X) (parts : List StoredPart) (all : Bool) (place : ℕ) → layout.is_head first → AreRead layout.row layout.is_row parts (map shown rows) all
     → 1 ≤ place → place ≤ length rows → layout.are_rows first (map shown (take (place - 1) rows)) → (layout.are_rows first (map shown (take place rows)) → ⊥) → IsRefusedAt (IsRecordOf layout) (layout.head first ∷ parts) place
 rows-refused layout one shown first rows parts all place fits read from to before refused =
-    let rest = rest_of layout.row layout.is_row parts (map shown rows) all read in
+    let rest = rest_of layout.row layout.is_row parts (map shown rows) all read.stops in
     row-refused layout one first (map shown rows) place rest.0 parts fits read.fit from (omega (arith, to, length-map rows shown))
     (subst (layout.are_rows first) (sym (take-map shown (place - 1) rows)) before) (λ is. refused (subst (layout.are_rows first) (take-map shown place rows) is)) rest.1
 
 -- ---- reading row after row
 
 -- the part at this place is the first that is no row
-pub stops-here : {R P : Type 0} (row_part : R → StoredPart) (IsRow : R → Type 0) (stored : P → StoredPart) (parts : List P) (i : ℕ) (part : P) (rows : List R) → i < length parts → part ≡ get_or parts i part → AllByRecursion IsRow rows
-    → map row_part rows ≡ map stored (take i parts) → ((row : R) → IsRow row → row_part row ≡ stored part → ⊥) → AreRead row_part IsRow (map stored parts) rows false
-stops-here row_part IsRow stored parts i part rows inside is each are none =
-    record {
-      fit = each;
-      stops = (stored part, map stored (drop (i + 1) parts), split, none);
-    }
+pub stops-here : {R P : Type 0} (row_part : R → StoredPart) (IsRow : R → Type 0) (stored : P → StoredPart) (parts : List P) (i : ℕ) (part : P) (rows : List R) → i < length parts → part ≡ get_or parts i part
+    → map row_part rows ≡ map stored (take i parts) → ((row : R) → IsRow row → row_part row ≡ stored part → ⊥) → StopsAtRow row_part IsRow (map stored parts) rows false
+stops-here row_part IsRow stored parts i part rows inside is are none = (stored part, map stored (drop (i + 1) parts), split, none)
   where
     split : map stored parts ≡ map row_part rows ++ stored part ∷ map stored (drop (i + 1) parts)
     split =

@@ -16,3 +16,8 @@ pub mod OrchestratorReaders
 pub mod OrchestratorRowReaders
 pub mod GoalReaders
 pub mod EntryReaders
+pub mod KeyedRows
+pub mod OrchestratorSizes
+pub mod KeyedParts
+pub mod OrchestratorLayouts
+pub mod KindsApart

@@ -232,7 +232,7 @@ whole-again {A} {read} version Fits spell one value fits =
 -- ---- the rows and heads of parts
 
 -- a part is equal to one with its key and its value
-abbrev make_part : ℕ → List ℕ → StoredPart
+abbrev pub make_part : ℕ → List ℕ → StoredPart
 make_part key value = record { key = key; value = value }
 
 -- rows that are read behind the version, under their ids, are read as what spells them
@@ -254,6 +254,17 @@ volume_read version = row_read version (IsVolumeRow version) (λ row. row.volume
 pub answered_read : (version : RecordVersion) → IsReadWhole version (read_answered version) IsVolumeId (IsAnsweredRow version) (answered_part version)
 answered_read version = row_read version (IsAnsweredRow version) (λ row. row.id) answered_body (answered_reads version) (λ row fits. fits.id)
 
+-- values under this key that are read behind the version are read as what spells them
+pub read_under : {H : Type 0} {read : Reader H} (own : ℕ) (version : RecordVersion) (Fits : H → Type 0) (body : H → List ℕ) → Reads read (Spelled Fits body)
+    → IsReadWhole version (λ key. read) (λ key. own ≡ key) Fits (λ first. make_part own (record_version_number version ∷ body first))
+read_under own version Fits body reads = record {
+  takes = λ key value first is fits e.
+      let read = whole-takes version Fits body reads value fits first e in
+      (read.0, ap (make_part own) (sym read.1) ∙ ap (λ k. make_part k value) is);
+  has_key = λ first fits. refl;
+  again = λ first fits. whole-again version Fits body reads first fits;
+}
+
 -- the key of a head
 abbrev pub IsHeadKey : ℕ → Type 0
 IsHeadKey key = 0 ≡ key
@@ -261,13 +272,7 @@ IsHeadKey key = 0 ≡ key
 -- heads that are read behind the version are read as what spells them
 pub head_read : {H : Type 0} {read : Reader H} (version : RecordVersion) (Fits : H → Type 0) (body : H → List ℕ) → Reads read (Spelled Fits body)
     → IsReadWhole version (λ key. read) IsHeadKey Fits (λ first. make_part 0 (record_version_number version ∷ body first))
-head_read version Fits body reads = record {
-  takes = λ key value first is fits e.
-      let read = whole-takes version Fits body reads value fits first e in
-      (read.0, ap (make_part 0) (sym read.1) ∙ ap (λ k. make_part k value) is);
-  has_key = λ first fits. refl;
-  again = λ first fits. whole-again version Fits body reads first fits;
-}
+head_read version Fits body reads = read_under 0 version Fits body reads
 
 -- a controller's head is read as what spells it
 pub controller_head_read : (version : RecordVersion) → IsReadWhole version (λ key. read_controller_head version) IsHeadKey (IsHead IsWord version) (λ head. controller_head version head.own head.session)

@@ -26,11 +26,11 @@ access-size Block fits = omega arith
 access-size (Mount fs_type) fits = omega (arith, fits.no_longer)
 
 -- a capability has at most 131 bytes
-capability-size : (version : RecordVersion) (c : Capability) → IsCapabilityIn version c → length (spelling.capability c) ≤ 131
+pub capability-size : (version : RecordVersion) (c : Capability) → IsCapabilityIn version c → length (spelling.capability c) ≤ 131
 capability-size version c fits = omega (arith, access-size c.access fits.fits, length-append (spelling.access c.access) (mode_number c.mode ∷ []))
 
 -- capabilities have at most 131 bytes each
-capabilities-size : (version : RecordVersion) (cs : List Capability) → AllByRecursion (IsCapabilityIn version) cs → length (flat_map spelling.capability cs) ≤ 131 * length cs
+pub capabilities-size : (version : RecordVersion) (cs : List Capability) → AllByRecursion (IsCapabilityIn version) cs → length (flat_map spelling.capability cs) ≤ 131 * length cs
 capabilities-size version [] fits = omega arith
 capabilities-size version (c ∷ cs) fits = omega (arith, capability-size version c (fits.0), capabilities-size version cs (fits.1), length-append (spelling.capability c) (flat_map spelling.capability cs))
 
@@ -74,11 +74,11 @@ staged-size version None fits = omega arith
 staged-size version (Some c) fits = omega (arith, capability-size version c fits)
 
 -- the length of six pieces, and below of three, is the sum of theirs
-length6 : (a b c d e f : List ℕ) → length (a ++ b ++ c ++ d ++ e ++ f) ≡ length a + length b + length c + length d + length e + length f
+pub length6 : (a b c d e f : List ℕ) → length (a ++ b ++ c ++ d ++ e ++ f) ≡ length a + length b + length c + length d + length e + length f
 length6 a b c d e f = simp length-append
 
 -- the length of three pieces is the sum of theirs
-length3 : (a b c : List ℕ) → length (a ++ b ++ c) ≡ length a + length b + length c
+pub length3 : (a b c : List ℕ) → length (a ++ b ++ c) ≡ length a + length b + length c
 length3 a b c = simp length-append
 
 -- lengths below these limits add up to less than 2^32

@@ -57,7 +57,7 @@ stored_put (p ∷ ps) (q ∷ qs) e =
     one_stored p q same = by p.key p.value q same
 
 -- the first items and the next one are one more of the first
-one_more : {X : Type 0} (xs : List X) (i : ℕ) (x : X) → i < length xs → x ≡ get_or xs i x → take (i + 1) xs ≡ take i xs ++ x ∷ []
+pub one_more : {X : Type 0} (xs : List X) (i : ℕ) (x : X) → i < length xs → x ≡ get_or xs i x → take (i + 1) xs ≡ take i xs ++ x ∷ []
 one_more xs i x inside is = take_more xs i x inside ∙ ap (λ y. take i xs ++ y ∷ []) (sym is)
 
 -- the spelling of a list and one item more is that of the list and then the item's
@@ -73,6 +73,15 @@ one_more_part part parts i next old before after inside is so_far one =
     one ∙ ap (λ (t : List ℕ). t ++ part_bytes (part next)) so_far ∙ append_assoc old (flat_map part_bytes parts_so_far) (part_bytes (part next))
     ∙ ap (λ (t : List ℕ). old ++ t) (sym (flat_map-push part_bytes parts_so_far (part next))) ∙ ap (λ ps. old ++ flat_map part_bytes ps) (sym more)
 
+-- where some parts are put in and then others, all of them are
+pub put-more : (old before after : List StoredChange) (parts others : List StoredPart) → before ≡ old ++ put_all parts → after ≡ before ++ put_all others → after ≡ old ++ put_all (parts ++ others)
+put-more old before after parts others so_far one =
+    one ∙ ap (λ (cs : List StoredChange). cs ++ put_all others) so_far ∙ append_assoc old (put_all parts) (put_all others)
+    ∙ ap (λ (cs : List StoredChange). old ++ cs) (sym (map-append put_one parts others))
+  where
+    put_one : StoredPart → StoredChange
+    put_one p = record { key = p.key; value = Some p.value }
+
 -- where the parts of the first rows are put in and the next row's part is, those of one row more are
 pub one_more_put : {X R : Type 0} (shown : X → R) (part : R → StoredPart) (rows : List X) (i : ℕ) (row : X) (old before after : List StoredChange) → i < length rows → row ≡ get_or rows i row
     → before ≡ old ++ put_all (map part (map shown (take i rows))) → after ≡ before ++ put_all (part (shown row) ∷ []) → after ≡ old ++ put_all (map part (map shown (take (i + 1) rows)))
@@ -81,11 +90,7 @@ one_more_put shown part rows i row old before after inside is so_far one =
     let last : List StoredPart = part (shown row) ∷ [] in
     let more : map part (map shown (take (i + 1) rows)) ≡ rows_so_far ++ last =
     ap (λ xs. map part (map shown xs)) (one_more rows i row inside is) ∙ ap (map part) (map-append shown (take i rows) (row ∷ [])) ∙ map-append part (map shown (take i rows)) (shown row ∷ []) in
-    one ∙ ap (λ (cs : List StoredChange). cs ++ put_all last) so_far ∙ append_assoc old (put_all rows_so_far) (put_all last)
-    ∙ ap (λ (cs : List StoredChange). old ++ cs) (sym (map-append (λ (p : StoredPart). put_one p) rows_so_far last)) ∙ ap (λ ps. old ++ put_all ps) (sym more)
-  where
-    put_one : StoredPart → StoredChange
-    put_one p = record { key = p.key; value = Some p.value }
+    put-more old before after rows_so_far last so_far one ∙ ap (λ ps. old ++ put_all ps) (sym more)
 
 -- where the first keys are taken out and the next one is, one key more is
 pub one_more_taken : (keys : List ℕ) (i key : ℕ) (old before after : List StoredChange) → i < length keys → key ≡ get_or keys i key → before ≡ old ++ take_all (take i keys) → after ≡ before ++ take_all (key ∷ [])

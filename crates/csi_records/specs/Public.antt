@@ -4,6 +4,7 @@ pub mod Records
 pub mod Writing
 pub mod OrchestratorSpelling
 pub mod OrchestratorRows
+pub mod OrchestratorRecords
 pub mod Places
 pub mod Laws
 pub mod Worked

@@ -1,5 +1,5 @@
-//! Records of the plugins: their parts, which a store keeps, and whole records as bytes, written and read exactly. And the parts of
-//! an orchestrator's record.
+//! Records of the plugins and of an orchestrator: their parts, which a store keeps, and whole records as bytes, written and read
+//! exactly.
 #![tactic(auto)]
 
 mod answered;
@@ -13,7 +13,10 @@ mod laws;
 mod node_record;
 mod orchestrator_fields;
 mod orchestrator_head;
+mod orchestrator_parts;
+mod orchestrator_record;
 mod orchestrator_row;
+mod orchestrator_rows;
 mod orchestrator_values;
 mod part_value;
 mod plugin_rows;
@@ -30,6 +33,7 @@ mod writing;
 
 pub use fault::RecordStop;
 pub use laws::record_laws;
+pub use orchestrator_parts::push_orchestrator_row;
 pub use orchestrator_values::{orchestrator_head_value, orchestrator_row_value};
 pub use record::{Record, read_record, record_of_node, write_record};
 pub use removals::push_removals;

@@ -1,4 +1,4 @@
-//! Records of either plugin: as parts, as bytes, and back.
+//! Records of the plugins and of an orchestrator: as parts, as bytes, and back.
 ghost use Rattle.std.specs.Prelude.{◌≡◌, List, Some, map, IfOk};
 ghost use Rattle.csi_records.specs.declared.version.RecordVersion.{RecordVersion};
 ghost use Rattle.std.specs.Option.{option_copied};
@@ -12,6 +12,9 @@ ghost use Rattle.csi_records.specs.Public.Writing.{CanBeWritten};
 use crate::controller_record::controller_record;
 use crate::fault::{RecordStop, Stop};
 use crate::node_record::node_record;
+use crate::orchestrator_parts::keyed_parts;
+use crate::orchestrator_record::orchestrator_record;
+use crate::orchestrator_values::orchestrator_head_value;
 use crate::part_value::value_of;
 use crate::plugin_rows::parts_with;
 use crate::row_values::{controller_head_value, node_head_value};
@@ -21,11 +24,12 @@ use crate::version::RecordVersion;
 use crate::writing::bytes_of;
 use csi_controller::ControllerRecord;
 use csi_node::NodeRecord;
+use csi_orchestrator::OrchestratorRecord;
 use csi_stores::Part;
 use csi_types::{NoMemory, NodeId};
 use std::alloc::Global;
 
-/// A plugin's record, which is known by its parts. It is read in any version, and written in the present one. This profile's own.
+/// The record of a plugin or of an orchestrator, which is known by its parts. It is read in any version, and written in the present one. This profile's own.
 pub trait Record: Drop {
     /// These are the parts of such a record, in this version.
     ghost is_record: { RecordVersion → List StoredPart → Type 0 };
@@ -128,6 +132,40 @@ impl Record for NodeRecord {
 
     fn of_parts(alloc: Global, parts: &[Part]) -> Result<Stored<NodeRecord>, RecordStop> {
         node_of_parts(alloc, None, parts)
+    }
+}
+
+impl Record for OrchestratorRecord {
+    ghost use Rattle.csi_records.specs.Public.Records.{IsRecordOf};
+    ghost use Rattle.csi_records.specs.Public.OrchestratorRecords.{orchestrator_layout, kept_parts, IsOrchestratorOf};
+
+    ghost is_record = { λ version. IsRecordOf (orchestrator_layout version) };
+
+    ghost parts_of = { kept_parts };
+
+    ghost is_of = { IsOrchestratorOf };
+
+    fn to_parts(&self, alloc: Global) -> Result<Vec<Part>, NoMemory> {
+        let head = orchestrator_head_value(alloc, self.session(), self.nodes())?;
+        keyed_parts(alloc, head, self.rows())
+    }
+
+    fn in_version(
+        alloc: Global,
+        version: RecordVersion,
+        parts: &[Part],
+    ) -> Result<OrchestratorRecord, RecordStop> {
+        orchestrator_record(alloc, version, parts)
+    }
+
+    fn of_parts(alloc: Global, parts: &[Part]) -> Result<Stored<OrchestratorRecord>, RecordStop> {
+        let Some(version) = version_of(parts) else {
+            return Err(RecordStop::BadRecord(0));
+        };
+        match orchestrator_record(alloc, version, parts) {
+            Ok(kept) => Ok(Stored { kept, version }),
+            Err(stop) => Err(stop),
+        }
     }
 }
 

@@ -9,6 +9,7 @@ mod growths;
 mod limited;
 mod limits;
 mod older;
+mod orchestrators;
 mod pieces;
 mod playing;
 mod plugins;

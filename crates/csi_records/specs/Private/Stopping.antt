@@ -1,9 +1,12 @@
 -- How far the rows of a record were read, one part after another: what the private functions that read answer.
-use Rattle.std.specs.Prelude.{◌≡◌, ◌≢◌, ◌⊎◌, ◌<◌, ◌≤◌, ◌^◌, ℕ, Bool, true, false, List, [], ◌∷◌, ◌++◌, length, map}
+use Rattle.std.specs.Prelude.{◌≡◌, ◌≢◌, ◌⊎◌, ◌<◌, ◌≤◌, ◌^◌, ℕ, suc, Bool, true, false, List, [], ◌∷◌, ◌++◌, length, map}
 use Rattle.std.specs.List.{flat_map, AllByRecursion}
 use Rattle.csi_records.specs.declared.version.RecordVersion.{RecordVersion}
 use Rattle.csi_stores.specs.Public.Part.{StoredPart, IsPart}
 use Rattle.csi_records.specs.Public.Spelling.{part_bytes, record_head}
+use Rattle.csi_orchestrator.specs.Model.Shown.{RowShown}
+use Rattle.csi_records.specs.Public.OrchestratorSpelling.{KeyedRow, orchestrator_part}
+use Rattle.csi_records.specs.Public.OrchestratorRecords.{keyed_from, IsKeyedRow}
 
 -- all parts are rows; or the first that is none stands behind those that are
 abbrev pub StopsAtRow : {R : Type 0} → (R → StoredPart) → (R → Type 0) → List StoredPart → List R → Bool → Type 0
@@ -15,6 +18,17 @@ StopsAtRow {R} row_part IsRow parts rows false =
 pub record AreRead {R : Type 0} (row_part : R → StoredPart) (IsRow : R → Type 0) (parts : List StoredPart) (rows : List R) (all : Bool) : Type 0 where
   pub fit : AllByRecursion IsRow rows
   pub stops : StopsAtRow row_part IsRow parts rows all
+
+-- a row of an orchestrator within its limits, under this key
+pub record IsRowUnder (version : RecordVersion) (key : ℕ) (keyed : KeyedRow) : Type 0 where
+  pub under : keyed.key ≡ key
+  pub is : IsKeyedRow version keyed
+
+-- such rows under the keys 1, 2, 3 and so on, of parts that these functions tell: the first part that is none stands behind them, and is
+-- no row under the next key
+pub record AreReadInOrder (version : RecordVersion) (parts : List StoredPart) (rows : List RowShown) (all : Bool) : Type 0 where
+  pub fit : AllByRecursion (IsKeyedRow version) (keyed_from 1 rows)
+  pub stops : StopsAtRow (orchestrator_part version) (IsRowUnder version (suc (length rows))) parts (keyed_from 1 rows) all
 
 -- all bytes are taken by as many parts; or bytes are left behind them; or what comes next is no part
 abbrev pub SplitStops : ℕ → List StoredPart → List ℕ → Bool → Type 0

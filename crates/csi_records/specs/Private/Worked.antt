@@ -15,9 +15,10 @@ use Rattle.csi_controller.specs.Public.Fenced.{after_frames}
 use Rattle.csi_orchestrator.specs.declared.row.Goal.TheVariants.{Use}
 use Rattle.csi_orchestrator.specs.declared.thing.Known.TheVariants.{Yes, No, Maybe}
 use Rattle.csi_orchestrator.specs.Model.Shown.{RowShown}
+use Rattle.csi_orchestrator.specs.Public.Record.{RecordParts}
 use Rattle.csi_stores.specs.Public.Part.{StoredPart}
 use Rattle.csi_records.specs.Public.Spelling.{present, controller_parts, volume_rows, node_parts, record_bytes}
-use Rattle.csi_records.specs.Public.OrchestratorSpelling.{orchestrator_parts}
+use Rattle.csi_records.specs.Public.OrchestratorRecords.{kept_parts}
 use Rattle.csi_records.specs.Public.Worked.{parts_of_state}
 
 -- no nodes, and volumes of at most 1,000 bytes
@@ -85,16 +86,16 @@ on_the_way =
       } ∷ [];
     }
 
--- the parts of an orchestrator of two nodes, in session 3, with that row
-abbrev pub used_parts : List StoredPart
-used_parts = orchestrator_parts present 3 (codes "n1" ∷ codes "n2" ∷ []) (record { key = 1; row = on_the_way } ∷ [])
+-- what an orchestrator of two nodes keeps, in session 3, with that row
+abbrev pub used : RecordParts
+used = record { nodes = codes "n1" ∷ codes "n2" ∷ []; session = 3; rows = on_the_way ∷ [] }
 
 -- the record of that orchestrator: 103 bytes
 pub record OnTheWayRow : Type 0 where
-  pub bytes : record_bytes present used_parts
+  pub bytes : record_bytes present (kept_parts used)
       ≡ 3 ∷ 0 ∷ 0 ∷ 0 ∷ 2
       ∷ 0 ∷ 0 ∷ 0 ∷ 0 ∷ 0 ∷ 0 ∷ 0 ∷ 0 ∷ 0 ∷ 0 ∷ 0 ∷ 17 ∷ 3 ∷ 2 ∷ 0 ∷ 0 ∷ 0 ∷ 0 ∷ 0 ∷ 0 ∷ 0 ∷ 3 ∷ 2 ∷ 2 ∷ 110 ∷ 49 ∷ 2 ∷ 110 ∷ 50
       ∷ 0 ∷ 0 ∷ 0 ∷ 0 ∷ 0 ∷ 0 ∷ 0 ∷ 1 ∷ 0 ∷ 0 ∷ 0 ∷ 57 ∷ 3 ∷ 1 ∷ 118 ∷ 0 ∷ 0 ∷ 0 ∷ 0 ∷ 0 ∷ 0 ∷ 0 ∷ 10 ∷ 0 ∷ 0 ∷ 0 ∷ 0 ∷ 0 ∷ 0 ∷ 0 ∷ 0 ∷ 1 ∷ 0 ∷ 1
       ∷ 1 ∷ 0 ∷ 0 ∷ 0 ∷ 0 ∷ 0 ∷ 0 ∷ 0 ∷ 1 ∷ 1 ∷ 2 ∷ 2 ∷ 110 ∷ 49 ∷ 2 ∷ 47 ∷ 97 ∷ 0 ∷ 1 ∷ 0 ∷ 1
       ∷ 1 ∷ 2 ∷ 110 ∷ 49 ∷ 0 ∷ 1 ∷ 0 ∷ 2 ∷ 0 ∷ 1 ∷ 2 ∷ 47 ∷ 97 ∷ 0 ∷ []
-  pub count : length (record_bytes present used_parts) ≡ 103
+  pub count : length (record_bytes present (kept_parts used)) ≡ 103

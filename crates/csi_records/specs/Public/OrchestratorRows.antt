@@ -71,6 +71,11 @@ pub record IsOrchestratorRow (version : RecordVersion) (row : RowShown) : Type 0
   pub count : length row.node_entries ≤ 64
   pub entries : AllByRecursion (IsNodeEntry version) row.node_entries
 
+-- so is one that has no open call, as all rows of a record
+pub record IsClosedRow (version : RecordVersion) (row : RowShown) : Type 0 where
+  pub fits : IsOrchestratorRow version row
+  pub closed : row.open_call ≡ None
+
 -- ---- what rows keep so that they can be written
 
 -- a node's entry has at most 16 targets

@@ -5,6 +5,7 @@ mod databases;
 mod sessions;
 
 use super::older::{FIRST, FORGETS, FORGOTTEN, NODE_FORGETS, NODE_FORGOTTEN, parts_of};
+use super::orchestrators::ORCHESTRATOR_RECORD;
 use super::playing::{
     CREATED, Content, ENDS, End, FRAMES, NOTHING, PLAYED, REPLIES, SCRIPT, are_parts, has_parts,
     is_after, is_replied, is_slice, may_have, played,
@@ -15,6 +16,7 @@ use csi_controller::ControllerRecord;
 use csi_frames::Splitter;
 use csi_json::{ScheduleFault, read_config};
 use csi_node::NodeRecord;
+use csi_orchestrator::OrchestratorRecord;
 use csi_service::{
     ControllerService, Core, Keep, KeepFault, MemoryKeep, NodeService, Part, Record, read_record,
     write_record,
@@ -56,6 +58,8 @@ fn records_in_want_of_memory(rt: HostRuntime) {
     assert!(&rt; is_written(&rt, of_version_1, RECORD));
     let of_node: NodeRecord = record_of(&rt, NODE_RECORD);
     assert!(&rt; is_written(&rt, of_node, NODE_RECORD));
+    let of_orchestrator: OrchestratorRecord = record_of(&rt, ORCHESTRATOR_RECORD);
+    assert!(&rt; is_written(&rt, of_orchestrator, ORCHESTRATOR_RECORD));
 }
 
 // A splitter that has these bytes.

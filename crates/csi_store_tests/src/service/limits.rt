@@ -49,8 +49,13 @@ fn put_mount(rt: &(impl Abort + AllocGlobal), out: &mut Spelled, shape: Shape) {
     out.put(rt, &[5]);
 }
 
-// Puts a node's id or a target: its last byte is another one each time.
-fn put_place(rt: &(impl Abort + AllocGlobal), out: &mut Spelled, size: usize, place: u8) {
+/// Puts a node's id or a target: its last byte is another one each time.
+pub(super) fn put_place(
+    rt: &(impl Abort + AllocGlobal),
+    out: &mut Spelled,
+    size: usize,
+    place: u8,
+) {
     let mut text = filled(rt, b'/', size.min(1));
     let rest = filled(rt, b'0'.wrapping_add(place), size.saturating_sub(1));
     text.extend_from_slice(&rest).expect(rt, "memory");

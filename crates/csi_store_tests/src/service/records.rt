@@ -92,8 +92,8 @@ pub(super) fn is_refused_at(alloc: Global, bytes: &[u8], place: u64) -> bool {
     read_fault::<ControllerRecord>(alloc, bytes) == Some(KeepFault::BadRecord(place))
 }
 
-// Whether they are as a node's record.
-fn is_node_refused_at(alloc: Global, bytes: &[u8], place: u64) -> bool {
+/// Whether they are as a node's record.
+pub(super) fn is_node_refused_at(alloc: Global, bytes: &[u8], place: u64) -> bool {
     read_fault::<NodeRecord>(alloc, bytes) == Some(KeepFault::BadRecord(place))
 }
 
@@ -106,8 +106,12 @@ fn write_record_succeeds_with_memory(rt: HostRuntime) {
     drop(bytes);
 }
 
-// Whether the bytes are read as a record that is written as these.
-fn is_written_as<T: Record>(rt: &(impl Abort + AllocGlobal), bytes: &[u8], wanted: &[u8]) -> bool {
+/// Whether the bytes are read as a record that is written as these.
+pub(super) fn is_written_as<T: Record>(
+    rt: &(impl Abort + AllocGlobal),
+    bytes: &[u8],
+    wanted: &[u8],
+) -> bool {
     let record: T = read_record(rt.alloc(), bytes).expect(rt, "a record");
     let bytes = written(rt, &record);
     drop(record);

@@ -40,7 +40,7 @@ impl Spelled {
 
     /// The number of bytes, in four, and the bytes.
     pub(super) fn put_long(&mut self, rt: &impl Abort, bytes: &[u8]) {
-        let length = bytes.len().min(65535) as u32;
+        let length = bytes.len().min(1_000_000) as u32;
         self.put(rt, &length.to_be_bytes());
         self.put(rt, bytes);
     }
@@ -64,6 +64,13 @@ impl Spelled {
             }
         }
     }
+}
+
+/// The bytes alone.
+pub(super) fn bytes_of(out: Spelled) -> Vec<u8> {
+    let Spelled { bytes, texts } = out;
+    drop(texts);
+    bytes
 }
 
 /// A number in decimal, behind this.

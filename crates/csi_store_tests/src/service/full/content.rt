@@ -1,6 +1,6 @@
 //! What stores of full size have: 4,096 volumes, the first of them at 64 nodes or at 16 targets, or what became of these.
 use super::super::sessions::Plugin;
-use super::super::spelled::{Access, Spelled, numbered, push_part};
+use super::super::spelled::{Access, Spelled, bytes_of, numbered, push_part};
 use csi_service::Part;
 use std::alloc::Global;
 use std::process::Abort;
@@ -177,13 +177,6 @@ fn head(rt: &(impl Abort + AllocGlobal), plugin: Plugin, version: u8, content: C
         out.put_word(rt, session_of(content));
     }
     bytes_of(out)
-}
-
-// The bytes alone.
-fn bytes_of(out: Spelled) -> Vec<u8> {
-    let Spelled { bytes, texts } = out;
-    drop(texts);
-    bytes
 }
 
 /// The kind of the reply to the last call, as a byte.

@@ -1,0 +1,155 @@
+-- The record of an orchestrator by its layout.
+use Rattle.std.proofs.Common.{◌≡◌, ℕ, suc, ◌+◌, ◌-◌, ◌≤◌, List, [], ◌∷◌, ◌++◌, length, take, map, Some, None, refl, sym, ap, subst, ◌∙◌, arith}
+use Rattle.std.specs.Prelude.{Option, Bool, true, false}
+use Rattle.std.specs.List.{AllByRecursion}
+use Rattle.std.proofs.lemmas.List.{length-map}
+use Rattle.csi_types.specs.Public.Text.{IsNodeId}
+use Rattle.csi_types.specs.Public.Limits.{IsWord}
+use Rattle.csi_orchestrator.specs.declared.request.Arguments.{Arguments}
+use Rattle.csi_orchestrator.specs.declared.row.Goal.{Goal}
+use Rattle.csi_orchestrator.specs.declared.row.NodeEntry.{NodeEntry}
+use Rattle.csi_orchestrator.specs.declared.row.Row.{Row}
+use Rattle.csi_orchestrator.specs.Model.Shown.{RowShown}
+use Rattle.csi_orchestrator.specs.Public.Judging.{IsFirstRefused}
+use Rattle.csi_orchestrator.specs.Public.Record.{RecordParts, AreNodesFit}
+use Rattle.csi_orchestrator.specs.Public.Restored.{IsEntryFit, IsRestorable, AreRestorable}
+use Rattle.csi_orchestrator.specs.Public.Shown.{node_entry_shown, row_shown}
+use Rattle.csi_orchestrator.specs.Public.Steady.{HasTries}
+use Rattle.csi_orchestrator.proofs.EntriesFit.{few-entries}
+use Rattle.csi_orchestrator.proofs.FirstRefused.{take-kept}
+use Rattle.csi_stores.specs.Public.Part.{StoredPart}
+use Rattle.csi_records.specs.declared.version.RecordVersion.{RecordVersion}
+use Rattle.csi_records.specs.Public.Spelling.{present}
+use Rattle.csi_records.specs.Public.OrchestratorSpelling.{KeyedRow, orchestrator_head, orchestrator_row, orchestrator_part, orchestrator_parts}
+use Rattle.csi_records.specs.Public.OrchestratorRows.{OrchestratorHeadShown, IsOrchestratorHead, IsOrchestratorRow, AreTargetsFew, IsRowFew}
+use Rattle.csi_records.specs.Public.OrchestratorRecords.{keyed_from, IsRecordHead, IsKeyedRow, AreKeyedRows, orchestrator_layout, kept_parts}
+use Rattle.csi_records.specs.Public.Records.{AreParts, IsRecordOf, IsRefusedAt}
+use Rattle.csi_records.specs.Private.Stopping.{IsRowUnder, AreReadInOrder}
+use Rattle.csi_records.proofs.EntryReaders.{orchestrator_row_read}
+use Rattle.csi_records.proofs.FieldReaders.{version-found}
+use Rattle.csi_records.proofs.KeyedRows.{make_keyed, keyed-same, keyed-length, keyed-take, keyed-last, keyed-each}
+use Rattle.csi_records.proofs.LayoutLaws.{ArePlain}
+use Rattle.csi_records.proofs.Layouts.{IsOneToOne, head-refused, row-unread, row-refused, rest_of}
+use Rattle.csi_records.proofs.OrchestratorReaders.{orchestrator_head_read}
+use Rattle.csi_records.proofs.OrchestratorSizes.{orchestrator_head_size, orchestrator_row_size}
+use Rattle.csi_records.proofs.PartReaders.{make_part, same_part}
+use Rattle.csi_records.proofs.Versions.{AreVersioned}
+
+-- equal parts of rows mean equal rows under equal keys
+same-keyed : (version : RecordVersion) (a b : KeyedRow) → IsKeyedRow version a → IsKeyedRow version b → orchestrator_part version a ≡ orchestrator_part version b → a ≡ b
+same-keyed version a b fits fit e =
+    let keys : a.key ≡ b.key = ap (λ (part : StoredPart). part.key) e in
+    let values : orchestrator_row version a.row ≡ orchestrator_row version b.row = ap (λ (part : StoredPart). part.value) e in
+    let rows : a.row ≡ b.row = same_part (orchestrator_row_read version 0) a.row b.row fits.row fit.row (ap (make_part 0) values) in
+    ap (λ (key : ℕ). make_keyed key a.row) keys ∙ ap (make_keyed b.key) rows
+
+-- the parts of an orchestrator's record are spelled by one value each, and a front of its rows keeps the rules
+pub orchestrator_one : (version : RecordVersion) → IsOneToOne (orchestrator_layout version)
+orchestrator_one version = record {
+  heads = λ a b fits fit e. same_part (orchestrator_head_read version) a b fits.fits fit.fits e;
+  rows = same-keyed version;
+  fronts = λ head keyed k are. record { rows = take k are.rows; places = ap (take k) are.places ∙ keyed-take 1 k are.rows; rules = take-kept head.nodes are.rows k are.rules };
+}
+
+-- an orchestrator's parts are within their limits, and there are at most 4,096 rows
+pub orchestrator_plain : (version : RecordVersion) → ArePlain (orchestrator_layout version)
+orchestrator_plain version = record {
+  heads = λ head fits. record { key = omega arith; value = omega (arith, orchestrator_head_size version head fits.fits) };
+  rows = λ keyed fits. record { key = fits.key; value = omega (arith, orchestrator_row_size version keyed.row fits.row.fits) };
+  few = λ head keyed are. omega (arith, are.rules.few, keyed-length 1 are.rows, ap length are.places);
+}
+
+-- an orchestrator's head begins with the byte of its version
+pub orchestrator_versioned : AreVersioned orchestrator_layout
+orchestrator_versioned = record { heads = λ version head. version-found version }
+
+-- ---- what was read
+
+-- a head whose nodes no record may have
+pub nodes-unfit : (version : RecordVersion) (head : OrchestratorHeadShown) (parts : List StoredPart) → IsOrchestratorHead version head → (AreNodesFit head.nodes → ⊥)
+    → IsRefusedAt (IsRecordOf (orchestrator_layout version)) (orchestrator_head version head.session head.nodes ∷ parts) 0
+nodes-unfit version head parts fits unfit =
+    head-refused (orchestrator_layout version) (orchestrator_head version head.session head.nodes) parts
+    (λ first fit same.
+    let is : first ≡ head = same_part (orchestrator_head_read version) first head fit.fits fits same in
+    unfit (subst (λ (h : OrchestratorHeadShown). AreNodesFit h.nodes) is fit.nodes))
+
+-- all parts behind the head are rows under their places, which keep the rules
+pub keyed-read : (version : RecordVersion) (head : OrchestratorHeadShown) (rows : List RowShown) (parts : List StoredPart) → IsRecordHead version head → AreReadInOrder version parts rows true
+    → AreRestorable head.nodes rows → AreParts (orchestrator_layout version) head (keyed_from 1 rows) (orchestrator_head version head.session head.nodes ∷ parts)
+keyed-read version head rows parts fits read rules = record {
+  head_fits = fits;
+  rows_fit = read.fit;
+  rules = record { rows = rows; places = refl; rules = rules };
+  are = ap (λ (ps : List StoredPart). orchestrator_head version head.session head.nodes ∷ ps) read.stops;
+}
+
+-- the rows so far keep the rules, and the next part is no row under its place
+pub keyed-unread : (version : RecordVersion) (head : OrchestratorHeadShown) (rows : List RowShown) (parts : List StoredPart) → IsRecordHead version head → AreReadInOrder version parts rows false
+    → AreRestorable head.nodes rows → IsRefusedAt (IsRecordOf (orchestrator_layout version)) (orchestrator_head version head.session head.nodes ∷ parts) (length rows + 1)
+keyed-unread version head rows parts fits read rules =
+    subst (λ (n : ℕ). IsRefusedAt (IsRecordOf (orchestrator_layout version)) (orchestrator_head version head.session head.nodes ∷ parts) (n + 1)) (keyed-length 1 rows)
+    (row-unread (orchestrator_layout version) (IsRowUnder version (suc (length rows))) head (keyed_from 1 rows) read.stops.0 read.stops.1 parts next fits read.fit
+    (record { rows = rows; places = refl; rules = rules }) read.stops.2 read.stops.3)
+  where
+    next : (first : OrchestratorHeadShown) (front : List KeyedRow) (keyed : KeyedRow) → IsKeyedRow version keyed → AreKeyedRows first (front ++ keyed ∷ []) → length front ≡ length (keyed_from 1 rows)
+        → IsRowUnder version (suc (length rows)) keyed
+    next first front keyed own are count = record { under = omega (arith, keyed-last 1 front keyed are.rows are.places, count, keyed-length 1 rows); is = own }
+
+-- a row is the first with which the rows break the rules
+pub keyed-refused : (version : RecordVersion) (head : OrchestratorHeadShown) (rows : List RowShown) (parts : List StoredPart) (all : Bool) (place : ℕ) → IsRecordHead version head
+    → AreReadInOrder version parts rows all → IsFirstRefused (AreRestorable head.nodes) rows place
+    → IsRefusedAt (IsRecordOf (orchestrator_layout version)) (orchestrator_head version head.session head.nodes ∷ parts) place
+keyed-refused version head rows parts all place fits read first =
+    let rest = rest_of (orchestrator_part version) (IsRowUnder version (suc (length rows))) parts (keyed_from 1 rows) all read.stops in
+    row-refused (orchestrator_layout version) (orchestrator_one version) head (keyed_from 1 rows) place rest.0 parts fits read.fit first.from (omega (arith, first.to, keyed-length 1 rows))
+    (record { rows = take (place - 1) rows; places = keyed-take 1 (place - 1) rows; rules = first.before })
+    (λ are. first.refused (subst (AreRestorable head.nodes) (keyed-same 1 are.rows (take place rows) (sym are.places ∙ keyed-take 1 place rows)) are.rules)) rest.1
+
+-- ---- what can be written
+
+-- a goal's tries are few
+few-tries : (goal : Option Goal) (tries : ℕ) → HasTries goal tries → tries ≤ 3
+few-tries None tries has = omega (arith, has)
+few-tries (Some goal) tries has = has.1
+
+-- entries that go with nodes and arguments have few targets
+entries-few : (nodes : List (List ℕ)) (arguments : Arguments) (entries : List NodeEntry) → AllByRecursion (IsEntryFit nodes arguments) (map node_entry_shown entries) → AllByRecursion AreTargetsFew entries
+entries-few nodes arguments [] fit = tt
+entries-few nodes arguments (entry ∷ entries) fit = (fit.0.few, entries-few nodes arguments entries fit.1)
+
+-- rows of a record have few entries and few tries: each entry is of another node
+pub few-rows : (nodes : List (List ℕ)) (rows : List Row) → length nodes ≤ 64 → AllByRecursion (IsRestorable nodes) (map row_shown rows) → AllByRecursion IsRowFew rows
+few-rows nodes [] few kept = tt
+few-rows nodes (row ∷ rows) few kept =
+    let entries = row.node_entries.items in
+    let fit = kept.0.entries in (
+      record {
+        tries = few-tries row.goal row.tries kept.0.tries;
+        count = omega (arith, few, few-entries nodes row.arguments (map node_entry_shown entries) fit, length-map entries node_entry_shown);
+        targets = entries-few nodes row.arguments entries fit.each;
+      },
+      few-rows nodes rows few kept.1,
+    )
+
+-- a head of this value and these rows are the parts of what is kept
+pub kept-same : (kept : RecordParts) (head : List ℕ) (rows : List RowShown) → head ≡ (orchestrator_head present kept.session kept.nodes).value → rows ≡ kept.rows
+    → make_part 0 head ∷ map (orchestrator_part present) (keyed_from 1 rows) ≡ kept_parts kept
+kept-same kept head rows heads same =
+    ap (λ (value : List ℕ). make_part 0 value ∷ map (orchestrator_part present) (keyed_from 1 rows)) heads
+    ∙ ap (λ (rs : List RowShown). orchestrator_head present kept.session kept.nodes ∷ map (orchestrator_part present) (keyed_from 1 rs)) same
+
+-- what an orchestrator keeps is a record's parts in the present version
+pub orchestrator_is : (nodes : List (List ℕ)) (session : ℕ) (rows : List RowShown) → AllByRecursion IsNodeId nodes → IsWord session → AreNodesFit nodes → AreRestorable nodes rows
+    → AllByRecursion (IsOrchestratorRow present) rows → IsRecordOf (orchestrator_layout present) (orchestrator_parts present session nodes (keyed_from 1 rows))
+orchestrator_is nodes session rows ids session_fits fit kept each =
+    record {
+      first = record { session = session; nodes = nodes };
+      rows = keyed_from 1 rows;
+      spelled = record {
+        head_fits = record { fits = record { later = refl; session = session_fits; count = fit.few; nodes = ids }; nodes = fit };
+        rows_fit = keyed-each present nodes 1 rows (omega (arith, kept.few)) kept.each each;
+        rules = record { rows = rows; places = refl; rules = kept };
+        are = refl;
+      };
+    }

@@ -1,0 +1,53 @@
+use Rattle.std.proofs.Common.{◌≡◌, ◌∙◌, ap, map, arith, List, ℕ, sym, subst}
+use Rattle.std.specs.List.{AllByRecursion}
+use Rattle.std.proofs.lemmas.Result.{IfOk-weaker}
+use Rattle.csi_types.specs.Public.Text.{IsNodeId}
+use Rattle.csi_orchestrator.specs.Public.Restored.{IsRestorable}
+use Rattle.csi_orchestrator.specs.Public.Shown.{row_shown}
+use Rattle.csi_stores.specs.Public.Part.{put_all}
+use Rattle.csi_records.specs.Public.Spelling.{present}
+use Rattle.csi_records.specs.Public.OrchestratorSpelling.{orchestrator_head}
+use Rattle.csi_records.specs.Public.OrchestratorRows.{IsOrchestratorRow}
+use Rattle.csi_records.specs.Public.OrchestratorRecords.{orchestrator_layout, kept_parts}
+use Rattle.csi_records.proofs.WritingPieces.{stored_put}
+use Rattle.csi_records.proofs.PluginLayouts.{writable}
+use Rattle.csi_records.proofs.OrchestratorLayouts.{few-rows, kept-same, orchestrator_is, orchestrator_plain}
+use Rattle.csi_records.proofs.record.OrchestratorRecordRecord.to_parts.Goals as goal
+
+pub keyed_parts-requires : goal.keyed_parts-requires
+keyed_parts-requires c =
+    let kept = c.args.self.now in
+    few-rows kept.nodes c.rows.result.now c.rows.ensures.kept.few_nodes (subst (AllByRecursion (IsRestorable kept.nodes)) (sym c.rows.ensures.value) c.rows.ensures.kept.each)
+
+pub returns-clause-changes : goal.returns-clause-changes
+returns-clause-changes c =
+    let kept = c.args.self.now in
+    let head : c.in_ok-head.head.items ≡ (orchestrator_head present kept.session kept.nodes).value =
+    c.in_ok-head.ensures.value ∙ ap (λ (n : ℕ). (orchestrator_head present n c.nodes.result.now).value) c.session.ensures ∙ ap (λ (ns : List (List ℕ)). (orchestrator_head present kept.session ns).value) c.nodes.ensures.value in
+    IfOk-weaker c.keyed_parts.result _ _ (λ parts changes. changes ∙ ap put_all (kept-same kept c.in_ok-head.head.items (map row_shown c.rows.result.now) head c.rows.ensures.value)) c.keyed_parts.ensures.parts
+
+pub returns-clause-stored : goal.returns-clause-stored
+returns-clause-stored c =
+    let kept = c.args.self.now in
+    let head : c.in_ok-head.head.items ≡ (orchestrator_head present kept.session kept.nodes).value =
+    c.in_ok-head.ensures.value ∙ ap (λ (n : ℕ). (orchestrator_head present n c.nodes.result.now).value) c.session.ensures ∙ ap (λ (ns : List (List ℕ)). (orchestrator_head present kept.session ns).value) c.nodes.ensures.value in
+    IfOk-weaker c.keyed_parts.result _ _
+    (λ parts changes. stored_put parts.items (kept_parts kept) (changes ∙ ap put_all (kept-same kept c.in_ok-head.head.items (map row_shown c.rows.result.now) head c.rows.ensures.value)))
+    c.keyed_parts.ensures.parts
+
+pub returns-clause-parts : goal.returns-clause-parts
+returns-clause-parts c =
+    let kept = c.args.self.now in
+    let ids = subst (AllByRecursion IsNodeId) c.nodes.ensures.value c.in_ok-head.ensures.fits in
+    IfOk-weaker c.keyed_parts.result _ _
+    (λ parts each. orchestrator_is kept.nodes kept.session kept.rows ids (omega arith) c.nodes.ensures.fit c.rows.ensures.kept (subst (AllByRecursion (IsOrchestratorRow present)) c.rows.ensures.value each))
+    c.keyed_parts.ensures.fit
+
+pub returns-clause-writable : goal.returns-clause-writable
+returns-clause-writable c =
+    let kept = c.args.self.now in
+    let ids = subst (AllByRecursion IsNodeId) c.nodes.ensures.value c.in_ok-head.ensures.fits in
+    IfOk-weaker c.keyed_parts.result _ _
+    (λ parts each. writable (orchestrator_layout present) (orchestrator_plain present) _
+    (orchestrator_is kept.nodes kept.session kept.rows ids (omega arith) c.nodes.ensures.fit c.rows.ensures.kept (subst (AllByRecursion (IsOrchestratorRow present)) c.rows.ensures.value each)))
+    c.keyed_parts.ensures.fit
