@@ -1,27 +1,19 @@
 -- The record of an orchestrator by its layout.
-use Rattle.std.proofs.Common.{◌≡◌, ℕ, suc, ◌+◌, ◌-◌, ◌≤◌, List, [], ◌∷◌, ◌++◌, length, take, map, Some, None, refl, sym, ap, subst, ◌∙◌, arith}
-use Rattle.std.specs.Prelude.{Option, Bool, true, false}
+use Rattle.std.proofs.Common.{◌≡◌, ℕ, suc, ◌+◌, ◌-◌, List, [], ◌∷◌, ◌++◌, length, take, map, refl, sym, ap, subst, ◌∙◌, arith}
+use Rattle.std.specs.Prelude.{Bool, true, false}
 use Rattle.std.specs.List.{AllByRecursion}
-use Rattle.std.proofs.lemmas.List.{length-map}
 use Rattle.csi_types.specs.Public.Text.{IsNodeId}
 use Rattle.csi_types.specs.Public.Limits.{IsWord}
-use Rattle.csi_orchestrator.specs.declared.request.Arguments.{Arguments}
-use Rattle.csi_orchestrator.specs.declared.row.Goal.{Goal}
-use Rattle.csi_orchestrator.specs.declared.row.NodeEntry.{NodeEntry}
-use Rattle.csi_orchestrator.specs.declared.row.Row.{Row}
 use Rattle.csi_orchestrator.specs.Model.Shown.{RowShown}
 use Rattle.csi_orchestrator.specs.Public.Judging.{IsFirstRefused}
 use Rattle.csi_orchestrator.specs.Public.Record.{RecordParts, AreNodesFit}
-use Rattle.csi_orchestrator.specs.Public.Restored.{IsEntryFit, IsRestorable, AreRestorable}
-use Rattle.csi_orchestrator.specs.Public.Shown.{node_entry_shown, row_shown}
-use Rattle.csi_orchestrator.specs.Public.Steady.{HasTries}
-use Rattle.csi_orchestrator.proofs.EntriesFit.{few-entries}
+use Rattle.csi_orchestrator.specs.Public.Restored.{AreRestorable}
 use Rattle.csi_orchestrator.proofs.FirstRefused.{take-kept}
 use Rattle.csi_stores.specs.Public.Part.{StoredPart}
 use Rattle.csi_records.specs.declared.version.RecordVersion.{RecordVersion}
 use Rattle.csi_records.specs.Public.Spelling.{present}
 use Rattle.csi_records.specs.Public.OrchestratorSpelling.{KeyedRow, orchestrator_head, orchestrator_row, orchestrator_part, orchestrator_parts}
-use Rattle.csi_records.specs.Public.OrchestratorRows.{OrchestratorHeadShown, IsOrchestratorHead, IsOrchestratorRow, AreTargetsFew, IsRowFew}
+use Rattle.csi_records.specs.Public.OrchestratorRows.{OrchestratorHeadShown, IsOrchestratorHead, IsOrchestratorRow}
 use Rattle.csi_records.specs.Public.OrchestratorRecords.{keyed_from, IsRecordHead, IsKeyedRow, AreKeyedRows, orchestrator_layout, kept_parts}
 use Rattle.csi_records.specs.Public.Records.{AreParts, IsRecordOf, IsRefusedAt}
 use Rattle.csi_records.specs.Private.Stopping.{IsRowUnder, AreReadInOrder}
@@ -107,30 +99,6 @@ keyed-refused version head rows parts all place fits read first =
     (λ are. first.refused (subst (AreRestorable head.nodes) (keyed-same 1 are.rows (take place rows) (sym are.places ∙ keyed-take 1 place rows)) are.rules)) rest.1
 
 -- ---- what can be written
-
--- a goal's tries are few
-few-tries : (goal : Option Goal) (tries : ℕ) → HasTries goal tries → tries ≤ 3
-few-tries None tries has = omega (arith, has)
-few-tries (Some goal) tries has = has.1
-
--- entries that go with nodes and arguments have few targets
-entries-few : (nodes : List (List ℕ)) (arguments : Arguments) (entries : List NodeEntry) → AllByRecursion (IsEntryFit nodes arguments) (map node_entry_shown entries) → AllByRecursion AreTargetsFew entries
-entries-few nodes arguments [] fit = tt
-entries-few nodes arguments (entry ∷ entries) fit = (fit.0.few, entries-few nodes arguments entries fit.1)
-
--- rows of a record have few entries and few tries: each entry is of another node
-pub few-rows : (nodes : List (List ℕ)) (rows : List Row) → length nodes ≤ 64 → AllByRecursion (IsRestorable nodes) (map row_shown rows) → AllByRecursion IsRowFew rows
-few-rows nodes [] few kept = tt
-few-rows nodes (row ∷ rows) few kept =
-    let entries = row.node_entries.items in
-    let fit = kept.0.entries in (
-      record {
-        tries = few-tries row.goal row.tries kept.0.tries;
-        count = omega (arith, few, few-entries nodes row.arguments (map node_entry_shown entries) fit, length-map entries node_entry_shown);
-        targets = entries-few nodes row.arguments entries fit.each;
-      },
-      few-rows nodes rows few kept.1,
-    )
 
 -- a head of this value and these rows are the parts of what is kept
 pub kept-same : (kept : RecordParts) (head : List ℕ) (rows : List RowShown) → head ≡ (orchestrator_head present kept.session kept.nodes).value → rows ≡ kept.rows

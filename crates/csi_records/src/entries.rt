@@ -2,10 +2,11 @@
 //! is a list of them.
 ghost use Rattle.std.specs.Prelude.{◌≡◌, ◌≤◌, ◌++◌, Some, None, IfOk, IsErrOf, OnOk, length, map};
 ghost use Rattle.std.specs.List.{AllByRecursion};
+ghost use Rattle.csi_orchestrator.specs.Public.Bounds.{AreTargetsFew};
 ghost use Rattle.csi_orchestrator.specs.Public.Shown.{node_entry_shown};
 ghost use Rattle.csi_records.specs.Public.Spelling.{list_spelling, present};
 ghost use Rattle.csi_records.specs.Public.OrchestratorSpelling.{node_entry_bytes};
-ghost use Rattle.csi_records.specs.Public.OrchestratorRows.{AreTargetsFew, IsNodeEntry};
+ghost use Rattle.csi_records.specs.Public.OrchestratorRows.{IsNodeEntry};
 ghost use Rattle.csi_records.specs.Private.Reading.{read_counted};
 ghost use Rattle.csi_records.specs.Private.OrchestratorReading.{read_node_entry};
 

@@ -1,11 +1,12 @@
 //! The parts of an orchestrator's rows, written in the present version: of one row, and of all rows of a record.
 ghost use Rattle.std.specs.Prelude.{◌≡◌, ◌++◌, [], ◌∷◌, map, IfOk, OnErr, OnOk};
 ghost use Rattle.std.specs.List.{AllByRecursion};
+ghost use Rattle.csi_orchestrator.specs.Public.Bounds.{IsRowFew};
 ghost use Rattle.csi_orchestrator.specs.Public.Shown.{row_shown};
 ghost use Rattle.csi_stores.specs.Public.Part.{part_change, put_all};
 ghost use Rattle.csi_records.specs.Public.Spelling.{present};
 ghost use Rattle.csi_records.specs.Public.OrchestratorSpelling.{orchestrator_part};
-ghost use Rattle.csi_records.specs.Public.OrchestratorRows.{IsOrchestratorRow, IsRowFew};
+ghost use Rattle.csi_records.specs.Public.OrchestratorRows.{IsOrchestratorRow};
 ghost use Rattle.csi_records.specs.Public.OrchestratorRecords.{keyed_from};
 
 use crate::orchestrator_values::orchestrator_row_value;

@@ -2,10 +2,11 @@
 ghost use Rattle.std.specs.Prelude.{◌≡◌, ◌≤◌, IfOk, length};
 ghost use Rattle.std.specs.List.{AllByRecursion};
 ghost use Rattle.csi_types.specs.Public.Text.{IsNodeId};
+ghost use Rattle.csi_orchestrator.specs.Public.Bounds.{IsRowFew};
 ghost use Rattle.csi_orchestrator.specs.Public.Shown.{row_shown};
 ghost use Rattle.csi_records.specs.Public.Spelling.{present};
 ghost use Rattle.csi_records.specs.Public.OrchestratorSpelling.{orchestrator_head, orchestrator_row};
-ghost use Rattle.csi_records.specs.Public.OrchestratorRows.{IsOrchestratorRow, IsRowFew};
+ghost use Rattle.csi_records.specs.Public.OrchestratorRows.{IsOrchestratorRow};
 
 use crate::entries::put_entries;
 use crate::items::put_list;

@@ -1,5 +1,4 @@
--- The limits of what stands in an orchestrator's record, each by itself, and what its rows keep so that they can be written.
--- This profile's own.
+-- The limits of what stands in an orchestrator's record, each by itself. This profile's own.
 use Rattle.std.specs.Prelude.{◌≡◌, ℕ, ◌≤◌, true, List, length, Option, Some, None, IfSome}
 use Rattle.std.specs.List.{AllByRecursion}
 use Rattle.csi_types.specs.Public.Limits.{IsWord}
@@ -9,8 +8,6 @@ use Rattle.csi_orchestrator.specs.declared.request.Arguments.{Arguments}
 use Rattle.csi_orchestrator.specs.declared.request.Usage.{Usage}
 use Rattle.csi_orchestrator.specs.declared.row.Goal.{Goal}
 use Rattle.csi_orchestrator.specs.declared.row.Goal.TheVariants.{Create, Use, Stop, Delete}
-use Rattle.csi_orchestrator.specs.declared.row.NodeEntry.{NodeEntry}
-use Rattle.csi_orchestrator.specs.declared.row.Row.{Row}
 use Rattle.csi_orchestrator.specs.declared.row.TargetEntry.{TargetEntry}
 use Rattle.csi_orchestrator.specs.Model.Shown.{NodeEntryShown, RowShown}
 use Rattle.csi_records.specs.declared.version.RecordVersion.{RecordVersion}
@@ -75,15 +72,3 @@ pub record IsOrchestratorRow (version : RecordVersion) (row : RowShown) : Type 0
 pub record IsClosedRow (version : RecordVersion) (row : RowShown) : Type 0 where
   pub fits : IsOrchestratorRow version row
   pub closed : row.open_call ≡ None
-
--- ---- what rows keep so that they can be written
-
--- a node's entry has at most 16 targets
-abbrev pub AreTargetsFew : NodeEntry → Type 0
-AreTargetsFew entry = length entry.target_entries.items ≤ 16
-
--- a row has at most 64 entries, each of few targets, and counts its tries up to 3
-pub record IsRowFew (row : Row) : Type 0 where
-  pub tries : row.tries ≤ 3
-  pub count : length row.node_entries.items ≤ 64
-  pub targets : AllByRecursion AreTargetsFew row.node_entries.items

@@ -1,8 +1,7 @@
-use Rattle.std.proofs.Common.{◌≡◌, ◌∙◌, ap, map, arith, List, ℕ, sym, subst}
+use Rattle.std.proofs.Common.{◌≡◌, ◌∙◌, ap, map, arith, List, ℕ, subst}
 use Rattle.std.specs.List.{AllByRecursion}
 use Rattle.std.proofs.lemmas.Result.{IfOk-weaker}
 use Rattle.csi_types.specs.Public.Text.{IsNodeId}
-use Rattle.csi_orchestrator.specs.Public.Restored.{IsRestorable}
 use Rattle.csi_orchestrator.specs.Public.Shown.{row_shown}
 use Rattle.csi_stores.specs.Public.Part.{put_all}
 use Rattle.csi_records.specs.Public.Spelling.{present}
@@ -11,13 +10,8 @@ use Rattle.csi_records.specs.Public.OrchestratorRows.{IsOrchestratorRow}
 use Rattle.csi_records.specs.Public.OrchestratorRecords.{orchestrator_layout, kept_parts}
 use Rattle.csi_records.proofs.WritingPieces.{stored_put}
 use Rattle.csi_records.proofs.PluginLayouts.{writable}
-use Rattle.csi_records.proofs.OrchestratorLayouts.{few-rows, kept-same, orchestrator_is, orchestrator_plain}
+use Rattle.csi_records.proofs.OrchestratorLayouts.{kept-same, orchestrator_is, orchestrator_plain}
 use Rattle.csi_records.proofs.record.OrchestratorRecordRecord.to_parts.Goals as goal
-
-pub keyed_parts-requires : goal.keyed_parts-requires
-keyed_parts-requires c =
-    let kept = c.args.self.now in
-    few-rows kept.nodes c.rows.result.now c.rows.ensures.kept.few_nodes (subst (AllByRecursion (IsRestorable kept.nodes)) (sym c.rows.ensures.value) c.rows.ensures.kept.each)
 
 pub returns-clause-changes : goal.returns-clause-changes
 returns-clause-changes c =
