@@ -7,3 +7,5 @@ pub mod Changed
 pub mod Services
 pub mod NodeServices
 pub mod WholeRecords
+pub mod OrchestratorServices
+pub mod OrchestratorOpening

@@ -24,7 +24,8 @@ pub record Opening (C : Type 0) : Type 1 where
 -- this was made of what was there, and the store has its parts alone
 abbrev pub HasOpened : {C : Type 0} → Opening C → Store → Store → C → Type 0
 HasOpened opening before after core =
-    after.honest → (content : List StoredPart) → before.holds content → opening.makes content core × opening.is core × IsOnly after (Parts (opening.leaves content core))
+    after.honest → (content : List StoredPart) → before.holds content
+    → opening.makes content core × opening.is core × IsOnly after (Parts (opening.leaves content core))
 
 -- Why a store isn't opened: the device only where it failed in this call; parts that are no record, at the first that is refused; and Full
 -- only where what the commit of opening would make doesn't fit.
@@ -32,7 +33,8 @@ abbrev pub IsUnopened : OpeningRules → Store → Store → KeepFault → Type 
 IsUnopened rules before after Device = HasRisen before.faults after.faults
 IsUnopened rules before after NoMemory = Unit {0}
 IsUnopened rules before after (BadRecord place) = after.honest → (content : List StoredPart) → before.holds content → rules.refused content place
-IsUnopened rules before after Full = after.honest → (content : List StoredPart) → before.holds content → (new : List StoredPart) × rules.becomes content new × (before.fits new → ⊥)
+IsUnopened rules before after Full =
+    after.honest → (content : List StoredPart) → before.holds content → (new : List StoredPart) × rules.becomes content new × (before.fits new → ⊥)
 
 -- what the commit of opening makes, a record, is found
 pub record IsRewritten (rules : OpeningRules) (content : List StoredPart) (found : Found) : Type 0 where
@@ -44,6 +46,7 @@ pub record IsRewritten (rules : OpeningRules) (content : List StoredPart) (found
 -- Whether it is opened or not, opening again finds what it would have found before, or what the commit of opening makes; of what is no
 -- list of parts nothing is changed; and it finds something.
 pub record LeavesOpening (rules : OpeningRules) (before after : Store) : Type 0 where
-  pub parts : after.honest → (content : List StoredPart) → before.holds content → (other : Found) → after.leaves other → before.leaves other ⊎ IsRewritten rules content other
+  pub parts : after.honest → (content : List StoredPart) → before.holds content → (other : Found) → after.leaves other
+      → before.leaves other ⊎ IsRewritten rules content other
   pub foreign : after.honest → (place : ℕ) → before.foreign place → (other : Found) → after.leaves other → before.leaves other
   pub some : after.honest → (found : Found) → IsOnly before found → FindsSome after
