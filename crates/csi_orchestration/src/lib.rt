@@ -4,8 +4,10 @@
 
 mod lines_runs;
 mod lines_serving;
+mod nodes;
 mod responder;
 
 pub use lines_runs::{StoredResponder, lines_runs_law};
 pub use lines_serving::{LinesServeFault, LinesServeFaultKind, ServedLines, serve_lines};
+pub use nodes::asked_nodes;
 pub use responder::Responder;
