@@ -17,3 +17,5 @@ pub mod RenewedParts
 pub mod MadeCores
 pub mod AnsweredFrames
 pub mod ReplyLengths
+pub mod OrchestratorChanges
+pub mod OrchestratorRecords

@@ -13,13 +13,29 @@ use Rattle.csi_records.specs.declared.fault.RecordStop.{RecordStop}
 use Rattle.csi_records.specs.declared.fault.RecordStop.TheVariants as stops
 use Rattle.csi_records.specs.declared.version.RecordVersion.{RecordVersion}
 use Rattle.csi_records.specs.Public.Spelling.{present, controller_head, controller_parts, node_head, node_parts, volume_row}
-use Rattle.csi_records.specs.Public.Records.{controller_layout, node_layout, controller_record_of, node_record_of, IsSessionIf, IsRecordOf, IsControllerOf, IsNodeOf, IsInSome, IsRefusedAt}
-use Rattle.csi_service.specs.Public.Opening.{Records, controller_records, node_records}
-use Rattle.csi_service.specs.Private.Opening.{IsCoreMade, IsCoreUnmade, IsRenewal}
+use Rattle.csi_records.specs.Public.Records.{controller_layout, node_layout, controller_record_of, node_record_of, IsSessionIf, IsRecordOf, IsControllerOf, IsNodeOf}
+use Rattle.csi_service.specs.Public.StoreOpening.{OpeningRules}
+use Rattle.csi_service.specs.Public.Opening.{Records, controller_records, node_records, IsOpeningCommit, plugin_opening}
+use Rattle.csi_service.specs.Private.Opening.{IsMade, IsUnmade, IsRenewal}
 use Rattle.csi_service.proofs.RecordParts.{controller-rising, node-rising, node-wanted}
 use Rattle.csi_service.proofs.RenewedParts.{all-renewed}
 
+-- a core with a record in the present version, and what is to be committed: nothing where the parts are its own, else what makes them so
+pub record IsCoreMade {X : Type 0} (records : Records X) (head : StoredPart) (found now : List StoredPart) (changes : List StoredChange) : Type 0 where
+  pub is : records.are present now
+  pub leads : ((changes ≡ []) × records.are present found × (now ≡ found)) ⊎ (IsOpeningCommit records head found now × (all_changed changes found ≡ now))
+
 module _ {X : Type 0} (records : Records X) (head : StoredPart) where
+  -- such a core is what opening a plugin's store is to make
+  pub made-so : {C : Type 0} (parts_of : C → List StoredPart) (found : List StoredPart) (core : C) (changes : List StoredChange)
+      → IsCoreMade records head found (parts_of core) changes → IsMade (plugin_opening records parts_of head) found core changes
+  made-so parts_of found core changes made = record {
+    makes = elim made.leads [ inl same ↦ inl (same.1, same.2) | inr other ↦ inr other.0 ];
+    is = made.is;
+    leads = elim made.leads [ inl same ↦ ap (λ (cs : List StoredChange). all_changed cs found) same.0 ∙ sym same.2 | inr other ↦ other.1 ];
+    becomes = elim made.leads [ inl same ↦ inl same.0 | inr other ↦ inr (other.0, made.is) ];
+  }
+
   -- a new one, of no parts
   pub made-new : (found now : List StoredPart) (changes : List StoredChange) → found ≡ [] → now ≡ head ∷ [] → changes ≡ put_all (head ∷ []) → records.are present (head ∷ []) → IsCoreMade records head found now changes
   made-new found now changes none are put is = record {
@@ -127,7 +143,7 @@ new-node id fits = record {
 -- ---- parts that are no record
 
 -- what is told of some parts that are no record
-pub unmade : {X : Type 0} (records : Records X) (found : List StoredPart) (stop : RecordStop) → (found ≡ [] → ⊥)
-    → ((place : ℕ) → stop ≡ stops.BadRecord place → ((found ≡ []) × (place ≡ 0)) ⊎ IsRefusedAt (IsInSome records.are) found place) → IsCoreUnmade records found stop
-unmade records found (stops.BadRecord place) some told = elim (told place refl) [ inl none ↦ absurd (some none.0) | inr at ↦ at ]
-unmade records found stops.NoMemory some told = tt
+pub unmade : (rules : OpeningRules) (found : List StoredPart) (stop : RecordStop) → (found ≡ [] → ⊥)
+    → ((place : ℕ) → stop ≡ stops.BadRecord place → ((found ≡ []) × (place ≡ 0)) ⊎ rules.refused found place) → IsUnmade rules found stop
+unmade rules found (stops.BadRecord place) some told = elim (told place refl) [ inl none ↦ absurd (some none.0) | inr at ↦ at ]
+unmade rules found stops.NoMemory some told = tt

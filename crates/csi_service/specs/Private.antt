@@ -6,3 +6,5 @@ pub mod Calls
 pub mod Services
 pub mod NodeServices
 pub mod Worked
+pub mod OrchestratorServices
+pub mod OrchestratorOpening

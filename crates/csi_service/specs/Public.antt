@@ -1,8 +1,11 @@
 pub mod Serving
 pub mod Answering
 pub mod Failing
+pub mod StoreOpening
 pub mod Opening
 pub mod Changed
 pub mod Services
 pub mod NodeServices
 pub mod WholeRecords
+pub mod OrchestratorServices
+pub mod OrchestratorOpening

@@ -8,7 +8,6 @@ ghost use Rattle.csi_controller.specs.Model.Core.{Shows};
 ghost use Rattle.csi_controller.specs.Model.Fenced.{fenced};
 ghost use Rattle.csi_controller.specs.Model.State.{ControllerState, empty_controller};
 ghost use Rattle.csi_stores.specs.Public.Part.{part_change};
-ghost use Rattle.csi_controller.specs.Public.Views.{RecordParts};
 ghost use Rattle.csi_records.specs.Public.Records.{controller_layout, AreParts};
 ghost use Rattle.csi_records.specs.Public.Spelling.{present, controller_head, controller_parts, volume_row};
 ghost use Rattle.csi_stores.specs.Public.Content.{all_changed};
@@ -16,7 +15,7 @@ ghost use Rattle.csi_stores.specs.Public.Keeping.{RefusesAt};
 ghost use Rattle.csi_service.specs.Public.Answering.{AppendsReply, AnswersAsBefore};
 ghost use Rattle.csi_service.specs.Private.Calls.{IsNoCallFor};
 ghost use Rattle.csi_service.specs.Private.Services.{AnswersControllerCall};
-ghost use Rattle.csi_service.specs.Public.Opening.{controller_records, IsOpenFault, LeavesOpened, HasRecord};
+ghost use Rattle.csi_service.specs.Public.Opening.{controller_records, plugin_opening, IsOpenFault, LeavesOpened, HasRecord};
 ghost use Rattle.csi_service.specs.Public.Services.{controller_service_parts, controller_service_changes, AreFitControllerRows, IsNamedControllerRowFit, ControllerStaysFit, ControllerAnswers, ControllerDiffers};
 
 use crate::changed::{Changed, nothing};
@@ -44,13 +43,7 @@ pub struct ControllerService {
 impl Opens for ControllerService {
     type Asked = Config;
 
-    ghost Kept = { RecordParts };
-
-    ghost records = { λ config. controller_records };
-
-    ghost head = { λ config. controller_head present 1 (Some 0) };
-
-    ghost parts_of = { controller_service_parts };
+    ghost opening = { λ config. plugin_opening controller_records controller_service_parts (controller_head present 1 (Some 0)) };
 
     ghost is_new = { λ config service. (service.controller.config ≡ config) × (controller_service_changes service ≡ []) × AreFitControllerRows service.controller.rows };
 

@@ -1,5 +1,5 @@
-//! The plugins as services: each with its record, opened from a store and served over it, with a commit before each reply. What is
-//! public of stores is public here too.
+//! The plugins as services: each with its record, opened from a store and served over it, with a commit before each reply. And the
+//! orchestrator with its record, opened from a store. What is public of stores is public here too.
 #![tactic(auto)]
 
 mod changed;
@@ -8,6 +8,10 @@ mod controller_service;
 mod node_changes;
 mod node_service;
 mod opening;
+mod orchestrator_changes;
+mod orchestrator_opening;
+mod orchestrator_service;
+mod orchestrator_unopened;
 mod plugin_core;
 mod replies;
 mod serving;
@@ -18,6 +22,8 @@ pub use controller_service::ControllerService;
 pub use csi_records::{Record, write_record};
 pub use csi_stores::{Counted, Keep, KeepFault, MemoryKeep, Part};
 pub use node_service::NodeService;
+pub use orchestrator_service::OrchestratorService;
+pub use orchestrator_unopened::OrchestratorUnopened;
 pub use plugin_core::Core;
 pub use serving::{ServeFault, ServeFaultKind, Served, serve};
 pub use whole_records::read_record;

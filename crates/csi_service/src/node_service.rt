@@ -29,21 +29,15 @@ pub struct NodeService {
 
 impl Opens for NodeService {
     ghost use Rattle.std.specs.Prelude.{◌≡◌, Some, []};
-    ghost use Rattle.csi_node.specs.Model.Record.{NodeParts, parts as shown_rows};
+    ghost use Rattle.csi_node.specs.Model.Record.{parts as shown_rows};
     ghost use Rattle.csi_records.specs.Public.Spelling.{present, node_head};
     ghost use Rattle.csi_service.specs.Public.NodeServices.{node_service_changes, AreFitNodeRows};
-    ghost use Rattle.csi_service.specs.Public.Opening.{node_records};
+    ghost use Rattle.csi_service.specs.Public.Opening.{node_records, plugin_opening};
     ghost use Rattle.csi_service.specs.Public.Services.{node_service_parts};
 
     type Asked = NodeId;
 
-    ghost Kept = { NodeParts };
-
-    ghost records = { node_records };
-
-    ghost head = { λ id. node_head present id (Some 0) };
-
-    ghost parts_of = { node_service_parts };
+    ghost opening = { λ id. plugin_opening (node_records id) node_service_parts (node_head present id (Some 0)) };
 
     ghost is_new = { λ id service. (node_service_changes service ≡ []) × (service.node.id ≡ id) × AreFitNodeRows (shown_rows service.node.rows) };
 

@@ -1,47 +1,36 @@
-//! A store, opened: its parts are judged, and the plugin is made of them, before anything is committed.
-ghost use Rattle.std.specs.Prelude.{◌≡◌, ◌∷◌, ◌++◌, ◌==◌, [], ℕ, List, map, if◌then◌else◌, IfOk, IfErr, OnOk};
+//! A store, opened: its parts are judged, and what is asked for is made of them, before anything is committed.
+ghost use Rattle.std.specs.Prelude.{◌≡◌, ◌∷◌, ◌++◌, ◌==◌, [], ℕ, map, if◌then◌else◌, IfOk, IfErr, OnOk};
 ghost use Rattle.std.specs.List.{list_any};
-ghost use Rattle.csi_stores.specs.Public.Part.{StoredPart, all_stored_in, part_change, put_all, take_all};
+ghost use Rattle.csi_stores.specs.Public.Part.{all_stored_in, part_change, put_all, take_all};
 ghost use Rattle.csi_stores.specs.Public.Keeping.{RefusesAt};
-ghost use Rattle.csi_service.specs.Public.Opening.{Records, HasRecord, IsOpenFault, LeavesOpened};
-ghost use Rattle.csi_service.specs.Private.Opening.{IsCoreMade, IsCoreUnmade, IsRenewal, left_out};
+ghost use Rattle.csi_service.specs.Public.StoreOpening.{Opening, HasOpened, IsUnopened, LeavesOpening};
+ghost use Rattle.csi_service.specs.Private.Opening.{IsMade, IsUnmade, IsRenewal, left_out};
 
 use csi_records::{Record, RecordStop, RecordVersion, is_present};
 use csi_stores::{Keep, KeepFault, Part, push_removal, push_value};
 use csi_types::NoMemory;
 use std::alloc::Global;
 
-/// A plugin that is made of the parts of its record.
+/// What is made of the parts of a store.
 pub(crate) trait Opens: Drop {
     /// What it is asked for by, beside the parts.
     type Asked: Drop;
 
-    /// A record of the plugin.
-    ghost Kept: { Type 0 };
-
-    /// Its records.
-    ghost records: { Self.Asked → Records Kept };
-
-    /// The head of a new record.
-    ghost head: { Self.Asked → StoredPart };
-
-    /// The parts of its record.
-    ghost parts_of: { Self → List StoredPart };
+    /// What opening makes of parts, and what it leaves.
+    ghost opening: { Self.Asked → Opening Self };
 
     /// It is as it was asked for, and answered nothing yet.
     ghost is_new: { Self.Asked → Self → Type 0 };
 
-    /// The plugin with the record of these parts, or with a new one where there are none; and the parts that are to be committed
-    /// before it answers anything.
+    /// What is made of these parts, and the parts that are to be committed before it is given.
     fn made(
         alloc: Global,
         asked: Self::Asked,
         parts: &[Part],
     ) -> Result<(Self, Vec<Part>), RecordStop>
-        ensures made { IfOk result (λ made. IsCoreMade (records asked) (head asked) (all_stored_in parts.now) (parts_of made.0)
-            (map part_change made.1.items)) }
+        ensures made { IfOk result (λ made. IsMade (opening asked) (all_stored_in parts.now) made.0 (map part_change made.1.items)) }
         ensures new { IfOk result (λ made. is_new asked made.0) }
-        ensures refused { IfErr result (IsCoreUnmade (records asked) (all_stored_in parts.now)) };
+        ensures refused { IfErr result (IsUnmade (opening asked).rules (all_stored_in parts.now)) };
 }
 
 /// The head of a new record, to be put in.
@@ -96,18 +85,18 @@ pub(crate) fn renewal<T: Record>(
     Ok(parts)
 }
 
-/// The plugin of what the store has. What is to be committed is committed before it is given.
+/// What is made of what the store has. What is to be committed is committed before it is given.
 pub(crate) fn open<S: Opens, K: Keep>(
     alloc: Global,
     asked: S::Asked,
     keep: &mut K,
 ) -> Result<S, KeepFault>
-    ensures opened { IfOk result (HasRecord (S.records asked) S.parts_of (K.store keep.old) (K.store keep.new) (S.head asked)) }
-    ensures new { IfOk result (λ service. S.is_new asked service) }
-    ensures cause { IfErr result (IsOpenFault (S.records asked) (K.store keep.old) (K.store keep.new) (S.head asked)) }
+    ensures opened { IfOk result (HasOpened (S.opening asked) (K.store keep.old) (K.store keep.new)) }
+    ensures new { IfOk result (λ made. S.is_new asked made) }
+    ensures cause { IfErr result (IsUnopened (S.opening asked).rules (K.store keep.old) (K.store keep.new)) }
     ensures honest { (K.store keep.new).honest → (K.store keep.old).honest }
     ensures foreign { (K.store keep.new).honest → (place : ℕ) → (K.store keep.old).foreign place → RefusesAt place result }
-    ensures left { LeavesOpened (S.records asked) (K.store keep.old) (K.store keep.new) (S.head asked) }
+    ensures left { LeavesOpening (S.opening asked).rules (K.store keep.old) (K.store keep.new) }
 {
     let parts = match keep.load() {
         Ok(parts) => parts,

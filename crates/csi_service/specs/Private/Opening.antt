@@ -8,15 +8,22 @@ use Rattle.csi_stores.specs.Public.Content.{all_changed}
 use Rattle.csi_records.specs.declared.fault.RecordStop.{RecordStop}
 use Rattle.csi_records.specs.declared.fault.RecordStop.TheVariants as stops
 use Rattle.csi_records.specs.Public.Spelling.{present}
-use Rattle.csi_records.specs.Public.Records.{IsInSome, IsRefusedAt}
-use Rattle.csi_service.specs.Public.Opening.{Records, IsOpeningCommit}
+use Rattle.csi_service.specs.Public.StoreOpening.{OpeningRules, Opening}
 
--- ---- what is made of the parts before the store is changed
+-- what is made of the parts that were found, before the store is changed, and what is to be committed: nothing where they stay, else what opening
+-- makes of them
+pub record IsMade {C : Type 0} (opening : Opening C) (found : List StoredPart) (core : C) (changes : List StoredChange) : Type 0 where
+  pub makes : opening.makes found core
+  pub is : opening.is core
+  pub leads : all_changed changes found ≡ opening.leaves found core
+  pub becomes : (changes ≡ []) ⊎ (opening.rules.becomes found (opening.leaves found core) × opening.rules.is_record (opening.leaves found core))
 
--- a core with a record in the present version, and what is to be committed: nothing where the parts are its own, else what makes them so
-pub record IsCoreMade {X : Type 0} (records : Records X) (head : StoredPart) (found now : List StoredPart) (changes : List StoredChange) : Type 0 where
-  pub is : records.are present now
-  pub leads : ((changes ≡ []) × records.are present found × (now ≡ found)) ⊎ (IsOpeningCommit records head found now × (all_changed changes found ≡ now))
+-- why nothing is made
+abbrev pub IsUnmade : OpeningRules → List StoredPart → RecordStop → Type 0
+IsUnmade rules found (stops.BadRecord place) = rules.refused found place
+IsUnmade rules found stops.NoMemory = Unit {0}
+
+-- ---- a plugin's record
 
 -- one of the parts has this key
 abbrev pub has_key : ℕ → List StoredPart → Bool
@@ -32,8 +39,3 @@ abbrev pub IsRenewal : {X : Type 0} → (RecordVersion → List StoredPart → T
 IsRenewal Are parts_of version found kept changes =
     ((version ≡ present) × (changes ≡ []))
     ⊎ ((version ≢ present) × (changes ≡ put_all (parts_of kept) ++ take_all (left_out found (parts_of kept))) × Are present (parts_of kept))
-
--- why nothing is made
-abbrev pub IsCoreUnmade : {X : Type 0} → Records X → List StoredPart → RecordStop → Type 0
-IsCoreUnmade records found (stops.BadRecord place) = IsRefusedAt (IsInSome records.are) found place
-IsCoreUnmade records found stops.NoMemory = Unit {0}

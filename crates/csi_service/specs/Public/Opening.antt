@@ -1,17 +1,16 @@
--- What opening a store finds and leaves: a record in the present version stays; no parts become the head of a new record, and parts in
+-- What opening a plugin's store finds and leaves: a record in the present version stays; no parts become the head of a new record, and parts in
 -- an earlier version become the record that they are read as, in the present one, in one commit. This profile's own.
 use Rattle.std.specs.Prelude.{◌≡◌, ◌≢◌, ◌⊎◌, ℕ, List, [], ◌∷◌, map, Some}
-use Rattle.csi_stores.specs.Public.Counting.{HasRisen}
 use Rattle.csi_records.specs.declared.version.RecordVersion.{RecordVersion}
 use Rattle.csi_controller.specs.Public.Views.{RecordParts}
 use Rattle.csi_node.specs.Model.OneRow.{node_row_shown}
 use Rattle.csi_node.specs.Model.Record.{NodeParts}
 use Rattle.csi_stores.specs.declared.keep.KeepFault.{KeepFault}
-use Rattle.csi_stores.specs.declared.keep.KeepFault.TheVariants.{Device, NoMemory, BadRecord, Full}
 use Rattle.csi_stores.specs.Public.Part.{StoredPart}
-use Rattle.csi_stores.specs.Public.Stores.{Store, Found, Parts, IsOnly, FindsSome}
+use Rattle.csi_stores.specs.Public.Stores.{Store}
 use Rattle.csi_records.specs.Public.Spelling.{present, controller_parts, node_parts, volume_row}
 use Rattle.csi_records.specs.Public.Records.{controller_layout, node_layout, IsRecordOf, IsControllerOf, IsNodeOf, IsInSome, IsRefusedAt}
+use Rattle.csi_service.specs.Public.StoreOpening.{OpeningRules, Opening, HasOpened, IsUnopened, LeavesOpening}
 
 -- the records of a plugin: which parts are one in a version, and which record they are read as; and what the parts of a record are in the
 -- present version
@@ -57,30 +56,31 @@ OpensTo records head old new = (records.are present old × (new ≡ old)) ⊎ Is
 
 -- ---- what becomes of the store
 
+-- what opening a plugin's store is to make of its parts: BadRecord where they are a record in no version, at the first that is refused
+abbrev pub plugin_rules : {X : Type 0} → Records X → StoredPart → OpeningRules
+plugin_rules records head = record {
+  refused = IsRefusedAt (IsInSome records.are);
+  becomes = IsOpeningCommit records head;
+  is_record = records.are present;
+}
+
+-- and what it gives: a core whose parts are what opening makes, and are left
+abbrev pub plugin_opening : {X C : Type 0} → Records X → (C → List StoredPart) → StoredPart → Opening C
+plugin_opening records parts_of head = record {
+  rules = plugin_rules records head;
+  makes = λ content core. OpensTo records head content (parts_of core);
+  is = λ core. records.are present (parts_of core);
+  leaves = λ content core. parts_of core;
+}
+
 -- a core with the record that was there, or with a new one, in the present version; and the store has it alone
 abbrev pub HasRecord : {X C : Type 0} → Records X → (C → List StoredPart) → Store → Store → StoredPart → C → Type 0
-HasRecord records parts_of before after head core =
-    after.honest → (content : List StoredPart) → before.holds content →
-    OpensTo records head content (parts_of core) × records.are present (parts_of core) × IsOnly after (Parts (parts_of core))
+HasRecord records parts_of before after head = HasOpened (plugin_opening records parts_of head) before after
 
--- Why a store isn't opened: the device only where it failed in this call; parts that are a record in no version, at the first that is
--- refused; and Full only where what the commit of opening would make doesn't fit.
+-- why a plugin's store isn't opened
 abbrev pub IsOpenFault : {X : Type 0} → Records X → Store → Store → StoredPart → KeepFault → Type 0
-IsOpenFault records before after head Device = HasRisen before.faults after.faults
-IsOpenFault records before after head NoMemory = Unit {0}
-IsOpenFault records before after head (BadRecord place) = after.honest → (content : List StoredPart) → before.holds content → IsRefusedAt (IsInSome records.are) content place
-IsOpenFault records before after head Full = after.honest → (content : List StoredPart) → before.holds content → (new : List StoredPart) × IsOpeningCommit records head content new × (before.fits new → ⊥)
+IsOpenFault records before after head = IsUnopened (plugin_rules records head) before after
 
--- what the commit of opening makes, a record in the present version, is found
-pub record IsRewritten {X : Type 0} (records : Records X) (head : StoredPart) (content : List StoredPart) (found : Found) : Type 0 where
-  pub new : List StoredPart
-  pub is : found ≡ Parts new
-  pub becomes : IsOpeningCommit records head content new
-  pub is_record : records.are present new
-
--- Whether it is opened or not, opening again finds what it would have found before, or what the commit of opening makes; of what is no
--- list of parts nothing is changed; and it finds something.
-pub record LeavesOpened {X : Type 0} (records : Records X) (before after : Store) (head : StoredPart) : Type 0 where
-  pub parts : after.honest → (content : List StoredPart) → before.holds content → (other : Found) → after.leaves other → before.leaves other ⊎ IsRewritten records head content other
-  pub foreign : after.honest → (place : ℕ) → before.foreign place → (other : Found) → after.leaves other → before.leaves other
-  pub some : after.honest → (found : Found) → IsOnly before found → FindsSome after
+-- whether it is opened or not, what is left is what was there, or what the commit of opening makes
+abbrev pub LeavesOpened : {X : Type 0} → Records X → Store → Store → StoredPart → Type 0
+LeavesOpened records before after head = LeavesOpening (plugin_rules records head) before after

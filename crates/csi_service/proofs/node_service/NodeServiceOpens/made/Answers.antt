@@ -8,7 +8,7 @@ use Rattle.csi_service.specs.Public.Opening.{node_records}
 use Rattle.csi_node.specs.Model.Record.{NodeParts, parts}
 use Rattle.csi_service.specs.Public.NodeServices.{AreFitNodeRows}
 use Rattle.csi_service.specs.Public.Services.{node_service_parts}
-use Rattle.csi_service.proofs.MadeCores.{made-new, node-made, new-node, of-node}
+use Rattle.csi_service.proofs.MadeCores.{made-so, made-new, node-made, new-node, of-node}
 use Rattle.csi_service.proofs.FitRows.{node-read, node-none}
 use Rattle.csi_service.proofs.node_service.NodeServiceOpens.made.Goals as goal
 
@@ -18,14 +18,21 @@ of_record-requires c = of-node c.in-Ok.field-0.version c.args.id (all_stored_in 
 pub returns-then-is_empty-clause-made : goal.returns-then-is_empty-clause-made
 returns-then-is_empty-clause-made c =
     let zero : length c.args.parts.now ≡ 0 = grind (arith, nat_tests) in
-    made-new (node_records c.args.id) (node_head present c.args.id (Some 0)) (all_stored_in c.args.parts.now) (node_service_parts c.in_ok-new.field-0) (map part_change c.in_ok-head.head.items)
+    let found = all_stored_in c.args.parts.now in
+    let service = c.in_ok-new.field-0 in
+    let changes = map part_change c.in_ok-head.head.items in
+    made-so (node_records c.args.id) (node_head present c.args.id (Some 0)) node_service_parts found service changes
+    (made-new (node_records c.args.id) (node_head present c.args.id (Some 0)) found (node_service_parts service) changes
     (ap all_stored_in (nil_from_length c.args.parts.now zero)) c.in_ok-new.ensures.parts
-    (c.in_ok-head.ensures ∙ ap (λ (value : List ℕ). put_all (record { key = 0; value = value } ∷ [])) c.in_ok-node_head_value.ensures.value) (new-node c.args.id c.in_ok-node_head_value.ensures.fits)
+    (c.in_ok-head.ensures ∙ ap (λ (value : List ℕ). put_all (record { key = 0; value = value } ∷ [])) c.in_ok-node_head_value.ensures.value) (new-node c.args.id c.in_ok-node_head_value.ensures.fits))
 
 pub returns-in_ok-of_record-in-Ok-clause-made : goal.returns-in_ok-of_record-in-Ok-clause-made
 returns-in_ok-of_record-in-Ok-clause-made c =
-    node-made c.args.id (all_stored_in c.args.parts.now) (node_service_parts c.in_ok-of_record-in-Ok.field-0) (map part_change c.in_ok-changed-in-Ok.changed.items) c.in-Ok.field-0.version c.in-Ok.field-0.kept
-    c.in-Ok.ensures c.in_ok-of_record-in-Ok.ensures.parts c.in_ok-changed-in-Ok.ensures
+    let found = all_stored_in c.args.parts.now in
+    let service = c.in_ok-of_record-in-Ok.field-0 in
+    let changes = map part_change c.in_ok-changed-in-Ok.changed.items in
+    made-so (node_records c.args.id) (node_head present c.args.id (Some 0)) node_service_parts found service changes
+    (node-made c.args.id found (node_service_parts service) changes c.in-Ok.field-0.version c.in-Ok.field-0.kept c.in-Ok.ensures c.in_ok-of_record-in-Ok.ensures.parts c.in_ok-changed-in-Ok.ensures)
 
 pub returns-then-is_empty-clause-new : goal.returns-then-is_empty-clause-new
 returns-then-is_empty-clause-new c = (c.in_ok-new.ensures.changes, c.in_ok-new.ensures.node, node-none _ _ (parts c.in_ok-new.field-0.node.rows) c.in_ok-new.ensures.parts)

@@ -1,0 +1,95 @@
+-- What opening an orchestrator's store finds and leaves: of a record it makes the orchestrator after a restart, in the next session, and of no
+-- parts a new one, in session 1; the head is committed before it is given. This profile's own.
+use Rattle.std.specs.Prelude.{◌≡◌, ◌≢◌, ◌⊎◌, ℕ, ◌+◌, ◌<◌, ◌^◌, List, [], Result, Ok, Err}
+use Rattle.csi_orchestrator.specs.declared.fault.OrchRecordFault.{OrchRecordFault}
+use Rattle.csi_orchestrator.specs.declared.fault.OrchRecordFault.TheVariants as faults
+use Rattle.csi_orchestrator.specs.Model.Shown.{OrchestratorParts}
+use Rattle.csi_orchestrator.specs.Public.Laws.{opened_parts}
+use Rattle.csi_orchestrator.specs.Public.Record.{RecordParts, AreNodesFit}
+use Rattle.csi_stores.specs.Public.Keeping.{IsForeignFault}
+use Rattle.csi_stores.specs.Public.Part.{StoredPart}
+use Rattle.csi_stores.specs.Public.Stores.{Store, Parts, IsOnly}
+use Rattle.csi_records.specs.Public.OrchestratorRecords.{orchestrator_layout, IsOrchestratorOf}
+use Rattle.csi_records.specs.Public.Records.{IsRecordOf, IsInSome, IsRefusedAt}
+use Rattle.csi_records.specs.Public.Spelling.{present}
+use Rattle.csi_service.specs.declared.orchestrator_unopened.OrchestratorUnopened.{OrchestratorUnopened}
+use Rattle.csi_service.specs.declared.orchestrator_unopened.OrchestratorUnopened.TheVariants.{Keep, BadNodes, OtherNodes, NumbersSpent}
+use Rattle.csi_service.specs.Public.OrchestratorServices.{ServedOrchestrator, parts_of_orchestrator, orchestrator_service_parts}
+use Rattle.csi_service.specs.Public.StoreOpening.{OpeningRules, IsUnopened}
+
+-- ---- what opening makes
+
+-- the record of an orchestrator of these nodes before its first session
+abbrev pub new_record : List (List ℕ) → RecordParts
+new_record nodes = record { nodes = nodes; session = 0; rows = [] }
+
+-- the record of these nodes that a store's parts are opened from: no parts stand for one before the first session
+abbrev pub IsOpenedFrom : List (List ℕ) → List StoredPart → RecordParts → Type 0
+IsOpenedFrom nodes content kept = ((content ≡ []) × (kept ≡ new_record nodes)) ⊎ (IsOrchestratorOf present content kept × (kept.nodes ≡ nodes))
+
+-- the orchestrator of that record, in the next session
+pub record IsOrchestratorOpened (nodes : List (List ℕ)) (content : List StoredPart) (orchestrator : OrchestratorParts) : Type 0 where
+  pub kept : RecordParts
+  pub from : IsOpenedFrom nodes content kept
+  pub left : kept.session + 1 < 2 ^ 64
+  pub is : orchestrator ≡ opened_parts kept
+
+-- the parts of such a one, which the commit of opening makes
+pub record OpensOrchestrator (nodes : List (List ℕ)) (content new : List StoredPart) : Type 0 where
+  pub orchestrator : OrchestratorParts
+  pub opened : IsOrchestratorOpened nodes content orchestrator
+  pub are : new ≡ parts_of_orchestrator orchestrator
+
+-- what opening is to make of a store's parts: BadRecord where they are an orchestrator's record in no version, at the first that is refused
+abbrev pub orchestrator_rules : List (List ℕ) → OpeningRules
+orchestrator_rules nodes = record {
+  refused = IsRefusedAt (IsInSome (λ version. IsRecordOf (orchestrator_layout version)));
+  becomes = OpensOrchestrator nodes;
+  is_record = IsRecordOf (orchestrator_layout present);
+}
+
+-- ---- what becomes of the store
+
+-- the orchestrator that opening makes of what was there; and the store has its record alone
+abbrev pub HasOrchestrator : List (List ℕ) → Store → Store → ServedOrchestrator → Type 0
+HasOrchestrator nodes before after service =
+    after.honest → (content : List StoredPart) → before.holds content → IsOrchestratorOpened nodes content service.orchestrator
+    × IsRecordOf (orchestrator_layout present) (orchestrator_service_parts service) × IsOnly after (Parts (orchestrator_service_parts service))
+
+-- for this reason nothing was changed, and the store has what it had alone
+abbrev pub StaysFor : (List StoredPart → Type 0) → Store → Store → Type 0
+StaysFor Why before after = after.honest → (content : List StoredPart) → before.holds content → Why content × IsOnly after (Parts content)
+
+-- the record is one of other nodes
+pub record IsOfOthers (nodes : List (List ℕ)) (content : List StoredPart) : Type 0 where
+  pub kept : RecordParts
+  pub was : IsOrchestratorOf present content kept
+  pub others : kept.nodes ≢ nodes
+
+-- the record is one in the last session
+pub record IsSpent (nodes : List (List ℕ)) (content : List StoredPart) : Type 0 where
+  pub kept : RecordParts
+  pub was : IsOrchestratorOf present content kept
+  pub same : kept.nodes ≡ nodes
+  pub spent : kept.session + 1 ≡ 2 ^ 64
+
+-- why an orchestrator of these nodes isn't opened from a store
+abbrev pub IsOrchestratorUnopened : List (List ℕ) → Store → Store → OrchestratorUnopened → Type 0
+IsOrchestratorUnopened nodes before after (Keep fault) = IsUnopened (orchestrator_rules nodes) before after fault
+IsOrchestratorUnopened nodes before after BadNodes = (AreNodesFit nodes → ⊥) × StaysFor (λ content. Unit {0}) before after
+IsOrchestratorUnopened nodes before after OtherNodes = StaysFor (IsOfOthers nodes) before after
+IsOrchestratorUnopened nodes before after NumbersSpent = StaysFor (IsSpent nodes) before after
+
+-- where a store has no list of parts, that is refused
+abbrev pub RefusesForeign : {A : Type 0} → ℕ → Result A OrchestratorUnopened → Type 0
+RefusesForeign place (Ok a) = ⊥
+RefusesForeign place (Err (Keep fault)) = IsForeignFault place fault
+RefusesForeign place (Err BadNodes) = ⊥
+RefusesForeign place (Err OtherNodes) = ⊥
+RefusesForeign place (Err NumbersSpent) = ⊥
+
+-- why there is no new orchestrator of these nodes
+abbrev pub IsNewRefusal : List (List ℕ) → OrchRecordFault → Type 0
+IsNewRefusal nodes faults.BadNodes = AreNodesFit nodes → ⊥
+IsNewRefusal nodes (faults.BadRow place) = ⊥
+IsNewRefusal nodes faults.NoMemory = Unit {0}

@@ -1,0 +1,95 @@
+-- An orchestrator that is served: the parts of its record, what a call changed of them, and how it answers. This profile's own.
+use Rattle.std.specs.Prelude.{◌≡◌, ℕ, ◌+◌, List, [], ◌∷◌, map, slice_get, Option, Some, None, Result, Ok, Err, OnErr, IfSome}
+use Rattle.std.specs.List.{AllByRecursion}
+use Rattle.csi_orchestrator.specs.declared.fault.OrchFault.{OrchFault}
+use Rattle.csi_orchestrator.specs.Model.History.{History}
+use Rattle.csi_orchestrator.specs.Model.Moves.{Input, Answer, moves}
+use Rattle.csi_orchestrator.specs.Model.Shown.{RowShown, OrchestratorParts, Shows}
+use Rattle.csi_orchestrator.specs.Model.WellFormed.{IsWellFormed}
+use Rattle.csi_orchestrator.specs.Public.Promises.{FollowsUnrefused}
+use Rattle.csi_orchestrator.specs.Public.Record.{RecordParts}
+use Rattle.csi_orchestrator.specs.Public.RowMoves.{IsRefusal}
+use Rattle.csi_orchestrator.specs.Public.Shown.{closed}
+use Rattle.csi_stores.specs.Public.Content.{all_changed}
+use Rattle.csi_stores.specs.Public.Part.{StoredPart, StoredChange, put_all}
+use Rattle.csi_records.specs.Public.OrchestratorRecords.{kept_parts}
+use Rattle.csi_records.specs.Public.OrchestratorRows.{IsOrchestratorRow}
+use Rattle.csi_records.specs.Public.OrchestratorSpelling.{orchestrator_head, orchestrator_part}
+use Rattle.csi_records.specs.Public.Spelling.{present}
+use Rattle.csi_service.specs.declared.orchestrator_changes.OrchestratorChanged.{OrchestratorChanged}
+use Rattle.csi_service.specs.declared.orchestrator_changes.OrchestratorChanged.TheVariants.{Nothing, Head, Row}
+
+-- an orchestrator that is served, to its callers: itself, and what its last call changed, or its opening
+pub record ServedOrchestrator : Type 0 where
+  pub orchestrator : OrchestratorParts
+  pub changed : OrchestratorChanged
+
+-- ---- its parts
+
+-- what an orchestrator keeps: its open calls are given up
+abbrev pub kept_of : OrchestratorParts → RecordParts
+kept_of orchestrator = record { nodes = orchestrator.nodes; session = orchestrator.last.session; rows = map closed orchestrator.rows }
+
+-- the parts of its record
+abbrev pub parts_of_orchestrator : OrchestratorParts → List StoredPart
+parts_of_orchestrator orchestrator = kept_parts (kept_of orchestrator)
+
+-- those of one that is served
+abbrev pub orchestrator_service_parts : ServedOrchestrator → List StoredPart
+orchestrator_service_parts service = parts_of_orchestrator service.orchestrator
+
+-- the row at a place, counted from 0, if there is one; its key is its place, counted from 1
+abbrev pub orchestrator_row_change : ℕ → Option RowShown → List StoredChange
+orchestrator_row_change place None = []
+orchestrator_row_change place (Some row) = put_all (orchestrator_part present (record { key = place + 1; row = closed row }) ∷ [])
+
+-- what was changed, as the orchestrator has it now: nothing, the head, or one row
+abbrev pub orchestrator_changes_of : OrchestratorChanged → OrchestratorParts → List StoredChange
+orchestrator_changes_of Nothing orchestrator = []
+orchestrator_changes_of Head orchestrator = put_all (orchestrator_head present orchestrator.last.session orchestrator.nodes ∷ [])
+orchestrator_changes_of (Row place) orchestrator = orchestrator_row_change place (slice_get orchestrator.rows place)
+
+-- the same, of its last call, or its opening
+abbrev pub orchestrator_service_changes : ServedOrchestrator → List StoredChange
+orchestrator_service_changes service = orchestrator_changes_of service.changed service.orchestrator
+
+-- ---- the limits of what is in them
+
+-- all that rows have is within its limits
+abbrev pub AreFitOrchestratorRows : List RowShown → Type 0
+AreFitOrchestratorRows rows = AllByRecursion (IsOrchestratorRow present) rows
+
+-- so is all that the row has that was changed, if one was
+abbrev pub IsChangedRowFit : OrchestratorChanged → List RowShown → Type 0
+IsChangedRowFit Nothing rows = Unit {0}
+IsChangedRowFit Head rows = Unit {0}
+IsChangedRowFit (Row place) rows = IfSome (slice_get rows place) (IsOrchestratorRow present)
+
+-- where all that the old rows have is, and what was changed, all that the new rows have is
+abbrev pub OrchestratorStaysFit : ServedOrchestrator → ServedOrchestrator → Type 0
+OrchestratorStaysFit old new =
+    AreFitOrchestratorRows old.orchestrator.rows → IsChangedRowFit new.changed new.orchestrator.rows → AreFitOrchestratorRows new.orchestrator.rows
+
+-- ---- how it answers
+
+-- for a history: the answer, as the definitions have it, is the one that the history tells, and what is shown then agrees with the history that
+-- goes on so; a refusal is the one that it tells, or, where it tells none, one of memory
+abbrev pub IsToldBy : {A : Type 0} → (A → Answer) → List (List ℕ) → Input → History → Result A OrchFault → OrchestratorParts → Type 0
+IsToldBy told nodes input history (Ok answer) new = FollowsUnrefused history (moves nodes history input) (told answer) new
+IsToldBy told nodes input history (Err fault) new = IsRefusal (moves nodes history input) fault
+
+-- A command, a timeout or a frame that came is answered so, where `told` is the answer as the definitions have it: for every history that the
+-- orchestrator shows. Its nodes and its session stay, and a refusal leaves it as it was.
+pub record OrchestratorAnswers {A : Type 0} (told : A → Answer) (old : ServedOrchestrator) (input : Input) (result : Result A OrchFault)
+    (new : ServedOrchestrator) : Type 0 where
+  pub follows : (history : History) → IsWellFormed history → Shows old.orchestrator history
+      → IsToldBy told old.orchestrator.nodes input history result new.orchestrator
+  pub nodes : new.orchestrator.nodes ≡ old.orchestrator.nodes
+  pub session : new.orchestrator.last.session ≡ old.orchestrator.last.session
+  pub stays : OnErr result (new.orchestrator ≡ old.orchestrator)
+
+-- what a call changed leads from the parts before it to those after it, which stay within their limits; a refusal changes nothing
+pub record TellsChanges {A : Type 0} (old : ServedOrchestrator) (result : Result A OrchFault) (new : ServedOrchestrator) : Type 0 where
+  pub parts : orchestrator_service_parts new ≡ all_changed (orchestrator_service_changes new) (orchestrator_service_parts old)
+  pub fit : OrchestratorStaysFit old new
+  pub none : OnErr result (orchestrator_service_changes new ≡ [])
