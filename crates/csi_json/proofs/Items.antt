@@ -47,10 +47,10 @@ no_only_member (array ds) es e h = cc
 no_only_member (object ms) es e h = let same : members_view es ≡ ms = cc in rw (← same) (not_alone es h)
 
 -- an object of one entry has that one for its only member
-alone : (es : List Entry) (k : String Global) (v : Value) → length es ≡ 1 → slice_get es 0 ≡ Some (k, v) → Some (string_bytes k, view v) ≡ only_member (object (members_view es))
-alone [] k v h e = absurd (omega arith)
-alone (f ∷ []) k v h e = let same : f ≡ (k, v) = cc in rw same refl
-alone (f ∷ g ∷ es) k v h e = absurd (omega arith)
+single : (es : List Entry) (k : String Global) (v : Value) → length es ≡ 1 → slice_get es 0 ≡ Some (k, v) → Some (string_bytes k, view v) ≡ only_member (object (members_view es))
+single [] k v h e = absurd (omega arith)
+single (f ∷ []) k v h e = let same : f ≡ (k, v) = cc in rw same refl
+single (f ∷ g ∷ es) k v h e = absurd (omega arith)
 
 -- an object that has one member
 pub has_only_member : (d : Data) (es : List Entry) (k : String Global) (v : Value) → Some (members_view es) ≡ as_object d → length es ≡ 1 → slice_get es 0 ≡ Some (k, v)
@@ -60,4 +60,4 @@ has_only_member (boolean b) es k v e h first = cc
 has_only_member (number n) es k v e h first = cc
 has_only_member (string s) es k v e h first = cc
 has_only_member (array ds) es k v e h first = cc
-has_only_member (object ms) es k v e h first = let same : members_view es ≡ ms = cc in rw (← same) (alone es k v h first)
+has_only_member (object ms) es k v e h first = let same : members_view es ≡ ms = cc in rw (← same) (single es k v h first)

@@ -20,10 +20,7 @@ use Rattle.csi_json.specs.Public.Configs.{config_of}
 use Rattle.csi_json.specs.Public.Events.{event_of, event_at, deliver_of}
 use Rattle.csi_json.specs.Private.Plain.{event_in, config_of_value}
 use Rattle.csi_json.specs.Public.Schedule.{Schedule, config_and_events, events_of, schedule_read, text_schedule}
-
--- a member of an object: its name and its value
-abbrev pub Member : Type 0
-Member = Bor (List ℕ) × Value Global
+use Rattle.csi_json.proofs.OwnedValues.{Member}
 
 -- what is found behind a value that was read, was found in it
 pub inside : {A B : Type 0} (f : A → Option B) (o : Option A) (b : B) → option_and_then f o ≡ Some b → (a : A) × (o ≡ Some a) × (f a ≡ Some b)

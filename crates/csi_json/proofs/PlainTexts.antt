@@ -20,7 +20,8 @@ use Rattle.csi_types.specs.declared.text.TextFault.TheVariants.{Empty, TooLong}
 use Rattle.csi_json.specs.Public.Json.{text_of, number_of, sized_object}
 use Rattle.csi_json.specs.Public.Capabilities.{capability_of, access_of, block_of, mode_of}
 use Rattle.csi_json.specs.Private.Plain.{seen_as}
-use Rattle.csi_json.proofs.PlainSchedules.{Member, seen_number}
+use Rattle.csi_json.proofs.OwnedValues.{Member}
+use Rattle.csi_json.proofs.PlainSchedules.{seen_number}
 use Rattle.csi_json.proofs.UsualCommands.{two_of}
 
 -- ---- a text within its limits
@@ -44,9 +45,9 @@ not_more : (a b : ℕ) → (a < b → ⊥) → b ≤ a
 not_more a b never = elim (leb_tells b a) as (λ t. b ≤ a) [ inl t ↦ t.1 | inr t ↦ absurd (never t.1) ]
 
 -- a text that was made of this one, which so has a byte and no more than these, is what is read of it
-pub text_is : (most : ℕ) (value : Value Global) (text : Bor (List ℕ)) (read : List ℕ) (made : Result (List ℕ) TextFault) → value ≡ values.String text → made ≡ Ok read → read ≡ text.now
+pub text_read : (most : ℕ) (value : Value Global) (text : Bor (List ℕ)) (read : List ℕ) (made : Result (List ℕ) TextFault) → value ≡ values.String text → made ≡ Ok read → read ≡ text.now
     → (IsErrOf made Empty ↔ (text.now ≡ [])) → (IsErrOf made TooLong ↔ (most < length text.now)) → seen_as (text_of 1 most) value ≡ Some read
-text_is most value text read made is ok same empty long =
+text_read most value text read made is ok same empty long =
     let low : 1 ≤ length text.now = some_byte text.now (λ none. other Empty (empty.1 none)) in
     let high : length text.now ≤ most = not_more most (length text.now) (λ more. other TooLong (long.1 more)) in
     ap (λ v. option_and_then (text_of 1 most) (of_json (value_view v))) is ∙ ap (λ j. option_and_then (text_of 1 most) (of_json j)) (seen_text text) ∙ fits 1 most text.now low high ∙ ap Some (sym same)

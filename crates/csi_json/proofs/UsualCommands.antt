@@ -18,7 +18,8 @@ use Rattle.csi_json.specs.Public.Json.{name_of, node_id_of, target_of, sized_obj
 use Rattle.csi_json.specs.Public.Capabilities.{capability_of}
 use Rattle.csi_json.specs.Public.Events.{use_of, stop_of, event_of, event_at}
 use Rattle.csi_json.specs.Private.Plain.{event_in, seen_as}
-use Rattle.csi_json.proofs.PlainSchedules.{Member, inside}
+use Rattle.csi_json.proofs.OwnedValues.{Member}
+use Rattle.csi_json.proofs.PlainSchedules.{inside}
 
 -- what follows of an answer, follows of it where it is `Ok`
 pub if_ok : (r : Result Event Flaw) {P Q : Event → Type 0} → ((event : Event) → P event → Q event) → IfOk r P → IfOk r Q

@@ -8,11 +8,11 @@ use Rattle.csi_stores.specs.Public.Stores.{Store, IsLoadFault}
 use Rattle.csi_endings.specs.declared.ending.Ending.{Ending}
 use Rattle.csi_endings.specs.declared.ending.Ending.TheVariants as endings
 use Rattle.csi_plugins.specs.Public.Ending.{ending_of_store, EndsAt}
-use Rattle.csi_plugins.specs.Public.Recording.{IsLineOf, IsNoRecordAt, IsNotTold, IsRecordTold, WritesRecordLine, Writer}
+use Rattle.csi_plugins.specs.Public.Recording.{IsLineOf, IsSomeRecord, IsNoRecordAt, IsNotTold, IsRecordTold, WritesRecordLine, Writer}
 use Rattle.csi_plugins.specs.Private.Recording.{HasNoLine}
 
 -- why the parts that a store gave have no line is why it isn't told
-pub not_told : (before after : Store) (parts : List StoredPart) → (after.honest → (content : List StoredPart) → before.holds content → parts ≡ content) → (ending : Ending) → HasNoLine parts ending → IsNotTold before after ending
+pub not_told : (before after : Store) (parts : List StoredPart) → (after.honest → (content : List StoredPart) → before.holds content → parts ≡ content) → (ending : Ending) → HasNoLine IsSomeRecord parts ending → IsNotTold before after ending
 not_told before after parts are (endings.RecordFault place) why = λ honest content holds. subst (λ (p : List StoredPart). IsNoRecordAt p place) (are honest content holds) why
 not_told before after parts are endings.Memory why = tt
 not_told before after parts are ending why = absurd why

@@ -1,18 +1,20 @@
-//! What a plugin's store has, as a line.
+//! What a store has, as a line: the record of a plugin or of an orchestrator.
 ghost use Rattle.std.specs.Prelude.{◌≡◌, ◌++◌, ℕ, List, codes, map, IfOk, IfErr, OnOk, string_bytes};
 ghost use Rattle.serde_json.specs.Written.{compact_text};
 ghost use Rattle.csi_stores.specs.Public.Part.{StoredPart, all_stored_in};
 ghost use Rattle.csi_reports.specs.Public.Records.{controller_entry, node_entry};
 ghost use Rattle.csi_plugins.specs.Public.Ending.{EndsAt};
-ghost use Rattle.csi_plugins.specs.Public.Recording.{IsLineOf, IsRecordTold, IsNotTold, WritesRecordLine, written_by};
-ghost use Rattle.csi_plugins.specs.Private.Recording.{HasNoLine, HasNoNodeLine, IsNotGivenAt};
+ghost use Rattle.csi_plugins.specs.Public.Recording.{IsLineOf, IsOrchestratorRecord, IsNodeOrOrchestrator, IsSomeRecord};
+ghost use Rattle.csi_plugins.specs.Public.Recording.{IsRecordTold, IsNotTold, WritesRecordLine, written_by};
+ghost use Rattle.csi_plugins.specs.Private.Recording.{IsOrchestratorText, HasNoLine, IsNotGivenAt};
 
 use crate::ending::ending_of_store;
 use csi_controller::ControllerRecord;
 use csi_endings::Ending;
 use csi_node::NodeRecord;
+use csi_orchestrator::OrchestratorRecord;
 use csi_records::{Record, RecordStop, Stored};
-use csi_reports::{controller_line, node_line};
+use csi_reports::{controller_line, node_line, orchestrator_line};
 use csi_service::{Keep, Part};
 use csi_stores::{Counted, write_out};
 use std::alloc::Global;
@@ -38,22 +40,49 @@ fn node_text(alloc: Global, kept: &NodeRecord) -> Result<String, Ending>
     Ok(text)
 }
 
+// An orchestrator's.
+fn orchestrator_text(alloc: Global, kept: &OrchestratorRecord) -> Result<String, Ending>
+    ensures line { IfOk result (λ text. IsOrchestratorText kept.now (string_bytes text)) }
+    ensures refused { IfErr result (λ ending. ending ≡ Ending.Memory) }
+{
+    let mut text = orchestrator_line(alloc, kept)?;
+    text.push_str("\n")?;
+    Ok(text)
+}
+
+// The line of these parts, of which the record of a plugin refuses the first.
+fn line_of_orchestrator(alloc: Global, parts: &[Part]) -> Result<String, Ending>
+    ensures line { IfOk result (λ text. IsLineOf (all_stored_in parts.now) (string_bytes text)) }
+    ensures refused { IfErr result (HasNoLine IsOrchestratorRecord (all_stored_in parts.now)) }
+{
+    match OrchestratorRecord::of_parts(alloc, parts) {
+        Ok(Stored { kept, .. }) => orchestrator_text(alloc, &kept),
+        Err(RecordStop::BadRecord(place)) => Err(Ending::RecordFault(place)),
+        Err(RecordStop::NoMemory) => Err(Ending::Memory),
+    }
+}
+
 // The line of these parts, of which a controller's record refuses the first.
 fn line_of_node(alloc: Global, parts: &[Part]) -> Result<String, Ending>
     ensures line { IfOk result (λ text. IsLineOf (all_stored_in parts.now) (string_bytes text)) }
-    ensures refused { IfErr result (HasNoNodeLine (all_stored_in parts.now)) }
+    ensures refused { IfErr result (HasNoLine IsNodeOrOrchestrator (all_stored_in parts.now)) }
 {
     match NodeRecord::of_parts(alloc, parts) {
         Ok(Stored { kept, .. }) => node_text(alloc, &kept),
-        Err(RecordStop::BadRecord(place)) => Err(Ending::RecordFault(place)),
         Err(RecordStop::NoMemory) => Err(Ending::Memory),
+        Err(RecordStop::BadRecord(place)) => {
+            if place > 0 {
+                return Err(Ending::RecordFault(place));
+            }
+            line_of_orchestrator(alloc, parts)
+        }
     }
 }
 
 // The line of these parts, if they are a record.
 fn line_of(alloc: Global, parts: &[Part]) -> Result<String, Ending>
     ensures line { IfOk result (λ text. IsLineOf (all_stored_in parts.now) (string_bytes text)) }
-    ensures refused { IfErr result (HasNoLine (all_stored_in parts.now)) }
+    ensures refused { IfErr result (HasNoLine IsSomeRecord (all_stored_in parts.now)) }
 {
     match ControllerRecord::of_parts(alloc, parts) {
         Ok(Stored { kept, .. }) => controller_text(alloc, &kept),
@@ -79,9 +108,9 @@ fn recorded<K: Keep>(alloc: Global, keep: &mut K) -> Result<String, Ending>
     }
 }
 
-/// Writes what the store has, and flushes: the record of a controller or of a node, in any version, as one line of JSON, with a newline.
-/// Nothing is put into the store. `RecordFault` says that its parts are the record of neither, with the place of the first that is refused,
-/// and 0 where there are none; `Device` that the store's device or the writer failed, which is counted, and then a front of the line
+/// Writes what the store has, and flushes: the record of a controller, of a node or of an orchestrator, in any version, as one line of
+/// JSON, with a newline. Nothing is put into the store. `RecordFault` says that its parts are the record of none of these, with the place of
+/// the first that is refused, and 0 where there are none; `Device` that the store's device or the writer failed, which is counted, and then a front of the line
 /// is written; `Memory` that an allocation was refused. This profile's own.
 pub fn record<K: Keep, W: Write>(alloc: Global, keep: &mut K, out: &mut Counted<W>) -> Ending
     ensures records { WritesRecordLine (K.store keep.old) (K.store keep.new) (written_by W.contents out.old) (written_by W.contents out.new) result }

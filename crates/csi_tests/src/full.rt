@@ -1,6 +1,7 @@
 //! A system of the greatest size: an orchestrator of 4,096 names and 64 nodes, and their plugins, over more than 100,000 calls of one
 //! session. Each call and each reply is compared with the one that is to be sent.
 mod calls;
+mod lines;
 mod runs;
 
 use crate::values::{block, blocks, room};

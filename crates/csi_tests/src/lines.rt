@@ -21,7 +21,7 @@ fn arguments(capabilities: CapabilityList) -> Arguments {
 }
 
 // A volume that was asked for.
-fn new_row(rt: &(impl Abort + AllocGlobal), text: &str) -> Row {
+pub(crate) fn new_row(rt: &(impl Abort + AllocGlobal), text: &str) -> Row {
     Row {
         name: name(rt, text),
         arguments: arguments(blocks(rt, &[SingleNodeWriter])),
@@ -128,7 +128,7 @@ fn is_line(line: Result<String, AllocError>, wanted: &str) -> bool {
 }
 
 // Whether a record has this line.
-fn is_told(alloc: Global, kept: &OrchestratorRecord, wanted: &str) -> bool {
+pub(crate) fn is_told(alloc: Global, kept: &OrchestratorRecord, wanted: &str) -> bool {
     match orchestrator_line(alloc, kept) {
         Ok(line) => line.as_str() == wanted,
         Err(_) => is_line(orchestrator_line(alloc, kept), wanted),
@@ -152,7 +152,7 @@ fn a_record_of_nothing_is_told(rt: HostRuntime) {
 }
 
 // Whether the first line of a session with these rows is so.
-fn is_opened(alloc: Global, session: u64, rows: &[Row], wanted: &str) -> bool {
+pub(crate) fn is_opened(alloc: Global, session: u64, rows: &[Row], wanted: &str) -> bool {
     match opened_line(alloc, session, rows) {
         Ok(line) => line.as_str() == wanted,
         Err(_) => is_line(opened_line(alloc, session, rows), wanted),

@@ -5,6 +5,7 @@ mod drawn;
 mod frames;
 mod lanes;
 mod pictures;
+mod requests;
 mod runs;
 mod sent;
 mod streams;

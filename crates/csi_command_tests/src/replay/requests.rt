@@ -1,7 +1,7 @@
 //! Lines that are read as an orchestrator's requests, or have a fault.
 use csi_json::{Request, RequestFault, read_request};
 use csi_types::{Event, Mode};
-use std::alloc::{AllocError, Global};
+use std::alloc::Global;
 
 // What a line is to be read as: the command of the volume `v` that stands in the table, the bytes of a frame, or a fault.
 #[derive(Clone, Copy)]
@@ -139,24 +139,4 @@ const NO_TEXT: &[u8] = &[
 #[test]
 fn a_line_that_is_no_text_is_no_json(rt: HostRuntime) {
     assert!(&rt; is_read(rt.alloc(), NO_TEXT, NO_JSON));
-}
-
-// A reply that takes a line of 65,536 bytes.
-fn long_reply(alloc: Global) -> Result<String, AllocError> {
-    let mut text = String::from_str(alloc, "{\"reply\":\"")?;
-    for _ in 0..32762u64 {
-        text.push_str("7f")?;
-    }
-    text.push_str("\"}")?;
-    Ok(text)
-}
-
-#[test]
-fn a_reply_may_take_a_whole_line(rt: HostRuntime) {
-    let line = long_reply(rt.alloc()).expect(&rt, "memory");
-    assert_eq!(&rt; line.len(), 65536);
-    match read_request(rt.alloc(), line.as_bytes()) {
-        Ok(Request::Reply(bytes)) => assert_eq!(&rt; bytes.len(), 32762),
-        _ => assert!(&rt; false, "no reply"),
-    }
 }

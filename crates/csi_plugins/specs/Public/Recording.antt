@@ -1,4 +1,4 @@
--- What a store has, as a line of JSON: the record of a plugin. This profile's own.
+-- What a store has, as a line of JSON: the record of a plugin or of an orchestrator. This profile's own.
 use Rattle.std.specs.Prelude.{◌≡◌, ◌⊎◌, ℕ, List, [], ◌++◌, codes, None, Option}
 use Rattle.std.specs.Io.KnownBytes.{Appends}
 use Rattle.serde_json.specs.Written.{compact_text}
@@ -7,26 +7,42 @@ use Rattle.csi_stores.specs.Public.Writing.{WritesFront}
 use Rattle.csi_stores.specs.declared.counted.Counted.{Counted}
 use Rattle.csi_controller.specs.Public.Views.{RecordParts}
 use Rattle.csi_node.specs.Model.Record.{NodeParts}
+use Rattle.csi_orchestrator.specs.Public.Record.{RecordParts as OrchestratorParts}
 use Rattle.csi_stores.specs.Public.Part.{StoredPart}
 use Rattle.csi_stores.specs.Public.Stores.{Store}
 use Rattle.csi_records.specs.declared.version.RecordVersion.{RecordVersion}
-use Rattle.csi_records.specs.Public.Records.{IsControllerOf, IsNodeOf, IsControllerRecord, IsNodeRecord, IsRefusedAt}
+use Rattle.csi_records.specs.Public.Records.{IsControllerOf, IsNodeOf, IsControllerRecord, IsNodeRecord, IsRecordOf, IsInSome, IsRefusedAt}
+use Rattle.csi_records.specs.Public.OrchestratorRecords.{orchestrator_layout, IsOrchestratorOf}
 use Rattle.csi_reports.specs.Public.Records.{controller_entry, node_entry}
+use Rattle.csi_reports.specs.Public.OrchestratorRecords.{IsOrchestratorLine}
 use Rattle.csi_endings.specs.declared.ending.Ending.{Ending}
 use Rattle.csi_endings.specs.declared.ending.Ending.TheVariants as endings
 
--- these parts are read as the record of a controller or of a node, in some version, and this is its line
+-- these parts are read as the record of a controller, of a node or of an orchestrator, in some version, and this is its line
 pub data IsLineOf (parts : List StoredPart) : List ℕ → Type 0 where
   of_controller : (version : RecordVersion) (kept : RecordParts) → IsControllerOf version parts kept → IsLineOf parts (compact_text (controller_entry kept) ++ codes "\n")
   of_node : (version : RecordVersion) (kept : NodeParts) → IsNodeOf version None parts kept → IsLineOf parts (compact_text (node_entry kept) ++ codes "\n")
+  of_orchestrator : (version : RecordVersion) (kept : OrchestratorParts) (line : List ℕ) → IsOrchestratorOf version parts kept → IsOrchestratorLine kept line → IsLineOf parts (line ++ codes "\n")
 
--- they are the record of either, in some version
-abbrev pub IsRecordOfEither : List StoredPart → Type 0
-IsRecordOfEither parts = IsControllerRecord parts ⊎ IsNodeRecord None parts
+-- they are the record of an orchestrator, in some version
+abbrev pub IsOrchestratorRecord : List StoredPart → Type 0
+IsOrchestratorRecord = IsInSome (λ version. IsRecordOf (orchestrator_layout version))
 
--- they are of neither, and the part at this place, from 0, is the first that is refused; where there are none, that is 0
+-- or of a node
+abbrev pub IsNodeOrOrchestrator : List StoredPart → Type 0
+IsNodeOrOrchestrator parts = IsNodeRecord None parts ⊎ IsOrchestratorRecord parts
+
+-- or of a controller
+abbrev pub IsSomeRecord : List StoredPart → Type 0
+IsSomeRecord parts = IsControllerRecord parts ⊎ IsNodeOrOrchestrator parts
+
+-- they are none of these, and the part at this place, from 0, is the first that is refused; where there are none, that is 0
+abbrev pub IsNoneAt : (List StoredPart → Type 0) → List StoredPart → ℕ → Type 0
+IsNoneAt Is parts place = ((parts ≡ []) × (place ≡ 0)) ⊎ IsRefusedAt Is parts place
+
+-- they are no record
 abbrev pub IsNoRecordAt : List StoredPart → ℕ → Type 0
-IsNoRecordAt parts place = ((parts ≡ []) × (place ≡ 0)) ⊎ IsRefusedAt IsRecordOfEither parts place
+IsNoRecordAt parts place = IsNoneAt IsSomeRecord parts place
 
 -- why a store gives none: the device only where it failed in this call
 abbrev pub IsNotTold : Store → Store → Ending → Type 0

@@ -1,8 +1,11 @@
-use Rattle.std.proofs.Common.{sym, subst}
+use Rattle.std.proofs.Common.{sym, subst, arith, None}
+use Rattle.std.proofs.lemmas.Bool.Decides.{nat_tests}
 use Rattle.std.proofs.lemmas.Result.{IfErr-weaker, IfOk-weaker}
 use Rattle.csi_stores.specs.Public.Part.{all_stored_in}
-use Rattle.csi_plugins.specs.Public.Recording.{IsLineOf, of_node}
-use Rattle.csi_plugins.specs.Private.Recording.{HasNoNodeLine}
+use Rattle.csi_records.specs.Public.Records.{node_layout, IsRecordOf, IsNodeOf}
+use Rattle.csi_plugins.specs.Public.Recording.{IsLineOf, IsNodeOrOrchestrator, of_node}
+use Rattle.csi_plugins.specs.Private.Recording.{HasNoLine}
+use Rattle.csi_plugins.proofs.NoRecords.{refused_at, refused_node, no_node}
 use Rattle.csi_plugins.proofs.recording.line_of_node.Goals as goal
 
 pub returns-in-Ok-clause-line : goal.returns-in-Ok-clause-line
@@ -11,4 +14,16 @@ returns-in-Ok-clause-line c =
 
 pub returns-in-Ok-clause-refused : goal.returns-in-Ok-clause-refused
 returns-in-Ok-clause-refused c =
-    IfErr-weaker c.node_text.result _ _ (λ ending is. subst (HasNoNodeLine (all_stored_in c.args.parts.now)) (sym is) tt) c.node_text.ensures.refused
+    IfErr-weaker c.node_text.result _ _ (λ ending is. subst (HasNoLine IsNodeOrOrchestrator (all_stored_in c.args.parts.now)) (sym is) tt) c.node_text.ensures.refused
+
+pub returns-then-place-gt0-clause-refused : goal.returns-then-place-gt0-clause-refused
+returns-then-place-gt0-clause-refused c =
+    let parts = all_stored_in c.args.parts.now in
+    let bad = c.in-Err-BadRecord in
+    refused_node parts bad.place (grind (arith, nat_tests)) (refused_at (λ version. IsRecordOf (node_layout version None)) (λ version. IsNodeOf version None) parts bad.field-0 bad.place bad.field-0-is bad.ensures)
+
+pub returns-else-place-gt0-clause-refused : goal.returns-else-place-gt0-clause-refused
+returns-else-place-gt0-clause-refused c =
+    let parts = all_stored_in c.args.parts.now in
+    let bad = c.in-Err-BadRecord in
+    IfErr-weaker c.line_of_orchestrator.result _ _ (no_node parts bad.place (grind (arith, nat_tests)) (refused_at (λ version. IsRecordOf (node_layout version None)) (λ version. IsNodeOf version None) parts bad.field-0 bad.place bad.field-0-is bad.ensures)) c.line_of_orchestrator.ensures.refused
