@@ -4,13 +4,12 @@ import json
 from . import stores
 from .configs import NODE as SLOTS
 from .configs import NO_CONFIG, with_nodes
-from .frames import block, counted, create, number, reply, text
+from .frames import create, number, reply
 from .plugins import NOT_OPENED, alone
 from .running import ended, of_rows, wanted
 from .talks import BLOCK, IGNORED, Talk, about, fault, first, life, line
 
 CONFIG = with_nodes(SLOTS % (b"n1", 4), SLOTS % (b"n2", 4))
-NODES = ("n1", "n2")
 MOST = 65_536  # the bytes of the longest line, without its newline
 LAST = 2**64 - 1  # the last session
 
@@ -18,21 +17,17 @@ LAST = 2**64 - 1  # the last session
 # ---- its store: parts, and the line of its record
 
 
-def head(session, nodes=NODES):
-    return number(0), b"\3\2" + number(session) + counted([text(node) for node in nodes])
-
-
 def wanted_row(place, name):
     """The row of a volume that is to be created."""
-    return number(place), b"\3" + text(name) + number(10) + number(0) + counted([block(1)]) + b"\0\2\1\1\0"
+    return stores.known(place, name, stores.CREATE, 1)
 
 
 def volume_line(**keys):
     return {"at": [], "capabilities": [BLOCK], "exists": "yes", "goal": None, "id": 1, "limit": 0, "name": "v", "required": 10, "tries": 0, **keys}
 
 
-def record_line(session, *volumes, nodes=NODES):
-    return line({"nodes": list(nodes), "plugin": "orchestrator", "session": session, "volumes": list(volumes)})
+def record_line(session, *volumes):
+    return line({"nodes": ["n1", "n2"], "plugin": "orchestrator", "session": session, "volumes": list(volumes)})
 
 
 def at_node(attached, staged, published):
@@ -187,19 +182,28 @@ def in_order(box):
 def last_session(box):
     """In the last session but one it is opened, and then no more; the store stays as it is."""
     box.put("config", CONFIG)
-    stores.make(box.at("db"), [head(LAST - 1), wanted_row(1, "v")])
+    stores.make(box.at("db"), [stores.orchestrator_head(LAST - 1), wanted_row(1, "v")])
     held(box, Talk(LAST, wanted=["v"]))
-    parts = [head(LAST), wanted_row(1, "v")]
+    parts = [stores.orchestrator_head(LAST), wanted_row(1, "v")]
     for _ in range(2):
         box.wants(ended(1, "numbers spent"), "orchestrator", "db", "config", given=line({"timeout": "v"}))
         wanted("the parts", stores.parts_of(box.at("db")), parts)
+
+
+def found(box):
+    """A store that SQLite made is opened, with each kind of row; only its session is another one."""
+    box.put("config", CONFIG)
+    stores.make(box.at("db"), stores.ORCHESTRATOR)
+    box.wants(ended(0, out=stores.ORCHESTRATOR_LINE), "record", "db")
+    box.wants(ended(0, out=first(8, "b", "v")), "orchestrator", "db", "config")
+    wanted("the parts", stores.parts_of(box.at("db")), [stores.orchestrator_head(8), *stores.ORCHESTRATOR[1:]])
 
 
 def parts_as_told(box):
     """The parts are those of docs/FORMATS.md."""
     box.put("config", CONFIG)
     box.run("orchestrator", "db", "config", given=line(Talk(1).create))
-    wanted("the parts", stores.parts_of(box.at("db")), [head(1), wanted_row(1, "v")])
+    wanted("the parts", stores.parts_of(box.at("db")), [stores.orchestrator_head(1), wanted_row(1, "v")])
     talk = Talk(2, wanted=["v"])
     talk.asks(talk.timeout, talk.create, "CreateVolume")
     talk.hears(None)
@@ -208,14 +212,14 @@ def parts_as_told(box):
     talk.asks(talk.use, talk.use, "ControllerPublishVolume")
     held(box, talk)
     row = "03 0176 000000000000000a 0000000000000000 01 00 01 01 0000000000000001 01 02 026e31 022f61 00 01 00 01 01 026e31 00 01 00 02 00 01 022f61 00"
-    wanted("the parts", stores.parts_of(box.at("db")), [head(3), (number(1), bytes.fromhex(row))])
+    wanted("the parts", stores.parts_of(box.at("db")), [stores.orchestrator_head(3), (number(1), bytes.fromhex(row))])
 
 
 def full(box):
     """With 4,096 names no other is taken; all are told again."""
     names = [f"v{at}" for at in range(1, 4097)]
     box.put("config", CONFIG)
-    stores.make(box.at("db"), [head(1), *(wanted_row(at, name) for at, name in enumerate(names, 1))])
+    stores.make(box.at("db"), [stores.orchestrator_head(1), *(wanted_row(at, name) for at, name in enumerate(names, 1))])
     for session in (2, 3):
         talk = Talk(session, "w", wanted=names)
         talk.says(line(talk.create), about("w", None, "refused 15 Full"))
@@ -331,7 +335,7 @@ def of_others(box):
     box.put("config", CONFIG)
     stores.make(box.at("c.db"), stores.CONTROLLER)
     stores.make(box.at("n.db"), stores.NODE)
-    parts = [head(1), wanted_row(1, "v")]
+    parts = [stores.orchestrator_head(1), wanted_row(1, "v")]
     stores.make(box.at("o.db"), parts)
     told = ended(1, "record fault at 0")
     box.wants(told, "orchestrator", "c.db", "config", given=line({"timeout": "v"}))
@@ -374,6 +378,7 @@ ROWS = [
     ("the next session, after a kill", next_session, True),
     ("names in order", in_order),
     ("the last session", last_session),
+    ("a store that SQLite made", found),
     ("the layout of its parts", parts_as_told),
     ("4,096 names", full),
     ("lines that are no request", no_requests),
