@@ -2,3 +2,5 @@ pub mod GrowingAnswers
 pub mod LinesProgress
 pub mod LinesServed
 pub mod JoinedLines
+pub mod OrchestratorResponding
+pub mod OpenedOrchestrators

@@ -1,3 +1,5 @@
 pub mod LinesAnswering
 pub mod LinesHandling
 pub mod LinesFailing
+pub mod OrchestratorResponding
+pub mod Running

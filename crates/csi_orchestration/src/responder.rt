@@ -1,7 +1,7 @@
 //! What answers lines, with its record.
-ghost use Rattle.std.specs.Prelude.{◌≡◌, ℕ, List, map, IfOk, OnOk, OnErr};
+ghost use Rattle.std.specs.Prelude.{◌≡◌, ℕ, List, map, IfOk, OnOk};
 ghost use Rattle.csi_service.specs.Public.Answering.{AreRecord};
-ghost use Rattle.csi_orchestration.specs.Public.LinesAnswering.{AppendsAnswer, AnswersAsBefore};
+ghost use Rattle.csi_orchestration.specs.Public.LinesAnswering.{AppendsAnswer};
 ghost use Rattle.csi_stores.specs.Public.Part.{StoredPart, StoredChange, part_change};
 ghost use Rattle.csi_stores.specs.Public.Content.{all_changed};
 
@@ -31,16 +31,12 @@ pub trait Responder: Drop {
     /// A line, without its newline, gets this answer, without its own, and leads from one state to another.
     ghost answers: { Self → List ℕ → List ℕ → Self → Type 0 };
 
-    /// Answers a line, without its newline, and appends the answer and a newline. An `Err` leaves its parts, what it would answer and the
-    /// bytes as they were.
+    /// Answers a line, without its newline, and appends the answer and a newline. At an `Err` the responder is spent: nothing is known of it, and
+    /// its store is to be opened again.
     fn answer_into(&mut self, line: &[u8], out: &mut Vec<u8>) -> Result<(), NoMemory>
         ensures answered { OnOk result (AppendsAnswer answers self.old line.now self.new out.old.items out.new.items) }
         ensures parts { OnOk result (parts_of self.new ≡ all_changed (changes self.new) (parts_of self.old)) }
-        ensures fit { OnOk result (is_fit self.old → is_fit_change self.new → is_fit self.new) }
-        ensures err_answers { OnErr result (AnswersAsBefore answers self.old self.new) }
-        ensures err { OnErr result (parts_of self.new ≡ parts_of self.old) }
-        ensures err_changes { OnErr result (changes self.new ≡ changes self.old) }
-        ensures err_bytes { OnErr result (out.new.items ≡ out.old.items) };
+        ensures fit { OnOk result (is_fit self.old → is_fit_change self.new → is_fit self.new) };
 
     /// What the last line that was answered changed: the parts to be put in or taken out.
     fn parts(&self) -> Result<Vec<Part>, NoMemory>

@@ -13,7 +13,3 @@ pub record AppendsAnswer {C : Type 0} (answers : C → List ℕ → List ℕ →
   pub answer : List ℕ
   pub answered : answers old line answer new
   pub appended : after ≡ before ++ with_newline answer
-
--- as the new one answers, so the old one would have: a responder that was refused memory answers on as if nothing had been asked
-abbrev pub AnswersAsBefore : {C : Type 0} → (C → List ℕ → List ℕ → C → Type 0) → C → C → Type 0
-AnswersAsBefore {C} answers old new = (line answer : List ℕ) (next : C) → answers new line answer next → answers old line answer next

@@ -1,0 +1,56 @@
+-- An orchestrator that was opened, and what it did then.
+use Rattle.std.proofs.Common.{◌≡◌, inl, inr, sym, subst, refl, ℕ, List}
+use Rattle.csi_stores.specs.declared.counted.Counted.{Counted}
+use Rattle.csi_stores.specs.Public.Part.{StoredPart}
+use Rattle.csi_service.specs.Public.OrchestratorOpening.{HasOrchestrator, IsOrchestratorOpened, orchestrator_rules}
+use Rattle.csi_service.specs.Public.OrchestratorServices.{ServedOrchestrator, AreFitOrchestratorRows}
+use Rattle.csi_service.specs.Public.StoreOpening.{LeavesOpening}
+use Rattle.csi_endings.specs.declared.ending.Ending.{Ending}
+use Rattle.csi_orchestration.specs.declared.orchestrator_responder.OrchestratorResponder.{OrchestratorResponder}
+use Rattle.csi_orchestration.specs.Public.LinesRuns.{RunSetting}
+use Rattle.csi_orchestration.specs.Public.Running.{IsOpened, OrchestratorRuns, orchestrator_setting}
+use Rattle.csi_orchestration.specs.Private.Running.{Begins}
+use Rattle.csi_stores.specs.Public.Stores.{Store}
+use Rattle.std.specs.Prelude.{Option}
+
+-- what opening gave is a responder's
+pub opened-with : {K R W : Type 0} (setting : RunSetting OrchestratorResponder K R W) (nodes : List (List ℕ)) (before opened : K) (service : ServedOrchestrator) (responder : OrchestratorResponder) → responder.service ≡ service
+    → HasOrchestrator nodes (setting.seen before) (setting.seen opened) service → service.orchestrator.nodes ≡ nodes → AreFitOrchestratorRows service.orchestrator.rows
+    → ((setting.seen opened).honest → (setting.seen before).honest) → LeavesOpening (orchestrator_rules nodes) (setting.seen before) (setting.seen opened) → IsOpened setting nodes before opened responder
+opened-with setting nodes before opened service responder same found asked fit honest left = record {
+  found = subst (HasOrchestrator nodes (setting.seen before) (setting.seen opened)) (sym same) found;
+  asked = subst (λ (s : ServedOrchestrator). s.orchestrator.nodes ≡ nodes) (sym same) asked;
+  fit = subst (λ (s : ServedOrchestrator). AreFitOrchestratorRows s.orchestrator.rows) (sym same) fit;
+  honest = honest;
+  left = left;
+}
+
+-- what was opened went on, or stopped at its first line
+pub run : {K R W : Type 0} (seen : K → Store) (remaining : R → Option (List ℕ)) (contents : W → Option (List ℕ)) (nodes : List (List ℕ)) (before opened after : K) (reader read : Counted R) (writer written : Counted W)
+    (responder : OrchestratorResponder) (ending : Ending)
+    → IsOpened (orchestrator_setting {R = R} {W = W} seen remaining contents) nodes before opened responder
+    → Begins (orchestrator_setting seen remaining contents) responder opened after reader read writer written ending
+    → OrchestratorRuns (orchestrator_setting seen remaining contents) nodes before after reader read writer written ending
+run {K} seen remaining contents nodes before opened after reader read writer written responder ending is (inl stop) =
+    inr (inl (record {
+      responder = responder;
+      is_opened = subst (λ (k : K). IsOpened (orchestrator_setting seen remaining contents) nodes before k responder) (sym stop.same) is;
+      unread = stop.unread;
+      first = stop.first;
+    }))
+run seen remaining contents nodes before opened after reader read writer written responder ending is (inr on) =
+    inr (inr (record {
+      begun = on.begun;
+      result = on.result;
+      ran = record {
+        responder = responder;
+        opened = opened;
+        is_opened = λ honest content holds.
+            let found = is.found honest content holds in
+            (subst (λ (asked : List (List ℕ)). IsOrchestratorOpened asked content responder.service.orchestrator) (sym is.asked) found.0, found.2);
+        served = on.served;
+      };
+      is_opened = is;
+      first = on.first;
+      ends = on.ends;
+    }))

@@ -1,0 +1,100 @@
+//! An orchestrator's process, but for what it asks of the system.
+ghost use Rattle.std.specs.Prelude.{ℕ, IfOk, string_bytes};
+ghost use Rattle.csi_orchestration.specs.Public.Ending.{EndsAt};
+ghost use Rattle.csi_orchestration.specs.Public.LinesRuns.{LinesRunsLaw};
+ghost use Rattle.csi_orchestration.specs.Public.Running.{orchestrator_setting, IsFirstLine, WritesFirst, OrchestratorRuns};
+ghost use Rattle.csi_orchestration.specs.Private.Running.{Begins};
+
+use crate::ending::{ending_of_serving, ending_unopened};
+use crate::lines_runs::lines_runs_law;
+use crate::lines_serving::serve_lines;
+use crate::orchestrator_responder::OrchestratorResponder;
+use csi_endings::Ending;
+use csi_orchestrator::Orchestrator;
+use csi_reports::opened_line;
+use csi_service::OrchestratorService;
+use csi_stores::{Counted, Keep, write_out};
+use csi_types::{NoMemory, NodeId};
+use std::alloc::Global;
+use std::io::{Read, Write};
+
+// The first line, with its newline.
+fn first_line(alloc: Global, orchestrator: &Orchestrator) -> Result<String, NoMemory>
+    ensures { IfOk result (λ text. IsFirstLine orchestrator.now (string_bytes text)) }
+{
+    let mut text = opened_line(alloc, orchestrator.session(), orchestrator.rows())?;
+    text.push_str("\n")?;
+    Ok(text)
+}
+
+// Writes the first line, and flushes.
+fn begin<W: Write>(
+    alloc: Global,
+    orchestrator: &Orchestrator,
+    writer: &mut Counted<W>,
+) -> Result<(), Ending>
+    ensures { WritesFirst W.contents orchestrator.now writer.old writer.new result }
+{
+    let Ok(text) = first_line(alloc, orchestrator) else {
+        return Err(Ending::Memory);
+    };
+    match write_out(writer, text.as_bytes()) {
+        Ok(()) => Ok(()),
+        Err(_) => Err(Ending::Device),
+    }
+}
+
+// Writes the first line, and serves.
+fn served<K: Keep, R: Read, W: Write>(
+    alloc: Global,
+    responder: OrchestratorResponder,
+    keep: &mut K,
+    reader: &mut Counted<R>,
+    writer: &mut Counted<W>,
+) -> Ending
+    ensures begins { Begins (orchestrator_setting K.store R.remaining W.contents) responder keep.old keep.new reader.old reader.new writer.old writer.new result }
+    ensures honest { (K.store keep.new).honest → (K.store keep.old).honest }
+{
+    match begin(alloc, responder.service().orchestrator(), writer) {
+        Ok(()) => ending_of_serving(serve_lines(alloc, responder, keep, reader, writer)),
+        Err(ending) => ending,
+    }
+}
+
+/// Opens the orchestrator of these nodes from its store, writes its first line, and serves the reader's lines, each answer written after
+/// its commit, until the input ends or something is refused; the answer is how that is told. Its session is committed before the first
+/// line. Where it isn't opened nothing is read nor written: `ConfigRefused` where no orchestrator has these nodes or the record is
+/// of others, `NumbersSpent` where the record's session is the last one, `RecordFault` with the first part that is none of an orchestrator's
+/// record, `Device` where the device failed or the store is full, and `Memory`. Where the first line isn't written nothing is
+/// read: `Device` where the writer failed, and `Memory`. Else `Done`, or `LineFault` with the number of a line that is too long, `Endless`,
+/// `Memory`, or `Device` where the reader, the writer or the store failed. What was committed and written before a fault stays; an answer that
+/// isn't written may have been committed. A store that has no list of parts ends it by `RecordFault`, with the place of the first
+/// thing that is none, unless the device fails before or memory is wanted; and a store that is honest afterwards was before. This
+/// profile's own.
+pub fn orchestrator<K: Keep, R: Read, W: Write>(
+    alloc: Global,
+    nodes: Vec<NodeId>,
+    keep: &mut K,
+    reader: &mut Counted<R>,
+    writer: &mut Counted<W>,
+) -> Ending
+    ensures runs { OrchestratorRuns (orchestrator_setting K.store R.remaining W.contents) nodes.items keep.old keep.new reader.old reader.new writer.old writer.new result }
+    ensures honest { (K.store keep.new).honest → (K.store keep.old).honest }
+    ensures foreign { (K.store keep.new).honest → (place : ℕ) → (K.store keep.old).foreign place → EndsAt place result }
+{
+    match OrchestratorService::open(alloc, nodes, keep) {
+        Ok(service) => {
+            let responder = OrchestratorResponder::new(alloc, service);
+            served(alloc, responder, keep, reader, writer)
+        }
+        Err(why) => ending_unopened(why),
+    }
+}
+
+/// A law, and nothing that runs: two runs of an orchestrator over one store, one after another, however each ended, are one run, in which
+/// the orchestrator was opened again between, in the next session (`lines_runs_law`). This profile's own.
+pub fn orchestrator_runs_law<K: Keep, R: Read, W: Write>()
+    ensures { LinesRunsLaw (orchestrator_setting K.store R.remaining W.contents) }
+{
+    lines_runs_law::<OrchestratorResponder, K, R, W>();
+}
