@@ -1,4 +1,4 @@
-"""What `controller` says of its CONFIG and `node` of its ID; where one is refused, no store is made and no input read."""
+"""What `controller` and `orchestrator` say of their CONFIG and `node` of its ID; where one is refused, no store is made and no input read."""
 import os
 
 from .frames import create, reply
@@ -19,6 +19,7 @@ def refused(box, right, content):
     box.put("config", content)
     before = box.files()
     box.wants(right, "controller", "new.db", "config", given=create((1, 1), "v"))
+    box.wants(right, "orchestrator", "new.db", "config", given=b"\n")
     wanted("the folder", box.files(), before)
     box.put("empty", PLAIN)
     box.wants(ended(0), "controller", "old.db", "empty")
@@ -29,6 +30,7 @@ def refused(box, right, content):
 
 def taken(box, content):
     box.put("config", content)
+    box.wants(ended(0, out=b'{"session":1,"wanted":[]}\n'), "orchestrator", "o.db", "config")
     box.wants(ended(0, out=reply("CreateVolume", (1, 1), 0, 1)), "controller", "db", "config", given=create((1, 1), "v"))
 
 
@@ -38,6 +40,7 @@ def unread(box, path, making=None):
         making(box)
     before = box.files()
     box.wants(NO_FILE, "controller", "db", path, given=create((1, 1), "v"))
+    box.wants(NO_FILE, "orchestrator", "db", path, given=b"\n")
     wanted("the folder", box.files(), before)
 
 

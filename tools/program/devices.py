@@ -8,7 +8,8 @@ import subprocess
 from . import stores
 from .plugins import CALLS, CONFIG, NOT_OPENED, PLUGINS, given_of, replies_of
 from .running import Case, LeftOut, ended, need, of_rows, wanted
-from .whole import Whole
+from .talks import first
+from .whole import WHOLES, whole_of
 
 DEVICE = ended(3, "device")
 CREATE = b'{"create":{"capabilities":[],"limit":0,"name":"v","required":1}}'
@@ -36,8 +37,10 @@ def with_output():
     yield ["record", "old.db"]
     yield ["--help"]
     yield ["node", "--help"]
+    yield ["orchestrator", "--help"]
     yield ["controller", "c.db", "config"]
     yield ["node", "n.db", "n1"]
+    yield ["orchestrator", "o.db", "config"]
 
 
 def closed_pipe():
@@ -89,6 +92,8 @@ def input_fails(box):
             box.wants(DEVICE, name, f"{name}{at}.db", word, **how)
             told = box.run("record", f"{name}{at}.db")
             wanted("the store", (told.status, b'"session":0' in told.out), (0, True))
+    box.wants(ended(3, "device", first(1)), "orchestrator", "o.db", "config", stdin=folder)
+    wanted("the orchestrator's store", b'"session":1' in box.run("record", "o.db").out, True)
     os.close(folder)
     os.close(writing)
 
@@ -150,7 +155,7 @@ def limited(size):
 
 def by_limit(box, plugin, over):
     """A limit on the size of files, at each size at which a write fails first."""
-    whole = Whole(box, plugin, over)
+    whole = whole_of(box, plugin, over)
     ends = set()
     for size in sorted({0, 31, 4096, *range(4095, whole.largest, 4120 * 2), whole.largest - 1}):
         whole.fresh("db")
@@ -170,7 +175,7 @@ def by_disk(box, plugin):
     if subprocess.run([mount, "-t", "tmpfs", "-o", "size=2m", "tmpfs", box.at("disk")], capture_output=True, check=False).returncode != 0:
         raise LeftOut("no file system may be mounted here")
     try:
-        whole = Whole(box, plugin, "new")
+        whole = whole_of(box, plugin, "new")
         room = whole.largest // 4096 + 4
         ends = {}
         for pages in sorted({*range(8), *range(8, room, 7), *range(room - 6, room + 6)}):
@@ -212,7 +217,7 @@ def counted(calls):
 def at_each(box, plugin, over):
     """Each call that writes, cuts or syncs fails, one a run: no room is left, or the device is gone."""
     can_trace(box)
-    whole = Whole(box, plugin, over)
+    whole = whole_of(box, plugin, over)
     ran, calls = traced(box, plugin, whole.word, whole.fresh("db"), whole.given())
     wanted("the run that is traced", ran, ended(0, out=whole.right()))
     writing = {"pwrite64": "ENOSPC", "ftruncate": "EIO", "fsync": "EIO", "fdatasync": "EIO"}
@@ -239,7 +244,7 @@ def cases():
     yield Case("input: it can't be read", input_fails)
     yield Case("standard error: closed or full", error_closed)
     yield Case("all streams closed", all_closed)
-    for plugin in PLUGINS:
+    for plugin in WHOLES:
         yield from of_rows(f"full disk: {plugin}", [("a small file system", by_disk, plugin)])
         for over in ("new", "used", "log"):
             rows = [("a limit", by_limit, plugin, over), ("at each call", at_each, plugin, over)]

@@ -10,7 +10,7 @@ from .words import ON_FILES, TAKEN, prepare
 HERE = os.path.dirname(os.path.realpath(__file__))
 TOP = os.path.dirname(os.path.dirname(HERE))
 ASKS = "$ csi-replay "
-WORDS = {**{name: "FILE" for name in ON_FILES}, "controller": "DB CONFIG", "node": "DB ID", "record": "DB"}
+WORDS = {**{name: "FILE" for name in ON_FILES}, "controller": "DB CONFIG", "node": "DB ID", "orchestrator": "DB CONFIG", "record": "DB"}
 
 
 def texts():
@@ -99,6 +99,8 @@ def completions(box):
         (("controller", ""), ["config", "f"]),
         (("controller", "db", "con"), ["config"]),
         (("controller", "db", "config", ""), []),
+        (("orchestrator", "db", "con"), ["config"]),
+        (("orchestrator", "db", "config", ""), []),
         (("node", "con"), ["config"]),
         (("node", "db", "con"), []),
         (("record", "db", "con"), []),

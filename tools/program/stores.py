@@ -33,6 +33,37 @@ def staged(at, capability, last, targets=(), version=3):
     return number(at), bytes([version]) + there + counted([text(target) + flag(readonly) for target, readonly in targets]) + last
 
 
+# ---- an orchestrator's parts
+
+KNOWN = {"no": 0, "yes": 1, "maybe": 2}
+NO_GOAL, CREATE, DELETE = b"\0", b"\1", b"\4"
+
+
+def use(node, target, capability, readonly=False):
+    return b"\2" + text(node) + text(target) + capability + flag(readonly)
+
+
+def stop(node, target):
+    return b"\3" + text(node) + text(target)
+
+
+def orchestrator_head(session, nodes=("n1", "n2"), version=3):
+    return number(0), bytes([version, 2]) + number(session) + counted([text(node) for node in nodes])
+
+
+def at_node(node, capability, attached, staged, published, readonly=False):
+    """What is known of a volume at a node; `published` has a target and what is known of it, for each."""
+    targets = counted([text(target) + bytes([KNOWN[it]]) for target, it in published])
+    return text(node) + capability + flag(readonly) + bytes([KNOWN[attached], KNOWN[staged]]) + targets
+
+
+def known(place, name, goal=NO_GOAL, tries=0, required=10, limit=0, capabilities=(block(1),), volume=None, exists="maybe", at=()):
+    """An orchestrator's row."""
+    there = b"\0" if volume is None else b"\1" + number(volume)
+    fields = text(name) + number(required) + number(limit) + counted(capabilities) + there + bytes([KNOWN[exists]])
+    return number(place), b"\3" + fields + goal + bytes([tries]) + counted(at)
+
+
 @contextlib.contextmanager
 def opened(path):
     """A database, by Python's SQLite; what is done is committed."""
@@ -102,3 +133,25 @@ NODE_LINE = (
 )
 NEW_CONTROLLER_LINE = b'{"next_id":1,"plugin":"controller","session":0,"volumes":[]}\n'
 NEW_NODE_LINE = b'{"node":"n1","plugin":"node","session":0,"volumes":[]}\n'
+# An orchestrator's, of three volumes: one that is used at a node and is to be used at another, one to be created, and one that was deleted.
+WAYS = [block(5), mount('"\\\n\u00e9', 3)]
+SETTLED = at_node("n2", block(5), "yes", "yes", [("/b", "yes"), ("/a\t", "yes")], True)
+ORCHESTRATOR = [
+    orchestrator_head(7),
+    known(1, "v", use("n1", "/c", block(5)), 2, 1, 20, WAYS, 1, "yes", [SETTLED, at_node("n1", block(5), "yes", "maybe", [("/c", "no")])]),
+    known(2, "b", CREATE, 3, 2**64 - 1, 0, []),
+    known(3, "a", volume=2**33, exists="no"),
+]
+ORCHESTRATOR_LINE = (
+    b'{"nodes":["n1","n2"],"plugin":"orchestrator","session":7,"volumes":['
+    b'{"at":[],"capabilities":[{"access":"block","mode":1}],"exists":"no","goal":null,"id":8589934592,"limit":0,"name":"a","required":10,"tries":0},'
+    b'{"at":[],"capabilities":[],"exists":"maybe","goal":{"create":{"capabilities":[],"limit":0,"name":"b","required":18446744073709551615}},'
+    b'"id":null,"limit":0,"name":"b","required":18446744073709551615,"tries":3},'
+    b'{"at":[{"attached":"yes","capability":{"access":"block","mode":5},"node":"n2",'
+    b'"published":[{"known":"yes","target":"/b"},{"known":"yes","target":"/a\\t"}],"readonly":true,"staged":"yes"},'
+    b'{"attached":"yes","capability":{"access":"block","mode":5},"node":"n1",'
+    b'"published":[{"known":"no","target":"/c"}],"readonly":false,"staged":"maybe"}],'
+    b'"capabilities":[{"access":"block","mode":5},{"access":"mount","fs":"\\"\\\\\\n\xc3\xa9","mode":3}],"exists":"yes",'
+    b'"goal":{"use":{"capability":{"access":"block","mode":5},"name":"v","node":"n1","readonly":false,"target":"/c"}},'
+    b'"id":1,"limit":20,"name":"v","required":1,"tries":2}]}\n'
+)

@@ -1,4 +1,4 @@
-"""A plugin's calls, what a run that nothing stops leaves of them, and what has to hold after one that was stopped."""
+"""A plugin's calls, or an orchestrator's lines; what a run that nothing stops leaves of them, and what has to hold after one that was stopped."""
 import os
 import shutil
 import sqlite3
@@ -7,6 +7,7 @@ from . import stores
 from .frames import attach, block, create, delete, detach, mount, publish, reply, split, stage, unpublish, unstage
 from .plugins import NOT_OPENED
 from .running import ended, wanted
+from .talks import Talk, life
 
 NAME = "v" * 100
 
@@ -50,13 +51,16 @@ def node_calls(session, ids):
     return calls
 
 
+CONFIG = b'{"greatest":1000,"nodes":[{"id":"n1","slots":9},{"id":"n2","slots":9}]}'
+
+
 class Whole:
     """A plugin's calls over a store that is new, used or one whose log is left; the parts after each of them, without a stop."""
 
     def __init__(self, box, plugin, over):
         self.box, self.plugin, self.over = box, plugin, over
         self.word = {"controller": "config", "node": "n1"}[plugin]
-        box.put("config", b'{"greatest":1000,"nodes":[{"id":"n1","slots":9},{"id":"n2","slots":9}]}')
+        box.put("config", CONFIG)
         calls = {"controller": controller_calls, "node": node_calls}[plugin]
         used = over != "new"
         self.pairs = calls(2 if used else 1, [4] if used else [1])
@@ -132,13 +136,62 @@ class Whole:
         if answered == 0:
             allowed += [[], self.head]
         wanted(f"{told}: after {answered} replies the store has the commits of these, or of one call more", found in allowed, True)
+        self.record(told, path, found)
+        again = self.box.run(self.plugin, path, self.word, given=self.given(answered))
+        wanted(f"{told}: run again on the rest", again, ended(0, out=self.right(answered)))
+        wanted(f"{told}: the parts then", self.parts(path), self.states[-1])
+        return answered
+
+    def record(self, told, path, found):
+        """`record` tells a store that has parts."""
         shown = self.box.run("record", path)
         if found:
             wanted(f"{told}: record's end", (shown.status, shown.error), (0, b""))
         else:
             is_known = shown in (NOT_OPENED, ended(1, "record fault at 0"))
             wanted(f"{told}: record of a store without parts gave {shown}", is_known, True)
-        again = self.box.run(self.plugin, path, self.word, given=self.given(answered))
-        wanted(f"{told}: run again on the rest", again, ended(0, out=self.right(answered)))
-        wanted(f"{told}: the parts then", self.parts(path), self.states[-1])
+
+
+class WholeTalk(Whole):
+    """The same of an orchestrator, and of a volume's life. It begins a session whenever it is run."""
+
+    def __init__(self, box, plugin, over):
+        self.box, self.plugin, self.over, self.word = box, plugin, over, "config"
+        box.put("config", CONFIG)
+        if over != "new":
+            self.prepare(life(1, "w" * 100, 4).pairs)
+        self.talk = life(1 if over == "new" else 2, NAME, 5)
+        self.pairs = self.talk.pairs
+        self.states = self.follow()
+
+    def parts_opened(self):
+        """Not asked for: the first line is one of the answers."""
+
+    def judge(self, told, path, out):
+        """After a run that was stopped: what was answered is committed, and of what is wanted then a timeout sends the call again, from where all
+        goes on. The answer is how many lines came."""
+        answered = out.count(b"\n")
+        wanted(f"{told}: the answers", out, self.right()[: len(out)])
+        found = self.parts(path)
+        allowed = self.states[answered : answered + 2]
+        wanted(f"{told}: after {answered} lines the store has the commits of these, or of one line more", found in allowed, True)
+        self.record(told, path, found)
+        done = answered + allowed.index(found)
+        goal, kind = self.talk.due[done - 1] if done else (None, None)
+        session = int.from_bytes(found[0][1][2:10], "big") + 1 if found else 1
+        rest = Talk(session, NAME, 5, wanted=[NAME] if goal else [])
+        if goal:
+            rest.asks(rest.timeout, goal, kind)
+        for step in self.talk.steps[max(done, 1) :]:
+            step(rest)
+        again = self.box.run(self.plugin, path, self.word, given=rest.given())
+        wanted(f"{told}: run again on the rest", again, ended(0, out=rest.right()))
+        wanted(f"{told}: the rows then", self.parts(path)[1:], self.states[-1][1:])
         return answered
+
+
+WHOLES = {"controller": Whole, "node": Whole, "orchestrator": WholeTalk}
+
+
+def whole_of(box, plugin, over):
+    return WHOLES[plugin](box, plugin, over)

@@ -5,7 +5,7 @@ from .frames import create
 from .running import as_nobody, ended, of_rows, wanted
 
 ON_FILES = ("answer", "show", "run", "frames", "draw")
-TAKEN = {**{name: 1 for name in ON_FILES}, "controller": 2, "node": 2, "record": 1}  # how many words each takes
+TAKEN = {**{name: 1 for name in ON_FILES}, "controller": 2, "node": 2, "orchestrator": 2, "record": 1}  # how many words each takes
 USAGE = ended(2, "usage")
 
 

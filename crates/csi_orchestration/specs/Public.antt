@@ -6,3 +6,4 @@ pub mod OrchestratorLines
 pub mod OrchestratorResponding
 pub mod Ending
 pub mod Running
+pub mod Nodes

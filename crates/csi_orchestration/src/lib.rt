@@ -6,6 +6,7 @@
 mod ending;
 mod lines_runs;
 mod lines_serving;
+mod nodes;
 mod orchestrator_responder;
 mod responder;
 mod running;
@@ -13,6 +14,7 @@ mod telling;
 
 pub use lines_runs::{StoredResponder, lines_runs_law};
 pub use lines_serving::{LinesServeFault, LinesServeFaultKind, ServedLines, serve_lines};
+pub use nodes::asked_nodes;
 pub use orchestrator_responder::OrchestratorResponder;
 pub use responder::Responder;
 pub use running::{orchestrator, orchestrator_runs_law};

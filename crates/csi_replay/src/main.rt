@@ -1,4 +1,4 @@
-//! The program `csi-replay`: plugins over stores in files (`stores`), and what is asked of the process (`process`).
+//! The program `csi-replay`: plugins and the orchestrator over stores in files (`stores`), and what is asked of the process (`process`).
 #![tactic(auto)]
 
 mod laws;

@@ -1,6 +1,6 @@
 //! What a process does that was started with some words.
 use crate::pictures::Pictures;
-use crate::stores::{serve_controller, serve_node, tell};
+use crate::stores::{serve_controller, serve_node, serve_orchestrator, tell};
 use csi_commands::stream;
 use csi_endings::{Ending, FileCommand};
 use csi_stores::Counted;
@@ -32,6 +32,7 @@ fn carry_out(rt: &HostRuntime, line: CommandLine<'_>) -> Ending {
         CommandLine::File(command, path) => over_file(rt, command, path),
         CommandLine::Controller { store, config } => serve_controller(rt, store, config),
         CommandLine::Node { store, id } => serve_node(rt, store, id),
+        CommandLine::Orchestrator { store, config } => serve_orchestrator(rt, store, config),
         CommandLine::Record(store) => tell(rt, store),
     }
 }

@@ -1,20 +1,46 @@
 //! What a process does with the store in a file.
 ghost use Rattle.std.specs.Prelude.{◌≡◌};
+ghost use Rattle.csi_plugins.specs.Public.Ending.{ending_unopened as by_opening};
 ghost use Rattle.csi_replay.specs.Private.Closing.{ending_done, ending_closed};
 
 use csi_endings::Ending;
+use csi_orchestration::{asked_nodes, orchestrator};
 use csi_plugins::{Plugin, ending_unopened, plugin, record};
 use csi_sqlite::{SqliteKeep, close_file, close_found, find_at};
 use csi_stores::{Counted, KeepFault};
+use csi_types::NodeId;
 use sqlite::{Alter, Unknown};
 use std::rt::Files;
 use std::{fs, io};
 
-// Serves standard input to standard output, by the plugin of this store.
-fn serve<S: Alter>(rt: &HostRuntime, asked: Plugin, keep: &mut SqliteKeep<S>) -> Ending {
+// What serves over a store: a plugin, or the orchestrator of these nodes.
+enum Asked {
+    Plugin(Plugin),
+    Orchestrator(Vec<NodeId>),
+}
+
+// Serves standard input to standard output, over this store.
+fn serve<S: Alter>(rt: &HostRuntime, asked: Asked, keep: &mut SqliteKeep<S>) -> Ending {
+    let alloc = rt.alloc();
     let mut reader = Counted::new(rt.stdin());
     let mut writer = Counted::new(rt.stdout());
-    plugin(rt.alloc(), asked, keep, &mut reader, &mut writer)
+    match asked {
+        Asked::Plugin(asked) => plugin(alloc, asked, keep, &mut reader, &mut writer),
+        Asked::Orchestrator(nodes) => orchestrator(alloc, nodes, keep, &mut reader, &mut writer),
+    }
+}
+
+// How a process ends whose store can't be opened, for this cause.
+fn unopened(asked: Asked, fault: KeepFault) -> Ending
+    ensures { result ≡ by_opening fault }
+{
+    match asked {
+        Asked::Plugin(asked) => asked.unopened(fault),
+        Asked::Orchestrator(nodes) => {
+            drop(nodes);
+            ending_unopened(fault)
+        }
+    }
 }
 
 // How a process ends that did all, once its store was closed so.
@@ -38,12 +64,11 @@ fn closed(ending: Ending, closing: Result<(), KeepFault>) -> Ending
     }
 }
 
-// Serves by the plugin of the store in this file. After a crash it is read as SQLite reads it: a write that was cut short left each
-// byte old or new.
-fn serve_from(rt: &HostRuntime, path: &str, asked: Plugin) -> Ending {
+// Serves over the store in this file. After a crash it is read as SQLite reads it: a write that was cut short left each byte old or new.
+fn serve_from(rt: &HostRuntime, path: &str, asked: Asked) -> Ending {
     let mut keep = match SqliteKeep::open_file(rt, path, Unknown) {
         Ok(keep) => keep,
-        Err(fault) => return asked.unopened(fault),
+        Err(fault) => return unopened(asked, fault),
     };
     let ending = serve(rt, asked, &mut keep);
     closed(ending, close_file(keep))
@@ -57,6 +82,14 @@ fn controller_of(rt: &(impl Files + AllocGlobal), path: &str) -> Result<Plugin, 
     }
 }
 
+// The nodes of the configuration in this file.
+fn nodes_of(rt: &(impl Files + AllocGlobal), path: &str) -> Result<Vec<NodeId>, Ending> {
+    match fs::read(rt, path) {
+        Ok(input) => asked_nodes(rt.alloc(), input.as_slice()),
+        Err(error) => Err(Ending::of_device(error.kind())),
+    }
+}
+
 /// Serves standard input to standard output, by the controller plugin under the configuration in the file at `config`, over the store
 /// in the SQLite file at `store`, which is made where there is none. The answer is how the process ends: `Device` or `Memory` where
 /// that file can't be read, or as `Plugin::of_config` says; `StoreNotOpened`, or `Memory` where that was the cause; and then
@@ -65,7 +98,7 @@ fn controller_of(rt: &(impl Files + AllocGlobal), path: &str) -> Result<Plugin, 
 /// read after that. This profile's own.
 pub fn serve_controller(rt: &HostRuntime, store: &str, config: &str) -> Ending {
     match controller_of(rt, config) {
-        Ok(asked) => serve_from(rt, store, asked),
+        Ok(asked) => serve_from(rt, store, Asked::Plugin(asked)),
         Err(ending) => ending,
     }
 }
@@ -73,7 +106,16 @@ pub fn serve_controller(rt: &HostRuntime, store: &str, config: &str) -> Ending {
 /// Serves by the plugin of the node that has this id, as `serve_controller` does, or ends as `Plugin::of_id` says. This profile's own.
 pub fn serve_node(rt: &HostRuntime, store: &str, id: &str) -> Ending {
     match Plugin::of_id(rt.alloc(), id) {
-        Ok(asked) => serve_from(rt, store, asked),
+        Ok(asked) => serve_from(rt, store, Asked::Plugin(asked)),
+        Err(ending) => ending,
+    }
+}
+
+/// Serves by the orchestrator of the nodes of the configuration in the file at `config`, as `serve_controller` does, or ends as
+/// `asked_nodes` says; once the store is open, as `orchestrator` says. This profile's own.
+pub fn serve_orchestrator(rt: &HostRuntime, store: &str, config: &str) -> Ending {
+    match nodes_of(rt, config) {
+        Ok(nodes) => serve_from(rt, store, Asked::Orchestrator(nodes)),
         Err(ending) => ending,
     }
 }

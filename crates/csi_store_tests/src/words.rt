@@ -72,6 +72,13 @@ const NAMED: &[(&[&str], CommandLine<'static>)] = &[
         },
     ),
     (
+        &["csi-replay", "orchestrator", "a.db", "a.config"],
+        CommandLine::Orchestrator {
+            store: "a.db",
+            config: "a.config",
+        },
+    ),
+    (
         &["csi-replay", "record", "a.db"],
         CommandLine::Record("a.db"),
     ),
@@ -104,6 +111,10 @@ const NAMED: &[(&[&str], CommandLine<'static>)] = &[
     ),
     (&["csi-replay", "node", "-h"], CommandLine::Help(Help::Node)),
     (
+        &["csi-replay", "orchestrator", "--help"],
+        CommandLine::Help(Help::Orchestrator),
+    ),
+    (
         &["csi-replay", "record", "--help"],
         CommandLine::Help(Help::Record),
     ),
@@ -126,6 +137,8 @@ const REFUSED: &[&[&str]] = &[
     &["csi-replay", "controller", "a", "b", "c"],
     &["csi-replay", "node", "a"],
     &["csi-replay", "node", "a", "n1", "n2"],
+    &["csi-replay", "orchestrator", "a"],
+    &["csi-replay", "orchestrator", "a", "b", "c"],
     &["csi-replay", "record"],
     &["csi-replay", "record", "a", "b"],
     &["csi-replay", "help"],

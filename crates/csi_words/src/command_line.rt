@@ -4,7 +4,20 @@ ghost use Rattle.clap.specs.Words.{Shape, app_of, first_of, found_of, kind_of, n
 ghost use Rattle.clap.specs.declared.error.kind.ErrorKind.TheVariants.{OutOfMemory};
 ghost use Rattle.csi_words.specs.declared.help.Help.{Help as OneHelp};
 ghost use Rattle.csi_words.specs.Public.Help.{help_asked as asked};
-ghost use Rattle.csi_words.specs.Public.Words.{command_entered, command_in as named_in, controller_in, node_in, record_in, on_file_in, named_by, read, EndsWords, program as all_words, with_word};
+ghost use Rattle.csi_words.specs.Public.Words.{
+  command_entered,
+  command_in as named_in,
+  controller_in,
+  node_in,
+  orchestrator_in,
+  record_in,
+  on_file_in,
+  named_by,
+  read,
+  EndsWords,
+  program as all_words,
+  with_word,
+};
 ghost use Rattle.csi_words.specs.Private.Words.{IsAddedAs, ending_of_words, with_file_commands as with_files};
 
 use crate::help::{Help, help_asked};
@@ -24,6 +37,8 @@ pub enum CommandLine<'a> {
     Controller { store: &'a str, config: &'a str },
     /// `node DB ID`: the path of the store, and the node's id, of which nothing is asked yet.
     Node { store: &'a str, id: &'a str },
+    /// `orchestrator DB CONFIG`: the paths of the store and of the file of the configuration.
+    Orchestrator { store: &'a str, config: &'a str },
     /// `record DB`: the path of the store.
     Record(&'a str),
 }
@@ -40,7 +55,7 @@ fn one_word_command<'a>(
     Command::new(alloc, name).arg(only)
 }
 
-// A command of this name, which serves a plugin: its store, and another word.
+// A command of this name, which serves over a store: that, and another word.
 fn store_command<'a>(
     alloc: Global,
     name: &'a str,
@@ -93,7 +108,8 @@ fn with_all_commands<'a>(alloc: Global) -> Result<Command<'a>, AllocError>
     let three = with_file_commands(alloc, bare, &names)?;
     let four = with_command(three, store_command(alloc, "controller", "CONFIG"))?;
     let five = with_command(four, store_command(alloc, "node", "ID"))?;
-    with_command(five, one_word_command(alloc, "record", "DB"))
+    let six = with_command(five, store_command(alloc, "orchestrator", "CONFIG"))?;
+    with_command(six, one_word_command(alloc, "record", "DB"))
 }
 
 // What the words mean to `clap`.
@@ -149,6 +165,15 @@ fn node<'a>(matches: &ArgMatches<'a>) -> Option<CommandLine<'a>>
     Some(CommandLine::Node { store, id })
 }
 
+// The orchestrator's store and configuration.
+fn orchestrator<'a>(matches: &ArgMatches<'a>) -> Option<CommandLine<'a>>
+    ensures { option_map named_by result ≡ orchestrator_in (rows_of (found_of matches.now)) }
+{
+    let store = word(matches, "DB")?;
+    let config = word(matches, "CONFIG")?;
+    Some(CommandLine::Orchestrator { store, config })
+}
+
 // The store of which the record is asked for.
 fn record<'a>(matches: &ArgMatches<'a>) -> Option<CommandLine<'a>>
     ensures { option_map named_by result ≡ record_in (rows_of (found_of matches.now)) }
@@ -169,6 +194,7 @@ fn command_of<'a>(name: &str, matches: &ArgMatches<'a>) -> Option<CommandLine<'a
         "draw" => on_file(matches, FileCommand::Schedule(ScheduleCommand::Draw)),
         "controller" => controller(matches),
         "node" => node(matches),
+        "orchestrator" => orchestrator(matches),
         "record" => record(matches),
         _ => None,
     }

@@ -23,6 +23,8 @@ pub enum Help {
     Controller,
     /// `node DB ID`.
     Node,
+    /// `orchestrator DB CONFIG`.
+    Orchestrator,
     /// `record DB`.
     Record,
 }
@@ -50,6 +52,7 @@ fn help_on(name: &str) -> Option<Help>
         "draw" => Some(Help::Draw),
         "controller" => Some(Help::Controller),
         "node" => Some(Help::Node),
+        "orchestrator" => Some(Help::Orchestrator),
         "record" => Some(Help::Record),
         _ => None,
     }

@@ -2,21 +2,23 @@
 use crate::help::Help;
 
 const PROGRAM: &str = "\
-Plugins for the volume lifecycle of CSI over stores, and simulations of them.
+Plugins and an orchestrator for the volume lifecycle of CSI over stores, and
+simulations of them.
 
 Usage: csi-replay SUBCOMMAND WORD..
        csi-replay SUBCOMMAND --help
        csi-replay --version
 
 Subcommands:
-  answer FILE           answer frames as a new controller
-  show FILE             print a line for each frame
-  run FILE              simulate a schedule, and print a report
-  frames FILE           simulate a schedule, and write the frames sent in it
-  draw FILE             simulate a schedule, and draw its run
-  controller DB CONFIG  serve as the controller
-  node DB ID            serve as a node
-  record DB             print what a store has
+  answer FILE             answer frames as a new controller
+  show FILE               print a line for each frame
+  run FILE                simulate a schedule, and print a report
+  frames FILE             simulate a schedule, and write the frames sent in it
+  draw FILE               simulate a schedule, and draw its run
+  controller DB CONFIG    serve as the controller
+  node DB ID              serve as a node
+  orchestrator DB CONFIG  serve as the orchestrator, which is asked by lines
+  record DB               print what a store has
 
 FILE is read, and may be /dev/stdin. DB is a store, a SQLite file. CONFIG is a
 file of JSON. A word that begins with - stands behind --.
@@ -134,13 +136,30 @@ Example: csi-replay node n1.db n1 < calls > replies
 More: csi-replay --help
 ";
 
+const ORCHESTRATOR: &str = "\
+Usage: csi-replay orchestrator DB CONFIG
+
+Reads commands, timeouts and replies from standard input, as lines of JSON, and
+writes a line for each to standard output, with the call that is to be sent,
+after its changes are committed to DB. It ends where the input ends.
+
+  DB      its store, a SQLite file, made if it is missing; while it runs, and
+          after any exit status but 0, the log DB-wal is part of the store
+  CONFIG  a file of JSON, {\"greatest\":N,\"nodes\":[{\"id\":\"n1\",\"slots\":N},..]}, as
+          the controller's: its nodes, which are those of each earlier run
+
+Example: csi-replay orchestrator orchestrator.db config < lines
+
+More: csi-replay --help
+";
+
 const RECORD: &str = "\
 Usage: csi-replay record DB
 
-Prints what a store has, as one line of JSON, also while a plugin uses it. No
+Prints what a store has, as one line of JSON, also while a program uses it. No
 file is changed.
 
-  DB  the store of a controller or a node
+  DB  the store of a controller, a node or an orchestrator
 
 Example: csi-replay record volumes.db
 
@@ -160,6 +179,7 @@ impl Help {
             Help::Draw => DRAW,
             Help::Controller => CONTROLLER,
             Help::Node => NODE,
+            Help::Orchestrator => ORCHESTRATOR,
             Help::Record => RECORD,
         }
     }

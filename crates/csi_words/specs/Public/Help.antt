@@ -24,6 +24,7 @@ help_on name =
     else if bytes_eq name (codes "draw") then Some about.Draw
     else if bytes_eq name (codes "controller") then Some about.Controller
     else if bytes_eq name (codes "node") then Some about.Node
+    else if bytes_eq name (codes "orchestrator") then Some about.Orchestrator
     else if bytes_eq name (codes "record") then Some about.Record
     else None
 

@@ -16,6 +16,7 @@ pub data Named : Type 0 where
   File : FileCommand → List ℕ → Named
   Controller : (store config : List ℕ) → Named
   Node : (store id : List ℕ) → Named
+  Orchestrator : (store config : List ℕ) → Named
   Record : (store : List ℕ) → Named
 
 -- what a command line has
@@ -24,6 +25,7 @@ named_by (lines.Help about) = Help about
 named_by (lines.File command path) = File command path.now
 named_by (lines.Controller store config) = Controller store.now config.now
 named_by (lines.Node store id) = Node store.now id.now
+named_by (lines.Orchestrator store config) = Orchestrator store.now config.now
 named_by (lines.Record store) = Record store.now
 
 -- one word more, which has to be there
@@ -50,9 +52,13 @@ bare = record (new_app (codes "csi-replay")) { top = record (new_app (codes "csi
 abbrev pub on_files : App
 on_files = with_file_command (with_file_command (with_file_command (with_file_command (with_file_command bare (codes "answer")) (codes "show")) (codes "run")) (codes "frames")) (codes "draw")
 
+-- its commands that serve a plugin
+abbrev pub on_plugins : App
+on_plugins = with_store_command (with_store_command on_files (codes "controller") (codes "CONFIG")) (codes "node") (codes "ID")
+
 -- all commands
 abbrev pub program : App
-program = with_one_word (with_store_command (with_store_command on_files (codes "controller") (codes "CONFIG")) (codes "node") (codes "ID")) (codes "record") (codes "DB")
+program = with_one_word (with_store_command on_plugins (codes "orchestrator") (codes "CONFIG")) (codes "record") (codes "DB")
 
 -- the first values of the words of each command
 abbrev pub on_file_in : FileCommand → List Row → Option Named
@@ -70,6 +76,10 @@ controller_in rows = both Controller (first_of (codes "DB") rows) (first_of (cod
 abbrev pub node_in : List Row → Option Named
 node_in rows = both Node (first_of (codes "DB") rows) (first_of (codes "ID") rows)
 
+-- the orchestrator's process
+abbrev pub orchestrator_in : List Row → Option Named
+orchestrator_in rows = both Orchestrator (first_of (codes "DB") rows) (first_of (codes "CONFIG") rows)
+
 -- the line of a record
 abbrev pub record_in : List Row → Option Named
 record_in rows = option_map (λ store. Record store) (first_of (codes "DB") rows)
@@ -84,6 +94,7 @@ command_in name rows =
     else if bytes_eq name (codes "draw") then on_file_in (Schedule Draw) rows
     else if bytes_eq name (codes "controller") then controller_in rows
     else if bytes_eq name (codes "node") then node_in rows
+    else if bytes_eq name (codes "orchestrator") then orchestrator_in rows
     else if bytes_eq name (codes "record") then record_in rows
     else None
 

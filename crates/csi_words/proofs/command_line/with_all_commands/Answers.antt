@@ -18,4 +18,5 @@ returns c =
     let three = c.in_ok-three.ensures ∙ ap (λ (a : App). with_file_commands a names) first ∙ on-files in
     let four = c.in_ok-four.ensures _ c.store_command.ensures ∙ ap (λ (a : App). with_store_command a (codes "controller") (codes "CONFIG")) three in
     let five = c.in_ok-five.ensures _ c.store_command-2.ensures ∙ ap (λ (a : App). with_store_command a (codes "node") (codes "ID")) four in
-    IfOk-weaker c.with_command-3.result _ _ (λ command is. is ∙ ap (λ (a : App). with_one_word a (codes "record") (codes "DB")) five) (c.with_command-3.ensures _ c.one_word_command.ensures)
+    let six = c.in_ok-six.ensures _ c.store_command-3.ensures ∙ ap (λ (a : App). with_store_command a (codes "orchestrator") (codes "CONFIG")) five in
+    IfOk-weaker c.with_command-4.result _ _ (λ command is. is ∙ ap (λ (a : App). with_one_word a (codes "record") (codes "DB")) six) (c.with_command-4.ensures _ c.one_word_command.ensures)
