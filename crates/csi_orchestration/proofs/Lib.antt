@@ -4,3 +4,5 @@ pub mod LinesServed
 pub mod JoinedLines
 pub mod OrchestratorResponding
 pub mod OpenedOrchestrators
+pub mod OrchestratorHistories
+pub mod OrchestratorRuns

@@ -7,3 +7,4 @@ pub mod OrchestratorResponding
 pub mod Ending
 pub mod Running
 pub mod Nodes
+pub mod OrchestratorHistories

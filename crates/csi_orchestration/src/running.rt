@@ -2,6 +2,7 @@
 ghost use Rattle.std.specs.Prelude.{ℕ, IfOk, string_bytes};
 ghost use Rattle.csi_orchestration.specs.Public.Ending.{EndsAt};
 ghost use Rattle.csi_orchestration.specs.Public.LinesRuns.{LinesRunsLaw};
+ghost use Rattle.csi_orchestration.specs.Public.OrchestratorHistories.{OrchestratorRunsLaw};
 ghost use Rattle.csi_orchestration.specs.Public.Running.{orchestrator_setting, IsFirstLine, WritesFirst, OrchestratorRuns};
 ghost use Rattle.csi_orchestration.specs.Private.Running.{Begins};
 
@@ -10,7 +11,7 @@ use crate::lines_runs::lines_runs_law;
 use crate::lines_serving::serve_lines;
 use crate::orchestrator_responder::OrchestratorResponder;
 use csi_endings::Ending;
-use csi_orchestrator::Orchestrator;
+use csi_orchestrator::{Orchestrator, form_law};
 use csi_reports::opened_line;
 use csi_service::OrchestratorService;
 use csi_stores::{Counted, Keep, write_out};
@@ -84,6 +85,7 @@ pub fn orchestrator<K: Keep, R: Read, W: Write>(
 {
     match OrchestratorService::open(alloc, nodes, keep) {
         Ok(service) => {
+            service.record_law();
             let responder = OrchestratorResponder::new(alloc, service);
             served(alloc, responder, keep, reader, writer)
         }
@@ -92,9 +94,12 @@ pub fn orchestrator<K: Keep, R: Read, W: Write>(
 }
 
 /// A law, and nothing that runs: two runs of an orchestrator over one store, one after another, however each ended, are one run, in which
-/// the orchestrator was opened again between, in the next session (`lines_runs_law`). This profile's own.
+/// the orchestrator was opened again between, in the next session (`lines_runs_law`). From each history that the first one's orchestrator
+/// shows this is a run of the stated machine, with a restart between: each answer is the one that `moves` tells. This profile's own.
 pub fn orchestrator_runs_law<K: Keep, R: Read, W: Write>()
-    ensures { LinesRunsLaw (orchestrator_setting K.store R.remaining W.contents) }
+    ensures runs { LinesRunsLaw (orchestrator_setting K.store R.remaining W.contents) }
+    ensures histories { OrchestratorRunsLaw K.store R.remaining W.contents }
 {
+    form_law();
     lines_runs_law::<OrchestratorResponder, K, R, W>();
 }
