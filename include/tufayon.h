@@ -1,9 +1,10 @@
 /*
- * The proved controller and node plugins of Tufayon, for programs in C and C++, and in any language that calls C.
+ * The proved controller and node plugins of Tufayon, and its orchestrator, for programs in C and C++, and in any language that calls C.
  *
- * A plugin gets the bytes of a frame and gives those of its reply. It keeps no file: what a frame changed is told, and the program puts that
- * into a store of its own before it sends the reply. Then a program that stops at any moment, and is run again over its store, goes on as if
- * it had never stopped. docs/FORMATS.md says what frames and records are, byte by byte.
+ * A plugin gets the bytes of a frame and gives those of its reply. An orchestrator gets a command, a timeout, or the bytes of a frame that came,
+ * and gives those of the frame that is to be sent. Neither keeps a file: what a call changed is told, and the program puts that into a store of
+ * its own before it sends anything. Then a program that stops at any moment, and is run again over its store, goes on as if it had never
+ * stopped. docs/FORMATS.md says what frames and records are, byte by byte.
  *
  *     tufayon_plugin plugin = {0};
  *     ending = tufayon_node_new(id, id_size, &plugin);            or tufayon_node_from_record, of what the store has
@@ -19,11 +20,26 @@
  *         tufayon_changed(&plugin, place, &key, value, room, &written)
  *     until that is TUFAYON_NO_MORE, put in or take out what it says, or give it more room and ask again; end the transaction.
  *
- * Every call but tufayon_free returns a number, below. Unless it is TUFAYON_DONE, TUFAYON_RENEWED or TUFAYON_TAKE_OUT, the plugin and its changes
- * stay as they were: no call leaves anything half done, and after TUFAYON_NO_MEMORY it may be made again. That this number comes only where an
- * allocation was refused isn't proved: tools/library tests that each call succeeds where none is.
+ * An orchestrator begins a session whenever it is made, so that no number is given to two calls, and has no open call then. So making it always
+ * leaves changes, also where it is made of a record: they are committed before any frame is sent. Who doesn't may use a number twice.
  *
- * What is proved of each call stands at crates/csi_embedded/src/exports.rt, where it is checked. It supposes of the calling program:
+ *     tufayon_plugin orchestrator = {0};
+ *     ending = tufayon_orchestrator_new(config, config_size, &orchestrator);     or tufayon_orchestrator_from_record, of what the store has
+ *     commit(false);                                              the session
+ *     for each place of tufayon_volume, if tufayon_goal says that something is wanted of that volume: tufayon_timeout, as below
+ *     for (;;) {
+ *         ending = tufayon_create, tufayon_use, tufayon_stop, tufayon_delete or tufayon_timeout of a volume, or tufayon_deliver of a frame that came
+ *         commit(false);
+ *         send the frame's `written` bytes, where there are any, to the plugin that they name, and wait for the reply for so long as is wished;
+ *     }                                                           then tufayon_deliver it, or tufayon_timeout
+ *     tufayon_free(&orchestrator);
+ *
+ * Every call but tufayon_free returns a number, below. Unless it is TUFAYON_DONE, TUFAYON_RENEWED, TUFAYON_TAKE_OUT, TUFAYON_MET or
+ * TUFAYON_IGNORED, what the handle has and its changes stay as they were: no call leaves anything half done, and after TUFAYON_NO_MEMORY it may be
+ * made again. That this number comes only where an allocation was refused isn't proved: tools/library tests that each call succeeds where none is.
+ *
+ * What is proved of each call stands at crates/csi_embedded/src/exports.rt and orchestrator_exports.rt, where it is checked. It supposes of the
+ * calling program:
  *
  *   Pointers. None is null, even if a size is 0. Each points to as many bytes as its size says, or to one value. Nothing else uses these during
  *     the call, and only bytes that it reads may overlap.
@@ -47,25 +63,37 @@
 extern "C" {
 #endif
 
-/* The most bytes of a reply, and of a frame. */
+/* The most bytes of a reply, of a frame, of a volume's name, and of what is wanted of a volume. */
 #define TUFAYON_REPLY_ROOM 544
 #define TUFAYON_FRAME_ROOM 1284
+#define TUFAYON_NAME_ROOM 128
+#define TUFAYON_GOAL_ROOM 645
 
 /* How a call ends. */
 #define TUFAYON_DONE 0
 #define TUFAYON_NO_MEMORY 1  /* an allocation was refused */
-#define TUFAYON_EMPTY 2      /* the handle has no plugin */
-#define TUFAYON_FULL 3       /* the handle has a plugin already */
-#define TUFAYON_BAD_NAME 4   /* the bytes are no configuration, or no id that a node may have */
-#define TUFAYON_BAD_RECORD 5 /* the bytes are no record of this plugin */
+#define TUFAYON_EMPTY 2      /* the handle has nothing */
+#define TUFAYON_FULL 3       /* the handle has something already */
+#define TUFAYON_BAD_NAME 4   /* the bytes are no configuration, or no id that a node may have; or no name, no target, or no capabilities */
+#define TUFAYON_BAD_RECORD 5 /* the bytes are no record of this plugin, or of this orchestrator */
 #define TUFAYON_SHORT 6      /* the bytes are the beginning of a frame: more have to come */
 #define TUFAYON_BAD_FRAME 7  /* the bytes begin with no frame, whatever comes */
 #define TUFAYON_NO_ROOM 8    /* what is to be written doesn't fit */
 #define TUFAYON_RENEWED 9    /* done, and the record was one of an earlier version */
 #define TUFAYON_TAKE_OUT 10  /* done: what is under the key is taken out of the store */
-#define TUFAYON_NO_MORE 11   /* there are not so many changes */
+#define TUFAYON_NO_MORE 11   /* there are not so many changes, or volumes */
+#define TUFAYON_REFUSED 12   /* the orchestrator refuses, for a reason that has a number of its own: docs/FORMATS.md, "Reports" */
+#define TUFAYON_OTHER_KIND 13 /* the call is a plugin's and the handle an orchestrator's, or the other way round */
+#define TUFAYON_MET 14       /* done: what is asked is so already, and nothing is sent */
+#define TUFAYON_IGNORED 15   /* done: the frame is no reply to an open call, and nothing changed */
+#define TUFAYON_EARLIER_SESSION 16 /* the record is of an earlier session than that of the node's joining: it is a lost node's */
 
-/* A plugin, or none where all is zero. The program reads and writes neither field. */
+/* What an orchestrator knows: as in a record. */
+#define TUFAYON_KNOWN_NO 0
+#define TUFAYON_KNOWN_YES 1
+#define TUFAYON_KNOWN_MAYBE 2
+
+/* A plugin or an orchestrator, or nothing where all is zero. The program reads and writes neither field. */
 typedef struct tufayon_plugin {
     void *at;
     bool full;
@@ -90,32 +118,120 @@ uint32_t tufayon_controller_from_record(const uint8_t *config, size_t config_siz
 uint32_t tufayon_node_from_record(const uint8_t *id, size_t id_size, const uint8_t *record, size_t record_size, tufayon_plugin *plugin);
 
 /*
+ * The node of an id that joins with a session: a new one, to which calls of earlier sessions are stale; and then, at each start, that of its record,
+ * where the session is a check, which raises and lowers nothing. The two above are for session 0.
+ *
+ * The session is the orchestrator's present one when the node joins (csi-replay record tells it), at least the session that began when the id was
+ * lost, and not above the present one. It is given unchanged at each start: a live node that lags must not be given a newer word. An emptied store
+ * is a lost node: it joins again, with a new word. 0 is right only for an id that was never in an orchestrator's list.
+ *
+ * Fail as those above; and the second with TUFAYON_EARLIER_SESSION if the record's session, in versions 1 and 2 the greatest of its rows' last calls,
+ * is below this one: the store is a lost node's, which must never come back, and stays as it is.
+ */
+uint32_t tufayon_node_joined(const uint8_t *id, size_t id_size, uint64_t session, tufayon_plugin *plugin);
+uint32_t tufayon_node_joined_from_record(const uint8_t *id, size_t id_size, uint64_t session, const uint8_t *record, size_t record_size,
+                                         tufayon_plugin *plugin);
+
+/*
  * Answers the frame that the bytes begin with. `used` says how many of them it took, and `written` how many bytes the reply has: 0 where it has
  * none, since the frame is a reply, or another plugin's. The room is at least TUFAYON_REPLY_ROOM. Bytes after the first TUFAYON_FRAME_ROOM aren't
  * looked at: give the whole buffer, and then what is left of it.
- * Fails with TUFAYON_NO_MEMORY, TUFAYON_EMPTY, TUFAYON_SHORT, TUFAYON_BAD_FRAME or TUFAYON_NO_ROOM.
+ * Fails with TUFAYON_NO_MEMORY, TUFAYON_EMPTY, TUFAYON_SHORT, TUFAYON_BAD_FRAME, TUFAYON_NO_ROOM or TUFAYON_OTHER_KIND.
  */
 uint32_t tufayon_answer(tufayon_plugin *plugin, const uint8_t *frame, size_t frame_size, size_t *used, uint8_t *reply, size_t reply_room,
                         size_t *written);
 
 /*
- * The change of index `place`, from 0, among those of the last answered frame, or of making the plugin. The program puts all of them into the
- * store, in order, in one commit, before it sends the reply. TUFAYON_DONE: the `written` bytes of the value are put in under the key, in
- * place of what is there. TUFAYON_TAKE_OUT: what is under the key is taken out. TUFAYON_NO_MORE: there are not so many. They stay until the next
- * frame is answered, and may be asked for again.
+ * A new orchestrator of a configuration's nodes, in an empty handle, in session 1: of the JSON that csi-replay reads of a CONFIG file, only the
+ * nodes' ids count. Its changes are the first part of its record, which the store has to be given before any frame is sent.
+ * Fails with TUFAYON_NO_MEMORY, TUFAYON_FULL or TUFAYON_BAD_NAME.
+ */
+uint32_t tufayon_orchestrator_new(const uint8_t *config, size_t config_size, tufayon_plugin *orchestrator);
+
+/*
+ * The orchestrator of a whole record, in an empty handle, as a restart leaves it: in the session after the record's, and with no open call. The
+ * configuration's nodes have to be the record's, in the same order. Its changes are that session, which the store has to be given before any frame
+ * is sent. What is wanted of volumes goes on by a tufayon_timeout of each.
+ * Fails with TUFAYON_NO_MEMORY, TUFAYON_FULL, TUFAYON_BAD_NAME, TUFAYON_BAD_RECORD (also if the record is of other nodes), or with TUFAYON_REFUSED,
+ * if the record's session is the last one: 14, NumbersSpent.
+ */
+uint32_t tufayon_orchestrator_from_record(const uint8_t *config, size_t config_size, const uint8_t *record, size_t record_size,
+                                          tufayon_plugin *orchestrator);
+
+/*
+ * Commands, and a timeout: to create a volume of a name; to use it, which publishes it at a target of a node, in a capability; to stop using it
+ * there; to delete it; and that its open call timed out, or that something was wanted of it when the orchestrator was made. Texts are of 1 to 128
+ * bytes (a name) or 1 to 255. A capability has the bytes that it has in a frame, as {0, 1} for block in mode 1, or {1, 4, 'e', 'x', 't', '4', 1};
+ * `capabilities` are at most eight, one after another. `required` and `limit` are bytes, and a limit of 0 is none.
+ *
+ * TUFAYON_DONE: the frame's `written` bytes are to be sent, once the changes are committed. TUFAYON_MET: nothing is to be sent, and `written` is 0.
+ * TUFAYON_REFUSED: `fault` is the refusal's number. The room for the frame is at least TUFAYON_FRAME_ROOM, which is asked for before anything is done.
+ * The plugin that a frame goes to stands at byte 22 of it: 0 for the controller, or 1, and a length byte and the node's id.
+ * Fails also with TUFAYON_NO_MEMORY, TUFAYON_EMPTY, TUFAYON_OTHER_KIND, TUFAYON_NO_ROOM, or TUFAYON_BAD_NAME.
+ */
+uint32_t tufayon_create(tufayon_plugin *orchestrator, const uint8_t *name, size_t name_size, uint64_t required, uint64_t limit,
+                        const uint8_t *capabilities, size_t capabilities_size, uint8_t *frame, size_t frame_room, size_t *written, uint32_t *fault);
+uint32_t tufayon_use(tufayon_plugin *orchestrator, const uint8_t *name, size_t name_size, const uint8_t *node, size_t node_size,
+                     const uint8_t *target, size_t target_size, const uint8_t *capability, size_t capability_size, bool readonly, uint8_t *frame,
+                     size_t frame_room, size_t *written, uint32_t *fault);
+uint32_t tufayon_stop(tufayon_plugin *orchestrator, const uint8_t *name, size_t name_size, const uint8_t *node, size_t node_size,
+                      const uint8_t *target, size_t target_size, uint8_t *frame, size_t frame_room, size_t *written, uint32_t *fault);
+uint32_t tufayon_delete(tufayon_plugin *orchestrator, const uint8_t *name, size_t name_size, uint8_t *frame, size_t frame_room, size_t *written,
+                        uint32_t *fault);
+uint32_t tufayon_timeout(tufayon_plugin *orchestrator, const uint8_t *name, size_t name_size, uint8_t *frame, size_t frame_room, size_t *written,
+                         uint32_t *fault);
+
+/*
+ * A frame came: the one that the bytes begin with, of which `used` says how many it took. TUFAYON_DONE: it was the reply to an open call, and the
+ * `written` bytes are the next frame to be sent, none where nothing is due now. TUFAYON_IGNORED: it was not. Else as a command.
+ * Fails with TUFAYON_NO_MEMORY, TUFAYON_EMPTY, TUFAYON_OTHER_KIND, TUFAYON_NO_ROOM, TUFAYON_SHORT, TUFAYON_BAD_FRAME, or TUFAYON_REFUSED.
+ */
+uint32_t tufayon_deliver(tufayon_plugin *orchestrator, const uint8_t *came, size_t came_size, size_t *used, uint8_t *frame, size_t frame_room,
+                         size_t *written, uint32_t *fault);
+
+/*
+ * What the orchestrator knows: whether the volume of a name is there, is attached to a node, is staged there, and is published at a target there.
+ * `known` is one of the three numbers above; TUFAYON_KNOWN_NO of what no call was sent about.
+ * Fails with TUFAYON_NO_MEMORY, TUFAYON_EMPTY, TUFAYON_OTHER_KIND, or TUFAYON_BAD_NAME.
+ */
+uint32_t tufayon_exists(tufayon_plugin *orchestrator, const uint8_t *name, size_t name_size, uint32_t *known);
+uint32_t tufayon_attached(tufayon_plugin *orchestrator, const uint8_t *name, size_t name_size, const uint8_t *node, size_t node_size, uint32_t *known);
+uint32_t tufayon_staged(tufayon_plugin *orchestrator, const uint8_t *name, size_t name_size, const uint8_t *node, size_t node_size, uint32_t *known);
+uint32_t tufayon_published(tufayon_plugin *orchestrator, const uint8_t *name, size_t name_size, const uint8_t *node, size_t node_size,
+                           const uint8_t *target, size_t target_size, uint32_t *known);
+
+/*
+ * What is wanted of the volume of a name, as in a row of a record: the first byte is 0 for nothing (also if there is no such volume), 1 to create it,
+ * 2 to use it, 3 to stop using it, 4 to delete it. TUFAYON_GOAL_ROOM bytes are room enough.
+ * Fails with TUFAYON_NO_MEMORY, TUFAYON_EMPTY, TUFAYON_OTHER_KIND, TUFAYON_BAD_NAME, or TUFAYON_NO_ROOM: then `written` says how many bytes it has.
+ */
+uint32_t tufayon_goal(tufayon_plugin *orchestrator, const uint8_t *name, size_t name_size, uint8_t *goal, size_t goal_room, size_t *written);
+
+/*
+ * The name of the volume of index `place`, from 0, in the order in which they were first asked for. TUFAYON_NO_MORE: there are not so many.
+ * TUFAYON_NAME_ROOM bytes are room enough. It takes no memory.
+ * Fails with TUFAYON_EMPTY, TUFAYON_OTHER_KIND, or TUFAYON_NO_ROOM: then `written` says how many bytes it has.
+ */
+uint32_t tufayon_volume(tufayon_plugin *orchestrator, size_t place, uint8_t *name, size_t name_room, size_t *written);
+
+/*
+ * The change of index `place`, from 0, among those of the last call that was carried out: of an answered frame, a command, a timeout or a frame
+ * that came, or of making what the handle has. The program puts all of them into the store, in order, in one commit, before it sends anything.
+ * TUFAYON_DONE: the `written` bytes of the value are put in under the key, in place of what is there. TUFAYON_TAKE_OUT: what is under the key is
+ * taken out. TUFAYON_NO_MORE: there are not so many. They stay until the next such call is carried out, and may be asked for again.
  * Fails with TUFAYON_NO_MEMORY, TUFAYON_EMPTY, or TUFAYON_NO_ROOM: then `written` says how many bytes the value has.
  */
 uint32_t tufayon_changed(tufayon_plugin *plugin, size_t place, uint64_t *key, uint8_t *value, size_t value_room, size_t *written);
 
 /*
- * The plugin's whole record, in the present version: what the store has, as bytes, if each change was put in. To make such bytes of a store's
+ * The whole record, in the present version: what the store has, as bytes, if each change was put in. To make such bytes of a store's
  * parts, by rising key, write the version (the first byte of the first part's value), the number of parts in 4 bytes, and for each part its key
  * in 8, the size of its value in 4, and the value. Numbers are big-endian.
  * Fails with TUFAYON_NO_MEMORY, TUFAYON_EMPTY, or TUFAYON_NO_ROOM: then `written` says how many bytes it has.
  */
 uint32_t tufayon_record(tufayon_plugin *plugin, uint8_t *record, size_t record_room, size_t *written);
 
-/* Frees what the plugin has, and leaves the handle empty. */
+/* Frees what the handle has, and leaves it empty. */
 void tufayon_free(tufayon_plugin *plugin);
 
 #ifdef __cplusplus

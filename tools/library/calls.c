@@ -8,52 +8,27 @@ enum { GUARD = 16 }; /* bytes behind a room, to which no call writes */
 
 /* What a call is given, and what it says. */
 typedef struct call {
-    enum { MAKE, ANSWER, CHANGED, RECORD } what;
+    enum { MAKE, ANSWER, CHANGED, RECORD, ASK, VOLUME } what;
     tested *of;
     asked how;
+    request asks;
     bytes given;
     size_t place, room;
     uint8_t *to;
     size_t used, written;
     uint64_t key;
+    uint32_t number; /* a refusal's, or of what is known */
 } call;
 
 static size_t open; /* handles that have a plugin */
 
-/* ---- endings */
-
-#define IS(ending) (1u << TUFAYON_##ending)
-#define OF_NEW (IS(DONE) | IS(NO_MEMORY) | IS(FULL) | IS(BAD_NAME))
-#define OF_RECORD (OF_NEW | IS(BAD_RECORD) | IS(RENEWED))
-
-/* Each call of the header that answers, and the endings that it says of it. */
-static const struct {
-    const char *name;
-    unsigned endings;
-} CALLS[] = {
-    {"tufayon_controller_new", OF_NEW},
-    {"tufayon_node_new", OF_NEW},
-    {"tufayon_controller_from_record", OF_RECORD},
-    {"tufayon_node_from_record", OF_RECORD},
-    {"tufayon_answer", IS(DONE) | IS(NO_MEMORY) | IS(EMPTY) | IS(SHORT) | IS(BAD_FRAME) | IS(NO_ROOM)},
-    {"tufayon_changed", IS(DONE) | IS(NO_MEMORY) | IS(EMPTY) | IS(NO_ROOM) | IS(TAKE_OUT) | IS(NO_MORE)},
-    {"tufayon_record", IS(DONE) | IS(NO_MEMORY) | IS(EMPTY) | IS(NO_ROOM)},
-};
-static unsigned seen_of[sizeof CALLS / sizeof *CALLS]; /* the endings that each of them had so far */
-
-static void see(const call *it, uint32_t ending) {
-    size_t making = 2 * (size_t)it->how.from_record + (size_t)!it->how.is_controller;
-    size_t place = it->what == MAKE ? making : 3 + (size_t)(it->what - MAKE);
-    must(ending <= TUFAYON_NO_MORE, "a call has an ending that the header doesn't have");
-    seen_of[place] |= 1u << ending;
-}
-
-void test_endings(void) {
-    for (size_t at = 0; at < sizeof CALLS / sizeof *CALLS; at++) {
-        snprintf(doing, sizeof doing, "%s, with endings %#x", CALLS[at].name, seen_of[at]);
-        must((seen_of[at] & ~CALLS[at].endings) == 0, "a call has an ending that the header doesn't say of it");
-        must(seen_of[at] == CALLS[at].endings, "a call was never seen to end in one of the ways that the header says");
-    }
+/* Which call of the header it is: a row of the table in endings.c. */
+static size_t row_of(const call *it) {
+    if (it->what == MAKE && it->how.kind == AS_ORCHESTRATOR) return ROW_ORCHESTRATORS + (size_t)it->how.from_record;
+    if (it->what == MAKE && it->how.joined) return ROW_JOINED + (size_t)it->how.from_record;
+    if (it->what == MAKE) return 2 * (size_t)it->how.from_record + (size_t)it->how.kind;
+    if (it->what == ASK) return ROW_REQUESTS + (size_t)it->asks.kind;
+    return it->what == VOLUME ? ROW_VOLUME : ROW_ANSWER + (size_t)(it->what - ANSWER);
 }
 
 static const uint8_t *bytes_of(const bytes *it) {
@@ -64,8 +39,38 @@ static const uint8_t *bytes_of(const bytes *it) {
 static uint32_t make(tufayon_plugin *plugin, const asked *how) {
     const uint8_t *name = bytes_of(&how->name), *record = bytes_of(&how->record);
     size_t size = how->name.size, record_size = how->record.size;
-    if (!how->from_record) return (how->is_controller ? tufayon_controller_new : tufayon_node_new)(name, size, plugin);
-    return (how->is_controller ? tufayon_controller_from_record : tufayon_node_from_record)(name, size, record, record_size, plugin);
+    if (how->joined) {
+        return how->from_record ? tufayon_node_joined_from_record(name, size, how->session, record, record_size, plugin)
+                                : tufayon_node_joined(name, size, how->session, plugin);
+    }
+    static uint32_t (*const news[])(const uint8_t *, size_t, tufayon_plugin *) = {tufayon_controller_new, tufayon_node_new, tufayon_orchestrator_new};
+    static uint32_t (*const reads[])(const uint8_t *, size_t, const uint8_t *, size_t, tufayon_plugin *) = {
+        tufayon_controller_from_record, tufayon_node_from_record, tufayon_orchestrator_from_record};
+    return how->from_record ? reads[how->kind](name, size, record, record_size, plugin) : news[how->kind](name, size, plugin);
+}
+
+/* A text or capabilities, as two arguments. */
+#define GIVEN(it) bytes_of(&ask->it), ask->it.size
+
+static uint32_t request_it(call *it) {
+    const request *ask = &it->asks;
+    tufayon_plugin *of = &it->of->plugin;
+    uint8_t *to = it->to;
+    size_t room = it->room, *written = &it->written;
+    uint32_t *number = &it->number;
+    switch (ask->kind) {
+    case ASK_CREATE: return tufayon_create(of, GIVEN(name), ask->required, ask->limit, GIVEN(capabilities), to, room, written, number);
+    case ASK_USE: return tufayon_use(of, GIVEN(name), GIVEN(node), GIVEN(target), GIVEN(capabilities), ask->readonly, to, room, written, number);
+    case ASK_STOP: return tufayon_stop(of, GIVEN(name), GIVEN(node), GIVEN(target), to, room, written, number);
+    case ASK_DELETE: return tufayon_delete(of, GIVEN(name), to, room, written, number);
+    case ASK_TIMEOUT: return tufayon_timeout(of, GIVEN(name), to, room, written, number);
+    case ASK_DELIVER: return tufayon_deliver(of, GIVEN(came), &it->used, to, room, written, number);
+    case ASK_EXISTS: return tufayon_exists(of, GIVEN(name), number);
+    case ASK_ATTACHED: return tufayon_attached(of, GIVEN(name), GIVEN(node), number);
+    case ASK_STAGED: return tufayon_staged(of, GIVEN(name), GIVEN(node), number);
+    case ASK_PUBLISHED: return tufayon_published(of, GIVEN(name), GIVEN(node), GIVEN(target), number);
+    default: return tufayon_goal(of, GIVEN(name), to, room, written);
+    }
 }
 
 static uint32_t call_it(call *it) {
@@ -73,6 +78,8 @@ static uint32_t call_it(call *it) {
     if (it->what == MAKE) return make(plugin, &it->how);
     if (it->what == ANSWER) return tufayon_answer(plugin, bytes_of(&it->given), it->given.size, &it->used, it->to, it->room, &it->written);
     if (it->what == CHANGED) return tufayon_changed(plugin, it->place, &it->key, it->to, it->room, &it->written);
+    if (it->what == ASK) return request_it(it);
+    if (it->what == VOLUME) return tufayon_volume(plugin, it->place, it->to, it->room, &it->written);
     return tufayon_record(plugin, it->to, it->room, &it->written);
 }
 
@@ -81,10 +88,11 @@ static uint32_t attempt(call *it) {
     it->to = grow(NULL, it->room + GUARD);
     memset(it->to, 0xa5, it->room + GUARD);
     it->used = it->written = SIZE_MAX;
+    it->number = UINT32_MAX;
     uint32_t ending = call_it(it);
     for (size_t at = 0; at < GUARD; at++) must(it->to[it->room + at] == 0xa5, "it wrote behind its room");
     cases++;
-    see(it, ending);
+    see(row_of(it), ending);
     return ending;
 }
 
@@ -223,21 +231,32 @@ static void compare(tested *of) {
 void compares(tested *of, asked how) {
     tested again = {0};
     compare(of);
-    makes(&again, of_record(how, of->record), TUFAYON_DONE, &of->store, &(parts){0});
+    if (how.kind == AS_ORCHESTRATOR) {
+        parts next = next_session(&of->store), head = {0};
+        add(&head, next.at[0]);
+        makes(&again, of_record(how, of->record), TUFAYON_DONE, &next, &head);
+    } else {
+        makes(&again, of_record(how, of->record), TUFAYON_DONE, &of->store, &(parts){0});
+    }
     frees(&again);
 }
 
 /* ---- calls */
 
-asked controller_of(const char *config) {
-    asked it = {.is_controller = true};
-    put(&it.name, config, strlen(config));
+static asked asked_for(enum asked_kind kind, const char *name) {
+    asked it = {.kind = kind};
+    put(&it.name, name, strlen(name));
     return it;
 }
 
-asked node_of(const char *id) {
-    asked it = {0};
-    put(&it.name, id, strlen(id));
+asked controller_of(const char *config) { return asked_for(AS_CONTROLLER, config); }
+asked node_of(const char *id) { return asked_for(AS_NODE, id); }
+asked orchestrator_of(const char *config) { return asked_for(AS_ORCHESTRATOR, config); }
+
+asked joined_node(const char *id, uint64_t session) {
+    asked it = node_of(id);
+    it.joined = true;
+    it.session = session;
     return it;
 }
 
@@ -321,4 +340,88 @@ void frees(tested *of) {
     must(ending_of((call){.what = ANSWER, .of = of, .given = frame_of("1.1 controller DeleteVolume 1"), .room = TUFAYON_REPLY_ROOM}) == TUFAYON_EMPTY,
          "a handle without a plugin answers");
     must(open > 0 || held == 0, "plugins that were freed leave blocks");
+}
+
+/* ---- an orchestrator */
+
+parts next_session(const parts *store) {
+    parts next = copy_of(store);
+    bytes head = {0};
+    put(&head, store->at[0].value.at, store->at[0].value.size);
+    for (size_t at = 9; ++head.at[at] == 0; at--) {} /* the session, behind two bytes */
+    next.at[0].value = head;
+    return next;
+}
+
+/* The beginning of a frame is none that came; and a frame to be sent has too little room. */
+static void is_asked_in_vain(tested *of, request ask) {
+    static const size_t rooms[] = {0, 32, TUFAYON_FRAME_ROOM - 1};
+    for (size_t size = 0; ask.kind == ASK_DELIVER && size < ask.came.size; size++) {
+        call it = {.what = ASK, .of = of, .asks = ask, .room = TUFAYON_FRAME_ROOM};
+        it.asks.came.size = size;
+        must(attempt(&it) == TUFAYON_SHORT, "the beginning of a frame came");
+        leave(&it);
+    }
+    for (size_t at = 0; at < 3; at++)
+        must(ending_of((call){.what = ASK, .of = of, .asks = ask, .room = rooms[at]}) == TUFAYON_NO_ROOM, "a frame to be sent has too little room");
+    is_as_it_was(of);
+}
+
+void asks(tested *of, const char *line, uint32_t ending, bytes frame, uint32_t fault, const parts *changes) {
+    call it = {.what = ASK, .of = of, .asks = request_of(line), .room = TUFAYON_FRAME_ROOM};
+    bool is_done = ending == TUFAYON_DONE || ending == TUFAYON_MET || ending == TUFAYON_IGNORED;
+    size_t size = it.asks.came.size;
+    snprintf(doing, sizeof doing, "%.4000s", line);
+    if (of->has && stride == 1 && (is_done || ending == TUFAYON_REFUSED)) is_asked_in_vain(of, it.asks);
+    for (size_t more = 0; it.asks.kind == ASK_DELIVER && is_done && more < 2 * TUFAYON_FRAME_ROOM; more++) put_number(&it.asks.came, more % 256, 1);
+    must(each_refused(&it) == ending, "a request has another ending");
+    must(ending != TUFAYON_REFUSED || it.number == fault, "a refusal has another number");
+    must(ending == TUFAYON_REFUSED || it.number == UINT32_MAX, "a refusal's number is told where nothing is refused");
+    must(!is_done || same(frame, (bytes){.at = it.to, .size = it.written}), "another frame is to be sent");
+    must(it.asks.kind != ASK_DELIVER || !is_done || it.used == size, "a frame that came took other bytes");
+    leave(&it);
+    if (is_done) {
+        of->told = copy_of(changes);
+        for (size_t at = 0; at < changes->count; at++) change(&of->store, changes->at[at]);
+        if (stride == 1) compare(of);
+        else tells(of, false);
+    } else if (stride == 1) {
+        is_as_it_was(of);
+    }
+}
+
+void knows(tested *of, const char *line, uint32_t ending, uint32_t known) {
+    call it = {.what = ASK, .of = of, .asks = request_of(line)};
+    snprintf(doing, sizeof doing, "%.4000s", line);
+    must(each_refused(&it) == ending, "what is known has another ending");
+    must(it.number == (ending == TUFAYON_DONE ? known : UINT32_MAX), "something else is known");
+    leave(&it);
+    is_as_it_was(of);
+}
+
+void wants(tested *of, const char *line, uint32_t ending, bytes goal) {
+    call it = {.what = ASK, .of = of, .asks = request_of(line), .room = TUFAYON_GOAL_ROOM};
+    snprintf(doing, sizeof doing, "%.4000s", line);
+    must(each_refused(&it) == ending, "what is wanted has another ending");
+    must(ending != TUFAYON_DONE || same(goal, (bytes){.at = it.to, .size = it.written}), "something else is wanted");
+    leave(&it);
+    for (size_t room = 0; ending == TUFAYON_DONE && room < goal.size; room++) {
+        it.room = room;
+        must(attempt(&it) == TUFAYON_NO_ROOM && it.written == goal.size, "what is wanted has too little room, and it isn't said how much it wants");
+        leave(&it);
+    }
+    is_as_it_was(of);
+}
+
+void names(tested *of, size_t place, uint32_t ending, bytes name) {
+    call it = {.what = VOLUME, .of = of, .place = place, .room = TUFAYON_NAME_ROOM};
+    must(each_refused(&it) == ending, "the volume at a place has another ending");
+    must(ending != TUFAYON_DONE || same(name, (bytes){.at = it.to, .size = it.written}), "the volume at a place has another name");
+    leave(&it);
+    for (size_t room = 0; ending == TUFAYON_DONE && room < name.size; room++) {
+        it.room = room;
+        must(attempt(&it) == TUFAYON_NO_ROOM && it.written == name.size, "a name has too little room, and it isn't said how much it wants");
+        leave(&it);
+    }
+    if (stride == 1) is_as_it_was(of);
 }

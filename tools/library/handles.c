@@ -45,7 +45,7 @@ static void many_nodes(tested *of, int count, uint32_t ending, const parts *head
 
 /* An id of so many such bytes. */
 static asked long_id(char byte, size_t size) {
-    asked it = {0};
+    asked it = {.kind = AS_NODE};
     for (size_t at = 0; at < size; at++) put(&it.name, &byte, 1);
     return it;
 }

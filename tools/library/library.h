@@ -51,11 +51,31 @@ bytes frame_of(const char *line);
 /* The part of a line, in a version:
  *   head NEXT SESSION                    head "n1" SESSION                    gone ID
  *   ID live "v" 10 block/1 ; "n1" block/1 rw ; 1.3 ControllerPublishVolume 0 0 ""
- *   ID block/1 ; "/a" rw ; 1.4 NodePublishVolume 0 0 ""                       ID - ; ; 1.6 NodeUnstageVolume 0 0 "" */
+ *   ID block/1 ; "/a" rw ; 1.4 NodePublishVolume 0 0 ""                       ID - ; ; 1.6 NodeUnstageVolume 0 0 ""
+ * and of an orchestrator, with what is known of it, its goal, its tries, and what is known at each of its nodes:
+ *   nodes SESSION "n1" "n2"              PLACE volume "v" 10 0 block/1 ; - maybe create 1 ;
+ *   PLACE volume "v" 10 0 block/1 ; 1 yes use "n1" "/a" block/1 rw 1 ; "n1" block/1 rw yes maybe "/a" no , */
 part part_of(const char *line, int version);
 void add(parts *to, part it);
 /* The parts of lines up to a null. */
 parts parts_of(int version, const char *const *lines);
+/* What is wanted, in such words: the bytes of a goal. */
+bytes goal_of(const char *line);
+
+/* What an orchestrator is asked, or told. */
+typedef struct request {
+    enum request_kind {
+        ASK_CREATE, ASK_USE, ASK_STOP, ASK_DELETE, ASK_TIMEOUT, ASK_DELIVER, ASK_EXISTS, ASK_ATTACHED, ASK_STAGED, ASK_PUBLISHED, ASK_GOAL
+    } kind;
+    bytes name, node, target, capabilities, came; /* of texts, the bytes alone */
+    uint64_t required, limit;
+    bool readonly;
+} request;
+
+/* The request of a line:
+ *   create "v" 10 0 block/1 block/5      use "v" "n1" "/a" block/1 rw         stop "v" "n1" "/a"      delete "v"      timeout "v"
+ *   deliver FRAME                        exists "v"       attached "v" "n1"   staged "v" "n1"         published "v" "n1" "/a"     goal "v" */
+request request_of(const char *line);
 
 /* ---- stores (stores.c) */
 
@@ -75,11 +95,13 @@ typedef struct tested {
     bytes record; /* of the store */
 } tested;
 
-/* How a plugin is asked for: a controller under a configuration or a node of an id, and a record or none. */
+/* How something is asked for: a controller under a configuration, a node of an id, which joined with a session or with none, or an orchestrator of a
+ * configuration's nodes; and a record or none. */
 typedef struct asked {
-    bool is_controller;
+    enum asked_kind { AS_CONTROLLER, AS_NODE, AS_ORCHESTRATOR } kind;
     bytes name, record;
-    bool from_record;
+    bool from_record, joined;
+    uint64_t session;
 } asked;
 
 /* Every how many-th allocation is refused: with 1 each, and then all is compared at each call; with 0 none. */
@@ -87,6 +109,8 @@ extern unsigned long stride;
 
 asked controller_of(const char *config);
 asked node_of(const char *id);
+asked orchestrator_of(const char *config);
+asked joined_node(const char *id, uint64_t session);
 asked of_record(asked it, bytes record);
 
 /* Makes a plugin, which ends so; where it is made it has this store and tells these changes. Each allocation is refused once. */
@@ -96,9 +120,23 @@ void makes(tested *of, asked how, uint32_t ending, const parts *store, const par
 void answers(tested *of, bytes frame, bytes reply, const parts *changes);
 /* These bytes are answered with this ending, and all stays. */
 void refuses(tested *of, bytes frame, uint32_t ending);
-/* The plugin has the store and tells the changes that are expected, and so has one of its record. */
+/* The plugin has the store and tells the changes that are expected, and so has one of its record: of an orchestrator, in the next session. */
 void compares(tested *of, asked how);
+/* An orchestrator's parts in the next session. */
+parts next_session(const parts *store);
+/* Asks an orchestrator, or hands it a frame, which ends so: with this frame to be sent (of no bytes: none), this refusal, and these changes. It is
+ * given with too little room, a frame is cut at each byte, and each allocation is refused once. */
+void asks(tested *of, const char *line, uint32_t ending, bytes frame, uint32_t fault, const parts *changes);
+/* It knows so much of a thing, and wants this of a volume; and the volume at a place has this name. All stays. */
+void knows(tested *of, const char *line, uint32_t ending, uint32_t known);
+void wants(tested *of, const char *line, uint32_t ending, bytes goal);
+void names(tested *of, size_t place, uint32_t ending, bytes name);
 void frees(tested *of);
+
+/* ---- endings (endings.c) */
+
+enum { ROW_ANSWER = 4, ROW_ORCHESTRATORS = 7, ROW_REQUESTS = 9, ROW_VOLUME = 20, ROW_JOINED = 21 }; /* where calls stand in the table */
+void see(size_t row, uint32_t ending); /* the call of this row ended so */
 
 /* ---- cases */
 
@@ -106,10 +144,14 @@ void test_examples(void);
 void test_handles(void);
 void test_controller(void);
 void test_node(void);
+void test_joined(void);
 void test_frames(void);
 void test_records(void);
 void test_damaged(void);
 void test_full(void);
+void test_orchestrator(void);
+void test_orchestrator_records(void);
+void test_many(void);
 void test_endings(void); /* after the others: each call has had each of its endings */
 
 #endif

@@ -14,8 +14,9 @@ int main(void) {
         const char *name;
         void (*run)(void);
     } tests[] = {{"examples", test_examples}, {"handles", test_handles}, {"controller", test_controller}, {"node", test_node},
-                 {"frames", test_frames},     {"records", test_records}, {"damaged", test_damaged},       {"full stores", test_full},
-                 {"endings", test_endings}};
+                 {"joined", test_joined},     {"frames", test_frames},   {"records", test_records},       {"damaged", test_damaged},
+                 {"full stores", test_full},  {"orchestrator", test_orchestrator}, {"orchestrator's records", test_orchestrator_records},
+                 {"many volumes", test_many}, {"endings", test_endings}};
     for (size_t at = 0; at < sizeof tests / sizeof *tests; at++) {
         unsigned long cases_before = cases, refusals_before = refusals;
         snprintf(doing, sizeof doing, "%s", tests[at].name);

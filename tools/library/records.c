@@ -148,8 +148,8 @@ static void changed(tested *of, asked how, bytes record, size_t place, uint8_t b
     asked it = of_record(how, record);
     record.at[place] = byte;
     snprintf(doing, sizeof doing, "a record with %d at %zu", byte, place);
-    uint32_t ending = it.is_controller ? tufayon_controller_from_record(it.name.at, it.name.size, record.at, record.size, &of->plugin)
-                                       : tufayon_node_from_record(it.name.at, it.name.size, record.at, record.size, &of->plugin);
+    uint32_t ending = it.kind == AS_CONTROLLER ? tufayon_controller_from_record(it.name.at, it.name.size, record.at, record.size, &of->plugin)
+                                            : tufayon_node_from_record(it.name.at, it.name.size, record.at, record.size, &of->plugin);
     cases++;
     must(ending == TUFAYON_BAD_RECORD || ending == (record.at[0] == 3 ? TUFAYON_DONE : TUFAYON_RENEWED), "a damaged record has another ending");
     if (ending != TUFAYON_BAD_RECORD) {

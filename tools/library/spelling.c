@@ -47,8 +47,8 @@ static uint64_t number(void) {
     return it;
 }
 
-/* A text: its length and its bytes. */
-static void text(bytes *to) {
+/* The bytes of a text. */
+static void raw_text(bytes *to) {
     bytes it = {0};
     for (pass("\""); *at != '"'; at++) {
         must(*at != 0, "a text of the test has no end");
@@ -61,8 +61,15 @@ static void text(bytes *to) {
     }
     at++;
     size_t times = *at == '*' ? (at++, (size_t)number()) : 1;
-    put_number(to, it.size * times, 1);
     while (times-- > 0) put(to, it.at, it.size);
+}
+
+/* A text: its length and its bytes. */
+static void text(bytes *to) {
+    bytes it = {0};
+    raw_text(&it);
+    put_number(to, it.size, 1);
+    put(to, it.at, it.size);
 }
 
 /* A capability; its mode. */
@@ -164,6 +171,58 @@ static void one_capability(bytes *to) { capability(to); }
 static void one_holding(bytes *to) { text(to), capability(to), flag(to); }
 static void one_target(bytes *to) { text(to), flag(to); }
 
+/* ---- parts of an orchestrator */
+
+static void known(bytes *to) { put_number(to, passes("no") ? 0 : passes("yes") ? 1 : (pass("maybe"), 2), 1); }
+
+static void goal(bytes *to) {
+    if (passes("none")) put_number(to, 0, 1);
+    else if (passes("create")) put_number(to, 1, 1);
+    else if (passes("use")) put_number(to, 2, 1), text(to), text(to), capability(to), flag(to);
+    else if (passes("stop")) put_number(to, 3, 1), text(to), text(to);
+    else pass("delete"), put_number(to, 4, 1);
+}
+
+/* A node's entry, up to a comma. */
+static void one_entry(bytes *to) {
+    bytes targets = {0};
+    uint64_t count = 0;
+    text(to), capability(to), flag(to), known(to), known(to);
+    for (; !passes(","); count++) text(&targets), known(&targets);
+    put_number(to, count, 1);
+    put(to, targets.at, targets.size);
+}
+
+static void nodes(bytes *to) {
+    bytes all = {0};
+    uint64_t count = 0;
+    put_number(to, 2, 1);
+    put_number(to, number(), 8);
+    for (; !is_at_end(); count++) text(&all);
+    put_number(to, count, 1);
+    put(to, all.at, all.size);
+}
+
+static void volume(bytes *to) {
+    bytes entries = {0};
+    uint64_t count = 0;
+    text(to);
+    put_number(to, number(), 8);
+    put_number(to, number(), 8);
+    list(to, one_capability);
+    if (passes("-")) put_number(to, 0, 1);
+    else put_number(to, 1, 1), put_number(to, number(), 8);
+    known(to);
+    goal(to);
+    put_number(to, number(), 1);
+    pass(";");
+    for (; !is_at_end(); count++) one_entry(&entries);
+    put_number(to, count, 1);
+    put(to, entries.at, entries.size);
+}
+
+/* ---- parts of a plugin */
+
 static void kept_call(bytes *to) {
     put_number(to, number(), 8);
     pass(".");
@@ -207,7 +266,8 @@ part part_of(const char *line, int version) {
     }
     put_number(&it.value, (uint64_t)version, 1);
     if (passes("head")) head(&it.value, version);
-    else it.key = number(), row(&it.value);
+    else if (passes("nodes")) nodes(&it.value);
+    else it.key = number(), passes("volume") ? volume(&it.value) : row(&it.value);
     must(is_at_end(), "a line of the test goes on");
     return it;
 }
@@ -221,4 +281,41 @@ parts parts_of(int version, const char *const *lines) {
     parts all = {0};
     for (; *lines != NULL; lines++) add(&all, part_of(*lines, version));
     return all;
+}
+
+bytes goal_of(const char *line) {
+    bytes it = {0};
+    at = line;
+    goal(&it);
+    must(is_at_end(), "a line of the test goes on");
+    return it;
+}
+
+/* ---- requests */
+
+request request_of(const char *line) {
+    static const char *const REQUESTS[] = {"create", "use", "stop", "delete", "timeout", "deliver", "exists", "attached", "staged", "published", "goal"};
+    request it = {0};
+    bytes byte = {0};
+    int kind = 0;
+    at = line;
+    while (kind <= ASK_GOAL && !passes(REQUESTS[kind])) kind++;
+    must(kind <= ASK_GOAL, "a line of the test is no request");
+    it.kind = (enum request_kind)kind;
+    if (kind == ASK_DELIVER) return it.came = frame_of(at), it;
+    raw_text(&it.name);
+    if (kind == ASK_CREATE) {
+        it.required = number();
+        it.limit = number();
+        while (!is_at_end()) capability(&it.capabilities);
+    }
+    if (kind == ASK_USE || kind == ASK_STOP || kind == ASK_ATTACHED || kind == ASK_STAGED || kind == ASK_PUBLISHED) raw_text(&it.node);
+    if (kind == ASK_USE || kind == ASK_STOP || kind == ASK_PUBLISHED) raw_text(&it.target);
+    if (kind == ASK_USE) {
+        capability(&it.capabilities);
+        flag(&byte);
+        it.readonly = byte.at[0] == 1;
+    }
+    must(is_at_end(), "a line of the test goes on");
+    return it;
 }

@@ -10,6 +10,7 @@ from .frames import attach, create, delete, detach, number, publish, reply, stag
 from .running import LIMIT, Case, as_nobody, ended, of_rows, wanted
 
 NOT_OPENED = ended(3, "store not opened")
+EARLIER = ended(1, "store of an earlier session")
 CONFIG = b'{"greatest":1000,"nodes":[{"id":"n1","slots":4}]}'
 
 CALLS = [  # each call of a controller and of a node, with its reply
@@ -174,6 +175,42 @@ def of_another(box):
     box.wants(fault, "node", "n.db", "N1", given=given)
     wanted("the controller's parts", stores.parts_of(box.at("c.db")), stores.CONTROLLER)
     wanted("the node's parts", stores.parts_of(box.at("n.db")), stores.NODE)
+
+
+def joined(box):
+    """A node joins with a session, and is run with it again; what was under way to the lost node of its id is stale."""
+    late = [publish((1, 4), 1, "/a"), stage((1, 3), 1), unstage((0, 9), 7)]
+    kinds = ["NodePublishVolume", "NodeStageVolume", "NodeUnstageVolume"]
+    stale = b"".join(reply(kind, at, 10, 0, "stale") for kind, at in zip(kinds, [(1, 4), (1, 3), (0, 9)]))
+    box.wants(ended(0, out=stale), "node", "db", "n1", "2", given=b"".join(late))
+    wanted("a new store", stores.parts_of(box.at("db")), [stores.node_head("n1", 2)])
+    own = [(stage((2, 3), 1), reply("NodeStageVolume", (2, 3))), (publish((2, 4), 1, "/a"), reply("NodePublishVolume", (2, 4)))]
+    box.wants(ended(0, out=replies_of(own)), "node", "db", "n1", "2", given=given_of(own))
+    before = stores.parts_of(box.at("db"))
+    for word in (["2"], ["1"], ["0"], []):
+        box.wants(ended(0, out=stale), "node", "db", "n1", *word, given=b"".join(late), told="a check that passes")
+    for word in ("3", "18446744073709551615"):
+        box.wants(EARLIER, "node", "db", "n1", word, given=given_of(own))
+    wanted("the parts", stores.parts_of(box.at("db")), before)
+
+
+def of_an_earlier_session(box, version):
+    """A lost node's store, in each version: refused under a later session than its own, and DB stays byte for byte."""
+    last = [stores.kept("NodeStageVolume", (4, 2)), stores.kept("NodeUnstageVolume", (2, 9))]
+    rows = [stores.staged(1, block(1), last[0], version=version)]
+    if version < 3:
+        rows.append(stores.staged(2, None, last[1], version=version))  # forgotten where the store is rewritten
+    parts = [stores.node_head("n1", 4, version), *rows]
+    stores.make(box.at("db"), parts)
+    before = box.get("db")
+    for word in ("5", "6", "18446744073709551615"):
+        box.wants(EARLIER, "node", "db", "n1", word, given=stage((9, 9), 1))
+        wanted("the file", box.get("db"), before)
+    box.wants(ended(1, "record fault at 0"), "node", "db", "n2", "5", given=stage((9, 9), 1))
+    wanted("the parts", stores.parts_of(box.at("db")), parts)
+    duplicate = stage((4, 2), 1), reply("NodeStageVolume", (4, 2))
+    box.wants(ended(0, out=duplicate[1]), "node", "db", "n1", "4", given=duplicate[0])
+    wanted("the parts then", stores.parts_of(box.at("db")), [stores.node_head("n1", 4), stores.staged(1, block(1), last[0])])
 
 
 def second(box, name):
@@ -362,6 +399,8 @@ def cases():
         yield from of_rows(name, rows)
     yield Case("controller: the layout of its file", layout)
     yield Case("both: a store of another plugin or node", of_another)
+    yield Case("node: one that joins with a session", joined)
+    yield from of_rows("node", [(f"a store of an earlier session, version {it}", of_an_earlier_session, it) for it in (1, 2, 3)])
     yield Case("controller: a store in use by SQLite", lambda box: by_sqlite(box, "delete"))
     yield Case("controller: a store in WAL mode in use by SQLite", lambda box: by_sqlite(box, "wal"))
     yield Case("controller: SQLite is locked out", locks_out)

@@ -5,7 +5,7 @@ from .frames import create
 from .running import as_nobody, ended, of_rows, wanted
 
 ON_FILES = ("answer", "show", "run", "frames", "draw")
-TAKEN = {**{name: 1 for name in ON_FILES}, "controller": 2, "node": 2, "orchestrator": 2, "record": 1}  # how many words each takes
+TAKEN = {**{name: (1,) for name in ON_FILES}, "controller": (2,), "node": (2, 3), "orchestrator": (2,), "record": (1,)}  # how many words each takes
 USAGE = ended(2, "usage")
 
 
@@ -27,7 +27,7 @@ def counts(box):
     before = prepare(box)
     for name, right in TAKEN.items():
         for count in range(6):
-            if count != right:
+            if count not in right:
                 box.wants(USAGE, name, *["f", "config", "n1", "f", "f"][:count])
     wanted("the folder", box.files(), before)
 
@@ -60,6 +60,29 @@ def without_rights(box):
         box.wants(ended(3, "device"), name, "f", before=before)
 
 
+def no_session(box):
+    """Words that are no session, and with which no node joins, whatever the id; and words that are one."""
+    before = prepare(box)
+    for word in NO_SESSIONS:
+        for node in ("n1", ""):
+            box.wants(USAGE, "node", "db", node, word)
+    for word in NEGATIVE:
+        box.wants(USAGE, "node", "db", "n1", word)
+        box.wants(USAGE, "node", "--", "db", "n1", word)
+    wanted("the folder", box.files(), before)
+    for at, word in enumerate(SESSIONS):
+        box.wants(ended(0), "node", f"db{at}", "n1", word)
+        box.wants(ended(0, out=b'{"node":"n1","plugin":"node","session":%s,"volumes":[]}\n' % word.encode()), "record", f"db{at}")
+    box.wants(ended(1, "config refused"), "node", "db", "", "2")
+
+
+NO_SESSIONS = [
+    *("", "n1", "00", "01", "002", "+2", " 2", "2 ", "2\n", "\t2", "2.0", "2e0", "0x2", "1_0", "1,0", "2-", "\u0662", "\uff12"),
+    *("18446744073709551616", "018446744073709551615", "28446744073709551615", "99999999999999999999", "1" * 100),
+]
+NEGATIVE = ["-1", "-0", "--2"]
+SESSIONS = ["0", "1", "9", "10", "4294967296", "18446744073709551615"]
+
 ROWS = [
     ("no words", refused),
     ("an empty word", refused, ""),
@@ -86,6 +109,7 @@ ROWS = [
     ("no UTF-8 as a subcommand", refused, b"sh\xffow", b"f"),
     ("no UTF-8 as an id", refused, b"node", b"db", b"n\xff"),
     ("other counts of words", counts),
+    ("the session of a joining", no_session),
     ("hyphens", hyphens),
     ("a file that is missing", unreadable, "nothing"),
     ("an empty name", unreadable, ""),

@@ -1,3 +1,6 @@
 pub mod Calls
 pub mod Making
+pub mod OrchestratorMaking
 pub mod Holding
+pub mod Asking
+pub mod Knowing

@@ -1,16 +1,19 @@
 //! What a handle leads to.
 ghost use Rattle.std.specs.Prelude.{◌≡◌, [], None};
 
+use crate::command::{Command, carry_out};
 use crate::ending::Ending;
 use crate::front::front;
 use crate::plugin::Plugin;
 use crate::splitting::{answer_next, fed, used_again};
 use csi_frames::Splitter;
+use csi_orchestrator::{Heard, OrchFault, Orchestrator};
 use csi_service::Part;
-use csi_types::NoMemory;
+use csi_types::{Frame, NoMemory};
 use std::alloc::Global;
 
-/// A plugin, the buffers that its calls use again and again, and what the store has to be given, once that was asked for.
+/// A plugin or an orchestrator, the buffers that a plugin's calls use again and again, and what the store has to be given, once that was
+/// asked for.
 #[derive(Drop)]
 pub struct Embedded {
     alloc: Global,
@@ -24,10 +27,13 @@ pub struct Embedded {
 }
 
 impl Embedded {
-    ghost use Rattle.std.specs.Prelude.{◌≡◌, ◌≤◌, [], None, map, length, IfOk, IfErr, OnOk, OnErr};
+    ghost use Rattle.std.specs.Prelude.{◌≡◌, ◌≤◌, [], None, true, is_some, option_map, map, length, IfOk, IfErr, OnOk, OnErr};
+    ghost use Rattle.csi_orchestrator.specs.Model.Moves.{Comes, Sends, Hears};
     ghost use Rattle.csi_stores.specs.Public.Part.{part_change};
     ghost use Rattle.csi_embedded.specs.Private.Calls.{changes_in};
-    ghost use Rattle.csi_embedded.specs.Public.Calls.{frame_front, told_changes, AnswersFrame, IsNoFrame, Remains};
+    ghost use Rattle.csi_embedded.specs.Public.Asking.{command_input, Carries};
+    ghost use Rattle.csi_embedded.specs.Public.Calls.{frame_front, told_changes, AnswersFrame, IsNoAnswer, Remains};
+    ghost use Rattle.csi_embedded.specs.Public.Plugins.{is_orchestrator as is_one, orchestrator_of};
 
     /// A plugin that answered nothing yet, of which the store has to be given these parts. It takes no memory.
     pub fn new(alloc: Global, plugin: Plugin, changed: Vec<Part>) -> Embedded
@@ -43,14 +49,35 @@ impl Embedded {
         }
     }
 
+    /// Whether it is an orchestrator. It takes no memory.
+    pub fn is_orchestrator(&self) -> bool
+        ensures { result ≡ is_one self.now.plugin }
+    {
+        self.plugin.is_orchestrator()
+    }
+
+    /// The orchestrator, if it is one. It takes no memory.
+    pub fn orchestrator(&self) -> Option<&Orchestrator>
+        ensures { option_map (λ one. one.now) result ≡ orchestrator_of self.now.plugin }
+    {
+        match &self.plugin {
+            Plugin::Orchestrator(service) => Some(service.orchestrator()),
+            Plugin::Controller(_) => None,
+            Plugin::Node(_) => None,
+        }
+    }
+
     /// Answers the frame that these bytes begin with, says how many of them it took, and leaves the bytes of its reply in `reply`, none
     /// where it has no reply. Any other ending leaves the plugin as it was, and what the store has to be given.
     pub fn answer(&mut self, bytes: &[u8]) -> Result<usize, Ending>
         ensures answered { IfOk result (λ used. AnswersFrame self.old bytes.now used self.new self.new.reply.items) }
         ensures few { OnOk result (length self.new.reply.items ≤ 544) }
-        ensures why { IfErr result (IsNoFrame (frame_front bytes.now)) }
+        ensures why { IfErr result (IsNoAnswer self.old (frame_front bytes.now)) }
         ensures remains { OnErr result (Remains self.old self.new) }
     {
+        if self.plugin.is_orchestrator() {
+            return Err(Ending::OtherKind);
+        }
         let bytes = front(bytes);
         let splitter = std::mem::replace(&mut self.splitter, Splitter::new(self.alloc));
         let mut splitter = fed(splitter, bytes)?;
@@ -72,6 +99,7 @@ impl Embedded {
         ensures told { OnOk result (map part_change (changes_in self.new.changed) ≡ told_changes self.old) }
         ensures same { told_changes self.new ≡ told_changes self.old }
         ensures plugin { self.new.plugin ≡ self.old.plugin }
+        ensures kept { OnOk result (is_some self.new.changed ≡ true) }
     {
         if self.changed.is_none() {
             self.changed = Some(self.plugin.changed()?);
@@ -86,6 +114,45 @@ impl Embedded {
         match &self.changed {
             Some(parts) => parts,
             None => &[],
+        }
+    }
+
+    /// Asks the orchestrator, once it was told what the store has to be given: the frame that is to be sent, if there is one. A refusal
+    /// leaves everything as it was.
+    pub fn ask(&mut self, command: Command) -> Result<Option<Frame>, OrchFault>
+        requires kind { is_one self.old.plugin ≡ true }
+        requires told { is_some self.old.changed ≡ true }
+        ensures { Carries Sends (command_input command) self.old result self.new }
+    {
+        match &mut self.plugin {
+            Plugin::Orchestrator(service) => match carry_out(service, command) {
+                Ok(sent) => {
+                    let _told = self.changed.take();
+                    Ok(sent)
+                }
+                Err(why) => Err(why),
+            },
+            Plugin::Controller(_) => unreachable!(),
+            Plugin::Node(_) => unreachable!(),
+        }
+    }
+
+    /// Hands the orchestrator a frame that came, as `ask` asks it.
+    pub fn hear(&mut self, frame: &Frame) -> Result<Heard, OrchFault>
+        requires kind { is_one self.old.plugin ≡ true }
+        requires told { is_some self.old.changed ≡ true }
+        ensures { Carries Hears (Comes frame.now) self.old result self.new }
+    {
+        match &mut self.plugin {
+            Plugin::Orchestrator(service) => match service.deliver(frame) {
+                Ok(heard) => {
+                    let _told = self.changed.take();
+                    Ok(heard)
+                }
+                Err(why) => Err(why),
+            },
+            Plugin::Controller(_) => unreachable!(),
+            Plugin::Node(_) => unreachable!(),
         }
     }
 }

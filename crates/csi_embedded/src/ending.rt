@@ -11,13 +11,13 @@ pub enum Ending {
     Done = 0,
     /// An allocation was refused.
     NoMemory = 1,
-    /// The handle has no plugin.
+    /// The handle has nothing.
     Empty = 2,
-    /// The handle has a plugin already.
+    /// The handle has something already.
     Full = 3,
-    /// The bytes are no configuration, or a node can't have the id.
+    /// The bytes are no configuration, or no id, name, target or capability.
     BadName = 4,
-    /// The bytes are no record of this plugin.
+    /// The bytes are no record of what is asked for.
     BadRecord = 5,
     /// The bytes are the beginning of a frame.
     Short = 6,
@@ -31,6 +31,16 @@ pub enum Ending {
     TakenOut = 10,
     /// There is no such part.
     NoMore = 11,
+    /// The orchestrator refused, for a reason that has a number of its own.
+    Refused = 12,
+    /// The call is another kind's: a plugin's of an orchestrator's handle, or the other way round.
+    OtherKind = 13,
+    /// It was done: what is asked is so already, and nothing is sent.
+    Met = 14,
+    /// It was done: the frame is no reply to an open call, and nothing changed.
+    Ignored = 15,
+    /// The record is of an earlier session than that of the node's joining.
+    EarlierSession = 16,
 }
 
 impl Ending {

@@ -17,8 +17,12 @@ use std::alloc::Global;
 // The most bytes of a reply.
 const REPLY_ROOM: usize = 544;
 
-// Puts a plugin that was made into a handle that has none, and gives the number of the call's ending.
-fn put(alloc: Global, plugin: &mut Handle, made: Result<(Embedded, Ending), Ending>) -> u32
+/// Puts what was made into a handle that has nothing, and gives the number of the call's ending.
+pub(crate) fn put(
+    alloc: Global,
+    plugin: &mut Handle,
+    made: Result<(Embedded, Ending), Ending>,
+) -> u32
     requires { plugin.old.held.embedded ≡ None }
     ensures { GivesHandle made plugin.new.held.embedded result }
 {
@@ -47,15 +51,17 @@ pub extern "C" fn tufayon_controller_new(alloc: Global, config: &[u8], plugin: &
     put(alloc, plugin, new_controller(alloc, config))
 }
 
-/// A new node of this id. The handle has to be empty. What the store has to be given then is the node's record.
+/// A new node of this id, which was never in an orchestrator's list: it heard of no session. The handle has to be empty. What the store has to be
+/// given then is the node's record.
 #[unsafe(no_mangle)]
 pub extern "C" fn tufayon_node_new(alloc: Global, id: &[u8], plugin: &mut Handle) -> u32
-    ensures { Makes (λ made ending. IsNewNode id.now made × EndsDone ending) (IsNoId id.now) plugin.old.held.embedded plugin.new.held.embedded result }
+    ensures { Makes (λ made ending. IsNewNode id.now 0 made
+        × EndsDone ending) (IsNoId id.now) plugin.old.held.embedded plugin.new.held.embedded result }
 {
     if plugin.is_full() {
         return Ending::Full.number();
     }
-    put(alloc, plugin, new_node(alloc, id))
+    put(alloc, plugin, new_node(alloc, id, 0))
 }
 
 /// The controller of a whole record, in any version, under the configuration that these bytes say. The handle has to be empty. `Renewed` says that
@@ -83,12 +89,12 @@ pub extern "C" fn tufayon_node_from_record(
     bytes: &[u8],
     plugin: &mut Handle,
 ) -> u32
-    ensures { Makes (IsReadNode id.now bytes.now) (IsNoReadNode id.now bytes.now) plugin.old.held.embedded plugin.new.held.embedded result }
+    ensures { Makes (IsReadNode id.now 0 bytes.now) (IsNoReadNode id.now 0 bytes.now) plugin.old.held.embedded plugin.new.held.embedded result }
 {
     if plugin.is_full() {
         return Ending::Full.number();
     }
-    put(alloc, plugin, read_node(alloc, id, bytes))
+    put(alloc, plugin, read_node(alloc, id, 0, bytes))
 }
 
 // Answers the frame that the bytes begin with, and copies the reply.

@@ -1,8 +1,13 @@
-//! The proved plugins for programs in other languages: a static library, which a C program links and `include/tufayon.h` declares. A plugin is
-//! held by a handle, answers a frame's bytes with those of its reply, and tells what the caller's store has to be given first. This
+//! The proved plugins and the orchestrator for programs in other languages: a static library, which a C program links and `include/tufayon.h`
+//! declares. Each is held by a handle. A plugin answers a frame's bytes with those of its reply; an orchestrator answers a command, a timeout
+//! or a frame that came with the bytes of the frame that is to be sent. Both tell what the caller's store has to be given first. This
 //! profile's own.
 #![tactic(auto)]
 
+mod asking;
+mod capabilities;
+mod command;
+mod commands;
 mod copying;
 mod embedded;
 mod ending;
@@ -10,7 +15,16 @@ mod exports;
 mod front;
 mod handle;
 mod held;
+mod joined_exports;
+mod knowing;
+mod limits;
 mod making;
 mod opened;
+mod orchestrator_exports;
+mod orchestrator_making;
+mod orchestrator_record;
 mod plugin;
+mod sending;
 mod splitting;
+mod texts;
+mod things;

@@ -9,6 +9,7 @@ ghost use Rattle.csi_embedded.specs.Private.Making.{IsEndingOf};
 use crate::embedded::Embedded;
 use crate::ending::Ending;
 use crate::plugin::Plugin;
+use crate::texts::id_of;
 use csi_controller::ControllerRecord;
 use csi_json::{ScheduleFault, read_config};
 use csi_node::NodeRecord;
@@ -17,11 +18,11 @@ use csi_records::{
     read_record,
 };
 use csi_service::{ControllerService, NodeService, Part};
-use csi_types::{Config, NoMemory, NodeId, TextFault};
+use csi_types::{Config, NoMemory};
 use std::alloc::Global;
 
-// The configuration that these bytes say.
-fn config_of(alloc: Global, bytes: &[u8]) -> Result<Config, Ending>
+/// The configuration that these bytes say.
+pub(crate) fn config_of(alloc: Global, bytes: &[u8]) -> Result<Config, Ending>
     ensures made { IfOk result (λ config. text_config bytes.now ≡ Ok config) }
     ensures refused { IfErr result (IsNoConfig bytes.now) }
 {
@@ -31,21 +32,6 @@ fn config_of(alloc: Global, bytes: &[u8]) -> Result<Config, Ending>
     match read_config(alloc, text) {
         Ok(config) => Ok(config),
         Err(ScheduleFault::NoMemory) => Err(Ending::NoMemory),
-        Err(_) => Err(Ending::BadName),
-    }
-}
-
-// The id of a node that these bytes are.
-fn id_of(alloc: Global, bytes: &[u8]) -> Result<NodeId, Ending>
-    ensures made { IfOk result (λ id. id ≡ bytes.now) }
-    ensures refused { IfErr result (IsNoId bytes.now) }
-{
-    let Ok(text) = str::from_utf8(bytes) else {
-        return Err(Ending::BadName);
-    };
-    match NodeId::try_new(alloc, text) {
-        Ok(id) => Ok(id),
-        Err(TextFault::NoMemory) => Err(Ending::NoMemory),
         Err(_) => Err(Ending::BadName),
     }
 }
@@ -77,8 +63,8 @@ fn renewal<T: Record>(
     }
 }
 
-// How a call ends for which no record was read.
-fn ending_of(stop: RecordStop) -> Ending
+/// How a call ends for which no record was read.
+pub(crate) fn ending_of(stop: RecordStop) -> Ending
     ensures { IsEndingOf stop result }
 {
     match stop {
@@ -101,14 +87,14 @@ pub(crate) fn new_controller(alloc: Global, config: &[u8]) -> Result<(Embedded, 
     ))
 }
 
-/// The node of this id, which has no volume. The store has to be given its record.
-pub(crate) fn new_node(alloc: Global, id: &[u8]) -> Result<(Embedded, Ending), Ending>
-    ensures made { IfOk result (λ made. IsNewNode id.now made.0 × EndsDone made.1) }
+/// The node of this id that joins with this session, which has no volume. The store has to be given its record.
+pub(crate) fn new_node(alloc: Global, id: &[u8], session: u64) -> Result<(Embedded, Ending), Ending>
+    ensures made { IfOk result (λ made. IsNewNode id.now session made.0 × EndsDone made.1) }
     ensures refused { IfErr result (IsNoId id.now) }
 {
     let id = id_of(alloc, id)?;
-    let head = head_part(alloc, node_head_value(alloc, &id, 0)?)?;
-    let service = NodeService::new(alloc, id)?;
+    let head = head_part(alloc, node_head_value(alloc, &id, session)?)?;
+    let service = NodeService::new(alloc, id, session)?;
     Ok((
         Embedded::new(alloc, Plugin::Node(service), head),
         Ending::Done,
@@ -138,14 +124,16 @@ pub(crate) fn read_controller(
     ))
 }
 
-/// The node of this id, of a record's bytes, in any version; and how that ends, as `read_controller` says.
+/// The node of this id, which joined with this session, of a record's bytes, in any version; and how that ends, as `read_controller` says.
+/// A record of an earlier session is refused, in an earlier version by the greatest of its last calls.
 pub(crate) fn read_node(
     alloc: Global,
     id: &[u8],
+    session: u64,
     bytes: &[u8],
 ) -> Result<(Embedded, Ending), Ending>
-    ensures made { IfOk result (λ made. IsReadNode id.now bytes.now made.0 made.1) }
-    ensures refused { IfErr result (IsNoReadNode id.now bytes.now) }
+    ensures made { IfOk result (λ made. IsReadNode id.now session bytes.now made.0 made.1) }
+    ensures refused { IfErr result (IsNoReadNode id.now session bytes.now) }
 {
     let id = id_of(alloc, id)?;
     let Stored { kept, version } = match read_record::<NodeRecord>(alloc, bytes) {
@@ -154,6 +142,9 @@ pub(crate) fn read_node(
     };
     if *kept.id() != id {
         return Err(Ending::BadRecord);
+    }
+    if kept.session() < session {
+        return Err(Ending::EarlierSession);
     }
     let (changed, ending) = renewal(alloc, &kept, version)?;
     let service = NodeService::from_record(alloc, kept)?;

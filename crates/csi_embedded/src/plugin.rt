@@ -1,27 +1,41 @@
-//! The plugin of a handle: a controller or a node.
-ghost use Rattle.std.specs.Prelude.{◌≡◌, ◌≤◌, ◌+◌, map, length, IfOk, OnOk, OnErr};
+//! What a handle has: a controller, a node or an orchestrator.
+ghost use Rattle.std.specs.Prelude.{◌≡◌, ◌≤◌, ◌+◌, false, map, length, IfOk, OnOk, OnErr};
 ghost use Rattle.csi_frames.specs.Public.Lent.{lent_frame};
 ghost use Rattle.csi_stores.specs.Public.Part.{part_change};
 ghost use Rattle.csi_stores.specs.Public.Content.{all_changed};
 ghost use Rattle.csi_service.specs.Public.Answering.{AppendsReply};
-ghost use Rattle.csi_embedded.specs.Public.Plugins.{plugin_parts, plugin_changes, PluginAnswers, IsAsItWas, IsPluginRecord};
+ghost use Rattle.csi_embedded.specs.Public.Plugins.{plugin_parts, plugin_changes, is_orchestrator as is_one, PluginAnswers, IsAsItWas, IsPluginRecord};
 
+use crate::orchestrator_record::orchestrator_record;
 use csi_frames::FrameRef;
-use csi_service::{ControllerService, Core, NodeService, Part, write_record};
+use csi_service::{ControllerService, Core, NodeService, OrchestratorService, Part, write_record};
 use csi_types::NoMemory;
 use std::alloc::Global;
 
-/// A controller or a node, with what its last call changed.
+/// A controller, a node or an orchestrator, with what its last call changed.
 #[derive(Drop)]
 pub enum Plugin {
     Controller(ControllerService),
     Node(NodeService),
+    Orchestrator(OrchestratorService),
 }
 
 impl Plugin {
+    /// Whether it is an orchestrator. It takes no memory.
+    pub fn is_orchestrator(&self) -> bool
+        ensures { result ≡ is_one self.now }
+    {
+        match self {
+            Plugin::Orchestrator(_) => true,
+            Plugin::Controller(_) => false,
+            Plugin::Node(_) => false,
+        }
+    }
+
     /// Answers a frame that is lent, and appends the bytes of its reply, if it has one: whether it has. A refusal leaves the plugin as it
-    /// was.
+    /// was. An orchestrator answers none.
     pub fn answer_into(&mut self, frame: &FrameRef<'_>, out: &mut Vec<u8>) -> Result<bool, NoMemory>
+        requires { is_one self.old ≡ false }
         ensures answered { IfOk result (AppendsReply PluginAnswers self.old (lent_frame frame.now) self.new out.old.items out.new.items) }
         ensures few { OnOk result (length out.new.items ≤ length out.old.items + 544) }
         ensures parts { OnOk result (plugin_parts self.new ≡ all_changed (plugin_changes self.new) (plugin_parts self.old)) }
@@ -30,6 +44,7 @@ impl Plugin {
         match self {
             Plugin::Controller(service) => service.answer_into(frame, out),
             Plugin::Node(service) => service.answer_into(frame, out),
+            Plugin::Orchestrator(_) => unreachable!(),
         }
     }
 
@@ -40,6 +55,7 @@ impl Plugin {
         match self {
             Plugin::Controller(service) => service.parts(),
             Plugin::Node(service) => service.parts(),
+            Plugin::Orchestrator(service) => service.parts(),
         }
     }
 
@@ -56,6 +72,7 @@ impl Plugin {
                 let kept = service.record()?;
                 write_record(alloc, &kept)
             }
+            Plugin::Orchestrator(service) => orchestrator_record(alloc, service),
         }
     }
 }

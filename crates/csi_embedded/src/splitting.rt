@@ -1,8 +1,8 @@
 //! The frame that bytes begin with, answered as it is lent.
-ghost use Rattle.std.specs.Prelude.{◌≡◌, ◌≤◌, ◌+◌, [], None, length, IfOk, OnOk, OnErr};
+ghost use Rattle.std.specs.Prelude.{◌≡◌, ◌≤◌, ◌+◌, [], None, false, length, IfOk, OnOk, OnErr};
 ghost use Rattle.csi_stores.specs.Public.Content.{all_changed};
 ghost use Rattle.csi_embedded.specs.Private.Calls.{AnswersFirst};
-ghost use Rattle.csi_embedded.specs.Public.Plugins.{plugin_parts, plugin_changes, IsAsItWas};
+ghost use Rattle.csi_embedded.specs.Public.Plugins.{plugin_parts, plugin_changes, is_orchestrator, IsAsItWas};
 
 use crate::ending::Ending;
 use crate::plugin::Plugin;
@@ -41,7 +41,8 @@ pub(crate) fn answer_next(
     plugin: &mut Plugin,
     reply: &mut Vec<u8>,
 ) -> Result<(), Ending>
-    requires { splitter.old.fault ≡ None }
+    requires clear { splitter.old.fault ≡ None }
+    requires kind { is_orchestrator plugin.old ≡ false }
     ensures answered { AnswersFirst plugin.old splitter.old.kept plugin.new splitter.new.kept reply.old.items reply.new.items result }
     ensures few { OnOk result (length reply.new.items ≤ length reply.old.items + 544) }
     ensures clear { OnOk result (splitter.new.fault ≡ None) }

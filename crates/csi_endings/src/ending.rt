@@ -26,6 +26,8 @@ pub enum Ending {
     ConfigRefused,
     /// The store has no record of this plugin: the position, from 0, of the first part that is refused.
     RecordFault(u64),
+    /// The node's store is of an earlier session than that of its joining: it is a lost node's.
+    EarlierSession,
     /// The line of this number, from 1, is too long.
     LineFault(u64),
     /// No session is left for an orchestrator that begins another.
@@ -51,7 +53,7 @@ impl Ending {
         match self {
             Ending::Done => 0,
             Ending::FrameFault(..) | Ending::ScheduleFault(_) | Ending::NotUtf8 => 1,
-            Ending::ConfigRefused | Ending::RecordFault(_) => 1,
+            Ending::ConfigRefused | Ending::RecordFault(_) | Ending::EarlierSession => 1,
             Ending::LineFault(_) | Ending::NumbersSpent => 1,
             Ending::Usage => 2,
             Ending::Device | Ending::StoreNotOpened | Ending::Endless | Ending::Memory => 3,
@@ -132,6 +134,7 @@ impl fmt::Display for Ending {
             Ending::NotUtf8 => write!(f, "csi-replay: not UTF-8"),
             Ending::ConfigRefused => write!(f, "csi-replay: config refused"),
             Ending::RecordFault(place) => write!(f, "csi-replay: record fault at {place}"),
+            Ending::EarlierSession => write!(f, "csi-replay: store of an earlier session"),
             Ending::LineFault(number) => write!(f, "csi-replay: line fault at {number}"),
             Ending::NumbersSpent => write!(f, "csi-replay: numbers spent"),
             Ending::Usage => write!(f, "csi-replay: usage"),

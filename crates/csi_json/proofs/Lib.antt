@@ -7,3 +7,4 @@ pub mod PlainSchedules
 pub mod UsualCommands
 pub mod HexTexts
 pub mod LineTexts
+pub mod AskedCommands

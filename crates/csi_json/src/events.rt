@@ -2,7 +2,8 @@
 ghost use Rattle.std.specs.Prelude.{◌≡◌};
 ghost use Rattle.serde_json.specs.View.{view};
 ghost use Rattle.csi_json.specs.Private.Json.{Reads};
-ghost use Rattle.csi_json.specs.Public.Events.{create_of, use_of, stop_of, delete_of, timeout_of, deliver_of, restart_of, restart_node_of, event_at as at_key, event_of};
+ghost use Rattle.csi_json.specs.Public.Events.{create_of, use_of, stop_of, delete_of, timeout_of, deliver_of, restart_of, restart_node_of};
+ghost use Rattle.csi_json.specs.Public.Events.{event_at as at_key, event_of};
 
 use crate::access::{capabilities_at, capability};
 use crate::texts::{name, name_at, node_id, node_id_at, target_at};

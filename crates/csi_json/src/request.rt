@@ -5,7 +5,7 @@ ghost use Rattle.serde_json.specs.View.{view};
 ghost use Rattle.csi_json.specs.Private.Json.{Reads};
 ghost use Rattle.csi_json.specs.Public.Json.{only_member as sole};
 ghost use Rattle.csi_json.specs.Public.Requests.{request_shown, is_command_key, bytes_of, request_at as at_key, request_of, request_read};
-ghost use Rattle.csi_json.specs.Public.Requests.{line_request, IsRequestFault};
+ghost use Rattle.csi_json.specs.Public.Requests.{line_request, IsAsked, IsRequestFault};
 
 use crate::events::event_at;
 use crate::hexadecimal::hex_bytes;
@@ -90,6 +90,7 @@ fn text_request(alloc: Global, text: &str) -> Result<Request, RequestFault>
 /// `BadFrame` where a reply isn't hexadecimal, and else `BadLine`. `NoMemory` can come at any step.
 pub fn read_request(alloc: Global, line: &[u8]) -> Result<Request, RequestFault>
     ensures read { IfOk result (λ request. line_request line.now ≡ Ok (request_shown request)) }
+    ensures asked { IfOk result (λ request. IsAsked (request_shown request)) }
     ensures fault { IfErr result (IsRequestFault (line_request line.now)) }
 {
     match str::from_utf8(line) {

@@ -24,6 +24,7 @@ pub mod ShowingLaw
 pub mod TableLaw
 pub mod SafeStates
 pub mod StagedOnce
+pub mod JoiningLaw
 mod SoundRow
 pub mod PutRows
 pub mod Forgotten

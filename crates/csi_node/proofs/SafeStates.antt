@@ -11,7 +11,7 @@ use Rattle.csi_types.specs.Model.Sharing.{allows_one_target}
 use Rattle.csi_fence.specs.Model.Fence.{Kept}
 use Rattle.csi_fence.specs.Model.Fenced.{Fenced}
 use Rattle.csi_fence.proofs.FramesKeep.{IsKept, frames_keep}
-use Rattle.csi_node.specs.Model.State.{NodeState, StagedVolume, PublishedVolume, empty_node, staged_of, published_of, is_published_at, volume_of}
+use Rattle.csi_node.specs.Model.State.{NodeState, StagedVolume, PublishedVolume, joined_node, staged_of, published_of, is_published_at, volume_of}
 use Rattle.csi_node.specs.Model.Table.{Outcome, Change, Stages, Unstages, Publishes, Unpublishes, lifecycle_row, node_row, changed}
 use Rattle.csi_node.specs.Model.Fenced.{keep, begun, carried_out, node_at}
 use Rattle.csi_node.specs.Public.Fenced.{after_frames}
@@ -118,9 +118,9 @@ is_kept node = record {
 }
 
 -- in a node that has answered nothing, what is published is right
-empty_right : IsPublishedRight empty_node
-empty_right = record { staged = λ p among. absurd among; targets = tt }
+joined_right : (session : ℕ) → IsPublishedRight (joined_node session)
+joined_right session = record { staged = λ p among. absurd among; targets = tt }
 
 -- after any frames to a new node, what is published is right
-pub all_right : (node : List ℕ) (frames : List Frame) → IsPublishedRight (after_frames node empty_node frames)
-all_right node frames = frames_keep (node_at node) IsPublishedRight (is_kept node) empty_node frames empty_right
+pub all_right : (node : List ℕ) (session : ℕ) (frames : List Frame) → IsPublishedRight (after_frames node (joined_node session) frames)
+all_right node session frames = frames_keep (node_at node) IsPublishedRight (is_kept node) (joined_node session) frames (joined_right session)

@@ -13,7 +13,7 @@ use Rattle.csi_types.specs.Model.Frame.{Frame}
 use Rattle.csi_fence.specs.Model.Fence.{Kept}
 use Rattle.csi_fence.specs.Model.Fenced.{Fenced}
 use Rattle.csi_fence.proofs.FramesKeep.{IsKept, frames_keep}
-use Rattle.csi_node.specs.Model.State.{NodeState, AnsweredVolume, StagedVolume, empty_node, staged_of, volume_of}
+use Rattle.csi_node.specs.Model.State.{NodeState, AnsweredVolume, StagedVolume, joined_node, staged_of, volume_of}
 use Rattle.csi_node.specs.Model.Table.{lifecycle_row, node_row, changed}
 use Rattle.csi_node.specs.Model.Fenced.{keep, begun, carried_out, node_at}
 use Rattle.csi_node.specs.Public.Fenced.{after_frames}
@@ -130,5 +130,5 @@ is_kept node = record {
 }
 
 -- after any frames to a new node
-pub all_current : (node : List ℕ) (frames : List Frame) → AreCurrent (after_frames node empty_node frames)
-all_current node frames = frames_keep (node_at node) AreCurrent (is_kept node) empty_node frames (record { each = λ row among. absurd among; before = λ row among. absurd among })
+pub all_current : (node : List ℕ) (session : ℕ) (frames : List Frame) → AreCurrent (after_frames node (joined_node session) frames)
+all_current node session frames = frames_keep (node_at node) AreCurrent (is_kept node) (joined_node session) frames (record { each = λ row among. absurd among; before = λ row among. absurd among })

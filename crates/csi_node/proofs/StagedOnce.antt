@@ -15,7 +15,7 @@ use Rattle.csi_fence.proofs.FramesKeep.{IsKept, frames_keep}
 use Rattle.csi_lists.specs.Model.Members.{IsAmong}
 use Rattle.csi_lists.proofs.Options.{option_or-none, option_or-read, none-from_map}
 use Rattle.csi_lists.proofs.Members.{passes-filter}
-use Rattle.csi_node.specs.Model.State.{NodeState, StagedVolume, empty_node, staged_of, volume_of}
+use Rattle.csi_node.specs.Model.State.{NodeState, StagedVolume, joined_node, staged_of, volume_of}
 use Rattle.csi_node.specs.Model.Table.{Outcome, Stages, Unstages, lifecycle_row, node_row, changed}
 use Rattle.csi_node.specs.Model.Fenced.{keep, carried_out, node_at}
 use Rattle.csi_node.specs.Public.Fenced.{after_frames}
@@ -92,5 +92,5 @@ is_kept node = record {
 }
 
 -- after any frames to a new node, each staged volume is found as it is staged
-pub all_found : (node : List ℕ) (frames : List Frame) → AreFound (after_frames node empty_node frames)
-all_found node frames = frames_keep (node_at node) AreFound (is_kept node) empty_node frames (λ staged among. absurd among)
+pub all_found : (node : List ℕ) (session : ℕ) (frames : List Frame) → AreFound (after_frames node (joined_node session) frames)
+all_found node session frames = frames_keep (node_at node) AreFound (is_kept node) (joined_node session) frames (λ staged among. absurd among)

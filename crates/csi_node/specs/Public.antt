@@ -5,6 +5,7 @@ pub mod WithoutSession
 pub mod Views
 pub mod Laws
 pub mod Safe
+pub mod Joining
 pub mod View
 pub mod Judging
 pub mod Changes

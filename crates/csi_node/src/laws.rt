@@ -1,4 +1,5 @@
 //! The laws of the node's table, and of every node.
+ghost use Rattle.csi_node.specs.Public.Joining.{NodeJoiningLaw};
 ghost use Rattle.csi_node.specs.Public.Laws.{NodeTableLaw};
 ghost use Rattle.csi_node.specs.Model.Record.{parts, Shows};
 ghost use Rattle.csi_node.specs.Public.Record.{AreSoundRows, IsCurrent};
@@ -17,8 +18,8 @@ pub fn table_law()
     ensures { NodeTableLaw }
 {}
 
-/// A law, and nothing that runs: in every state that frames lead to, whichever they are, what is published is
-/// staged in the same capability, and a volume in a mode that allows one target is published at one at most
+/// A law, and nothing that runs: in every state that frames lead to, whichever they are and whichever session the node joined with, what is
+/// published is staged in the same capability, and a volume in a mode that allows one target is published at one at most
 /// (CSI's spec.md, "Volume Lifecycle", and "NodePublishVolume" on several targets).
 pub fn safety_law()
     ensures { NodeSafetyLaw }
@@ -38,6 +39,13 @@ pub fn delivery_law()
 /// than staged volumes and volumes whose last call is of that session, however many calls came (this profile's own).
 pub fn sessions_law()
     ensures { NodeSessionsLaw }
+{}
+
+/// A law, and nothing that runs: whatever frames came to a node that heard of a session when it joined, a call of an earlier one is stale
+/// and changes nothing, also one of a volume that the node never heard of; and no frame takes the session back. So what was sent
+/// to a lost node of this id does nothing at the one that joined in its place. This profile's own.
+pub fn joining_law()
+    ensures { NodeJoiningLaw }
 {}
 
 /// A law, and nothing that runs: in every state that a node shows, whatever it was asked and whichever record it

@@ -23,7 +23,8 @@ mod worked;
 pub use csi_fence::{Answer, CoreFault, RecordFault};
 pub use entries::{Published, Staged};
 pub use laws::{
-    delivery_law, publishing_law, record_law, safety_law, sessions_law, showing_law, table_law,
+    delivery_law, joining_law, publishing_law, record_law, safety_law, sessions_law, showing_law,
+    table_law,
 };
 pub use node::Node;
 pub use record::NodeRecord;

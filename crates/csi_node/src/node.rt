@@ -20,8 +20,9 @@ use std::marker::Model;
 
 /// The node plugin of one node: which volumes are staged there and at which targets they are published, behind a
 /// fence that keeps a call from being carried out twice (CSI's spec.md, "NodeStageVolume" to
-/// "NodeUnpublishVolume"; the fence is this profile's own). Once a call of a later session than the greatest that came begins it,
-/// the rows of volumes that aren't staged are forgotten, and calls of earlier sessions are stale. A contract sees its record.
+/// "NodeUnpublishVolume"; the fence is this profile's own). Calls of earlier sessions than the greatest that it heard of, at its
+/// joining or by a call, are stale; where a call of a later one begins it, the rows of volumes that aren't staged are forgotten. A
+/// contract sees its record.
 #[derive(Drop)]
 pub struct Node {
     alloc: Global,
@@ -73,23 +74,20 @@ impl Node {
     ghost use Rattle.std.specs.List.{flat_map};
     ghost use Rattle.csi_node.specs.Public.Views.{staged_shown, published_shown, ListsStaged, ListsPublished};
     ghost use Rattle.csi_node.specs.Model.Shown.{row_in, answered_of_row};
-    ghost use Rattle.csi_node.specs.Model.State.{NodeState, empty_node, row_with_id};
+    ghost use Rattle.csi_node.specs.Model.State.{NodeState, joined_node, row_with_id};
 
-    /// A node of this id that has answered nothing. It takes no memory.
-    pub fn new(alloc: Global, id: NodeId) -> Node
+    /// A node of this id that joins with this session: it has answered nothing and has no volume, and calls of earlier sessions are stale
+    /// to it. The session is the word of its joining: the orchestrator's present one, at least the one that began when the id
+    /// was lost. 0 is right only for an id that was never in an orchestrator's list. This profile's own. It takes no memory.
+    pub fn new(alloc: Global, id: NodeId, session: u64) -> Node
         ensures id { result.id ≡ id }
-        ensures session { result.session ≡ 0 }
+        ensures session { result.session ≡ session }
         ensures rows { result.rows ≡ [] }
-        ensures empty { Shows result empty_node }
+        ensures joined { Shows result (joined_node session) }
     {
-        Node {
-            alloc,
-            record: NodeRecord {
-                id,
-                session: 0,
-                rows: Vec::new(alloc),
-            },
-        }
+        let rows = Vec::new(alloc);
+        let record = NodeRecord { id, session, rows };
+        Node { alloc, record }
     }
 
     /// The node's id. It takes no memory.
@@ -247,7 +245,7 @@ impl Node {
         self.record.rows().get(place)
     }
 
-    /// The greatest session of which a call came, 0 before any did. It takes no memory.
+    /// The greatest session that it heard of, at its joining or by a call, 0 before any. It takes no memory.
     pub fn session(&self) -> u64
         ensures { result ≡ self.now.session }
     {

@@ -12,11 +12,11 @@ use csi_types::{CallRef, NodeId, Number, Status, VolumeId};
 use std::alloc::Global;
 use std::marker::Model;
 
-/// A node's record: its id, the greatest session of which a call came, and a row for each volume for which it answered a call
-/// and that it hasn't forgotten, at most 4,096, by rising id.
+/// A node's record: its id, the greatest session that it heard of, at its joining or by a call, and a row for each volume for which it
+/// answered a call and that it hasn't forgotten, at most 4,096, by rising id.
 /// A volume that has targets is staged; its targets are paths from the root, at most 16, and each is there once;
 /// in a mode that allows one target there is at most one; the kept reply is one to a node's call; and that call is of no later
-/// session than the greatest that came, and of that one where the volume isn't staged. A contract sees it as the id's text,
+/// session than that, and of that one where the volume isn't staged. A contract sees it as the id's text,
 /// the session and the rows.
 pub struct NodeRecord {
     pub(crate) id: NodeId,
@@ -57,8 +57,8 @@ impl NodeRecord {
     ghost use Rattle.csi_node.specs.Private.Step.{AnswersCall};
     ghost use Rattle.csi_node.specs.Public.WithoutSession.{without_session as kept_without_session};
 
-    /// The record of the node of this id that has these rows, by rising id, and of which this is the greatest session of a call
-    /// that came (this profile's own). It is refused with `BadRow` at the first row that no record has there: its id isn't above the
+    /// The record of the node of this id that has these rows, by rising id, and of which this is the greatest session that it heard
+    /// of (this profile's own). It is refused with `BadRow` at the first row that no record has there: its id isn't above the
     /// one before it; it has targets and isn't staged, more than 16, one twice, one that doesn't begin with `/`, or two in a mode
     /// that allows one; its kept reply isn't one of a node; its last call is of a later session, or of an earlier one where it isn't
     /// staged; or 4,096 rows stand before it. It takes no memory, and so doesn't answer `NoMemory`.
@@ -97,7 +97,7 @@ impl NodeRecord {
         }
     }
 
-    /// The greatest session of which a call came, 0 before any did. It takes no memory.
+    /// The greatest session that the node heard of, at its joining or by a call, 0 before any. It takes no memory.
     pub fn session(&self) -> u64
         ensures { result ≡ self.now.session }
     {

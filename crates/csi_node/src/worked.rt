@@ -1,7 +1,7 @@
 //! Worked examples of the node's table and fence, and the law of a full node. Each function proves a statement,
 //! and does nothing.
 ghost use Rattle.csi_node.specs.Private.Worked.{OneTargetRow, TwoTargetsRow, ManyTargetsRow, LateStageRow, KeptRefusalRow, OtherNodeRow};
-ghost use Rattle.csi_node.specs.Private.Worked.{ForgottenRows, FullNodeRefuses, FullNodeForgets, EmptyIsShown, LawsTellPublish};
+ghost use Rattle.csi_node.specs.Private.Worked.{ForgottenRows, FullNodeRefuses, FullNodeForgets, LateAtJoinedRow, EmptyIsShown, LawsTellPublish};
 
 fn one_target()
     ensures { OneTargetRow }
@@ -37,6 +37,10 @@ fn full_node()
 
 fn full_node_forgets()
     ensures { FullNodeForgets }
+{}
+
+fn late_at_joined()
+    ensures { LateAtJoinedRow }
 {}
 
 fn empty()

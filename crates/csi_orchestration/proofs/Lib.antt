@@ -4,3 +4,7 @@ pub mod LinesServed
 pub mod JoinedLines
 pub mod OrchestratorResponding
 pub mod OpenedOrchestrators
+pub mod HeardVolumes
+pub mod OrchestratorHistories
+pub mod OrchestratorRuns
+pub mod OrchestratorWorlds

@@ -2,8 +2,10 @@
 use Rattle.std.proofs.Common.{◌≡◌, inl, inr, sym, subst, refl, ℕ, List}
 use Rattle.csi_stores.specs.declared.counted.Counted.{Counted}
 use Rattle.csi_stores.specs.Public.Part.{StoredPart}
+use Rattle.csi_records.specs.Public.OrchestratorRecords.{IsOrchestratorOf}
+use Rattle.csi_records.specs.Public.Spelling.{present}
 use Rattle.csi_service.specs.Public.OrchestratorOpening.{HasOrchestrator, IsOrchestratorOpened, orchestrator_rules}
-use Rattle.csi_service.specs.Public.OrchestratorServices.{ServedOrchestrator, AreFitOrchestratorRows}
+use Rattle.csi_service.specs.Public.OrchestratorServices.{ServedOrchestrator, kept_of, orchestrator_service_parts, AreFitOrchestratorRows}
 use Rattle.csi_service.specs.Public.StoreOpening.{LeavesOpening}
 use Rattle.csi_endings.specs.declared.ending.Ending.{Ending}
 use Rattle.csi_orchestration.specs.declared.orchestrator_responder.OrchestratorResponder.{OrchestratorResponder}
@@ -15,12 +17,13 @@ use Rattle.std.specs.Prelude.{Option}
 
 -- what opening gave is a responder's
 pub opened-with : {K R W : Type 0} (setting : RunSetting OrchestratorResponder K R W) (nodes : List (List ℕ)) (before opened : K) (service : ServedOrchestrator) (responder : OrchestratorResponder) → responder.service ≡ service
-    → HasOrchestrator nodes (setting.seen before) (setting.seen opened) service → service.orchestrator.nodes ≡ nodes → AreFitOrchestratorRows service.orchestrator.rows
+    → HasOrchestrator nodes (setting.seen before) (setting.seen opened) service → service.orchestrator.nodes ≡ nodes → AreFitOrchestratorRows service.orchestrator.rows → IsOrchestratorOf present (orchestrator_service_parts service) (kept_of service.orchestrator)
     → ((setting.seen opened).honest → (setting.seen before).honest) → LeavesOpening (orchestrator_rules nodes) (setting.seen before) (setting.seen opened) → IsOpened setting nodes before opened responder
-opened-with setting nodes before opened service responder same found asked fit honest left = record {
+opened-with setting nodes before opened service responder same found asked fit its honest left = record {
   found = subst (HasOrchestrator nodes (setting.seen before) (setting.seen opened)) (sym same) found;
   asked = subst (λ (s : ServedOrchestrator). s.orchestrator.nodes ≡ nodes) (sym same) asked;
   fit = subst (λ (s : ServedOrchestrator). AreFitOrchestratorRows s.orchestrator.rows) (sym same) fit;
+  its = subst (λ (s : ServedOrchestrator). IsOrchestratorOf present (orchestrator_service_parts s) (kept_of s.orchestrator)) (sym same) its;
   honest = honest;
   left = left;
 }
@@ -46,8 +49,14 @@ run seen remaining contents nodes before opened after reader read writer written
         responder = responder;
         opened = opened;
         is_opened = λ honest content holds.
-            let found = is.found honest content holds in
-            (subst (λ (asked : List (List ℕ)). IsOrchestratorOpened asked content responder.service.orchestrator) (sym is.asked) found.0, found.2);
+            let found = is.found honest content holds in (
+              record {
+                opened = subst (λ (asked : List (List ℕ)). IsOrchestratorOpened asked content responder.service.orchestrator) (sym is.asked) found.0;
+                fit = is.fit;
+                its = is.its;
+              },
+              found.2,
+            );
         served = on.served;
       };
       is_opened = is;

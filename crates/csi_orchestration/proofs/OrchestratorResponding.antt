@@ -10,27 +10,12 @@ use Rattle.csi_frames.specs.Public.Spelling.{Spells, BeginsWith}
 use Rattle.csi_json.specs.declared.request_fault.RequestFault.{RequestFault}
 use Rattle.csi_json.specs.declared.request_fault.RequestFault.TheVariants as no_requests
 use Rattle.csi_json.specs.Public.Requests.{RequestShown, IsRequestFault}
-use Rattle.csi_stores.specs.Public.Part.{StoredPart}
-use Rattle.csi_records.specs.Public.OrchestratorRecords.{orchestrator_layout}
-use Rattle.csi_records.specs.Public.OrchestratorSpelling.{KeyedRow}
-use Rattle.csi_records.specs.Public.Records.{AreParts, IsRecordOf}
-use Rattle.csi_records.specs.Public.Spelling.{present}
-use Rattle.csi_service.specs.Public.Answering.{AreRecord}
 use Rattle.csi_orchestration.specs.declared.orchestrator_responder.OrchestratorResponder.{OrchestratorResponder}
 use Rattle.csi_orchestration.specs.Public.OrchestratorLines.{AnswersFault, AnswersReply}
-use Rattle.csi_orchestration.specs.Public.OrchestratorResponding.{SpellsOrchestrator}
 use Rattle.csi_orchestration.specs.Private.OrchestratorResponding.{IsTold}
 
--- parts of a record are read as an orchestrator's
-pub record-of : (parts : List StoredPart) → IsRecordOf (orchestrator_layout present) parts → AreRecord SpellsOrchestrator parts
-record-of parts r =
-    let rules = r.spelled.rules in (
-      record { nodes = r.first.nodes; session = r.first.session; rows = rules.rows },
-      subst (λ (keyed : List KeyedRow). AreParts (orchestrator_layout present) r.first keyed parts) rules.places r.spelled,
-    )
-
 -- bytes that are a frame begin with it
-whole : (bytes : List ℕ) (frame : Frame) → Spells frame bytes → BeginsWith bytes frame (length bytes)
+pub whole : (bytes : List ℕ) (frame : Frame) → Spells frame bytes → BeginsWith bytes frame (length bytes)
 whole bytes frame spells = record { within = omega arith; spelled = subst (λ (bs : List ℕ). Spells frame bs) (sym (take_all (length bytes) bytes (omega arith))) spells }
 
 -- how many bytes a frame took

@@ -7,3 +7,5 @@ pub mod OrchestratorResponding
 pub mod Ending
 pub mod Running
 pub mod Nodes
+pub mod OrchestratorHistories
+pub mod OrchestratorWorlds

@@ -221,6 +221,7 @@ impl Responder for OrchestratorResponder {
 
     fn answer_into(&mut self, line: &[u8], out: &mut Vec<u8>) -> Result<(), NoMemory> {
         let mut text = self.answer(line)?;
+        self.service.record_law();
         text.push_str("\n")?;
         out.extend_from_slice(text.as_bytes())?;
         Ok(())

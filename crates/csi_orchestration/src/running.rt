@@ -1,7 +1,8 @@
 //! An orchestrator's process, but for what it asks of the system.
 ghost use Rattle.std.specs.Prelude.{ℕ, IfOk, string_bytes};
 ghost use Rattle.csi_orchestration.specs.Public.Ending.{EndsAt};
-ghost use Rattle.csi_orchestration.specs.Public.LinesRuns.{LinesRunsLaw};
+ghost use Rattle.csi_orchestration.specs.Public.OrchestratorHistories.{OrchestratorRunsLaw};
+ghost use Rattle.csi_orchestration.specs.Public.OrchestratorWorlds.{WorldsLaw};
 ghost use Rattle.csi_orchestration.specs.Public.Running.{orchestrator_setting, IsFirstLine, WritesFirst, OrchestratorRuns};
 ghost use Rattle.csi_orchestration.specs.Private.Running.{Begins};
 
@@ -10,7 +11,7 @@ use crate::lines_runs::lines_runs_law;
 use crate::lines_serving::serve_lines;
 use crate::orchestrator_responder::OrchestratorResponder;
 use csi_endings::Ending;
-use csi_orchestrator::Orchestrator;
+use csi_orchestrator::{Orchestrator, form_law, records_law};
 use csi_reports::opened_line;
 use csi_service::OrchestratorService;
 use csi_stores::{Counted, Keep, write_out};
@@ -52,7 +53,8 @@ fn served<K: Keep, R: Read, W: Write>(
     reader: &mut Counted<R>,
     writer: &mut Counted<W>,
 ) -> Ending
-    ensures begins { Begins (orchestrator_setting K.store R.remaining W.contents) responder keep.old keep.new reader.old reader.new writer.old writer.new result }
+    ensures begins { Begins (orchestrator_setting K.store R.remaining W.contents) responder
+        keep.old keep.new reader.old reader.new writer.old writer.new result }
     ensures honest { (K.store keep.new).honest → (K.store keep.old).honest }
 {
     match begin(alloc, responder.service().orchestrator(), writer) {
@@ -78,12 +80,14 @@ pub fn orchestrator<K: Keep, R: Read, W: Write>(
     reader: &mut Counted<R>,
     writer: &mut Counted<W>,
 ) -> Ending
-    ensures runs { OrchestratorRuns (orchestrator_setting K.store R.remaining W.contents) nodes.items keep.old keep.new reader.old reader.new writer.old writer.new result }
+    ensures runs { OrchestratorRuns (orchestrator_setting K.store R.remaining W.contents) nodes.items
+        keep.old keep.new reader.old reader.new writer.old writer.new result }
     ensures honest { (K.store keep.new).honest → (K.store keep.old).honest }
     ensures foreign { (K.store keep.new).honest → (place : ℕ) → (K.store keep.old).foreign place → EndsAt place result }
 {
     match OrchestratorService::open(alloc, nodes, keep) {
         Ok(service) => {
+            service.record_law();
             let responder = OrchestratorResponder::new(alloc, service);
             served(alloc, responder, keep, reader, writer)
         }
@@ -92,9 +96,21 @@ pub fn orchestrator<K: Keep, R: Read, W: Write>(
 }
 
 /// A law, and nothing that runs: two runs of an orchestrator over one store, one after another, however each ended, are one run, in which
-/// the orchestrator was opened again between, in the next session (`lines_runs_law`). This profile's own.
+/// the orchestrator was opened again between, in the next session (`lines_runs_law`). From each history that the first one's orchestrator
+/// shows, and it shows one, this is a run of the stated machine with a restart between: each answer tells what `moves` says, and the frame
+/// that is sent then. This profile's own.
 pub fn orchestrator_runs_law<K: Keep, R: Read, W: Write>()
-    ensures { LinesRunsLaw (orchestrator_setting K.store R.remaining W.contents) }
+    ensures { OrchestratorRunsLaw K.store R.remaining W.contents }
 {
+    form_law();
+    records_law();
     lines_runs_law::<OrchestratorResponder, K, R, W>();
 }
+
+/// A law, and nothing that runs: a run of the stated machines of which the orchestrator gets what lines ask, whatever else happens in it,
+/// leads its orchestrator's history as the lines lead it, and a restart there is the one between two runs (`orchestrator_runs_law`). So what
+/// is proved of all such runs, as that they are safe, is so of two runs of an orchestrator that is served, where each reply that came was
+/// sent; what was committed and not written is a frame that is sent and never delivered. This profile's own.
+pub fn worlds_law()
+    ensures { WorldsLaw }
+{}

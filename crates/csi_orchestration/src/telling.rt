@@ -1,7 +1,7 @@
 //! The lines in which an orchestrator tells what it answered.
-ghost use Rattle.std.specs.Prelude.{◌≡◌, Option, Some, None, option_map, option_and_then, Ok, Err, IfOk, OnOk, string_bytes};
+ghost use Rattle.std.specs.Prelude.{◌≡◌, Some, None, option_and_then, Err, IfOk, OnOk, string_bytes};
 ghost use Rattle.serde_json.specs.Written.{compact_text};
-ghost use Rattle.csi_orchestrator.specs.declared.fault.Heard.{Heard as HeardShown};
+ghost use Rattle.csi_orchestrator.specs.Model.Shown.{goal_in};
 ghost use Rattle.csi_orchestrator.specs.Public.Changed.{place_by_name};
 ghost use Rattle.csi_orchestrator.specs.Public.Shown.{row_shown};
 ghost use Rattle.csi_reports.specs.Public.Responses.{goal_now, answer_entry};
@@ -32,14 +32,14 @@ fn sending_line(
     Ok(answer_line(alloc, name, row, outcome, Some(sending))?)
 }
 
-// The line of a command or a timeout about the volume of a name, which has this row then.
+// The line of a command or a timeout about the volume of a name, which has this row then, if it has one.
 fn told_line(
     alloc: Global,
     name: &Name,
     row: Option<&Row>,
     told: Result<Option<Frame>, OrchFault>,
 ) -> Result<String, NoMemory>
-    ensures line { IfOk result (λ text. string_bytes text ≡ compact_text (command_entry name.now (option_map (λ kept. row_shown kept.now) row.entry) told)) }
+    ensures line { IfOk result (λ text. string_bytes text ≡ compact_text (command_entry name.now (goal_now row.entry) told)) }
     ensures memory { OnOk result (told ≡ Err OrchFault.NoMemory → ⊥) }
 {
     match told {
@@ -58,7 +58,7 @@ pub(crate) fn command_line(
     told: Result<Option<Frame>, OrchFault>,
 ) -> Result<String, NoMemory>
     ensures line { IfOk result (λ text. string_bytes text ≡ compact_text (command_entry name.now
-        (row_at orchestrator.now.rows (place_by_name name.now orchestrator.now.rows)) told)) }
+        (option_and_then goal_in (row_at orchestrator.now.rows (place_by_name name.now orchestrator.now.rows))) told)) }
     ensures memory { OnOk result (told ≡ Err OrchFault.NoMemory → ⊥) }
 {
     match orchestrator.place_of(name) {

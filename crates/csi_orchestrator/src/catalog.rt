@@ -1,5 +1,6 @@
 //! An orchestrator's rows by name, and by the numbers of their open calls. No look-up walks them.
-ghost use Rattle.std.specs.Prelude.{◌≡◌, ℕ, ◌+◌, ◌++◌, ◌∷◌, ◌<◌, ◌≤◌, [], Option, Some, None, length, map, false, slice_get, position, OnOk, OnErr, IfOk, IfErr, IfSome};
+ghost use Rattle.std.specs.Prelude.{◌≡◌, ℕ, ◌+◌, ◌++◌, ◌∷◌, ◌<◌, ◌≤◌, [], Option, Some, None, length, map, false, slice_get, position};
+ghost use Rattle.std.specs.Prelude.{OnOk, OnErr, IfOk, IfErr, IfSome};
 ghost use Rattle.indexmap.specs.IndexMap.{values, spare, index_map_len};
 ghost use Rattle.std.specs.List.{AllByRecursion};
 ghost use Rattle.csi_lists.specs.Model.Members.{EachTwo};

@@ -1,7 +1,8 @@
 //! What becomes of a row.
 ghost use Rattle.std.specs.Prelude.{◌≡◌, Some, None};
 ghost use Rattle.csi_orchestrator.specs.Public.Shown.{row_shown};
-ghost use Rattle.csi_orchestrator.specs.Private.RowChanges.{marked_row, known_by_success_of, id_told as id_by_kind, succeeded_row, wanted_row, stopped_goal, dropped_row, new_row as new_row_shown};
+ghost use Rattle.csi_orchestrator.specs.Private.RowChanges.{marked_row, known_by_success_of, id_told as id_by_kind, succeeded_row};
+ghost use Rattle.csi_orchestrator.specs.Private.RowChanges.{wanted_row, stopped_goal, dropped_row, new_row as new_row_shown};
 
 use crate::entries::{mark_at, tidy};
 use crate::request::{Arguments, Usage};

@@ -60,14 +60,16 @@ impl OrchestratorCore {
         requires within { index < index_map_len self.old.catalog.rows }
         requires fits { (row : Row) → slice_get (rows_of self.old.catalog) index ≡ Some row → IsDueSuccess step (row_shown row) }
         ensures ok { (name : List ℕ) (answer : Option FrameShown → Answer) → position (λ row. same_text row.name name) (rows_of self.old.catalog) ≡ Some index
-            → IfOk result (λ sent. steps_at (orchestrator_parts_shown self.old) answer step (row_of (map row_shown (rows_of self.old.catalog)) name) ≡ Ok (record { answer = answer sent; parts = orchestrator_parts_shown self.new })) }
+            → IfOk result (λ sent. steps_at (orchestrator_parts_shown self.old) answer step
+            (row_of (map row_shown (rows_of self.old.catalog)) name) ≡ Ok (record { answer = answer sent; parts = orchestrator_parts_shown self.new })) }
         ensures err { (name : List ℕ) (answer : Option FrameShown → Answer) → position (λ row. same_text row.name name) (rows_of self.old.catalog) ≡ Some index
             → IfErr result (IsRefusal (steps_at (orchestrator_parts_shown self.old) answer step (row_of (map row_shown (rows_of self.old.catalog)) name))) }
         ensures stays { OnErr result (orchestrator_parts_shown self.new ≡ orchestrator_parts_shown self.old) }
         ensures filed { IsFiled self.new }
         ensures quiet { (name : List ℕ) (answer : Option FrameShown → Answer) → ((frame : FrameShown) → answer (Some frame) ≡ answer None → ⊥) →
             position (λ row. same_text row.name name) (rows_of self.old.catalog) ≡ Some index
-            → RowsAnswer (answer None) (steps_at (orchestrator_parts_shown self.old) answer step (row_of (map row_shown (rows_of self.old.catalog)) name)) → IsOk result }
+            → RowsAnswer (answer None) (steps_at (orchestrator_parts_shown self.old) answer step
+            (row_of (map row_shown (rows_of self.old.catalog)) name)) → IsOk result }
         ensures delete { step ≡ Step.Delete → IfErr result (λ fault. fault ≡ OrchFault.NoMemory → ⊥) }
     {
         let row = &mut self.catalog.rows[index];

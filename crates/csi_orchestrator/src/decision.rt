@@ -4,7 +4,8 @@ ghost use Rattle.std.specs.Prelude.{◌≡◌, ◌||◌, map, is_none, Some};
 ghost use Rattle.csi_orchestrator.specs.Model.Commands.{next_number as number_after};
 ghost use Rattle.csi_orchestrator.specs.Private.Decisions.{refused_or, decided_then, decided, decided_at, is_used_at};
 ghost use Rattle.csi_orchestrator.specs.Public.Shown.{row_shown, node_entry_shown};
-ghost use Rattle.csi_orchestrator.specs.Private.RowRefusals.{first_fault as first_refusal, again_fault as again_refusal, use_refusal, stop_refusal, delete_refusal};
+ghost use Rattle.csi_orchestrator.specs.Private.RowRefusals.{first_fault as first_refusal, again_fault as again_refusal, use_refusal};
+ghost use Rattle.csi_orchestrator.specs.Private.RowRefusals.{stop_refusal, delete_refusal};
 
 use crate::due::next_number;
 use crate::fault::OrchFault;

@@ -5,7 +5,8 @@ ghost use Rattle.csi_types.specs.Model.Call.{kind_of};
 ghost use Rattle.csi_types.specs.Model.Same.{same_party};
 ghost use Rattle.csi_orchestrator.specs.Model.Commands.{next_number as number_after};
 ghost use Rattle.csi_orchestrator.specs.Model.Moves.{is_forward as leads_on};
-ghost use Rattle.csi_orchestrator.specs.Public.RowDue.{create_due as create_told, use_due as use_told, stop_due as stop_told, delete_due as delete_told, due_with};
+ghost use Rattle.csi_orchestrator.specs.Public.RowDue.{create_due as create_told, use_due as use_told, stop_due as stop_told};
+ghost use Rattle.csi_orchestrator.specs.Public.RowDue.{delete_due as delete_told, due_with};
 ghost use Rattle.csi_orchestrator.specs.Private.Found.{due_shown, node_due, call_due};
 
 use crate::marks::Marks;

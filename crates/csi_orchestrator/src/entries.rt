@@ -2,7 +2,9 @@
 ghost use Rattle.std.specs.Prelude.{◌≡◌, map, find, position, Some, None, IfOk, OnOk, OnErr};
 ghost use Rattle.csi_types.specs.Model.Same.{same_text};
 ghost use Rattle.csi_orchestrator.specs.Public.Shown.{node_entry_shown};
-ghost use Rattle.csi_orchestrator.specs.Private.RowChanges.{aspect_of, node_marked, marked_at, target_marked, is_target_kept as is_kept_target, is_node_kept as is_kept_shown, with_kept_targets, tidied_entries, with_target, entry_for};
+ghost use Rattle.csi_orchestrator.specs.Private.RowChanges.{aspect_of, node_marked, marked_at, target_marked};
+ghost use Rattle.csi_orchestrator.specs.Private.RowChanges.{is_target_kept as is_kept_target, is_node_kept as is_kept_shown};
+ghost use Rattle.csi_orchestrator.specs.Private.RowChanges.{with_kept_targets, tidied_entries, with_target, entry_for};
 ghost use Rattle.csi_orchestrator.specs.Private.Keyed.{put_by};
 
 use crate::request::Usage;
@@ -160,7 +162,9 @@ pub(crate) fn add_node(
     usage: &Usage,
 ) -> Result<(), NoMemory>
     ensures ok { OnOk result (map node_entry_shown entries.new.items
-        ≡ put_by (λ entry. entry.node) (entry_for usage.now (find (λ entry. same_text entry.node usage.now.node) (map node_entry_shown entries.old.items))) (map node_entry_shown entries.old.items)) }
+        ≡ put_by (λ entry. entry.node)
+        (entry_for usage.now (find (λ entry. same_text entry.node usage.now.node) (map node_entry_shown entries.old.items)))
+        (map node_entry_shown entries.old.items)) }
     ensures err { OnErr result (map node_entry_shown entries.new.items ≡ map node_entry_shown entries.old.items) }
 {
     match node_index(entries, &usage.node) {

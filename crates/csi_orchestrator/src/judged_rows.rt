@@ -42,7 +42,8 @@ pub(crate) fn first_refused(
     rows: &[Row],
 ) -> Result<Option<u64>, NoMemory>
     requires few { length nodes.now ≤ 64 }
-    ensures { IfOk result (λ found. MatchOption found (AreRestorable nodes.now (map row_shown rows.now)) (IsFirstRefused (AreRestorable nodes.now) (map row_shown rows.now))) }
+    ensures { IfOk result (λ found. MatchOption found (AreRestorable nodes.now (map row_shown rows.now))
+        (IsFirstRefused (AreRestorable nodes.now) (map row_shown rows.now))) }
 {
     let mut names = BTreeSet::new(alloc);
     for (index, row) in rows.iter().enumerate() {

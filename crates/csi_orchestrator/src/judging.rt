@@ -1,7 +1,14 @@
 //! The rules of one row of a record.
 ghost use Rattle.std.specs.Prelude.{◌≡◌, true, is_some};
 ghost use Rattle.std.specs.List.{list_all};
-ghost use Rattle.csi_orchestrator.specs.Private.Judging.{is_published as is_published_at, is_settled as is_in_rest, is_other_target as is_another_target, are_targets_apart as are_apart, is_entry_fit as is_fit, are_beside as beside, are_entries_fit as are_fit, is_way as is_on_way, is_at_target as is_on_way_at, stops_here as is_stop_at, uses_here as is_use_at, is_stop_on_the_way as is_stop_somewhere, is_use_on_the_way as is_use_somewhere, has_tries as are_tries, fits_rest as is_rest, is_bare as is_without_entries, fits_goal as is_goal, fits_life as is_life, is_restorable as is_one_of_record};
+ghost use Rattle.csi_orchestrator.specs.Private.Judging.{is_published as is_published_at, is_settled as is_in_rest};
+ghost use Rattle.csi_orchestrator.specs.Private.Judging.{is_other_target as is_another_target, are_targets_apart as are_apart};
+ghost use Rattle.csi_orchestrator.specs.Private.Judging.{is_entry_fit as is_fit, are_beside as beside, are_entries_fit as are_fit};
+ghost use Rattle.csi_orchestrator.specs.Private.Judging.{is_way as is_on_way, is_at_target as is_on_way_at, stops_here as is_stop_at};
+ghost use Rattle.csi_orchestrator.specs.Private.Judging.{uses_here as is_use_at, is_stop_on_the_way as is_stop_somewhere};
+ghost use Rattle.csi_orchestrator.specs.Private.Judging.{is_use_on_the_way as is_use_somewhere, has_tries as are_tries};
+ghost use Rattle.csi_orchestrator.specs.Private.Judging.{fits_rest as is_rest, is_bare as is_without_entries, fits_goal as is_goal};
+ghost use Rattle.csi_orchestrator.specs.Private.Judging.{fits_life as is_life, is_restorable as is_one_of_record};
 ghost use Rattle.csi_orchestrator.specs.Private.Judged.{PassingKeeps, KeepingPasses};
 
 use crate::request::{Arguments, Usage};

@@ -350,7 +350,11 @@ impl Orchestrator {
     /// Starts the next session: every open call is given up, and nothing is sent. Refused with `NumbersSpent` in the
     /// last session, which changes nothing. It takes no memory. What it leaves is what is opened from its record.
     pub fn restart(&mut self) -> Result<(), OrchFault>
-        ensures value { OnOk result (self.new ≡ record { nodes = self.old.nodes; last = record { session = self.old.last.session + 1; call = 0 }; rows = map closed self.old.rows }) }
+        ensures value { OnOk result (self.new ≡ record {
+          nodes = self.old.nodes;
+          last = record { session = self.old.last.session + 1; call = 0 };
+          rows = map closed self.old.rows;
+        }) }
         ensures ok { (history : History) → IsWellFormed history → Shows self.old history →
             IfOk result (λ done. FollowsUnrefused history (moves self.old.nodes history Restarts) Restarted self.new) }
         ensures err { (history : History) → IsWellFormed history → Shows self.old history → IfErr result (IsRefusal (moves self.old.nodes history Restarts)) }

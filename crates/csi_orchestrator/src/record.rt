@@ -32,7 +32,8 @@ impl Model for OrchestratorRecord {
 
     ghost view = { λ record_. record { nodes = record_.nodes.items; session = record_.session; rows = map row_shown (rows_of record_.catalog) } };
 
-    ghost invariant = { λ record_. AreNodesFit record_.nodes.items × AreRestorable record_.nodes.items (map row_shown (rows_of record_.catalog)) × IsIndexed record_.catalog × AreUpTo 0 record_.catalog };
+    ghost invariant = { λ record_. AreNodesFit record_.nodes.items ×
+        AreRestorable record_.nodes.items (map row_shown (rows_of record_.catalog)) × IsIndexed record_.catalog × AreUpTo 0 record_.catalog };
 }
 
 impl OrchestratorRecord {
@@ -128,7 +129,11 @@ impl OrchestratorRecord {
     pub(crate) fn of_core(core: OrchestratorCore) -> Result<OrchestratorRecord, OrchRecordFault>
         requires kept { AreSoundParts (orchestrator_parts_shown core) }
         requires filed { IsFiled core }
-        ensures value { IfOk result (λ made. made ≡ record { nodes = core.nodes.items; session = core.last.session; rows = map closed (map row_shown (rows_of core.catalog)) }) }
+        ensures value { IfOk result (λ made. made ≡ record {
+          nodes = core.nodes.items;
+          session = core.last.session;
+          rows = map closed (map row_shown (rows_of core.catalog));
+        }) }
         ensures fit { OnOk result (AreNodesFit core.nodes.items) }
         ensures refused { IfErr result (λ fault. (fault ≡ Fault.BadNodes) × (AreNodesFit core.nodes.items → ⊥)) }
     {

@@ -84,7 +84,8 @@ impl OrchestratorCore {
     pub fn restart(&mut self) -> Result<(), OrchFault>
         requires { IsFiled self.old }
         ensures ok { OnOk result (IsTrue (nat_lt (self.old.last.session + 1) (2 ^ 64))
-            × (self.new.last ≡ record { session = self.old.last.session + 1; call = 0 }) × (rows_of self.new.catalog ≡ map without_call (rows_of self.old.catalog)) × (self.new.nodes.items ≡ self.old.nodes.items)) }
+            × (self.new.last ≡ record { session = self.old.last.session + 1; call = 0 })
+            × (rows_of self.new.catalog ≡ map without_call (rows_of self.old.catalog)) × (self.new.nodes.items ≡ self.old.nodes.items)) }
         ensures err { IfErr result (λ fault. (fault ≡ Fault.NumbersSpent) × IsTrue (not (nat_lt (self.old.last.session + 1) (2 ^ 64)))) }
         ensures stays { OnErr result (orchestrator_parts_shown self.new ≡ orchestrator_parts_shown self.old) }
         ensures filed { IsFiled self.new }

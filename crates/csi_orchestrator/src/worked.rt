@@ -1,5 +1,7 @@
 //! Worked examples of what an orchestrator does.
-ghost use Rattle.csi_orchestrator.specs.Private.Worked.{PublishedRow, OneNodeRow, SingleWriterRow, LateReplyRow, RestartRow, UndoneRow, SpentRow, RefusedCreateRow, RefusedPublishRow, TwoTargetsRow, RefusedUnstageRow, MetRow, DeletedRow, NewAgrees};
+ghost use Rattle.csi_orchestrator.specs.Private.Worked.{PublishedRow, OneNodeRow, SingleWriterRow, LateReplyRow, RestartRow, UndoneRow};
+ghost use Rattle.csi_orchestrator.specs.Private.Worked.{SpentRow, RefusedCreateRow, RefusedPublishRow, TwoTargetsRow, RefusedUnstageRow};
+ghost use Rattle.csi_orchestrator.specs.Private.Worked.{MetRow, DeletedRow, NewAgrees};
 
 // Proves each worked example, and does nothing.
 fn worked_rows()

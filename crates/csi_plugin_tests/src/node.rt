@@ -1,6 +1,7 @@
 //! The node plugin. What it is to answer comes from the table of the lifecycle, written out.
 mod full;
 mod growths;
+mod joined;
 mod largest;
 mod lent;
 mod readers;
@@ -49,7 +50,7 @@ fn capability(rt: &(impl Abort + AllocGlobal), mode: Mode) -> Capability {
 
 // A node `n1` that has answered nothing.
 fn new_node(rt: &(impl Abort + AllocGlobal)) -> Node {
-    Node::new(rt.alloc(), node_id(rt, "n1"))
+    Node::new(rt.alloc(), node_id(rt, "n1"), 0)
 }
 
 fn kind_of(ask: Ask) -> Kind {

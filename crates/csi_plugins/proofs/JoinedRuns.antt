@@ -119,8 +119,9 @@ module _ {X C K : Type 0} (seen : K → Store) (records : Records X) (IsAsked : 
     (some : (parts : List StoredPart) → records.are present parts → parts ≡ [] → ⊥)
     (whole : (parts : List StoredPart) (place : ℕ) → records.are present parts → IsRefusedAt (IsInSome records.are) parts place → ⊥) where
   -- each core on the way is as it was asked for, and has a record in the present version
-  along : (core : C) (frames : List Frame) (replies : List (Option Frame)) (now : C) → AnswersEach answers core frames replies now → IsAsked core → records.are present (parts_of core) → records.are present (parts_of now)
-  along core [] [] now is asked here = subst (λ (c : C). records.are present (parts_of c)) (sym is) here
+  along : (core : C) (frames : List Frame) (replies : List (Option Frame)) (now : C) → AnswersEach answers core frames replies now → IsAsked core → records.are present (parts_of core)
+      → IsAsked now × records.are present (parts_of now)
+  along core [] [] now is asked here = subst (λ (c : C). IsAsked c × records.are present (parts_of c)) (sym is) (asked, here)
   along core [] (r ∷ rs) now is asked here = absurd is
   along core (f ∷ fs) [] now is asked here = absurd is
   along core (f ∷ fs) (r ∷ rs) now is asked here = let next = keeps core is.0 f r is.1 asked in along is.0 fs rs now is.2 next.0 next.1
@@ -162,8 +163,11 @@ module _ {X C K : Type 0} (seen : K → Store) (records : Records X) (IsAsked : 
       marked : Marked answers parts_of o.core o.served.serves.frames o.served.serves.replies (AreMade o.served.result) reopens.0
       marked = mark answers parts_of o.core (seen o.opened) (seen between) first o.served.bytes honest here.2 reopens.0 reopens.1 o.served.result o.served.serves
 
+      mid : IsAsked marked.mid × records.are present (parts_of marked.mid)
+      mid = along o.core (take marked.made o.served.serves.frames) (o.served.serves.replies ++ marked.unwritten) marked.mid marked.runs o.asked here.1
+
       is_record : records.are present (parts_of marked.mid)
-      is_record = along o.core (take marked.made o.served.serves.frames) (o.served.serves.replies ++ marked.unwritten) marked.mid marked.runs o.asked here.1
+      is_record = mid.1
 
       there : (seen again).holds (parts_of marked.mid)
       there = subst (Has (seen again)) marked.is reopens.2
@@ -185,6 +189,10 @@ module _ {X C K : Type 0} (seen : K → Store) (records : Records X) (IsAsked : 
                 (opens-same (parts_of marked.mid) (parts_of p.core) is_record here_too.0)
                 (again-of IsAsked answers parts_of asks p.core (take (frames_counted p.served.result) p.served.serves.frames) p.served.serves.replies p.served.serves.now p.asked p.served.serves.runs);
           }
+
+      -- the second finds the parts of a core as it was asked for
+      pub found-again : (core : C) × IsAsked core × records.are present (parts_of core) × (seen again).holds (parts_of core)
+      found-again = (marked.mid, mid.0, is_record, there)
 
       onward : Runs seen records IsAsked answers parts_of head again after second ending_too
           → IsHindered (seen again) (seen after) second ending_too ⊎ AreOneRun seen records IsAsked answers parts_of head content between after first second ending ending_too

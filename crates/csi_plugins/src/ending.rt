@@ -1,10 +1,10 @@
 //! How a plugin's process ends.
 ghost use Rattle.std.specs.Prelude.{◌≡◌};
 ghost use Rattle.csi_plugins.specs.Public.Ending.{ending_of_store as by_store, ending_unopened as by_opening};
-ghost use Rattle.csi_plugins.specs.Public.Ending.{ending_of_kind as by_kind, ending_of_serving as by_serving};
+ghost use Rattle.csi_plugins.specs.Public.Ending.{ending_of_node as by_node, ending_of_kind as by_kind, ending_of_serving as by_serving};
 
 use csi_endings::Ending;
-use csi_service::{KeepFault, ServeFault, ServeFaultKind, Served};
+use csi_service::{KeepFault, NodeUnopened, ServeFault, ServeFaultKind, Served};
 
 /// The ending where the store of a plugin refuses so: a device that fails, or is full; want of memory; or the first part that
 /// is none of the plugin's record.
@@ -15,6 +15,16 @@ pub(crate) fn ending_of_store(fault: KeepFault) -> Ending
         KeepFault::Device | KeepFault::Full => Ending::Device,
         KeepFault::NoMemory => Ending::Memory,
         KeepFault::BadRecord(place) => Ending::RecordFault(place),
+    }
+}
+
+/// The ending where a node isn't opened from its store.
+pub(crate) fn ending_of_node(why: NodeUnopened) -> Ending
+    ensures { result ≡ by_node why }
+{
+    match why {
+        NodeUnopened::Keep(fault) => ending_of_store(fault),
+        NodeUnopened::EarlierSession => Ending::EarlierSession,
     }
 }
 

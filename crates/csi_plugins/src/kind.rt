@@ -1,6 +1,6 @@
 //! Which plugin a process is.
-ghost use Rattle.std.specs.Prelude.{◌≡◌, IfOk, IfErr};
-ghost use Rattle.csi_plugins.specs.Public.Asked.{IsOfConfig, IsNoConfig, IsOfId, IsNoId};
+ghost use Rattle.std.specs.Prelude.{◌≡◌, Some, IfOk, IfErr, option_map};
+ghost use Rattle.csi_plugins.specs.Public.Asked.{IsOfConfig, IsNoConfig, IsOfId, IsNoId, SaysSession, SaysNone};
 ghost use Rattle.csi_plugins.specs.Public.Ending.{ending_unopened as by_opening};
 
 use crate::ending::ending_unopened;
@@ -15,8 +15,35 @@ use std::alloc::Global;
 pub enum Plugin {
     /// The controller plugin, under this configuration.
     Controller(Config),
-    /// The plugin of this node.
-    Node(NodeId),
+    /// The plugin of the node of this id, which joined with this session.
+    Node { id: NodeId, session: u64 },
+}
+
+// The session that this word says, as it is printed.
+fn session_said(alloc: Global, word: &str) -> Result<u64, Ending>
+    ensures said { IfOk result (SaysSession (Some word.now)) }
+    ensures refused { IfErr result (SaysNone (Some word.now)) }
+{
+    let Ok(session) = word.parse::<u64>() else {
+        return Err(Ending::Usage);
+    };
+    let printed = format!(in alloc; "{session}")?;
+    if printed.as_str() == word {
+        Ok(session)
+    } else {
+        Err(Ending::Usage)
+    }
+}
+
+// The session that the word of a node's joining says: 0 without one.
+fn session_of(alloc: Global, word: Option<&str>) -> Result<u64, Ending>
+    ensures said { IfOk result (SaysSession (option_map (λ text. text.now) word.entry)) }
+    ensures refused { IfErr result (SaysNone (option_map (λ text. text.now) word.entry)) }
+{
+    match word {
+        Some(word) => session_said(alloc, word),
+        None => Ok(0),
+    }
 }
 
 impl Plugin {
@@ -36,14 +63,16 @@ impl Plugin {
         }
     }
 
-    /// The plugin of the node that has this id. `ConfigRefused` where a node can't have it, and `Memory` where an allocation was
-    /// refused.
-    pub fn of_id(alloc: Global, id: &str) -> Result<Plugin, Ending>
-        ensures made { IfOk result (IsOfId id.now) }
-        ensures refused { IfErr result (IsNoId id.now) }
+    /// The plugin of the node that has this id and joined with the session that the word says: a whole number below 2^64 in decimal,
+    /// without a sign, and without zeros before it but for `0` itself; 0 without a word. `Usage` where the word says none,
+    /// `ConfigRefused` where a node can't have this id, and `Memory` where an allocation was refused.
+    pub fn of_id(alloc: Global, id: &str, word: Option<&str>) -> Result<Plugin, Ending>
+        ensures made { IfOk result (IsOfId id.now (option_map (λ text. text.now) word.entry)) }
+        ensures refused { IfErr result (IsNoId id.now (option_map (λ text. text.now) word.entry)) }
     {
+        let session = session_of(alloc, word)?;
         match NodeId::try_new(alloc, id) {
-            Ok(id) => Ok(Plugin::Node(id)),
+            Ok(id) => Ok(Plugin::Node { id, session }),
             Err(TextFault::NoMemory) => Err(Ending::Memory),
             Err(_) => Err(Ending::ConfigRefused),
         }

@@ -81,7 +81,8 @@ pub(crate) fn node_entries(
     alloc: Global,
     version: RecordVersion,
 ) -> Result<Vec<NodeEntry>, Stop>
-    ensures read { IfOk result (λ entries. read_counted 64 (read_node_entry version) fields.old.bytes.now ≡ Some (map node_entry_shown entries.items, fields.new.bytes.now)) }
+    ensures read { IfOk result (λ entries. read_counted 64 (read_node_entry version) fields.old.bytes.now
+        ≡ Some (map node_entry_shown entries.items, fields.new.bytes.now)) }
     ensures bad { IsErrOf result Stop.Bad → read_counted 64 (read_node_entry version) fields.old.bytes.now ≡ None }
 {
     let count = fields.byte(64, FaultKind::BadCount)?;

@@ -17,8 +17,8 @@ pub fn sqlite_runs_law<S: Alter, R: Read, W: Write>()
 }
 
 /// A law, and nothing that runs: `orchestrator_runs_law` of a store in SQLite. Two runs of an orchestrator over it, one after another, however
-/// each ended, are one run, in which it begins a session between, where the disk gave back what was written until the end of each. This
-/// profile's own.
+/// each ended, are one run of the stated machine, with a restart between, where the disk gave back what was written until the end of each.
+/// This profile's own.
 pub fn sqlite_orchestrator_runs_law<S: Alter, R: Read, W: Write>()
     ensures { SqliteOrchestratorRunsLaw (state S.Store) R.remaining W.contents }
 {

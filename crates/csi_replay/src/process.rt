@@ -31,7 +31,7 @@ fn carry_out(rt: &HostRuntime, line: CommandLine<'_>) -> Ending {
         CommandLine::Help(help) => help_on(rt, help),
         CommandLine::File(command, path) => over_file(rt, command, path),
         CommandLine::Controller { store, config } => serve_controller(rt, store, config),
-        CommandLine::Node { store, id } => serve_node(rt, store, id),
+        CommandLine::Node { store, id, session } => serve_node(rt, store, id, session),
         CommandLine::Orchestrator { store, config } => serve_orchestrator(rt, store, config),
         CommandLine::Record(store) => tell(rt, store),
     }

@@ -103,9 +103,10 @@ pub fn serve_controller(rt: &HostRuntime, store: &str, config: &str) -> Ending {
     }
 }
 
-/// Serves by the plugin of the node that has this id, as `serve_controller` does, or ends as `Plugin::of_id` says. This profile's own.
-pub fn serve_node(rt: &HostRuntime, store: &str, id: &str) -> Ending {
-    match Plugin::of_id(rt.alloc(), id) {
+/// Serves by the plugin of the node that has this id and joined with the session that this word says, as `serve_controller` does, or ends as
+/// `Plugin::of_id` says. This profile's own.
+pub fn serve_node(rt: &HostRuntime, store: &str, id: &str, session: Option<&str>) -> Ending {
+    match Plugin::of_id(rt.alloc(), id, session) {
         Ok(asked) => serve_from(rt, store, Asked::Plugin(asked)),
         Err(ending) => ending,
     }

@@ -1,6 +1,7 @@
 //! A text of JSON in compact form, written part by part.
 ghost use Rattle.std.specs.Prelude.{◌≡◌, ◌++◌, ◌∷◌, [], OnOk, string_bytes, decimal};
-ghost use Rattle.json.specs.Token.{begin_object, end_object, begin_array, end_array, key as key_token, string, number as number_token, boolean, null as null_token};
+ghost use Rattle.json.specs.Token.{begin_object, end_object, begin_array, end_array, key as key_token, string, number as number_token};
+ghost use Rattle.json.specs.Token.{boolean, null as null_token};
 ghost use Rattle.json.specs.Tree.{json_tokens};
 ghost use Rattle.serde_json.specs.Data.{Data};
 ghost use Rattle.serde_json.specs.Written.{outline, compact_text};

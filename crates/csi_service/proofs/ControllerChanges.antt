@@ -127,9 +127,9 @@ got-among (y ∷ ys) zero x is = inl (sym (same_Some y x is))
 got-among (y ∷ ys) (suc place) x is = inr (got-among ys place x is)
 
 -- the row at a place is the one that is found by its id
-pub named-at : (place : Option ℕ) (rows : List ControllerRow) → AreRisingRows rows → controller_row_at place rows ≡ named_row (controller_row_id place rows) rows
-named-at None rows rising = refl
-named-at (Some place) rows rising = by (slice_get rows place) refl
+pub controller_row-named_at : (place : Option ℕ) (rows : List ControllerRow) → AreRisingRows rows → controller_row_at place rows ≡ named_row (controller_row_id place rows) rows
+controller_row-named_at None rows rising = refl
+controller_row-named_at (Some place) rows rising = by (slice_get rows place) refl
   where
     named : Option ControllerRow → Option ControllerRow
     named o = named_row (option_map (λ (r : ControllerRow). r.id) o) rows
@@ -139,9 +139,9 @@ named-at (Some place) rows rising = by (slice_get rows place) refl
     by (Some row) is = is ∙ sym (found-own rows row rising (got-among rows place row is)) ∙ ap named (sym is)
 
 -- what a call changed at a place is what it changed of that row's volume
-pub by-id : (place : Option ℕ) (number : Number) (old new : ControllerParts) → ChangesAt place number old new → Changes (controller_row_id place new.rows) number old new
-by-id None number old new changes = changes
-by-id (Some place) number old new changes = subst (λ (o : Option ControllerRow). Changes (option_map (λ (r : ControllerRow). r.id) o) number old new) (sym changes.1) changes.2
+pub controller_row-by_id : (place : Option ℕ) (number : Number) (old new : ControllerParts) → ChangesAt place number old new → Changes (controller_row_id place new.rows) number old new
+controller_row-by_id None number old new changes = changes
+controller_row-by_id (Some place) number old new changes = subst (λ (o : Option ControllerRow). Changes (option_map (λ (r : ControllerRow). r.id) o) number old new) (sym changes.1) changes.2
 
 -- the row of one volume, or none, is put in among those that stay
 row-put : (row : Option ℕ) (number : Number) (olds news : List ControllerRow) → AreRisingParts (shown_parts olds) → AreRisingRows news
@@ -200,8 +200,8 @@ pub parts-changed : (old new : ControllerParts) (is_new : Bool) (forgotten : Lis
     → parts_of_controller new ≡ all_changed (head_change is_new (head_of_controller new) ++ take_all forgotten ++ controller_row_change (controller_row_at place new.rows)) (parts_of_controller old)
 parts-changed old new is_new forgotten place number rising rising_too same are fit fits changes =
     subst (λ (o : Option ControllerRow). parts_of_controller new ≡ all_changed (head_change is_new (head_of_controller new) ++ take_all forgotten ++ controller_row_change o) (parts_of_controller old))
-    (sym (named-at place new.rows rising_too))
-    (id-changed old new is_new forgotten (controller_row_id place new.rows) number rising rising_too same are fit fits (by-id place number old new changes))
+    (sym (controller_row-named_at place new.rows rising_too))
+    (id-changed old new is_new forgotten (controller_row_id place new.rows) number rising rising_too same are fit fits (controller_row-by_id place number old new changes))
 
 -- the row that was changed or made has another last number than before
 named-differs : (old new : ControllerParts) (row : Option ℕ) (number : Number) → Changes row number old new → (id : ℕ) → row ≡ Some id → last_in_controller new id ≡ last_in_controller old id → ⊥
@@ -262,5 +262,5 @@ pub all-differ : (old new : ControllerParts) (changed : Changed) (number : Numbe
     → changed.forgotten.items ≡ forgotten_by_controller number old → ChangesAt changed.row number old new → ControllerDiffers changed old new
 all-differ old new changed number same rising is tells are changes = record {
   head = λ e equal. let yes : same ≡ true = tells.1 equal in let no : not same ≡ true = sym is ∙ e in cc;
-  rows = rows-differ old new changed.forgotten.items (controller_row_id changed.row new.rows) number rising are (by-id changed.row number old new changes);
+  rows = rows-differ old new changed.forgotten.items (controller_row_id changed.row new.rows) number rising are (controller_row-by_id changed.row number old new changes);
 }

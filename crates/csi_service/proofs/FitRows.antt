@@ -30,7 +30,7 @@ use Rattle.csi_records.specs.Public.Spelling.{present, VolumeRow, volume_row, vo
 use Rattle.csi_records.specs.Public.Records.{IsCapabilityIn, IsHolding, IsVolumeRow, IsStagedSo, IsAnsweredRow, controller_record_of, node_record_of, IsControllerOf, IsNodeOf}
 use Rattle.csi_service.specs.Public.Services.{AreFitControllerRows, IsNamedControllerRowFit, controller_row_id}
 use Rattle.csi_service.specs.Public.NodeServices as nodes
-use Rattle.csi_service.proofs.ControllerChanges.{same-shown, named_row, named-at, by-id}
+use Rattle.csi_service.proofs.ControllerChanges.{same-shown, named_row, controller_row-named_at, controller_row-by_id}
 use Rattle.csi_service.proofs.NodeChanges as told
 use Rattle.csi_service.proofs.RecordParts.{IsRisingById}
 
@@ -104,8 +104,8 @@ module _ (old new : ControllerParts) (row : Option ℕ) (number : Number) (risin
 -- so they do by the place of the row that it changed
 pub controller-fit : (old new : ControllerParts) (place : Option ℕ) (number : Number) → AreRisingRows new.rows → ChangesAt place number old new → AreFitControllerRows old.rows → IsNamedControllerRowFit place new.rows → AreFitControllerRows new.rows
 controller-fit old new place number rising changes fit named =
-    all-fit old new (controller_row_id place new.rows) number rising (by-id place number old new changes) fit
-    (subst (λ (o : Option ControllerRow). IfSome o (λ (r : ControllerRow). IsVolumeRow present (volume_row r))) (named-at place new.rows rising) named)
+    all-fit old new (controller_row_id place new.rows) number rising (controller_row-by_id place number old new changes) fit
+    (subst (λ (o : Option ControllerRow). IfSome o (λ (r : ControllerRow). IsVolumeRow present (volume_row r))) (controller_row-named_at place new.rows rising) named)
 
 -- ---- a call of a node
 
@@ -133,7 +133,7 @@ node-fit old new (Some place) number rising changes fit named =
     let put = changes.2.put changes.0.id refl in
     let found : node.row_by_id changes.0.id (parts new.rows) ≡ Some put.0 = told.row-found changes.0.id put.0 (node.staying old.session number (parts old.rows)) (parts new.rows) put.1 put.3 in
     let one : slice_get (parts new.rows) place ≡ Some put.0 =
-    told.named-at (Some place) (parts new.rows) rising ∙ ap (λ (o : Option NodeRowShown). told.named_row (option_map (λ (r : NodeRowShown). r.id) o) (parts new.rows)) changes.1 ∙ found in
+    told.node_row-named_at (Some place) (parts new.rows) rising ∙ ap (λ (o : Option NodeRowShown). told.named_row (option_map (λ (r : NodeRowShown). r.id) o) (parts new.rows)) changes.1 ∙ found in
     let own : IsAnsweredRow present put.0 = subst (λ (o : Option NodeRowShown). IfSome o (IsAnsweredRow present)) one named in
     subst nodes.AreFitNodeRows (sym put.3) (fit-put (IsAnsweredRow present) put.0 (node.staying old.session number (parts old.rows)) own (stay-fit old number fit))
 

@@ -15,6 +15,8 @@ pub mod SameNode
 pub mod RecordParts
 pub mod RenewedParts
 pub mod MadeCores
+pub mod NodeOpening
+pub mod JoinedSessions
 pub mod AnsweredFrames
 pub mod ReplyLengths
 pub mod OrchestratorChanges

@@ -1,5 +1,5 @@
 -- What is made of the parts of a store: a core with their record, and what has to be committed.
-use Rattle.std.proofs.Common.{◌≡◌, ◌∙◌, ◌⊎◌, ℕ, true, List, [], ◌∷◌, map, None, Some, sym, ap, subst, refl, inl, inr, arith}
+use Rattle.std.proofs.Common.{◌≡◌, ◌∙◌, ◌⊎◌, ◌<◌, ◌^◌, ℕ, true, List, [], ◌∷◌, map, None, Some, sym, ap, subst, refl, inl, inr, arith}
 use Rattle.std.specs.Prelude.{Option}
 use Rattle.csi_controller.specs.declared.row.ControllerRow.{ControllerRow}
 use Rattle.csi_controller.specs.Public.Views.{RecordParts}
@@ -102,12 +102,12 @@ asked id version found kept changes own (inr earlier) =
     inr (earlier.0, earlier.1, subst (λ (n : List ℕ). IsRecordOf (node_layout present (Some n)) (node_parts present kept.id (Some kept.session) (map node_row_shown kept.rows))) own (node-wanted kept.id (Some kept.session) (map node_row_shown kept.rows) earlier.2))
 
 -- a node's record that was read
-pub node-made : (id : List ℕ) (found now : List StoredPart) (changes : List StoredChange) (version : RecordVersion) (kept : NodeParts)
+pub node-made : (id : List ℕ) (session : ℕ) (found now : List StoredPart) (changes : List StoredChange) (version : RecordVersion) (kept : NodeParts)
     → IsRecordOf (node_layout version (Some id)) found × IsNodeOf version (Some id) found kept → now ≡ node_parts present kept.id (Some kept.session) (map node_row_shown kept.rows)
     → IsRenewal (λ v. IsRecordOf (node_layout v None)) (λ (k : NodeParts). node_parts present k.id (Some k.session) (map node_row_shown k.rows)) version found kept changes
-    → IsCoreMade (node_records id) (node_head present id (Some 0)) found now changes
-node-made id found now changes version kept read same renewal =
-    made-read (node_records id) (node_head present id (Some 0)) found now changes version kept (node-rising version (Some id) found read.0)
+    → IsCoreMade (node_records id) (node_head present id (Some session)) found now changes
+node-made id session found now changes version kept read same renewal =
+    made-read (node_records id) (node_head present id (Some session)) found now changes version kept (node-rising version (Some id) found read.0)
     (node-rising present (Some id) (node_parts present kept.id (Some kept.session) (map node_row_shown kept.rows)))
     (λ tell. node-own tell.head.own tell.head.session tell.rows kept found tell.spelled.head_fits.session tell.is tell.spelled.are)
     read.0 read.1 same (asked id version found kept changes (of-node version id found kept read.1) renewal)
@@ -128,12 +128,12 @@ new-controller = record {
 }
 
 -- a node's head alone is its record
-pub new-node : (id : List ℕ) → IsNodeId id → IsRecordOf (node_layout present (Some id)) (node_head present id (Some 0) ∷ [])
-new-node id fits = record {
-  first = record { own = id; session = Some 0 };
+pub new-node : (id : List ℕ) (session : ℕ) → IsNodeId id → session < 2 ^ 64 → IsRecordOf (node_layout present (Some id)) (node_head present id (Some session) ∷ [])
+new-node id session fits word = record {
+  first = record { own = id; session = Some session };
   rows = [];
   spelled = record {
-    head_fits = record { own = (fits, refl); session = omega arith };
+    head_fits = record { own = (fits, refl); session = word };
     rows_fit = tt;
     rules = (record { rising = λ i j less inside. absurd (omega arith); limit = omega arith; each = λ k d inside. absurd (omega arith) }, λ k d inside. absurd (omega arith));
     are = refl;

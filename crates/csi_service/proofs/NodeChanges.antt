@@ -137,9 +137,9 @@ got-id (r ∷ rs) zero row is = ap (λ (x : NodeRowShown). x.id) (same_Some r ro
 got-id (r ∷ rs) (suc place) row is = got-id rs place row is
 
 -- the row at a place is the one that is found by its id
-pub named-at : (place : Option ℕ) (rows : List NodeRowShown) → IsRisingById rows → node_row_at place rows ≡ named_row (node_row_id place rows) rows
-named-at None rows rising = refl
-named-at (Some place) rows rising = by (slice_get rows place) refl
+pub node_row-named_at : (place : Option ℕ) (rows : List NodeRowShown) → IsRisingById rows → node_row_at place rows ≡ named_row (node_row_id place rows) rows
+node_row-named_at None rows rising = refl
+node_row-named_at (Some place) rows rising = by (slice_get rows place) refl
   where
     named : Option NodeRowShown → Option NodeRowShown
     named o = named_row (option_map (λ (r : NodeRowShown). r.id) o) rows
@@ -151,9 +151,9 @@ named-at (Some place) rows rising = by (slice_get rows place) refl
         is ∙ ap Some (sym stands) ∙ sym (found-at rows row.id place row rising (record { within = slice_get_within rows place row is; has_id = got-id rows place row is })) ∙ ap named (sym is)
 
 -- what a call changed at a place is what it changed of that row's volume
-pub by-id : (place : Option ℕ) (number : Number) (old new : NodeParts) → ChangesAt place number old new → Changes (node_row_id place (parts new.rows)) number old new
-by-id None number old new changes = changes
-by-id (Some place) number old new changes = subst (λ (o : Option NodeRowShown). Changes (option_map (λ (r : NodeRowShown). r.id) o) number old new) (sym changes.1) changes.2
+pub node_row-by_id : (place : Option ℕ) (number : Number) (old new : NodeParts) → ChangesAt place number old new → Changes (node_row_id place (parts new.rows)) number old new
+node_row-by_id None number old new changes = changes
+node_row-by_id (Some place) number old new changes = subst (λ (o : Option NodeRowShown). Changes (option_map (λ (r : NodeRowShown). r.id) o) number old new) (sym changes.1) changes.2
 
 -- ---- a call
 
@@ -240,14 +240,14 @@ module _ (old new : NodeParts) (place : Option ℕ) (number : Number) (rising : 
       → parts_of_node new ≡ all_changed (head_change is_new (head_of_node new) ++ take_all forgotten ++ node_row_change (node_row_at place (parts new.rows))) (parts_of_node old)
   parts-changed is_new forgotten rising_too id same are fit fits =
       subst (λ (o : Option NodeRowShown). parts_of_node new ≡ all_changed (head_change is_new (head_of_node new) ++ take_all forgotten ++ node_row_change o) (parts_of_node old))
-      (sym (named-at place (parts new.rows) rising_too))
-      (id-changed old new (node_row_id place (parts new.rows)) number rising (by-id place number old new changes) is_new forgotten id same are fit fits)
+      (sym (node_row-named_at place (parts new.rows) rising_too))
+      (id-changed old new (node_row_id place (parts new.rows)) number rising (node_row-by_id place number old new changes) is_new forgotten id same are fit fits)
 
   -- all that is told is other than it was
   pub all-differ : (changed : Changed) → changed.row ≡ place → (changed.new_head ≡ true → new.session ≡ old.session → ⊥) → changed.forgotten.items ≡ forgotten_by_node number old → NodeDiffers changed old new
   all-differ changed is head are = record {
     head = head;
-    rows = λ id told. rows-differ old new (node_row_id place (parts new.rows)) number rising (by-id place number old new changes) changed.forgotten.items are id
+    rows = λ id told. rows-differ old new (node_row_id place (parts new.rows)) number rising (node_row-by_id place number old new changes) changed.forgotten.items are id
         (elim told [ inl among ↦ inl among | inr named ↦ inr (ap (λ (o : Option ℕ). node_row_id o (parts new.rows)) (sym is) ∙ named) ]);
   }
 

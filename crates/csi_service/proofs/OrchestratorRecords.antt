@@ -21,7 +21,7 @@ use Rattle.csi_service.specs.declared.orchestrator_opening.OrchestratorMade.{Orc
 use Rattle.csi_service.specs.declared.orchestrator_opening.OrchestratorMade.TheVariants.{Opened, BadNodes, OtherNodes, NumbersSpent}
 use Rattle.csi_service.specs.Public.OrchestratorOpening.{new_record, IsOpenedFrom, IsOrchestratorOpened, HasOrchestrator}
 use Rattle.csi_service.specs.Public.StoreOpening.{HasOpened}
-use Rattle.csi_service.specs.Public.OrchestratorServices.{ServedOrchestrator, parts_of_orchestrator, AreFitOrchestratorRows}
+use Rattle.csi_service.specs.Public.OrchestratorServices.{ServedOrchestrator, kept_of, parts_of_orchestrator, AreFitOrchestratorRows}
 use Rattle.csi_service.specs.Private.OrchestratorOpening.{orchestrator_opening, IsBegun, IsNewlyMade}
 use Rattle.csi_service.specs.Private.Opening.{IsMade}
 use Rattle.csi_service.proofs.RisingParts.{put-head}
@@ -59,18 +59,24 @@ read-fit key (row ∷ rows) each = (each.0.row.fits, read-fit (suc key) rows eac
 -- ---- a record
 
 -- nodes, session and rows within their limits, which keep the rules of rows, are a record once open calls are given up
+pub is-its-record : (orchestrator : OrchestratorParts) → orchestrator.last.session < 2 ^ 64 → AreNodesFit orchestrator.nodes → AllByRecursion IsNodeId orchestrator.nodes
+    → AreRestorable orchestrator.nodes (map closed orchestrator.rows) → length orchestrator.rows ≤ 4096 → AreFitOrchestratorRows orchestrator.rows
+    → IsOrchestratorOf present (parts_of_orchestrator orchestrator) (kept_of orchestrator)
+is-its-record orchestrator session nodes texts rules few fit = record {
+  head_fits = record { fits = record { later = refl; session = session; count = nodes.few; nodes = texts }; nodes = nodes };
+  rows_fit = keyed-fit 1 orchestrator.rows (omega (arith, few)) fit;
+  rules = record { rows = map closed orchestrator.rows; places = refl; rules = rules };
+  are = refl;
+}
+
+-- they are a record
 pub is-record : (orchestrator : OrchestratorParts) → orchestrator.last.session < 2 ^ 64 → AreNodesFit orchestrator.nodes → AllByRecursion IsNodeId orchestrator.nodes
     → AreRestorable orchestrator.nodes (map closed orchestrator.rows) → length orchestrator.rows ≤ 4096 → AreFitOrchestratorRows orchestrator.rows
     → IsRecordOf (orchestrator_layout present) (parts_of_orchestrator orchestrator)
 is-record orchestrator session nodes texts rules few fit = record {
   first = record { session = orchestrator.last.session; nodes = orchestrator.nodes };
   rows = keyed_from 1 (map closed orchestrator.rows);
-  spelled = record {
-    head_fits = record { fits = record { later = refl; session = session; count = nodes.few; nodes = texts }; nodes = nodes };
-    rows_fit = keyed-fit 1 orchestrator.rows (omega (arith, few)) fit;
-    rules = record { rows = map closed orchestrator.rows; places = refl; rules = rules };
-    are = refl;
-  };
+  spelled = is-its-record orchestrator session nodes texts rules few fit;
 }
 
 -- the version of a record is the present one

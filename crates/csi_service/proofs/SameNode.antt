@@ -1,13 +1,16 @@
--- An answer of a node that leaves its state tells no change.
-use Rattle.std.proofs.Common.{◌≡◌, ◌∙◌, sym, ap, refl, inl, inr, ℕ, Bool, true, false, List, [], ◌∷◌, ◌++◌}
+-- An answer of a node that leaves its state tells no change, and none takes its session back.
+use Rattle.std.proofs.Common.{◌≡◌, ◌∙◌, ◌≤◌, arith, sym, ap, refl, inl, inr, ℕ, Bool, true, false, List, [], ◌∷◌, ◌++◌}
 use Rattle.std.specs.Prelude.{Option, Some, None, filter, option_map, option_to_list, ◌==◌}
 use Rattle.csi_lists.proofs.Searches.{find-of_map}
 use Rattle.csi_types.specs.declared.number.Number.{Number}
+use Rattle.csi_types.specs.Model.Frame.{Frame}
 use Rattle.csi_node.specs.declared.row.NodeRow.{NodeRow}
 use Rattle.csi_node.specs.Model.OneRow.{NodeRowShown, node_row_shown}
 use Rattle.csi_node.specs.Model.State.{NodeState, AnsweredVolume}
 use Rattle.csi_node.specs.Model.Shown.{row_in, answered_of_row}
+use Rattle.csi_node.specs.Model.Fenced.{fenced}
 use Rattle.csi_node.specs.Model.Record.{NodeParts, Shows, parts}
+use Rattle.csi_node.proofs.JoiningLaw.{rises}
 use Rattle.csi_stores.specs.Public.Part.{take_all}
 use Rattle.csi_service.specs.declared.changed.Changed.{Changed}
 use Rattle.csi_service.specs.Public.Changed.{head_change}
@@ -51,3 +54,7 @@ nothing-told one other state shows shows_too changed differ =
     no-row : (row : Option NodeRowShown) → node_row_at changed.row (parts other.rows) ≡ row → node_row_change (node_row_at changed.row (parts other.rows)) ≡ []
     no-row None e = ap node_row_change e
     no-row (Some row) e = absurd (differ.rows row.id (inr (ap (option_map (λ (r : NodeRowShown). r.id)) e)) (same-last row.id))
+
+-- a frame doesn't take the session back of a node that shows the state which it leads to
+pub risen : (old new : NodeParts) (frame : Frame) (state : NodeState) → Shows old state → Shows new (fenced old.id state frame).state → old.session ≤ new.session
+risen old new frame state shown then = let up = rises old.id state frame in omega (arith, up, shown.session, then.session)

@@ -19,7 +19,7 @@ use Rattle.csi_service.specs.declared.changed.Changed.{Changed}
 use Rattle.csi_service.specs.Public.Changed.{head_change}
 use Rattle.csi_service.specs.Public.Services.{head_of_controller, parts_of_controller, controller_row_change, controller_row_at, controller_row_id, controller_changes_of, last_in_controller, ControllerDiffers}
 use Rattle.csi_service.proofs.RisingParts.{same-parts}
-use Rattle.csi_service.proofs.ControllerChanges.{shown_parts, at-shown, rising-shown, named_row, named-at}
+use Rattle.csi_service.proofs.ControllerChanges.{shown_parts, at-shown, rising-shown, named_row, controller_row-named_at}
 
 -- ---- a row is told by its volume and its holdings
 
@@ -120,8 +120,8 @@ module _ (one other : ControllerParts) (state : ControllerState) (shown : Shows 
   -- so do rows at the same place
   same-place : (place : Option ℕ) → AreRisingRows one.rows → AreRisingRows other.rows → option_map volume_row (controller_row_at place one.rows) ≡ option_map volume_row (controller_row_at place other.rows)
   same-place place rising rising_too =
-      ap (option_map volume_row) (named-at place one.rows rising) ∙ same-named (controller_row_id place one.rows)
-      ∙ ap (λ (id : Option ℕ). option_map volume_row (named_row id other.rows)) (same-id place) ∙ ap (option_map volume_row) (sym (named-at place other.rows rising_too))
+      ap (option_map volume_row) (controller_row-named_at place one.rows rising) ∙ same-named (controller_row_id place one.rows)
+      ∙ ap (λ (id : Option ℕ). option_map volume_row (named_row id other.rows)) (same-id place) ∙ ap (option_map volume_row) (sym (controller_row-named_at place other.rows rising_too))
 
   -- and tell the same changes
   pub same-changes : (changed : Changed) → AreRisingRows one.rows → AreRisingRows other.rows → controller_changes_of changed one ≡ controller_changes_of changed other

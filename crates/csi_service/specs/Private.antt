@@ -5,6 +5,7 @@ pub mod Opening
 pub mod Calls
 pub mod Services
 pub mod NodeServices
+pub mod NodeOpening
 pub mod Worked
 pub mod OrchestratorServices
 pub mod OrchestratorOpening

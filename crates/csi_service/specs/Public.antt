@@ -6,6 +6,7 @@ pub mod Opening
 pub mod Changed
 pub mod Services
 pub mod NodeServices
+pub mod NodeOpening
 pub mod WholeRecords
 pub mod OrchestratorServices
 pub mod OrchestratorOpening

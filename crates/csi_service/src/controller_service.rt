@@ -16,7 +16,8 @@ ghost use Rattle.csi_service.specs.Public.Answering.{AppendsReply, AnswersAsBefo
 ghost use Rattle.csi_service.specs.Private.Calls.{IsNoCallFor};
 ghost use Rattle.csi_service.specs.Private.Services.{AnswersControllerCall};
 ghost use Rattle.csi_service.specs.Public.Opening.{controller_records, plugin_opening, IsOpenFault, LeavesOpened, HasRecord};
-ghost use Rattle.csi_service.specs.Public.Services.{controller_service_parts, controller_service_changes, AreFitControllerRows, IsNamedControllerRowFit, ControllerStaysFit, ControllerAnswers, ControllerDiffers};
+ghost use Rattle.csi_service.specs.Public.Services.{controller_service_parts, controller_service_changes, AreFitControllerRows};
+ghost use Rattle.csi_service.specs.Public.Services.{IsNamedControllerRowFit, ControllerStaysFit, ControllerAnswers, ControllerDiffers};
 
 use crate::changed::{Changed, nothing};
 use crate::controller_changes::{forgotten, id_law, push_row};
@@ -45,7 +46,8 @@ impl Opens for ControllerService {
 
     ghost opening = { λ config. plugin_opening controller_records controller_service_parts (controller_head present 1 (Some 0)) };
 
-    ghost is_new = { λ config service. (service.controller.config ≡ config) × (controller_service_changes service ≡ []) × AreFitControllerRows service.controller.rows };
+    ghost is_new = { λ config service. (service.controller.config ≡ config)
+        × (controller_service_changes service ≡ []) × AreFitControllerRows service.controller.rows };
 
     fn made(
         alloc: Global,
@@ -115,7 +117,8 @@ impl ControllerService {
     /// The controller's record as a value. A refusal is one of memory, and leaves the controller as it is.
     pub fn record(&self) -> Result<ControllerRecord, NoMemory>
         ensures { (state : ControllerState) → Shows self.now.controller state →
-            IfOk result (λ kept. Shows (record { config = self.now.controller.config; next_id = kept.next_id; session = kept.session; rows = kept.rows }) state) }
+            IfOk result (λ kept. Shows
+            (record { config = self.now.controller.config; next_id = kept.next_id; session = kept.session; rows = kept.rows }) state) }
     {
         match self.controller.record() {
             Ok(kept) => Ok(kept),
@@ -190,7 +193,8 @@ impl ControllerService {
 impl Core for ControllerService {
     type Record = ControllerRecord;
 
-    ghost spells = { λ kept parts. AreParts (controller_layout present) (record { own = kept.next_id; session = Some kept.session }) (map volume_row kept.rows) parts };
+    ghost spells = { λ kept parts. AreParts (controller_layout present)
+        (record { own = kept.next_id; session = Some kept.session }) (map volume_row kept.rows) parts };
 
     ghost is_same = { λ one other. (one.next_id ≡ other.next_id) × (one.session ≡ other.session) × (map volume_row one.rows ≡ map volume_row other.rows) };
 

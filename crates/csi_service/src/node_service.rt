@@ -4,14 +4,16 @@ ghost use Rattle.csi_types.specs.declared.call.Party.TheVariants.{Node as OfNode
 
 use crate::changed::{Changed, nothing};
 use crate::node_changes::{forgotten, id_law, push_row};
-use crate::opening::{Opens, head_part, open, renewal};
+use crate::node_opening::{Joining, NodeMade};
+use crate::node_unopened::NodeUnopened;
+use crate::opening::open;
 use crate::plugin_core::Core;
 use crate::replies::{MOST_BYTES, append};
 use csi_fence::Answer;
 use csi_frames::FrameRef;
 use csi_node::{Node, NodeRecord, record_law, showing_law};
-use csi_records::{RecordStop, Stored, node_head_value, push_removals, record_of_node};
-use csi_stores::{Keep, KeepFault, Part, push_value};
+use csi_records::{node_head_value, push_removals};
+use csi_stores::{Keep, Part, push_value};
 use csi_types::{Body, CallRef, NoMemory, NodeId, Number, Party};
 use std::alloc::Global;
 
@@ -27,39 +29,6 @@ pub struct NodeService {
     ghost own: { party ≡ OfNode node.id },
 }
 
-impl Opens for NodeService {
-    ghost use Rattle.std.specs.Prelude.{◌≡◌, Some, []};
-    ghost use Rattle.csi_node.specs.Model.Record.{parts as shown_rows};
-    ghost use Rattle.csi_records.specs.Public.Spelling.{present, node_head};
-    ghost use Rattle.csi_service.specs.Public.NodeServices.{node_service_changes, AreFitNodeRows};
-    ghost use Rattle.csi_service.specs.Public.Opening.{node_records, plugin_opening};
-    ghost use Rattle.csi_service.specs.Public.Services.{node_service_parts};
-
-    type Asked = NodeId;
-
-    ghost opening = { λ id. plugin_opening (node_records id) node_service_parts (node_head present id (Some 0)) };
-
-    ghost is_new = { λ id service. (node_service_changes service ≡ []) × (service.node.id ≡ id) × AreFitNodeRows (shown_rows service.node.rows) };
-
-    fn made(
-        alloc: Global,
-        id: NodeId,
-        parts: &[Part],
-    ) -> Result<(NodeService, Vec<Part>), RecordStop> {
-        if parts.is_empty() {
-            let head = head_part(alloc, node_head_value(alloc, &id, 0)?)?;
-            return Ok((NodeService::new(alloc, id)?, head));
-        }
-        match record_of_node(alloc, &id, parts) {
-            Ok(Stored { kept, version }) => {
-                let changed = renewal(alloc, version, parts, &kept)?;
-                Ok((NodeService::of_record(alloc, id, kept)?, changed))
-            }
-            Err(stop) => Err(stop),
-        }
-    }
-}
-
 impl NodeService {
     ghost use Rattle.std.specs.Prelude.{◌≡◌, ◌≤◌, ◌+◌, ◌∷◌, ℕ, length, Some, None, [], map, IfOk, IfErr, OnErr, OnOk};
     ghost use Rattle.csi_types.specs.Model.Frame.{Frame as FrameParts};
@@ -67,26 +36,26 @@ impl NodeService {
     ghost use Rattle.csi_types.specs.Public.Lent.{lent_call, HasFitTexts};
     ghost use Rattle.csi_node.specs.Model.OneRow.{node_row_shown};
     ghost use Rattle.csi_node.specs.Model.Record.{parts as shown_rows};
-    ghost use Rattle.csi_records.specs.Public.Spelling.{present, node_head, node_parts};
+    ghost use Rattle.csi_records.specs.Public.Spelling.{present, node_parts};
     ghost use Rattle.csi_stores.specs.Public.Content.{all_changed};
-    ghost use Rattle.csi_stores.specs.Public.Keeping.{RefusesAt};
     ghost use Rattle.csi_frames.specs.Public.Lent.{lent_frame};
     ghost use Rattle.csi_service.specs.Private.Calls.{IsNoCallFor};
     ghost use Rattle.csi_service.specs.Private.NodeServices.{AnswersNodeCall};
-    ghost use Rattle.csi_service.specs.Public.NodeServices.{node_service_changes, AreFitNodeRows, NodeDiffers, NodeServiceAnswers};
-    ghost use Rattle.csi_service.specs.Public.Opening.{node_records, IsOpenFault, LeavesOpened, HasRecord};
+    ghost use Rattle.csi_service.specs.Public.NodeServices.{node_service_changes, AreFitNodeRows, IsFrom, NodeDiffers, NodeServiceAnswers};
+    ghost use Rattle.csi_service.specs.Public.NodeOpening.{joined_head, HasNode, IsNodeUnopened, LeavesNode, RefusesForeign};
     ghost use Rattle.csi_service.specs.Public.Services.{node_service_parts};
 
-    /// A node that answered nothing, which no store has yet. A refusal is one of memory.
-    pub fn new(alloc: Global, id: NodeId) -> Result<NodeService, NoMemory>
+    /// A node that joins with this session (`Node::new`) and answered nothing, which no store has yet. A refusal is one of memory.
+    pub fn new(alloc: Global, id: NodeId, session: u64) -> Result<NodeService, NoMemory>
         ensures node { IfOk result (λ service. service.node.id ≡ id) }
-        ensures parts { IfOk result (λ service. node_service_parts service ≡ node_head present id (Some 0) ∷ []) }
+        ensures session { IfOk result (λ service. service.node.session ≡ session) }
+        ensures parts { IfOk result (λ service. node_service_parts service ≡ joined_head id session ∷ []) }
         ensures changes { IfOk result (λ service. node_service_changes service ≡ []) }
     {
         let party = Party::Node(id.clone()?);
         Ok(NodeService {
             alloc,
-            node: Node::new(alloc, id),
+            node: Node::new(alloc, id, session),
             party,
             changed: nothing(alloc),
         })
@@ -112,27 +81,43 @@ impl NodeService {
         }
     }
 
-    /// The node of this id, of the store's record. A store without a part gets the head of an empty record first, and a record in an
-    /// earlier version is put in whole in the present one, in one commit, before the node is given: under the greatest session of its
-    /// last calls, and without the rows that a node forgets where that session begins. Where the store's parts are no record of this
-    /// node it answers `BadRecord` with the first that is refused, the head where it is another plugin's or another node's; `Device`
-    /// only where the device failed in this call, and `Full` only where what it would commit doesn't fit. What is left then is what
-    /// was there, or what it would commit. This profile's own.
-    pub fn open<K: Keep>(alloc: Global, id: NodeId, keep: &mut K) -> Result<NodeService, KeepFault>
-        ensures opened { IfOk result (HasRecord (node_records id) node_service_parts (K.store keep.old) (K.store keep.new) (node_head present id (Some 0))) }
+    /// The node of this id, which joined with this session, of the store's record. A store without a part gets the head of an empty record
+    /// with this session first, and a record in an earlier version is put in whole in the present one, in one commit, before the node
+    /// is given: under the greatest session of its last calls, and without the rows that a node forgets where that session begins. Over
+    /// a record the session is a check, and neither raises nor lowers anything: where the record's is earlier, in an earlier version the
+    /// greatest of its last calls, it is that of a lost node, refused with `EarlierSession`, and nothing is changed. Else refused with
+    /// `Keep`: `BadRecord` where the store's parts are no record of this node, with the first that is refused, the head where it is
+    /// another plugin's or another node's; `Device` only where the device failed in this call, and `Full` only where what it would commit
+    /// doesn't fit; what is left then is what was there, or what it would commit. This profile's own.
+    pub fn open<K: Keep>(
+        alloc: Global,
+        id: NodeId,
+        session: u64,
+        keep: &mut K,
+    ) -> Result<NodeService, NodeUnopened>
+        ensures opened { IfOk result (HasNode id session (K.store keep.old) (K.store keep.new)) }
         ensures id { IfOk result (λ service. service.node.id ≡ id) }
+        ensures session { IfOk result (λ service. IsFrom session service.node.session) }
         ensures fit { IfOk result (λ service. AreFitNodeRows (shown_rows service.node.rows)) }
         ensures changes { IfOk result (λ service. node_service_changes service ≡ []) }
-        ensures cause { IfErr result (IsOpenFault (node_records id) (K.store keep.old) (K.store keep.new) (node_head present id (Some 0))) }
+        ensures cause { IfErr result (IsNodeUnopened id session (K.store keep.old) (K.store keep.new)) }
         ensures honest { (K.store keep.new).honest → (K.store keep.old).honest }
-        ensures foreign { (K.store keep.new).honest → (place : ℕ) → (K.store keep.old).foreign place → RefusesAt place result }
-        ensures left { LeavesOpened (node_records id) (K.store keep.old) (K.store keep.new) (node_head present id (Some 0)) }
+        ensures foreign { (K.store keep.new).honest → (place : ℕ) → (K.store keep.old).foreign place → RefusesForeign place result }
+        ensures left { LeavesNode id session (K.store keep.old) (K.store keep.new) }
     {
-        open(alloc, id, keep)
+        match open(alloc, Joining { id, session }, keep) {
+            Ok(NodeMade::Opened(service)) => Ok(service),
+            Ok(NodeMade::EarlierSession) => Err(NodeUnopened::EarlierSession),
+            Err(fault) => Err(NodeUnopened::Keep(fault)),
+        }
     }
 
     // The node of its record.
-    fn of_record(alloc: Global, id: NodeId, kept: NodeRecord) -> Result<NodeService, NoMemory>
+    pub(crate) fn of_record(
+        alloc: Global,
+        id: NodeId,
+        kept: NodeRecord,
+    ) -> Result<NodeService, NoMemory>
         requires { kept.id ≡ id }
         ensures has { IfOk result (λ service. service.node ≡ kept) }
         ensures parts { IfOk result (λ service. node_service_parts service ≡ node_parts present kept.id (Some kept.session) (map node_row_shown kept.rows)) }
@@ -181,6 +166,7 @@ impl NodeService {
         ensures differs { NodeDiffers self.new.changed self.old.node self.new.node }
         ensures fit { AreFitNodeRows (shown_rows self.old.node.rows) → AreFitNodeRows (shown_rows self.new.node.rows) }
     {
+        let _session = self.node.session();
         self.changed = nothing(self.alloc);
     }
 }
@@ -197,12 +183,14 @@ impl Core for NodeService {
     ghost use Rattle.csi_service.specs.Public.Answering.{AppendsReply, AnswersAsBefore};
     ghost use Rattle.csi_stores.specs.Public.Content.{all_changed};
     ghost use Rattle.csi_stores.specs.Public.Part.{part_change};
-    ghost use Rattle.csi_service.specs.Public.NodeServices.{node_service_changes, AreFitNodeRows, IsNamedNodeRowFit, NodeStaysFit, NodeDiffers, NodeServiceAnswers};
+    ghost use Rattle.csi_service.specs.Public.NodeServices.{node_service_changes, AreFitNodeRows, IsNamedNodeRowFit, NodeStaysFit};
+    ghost use Rattle.csi_service.specs.Public.NodeServices.{NodeDiffers, NodeServiceAnswers};
     ghost use Rattle.csi_service.specs.Public.Services.{node_service_parts};
 
     type Record = NodeRecord;
 
-    ghost spells = { λ kept parts. AreParts (node_layout present None) (record { own = kept.id; session = Some kept.session }) (map node_row_shown kept.rows) parts };
+    ghost spells = { λ kept parts. AreParts (node_layout present None)
+        (record { own = kept.id; session = Some kept.session }) (map node_row_shown kept.rows) parts };
 
     ghost is_same = { λ one other. (one.id ≡ other.id) × (one.session ≡ other.session) × (map node_row_shown one.rows ≡ map node_row_shown other.rows) };
 

@@ -43,6 +43,7 @@ impl OrchestratorService {
     ghost use Rattle.csi_orchestrator.specs.Model.WellFormed.{IsWellFormed};
     ghost use Rattle.csi_orchestrator.specs.Model.Moves.{ToCreate, ToUse, ToStop, ToDelete, TimesOut, Comes, Sends, Hears, moves};
     ghost use Rattle.csi_orchestrator.specs.Model.Shown.{Shows};
+    ghost use Rattle.csi_orchestrator.specs.Public.Changed.{ChangesAsHeard};
     ghost use Rattle.csi_orchestrator.specs.Public.Laws.{opened_parts};
     ghost use Rattle.csi_orchestrator.specs.Public.Promises.{IsAnsweredAs, IsHeardAs};
     ghost use Rattle.csi_orchestrator.specs.Public.Record.{AreNodesFit, RecordParts};
@@ -255,6 +256,7 @@ impl OrchestratorService {
             IsHeardAs HeardShown.Ignored (moves self.old.orchestrator.nodes history (Comes frame.now)) → IsOk result }
         ensures quiet { (history : History) → IsWellFormed history → Shows self.old.orchestrator history →
             IsHeardAs (HeardShown.Taken None) (moves self.old.orchestrator.nodes history (Comes frame.now)) → IsOk result }
+        ensures row { IfOk result (λ heard. ChangesAsHeard frame.now.number heard self.old.orchestrator self.new.orchestrator) }
         ensures changed { TellsChanges self.old result self.new }
         ensures rests { IfOk result (λ heard. heard ≡ HeardShown.Ignored → orchestrator_service_changes self.new ≡ []) }
     {
@@ -296,10 +298,11 @@ impl OrchestratorService {
         Ok(parts)
     }
 
-    /// A law, and nothing that runs: where all in its rows is within its limits, its parts are those of a record; and the same parts are one
+    /// A law, and nothing that runs: where all in its rows is within its limits, its parts are those of its record; and the same parts are one
     /// record's alone, so they determine it.
     pub fn record_law(&self)
-        ensures there { AreFitOrchestratorRows self.now.orchestrator.rows → IsRecordOf (orchestrator_layout present) (orchestrator_service_parts self.now) }
+        ensures there { AreFitOrchestratorRows self.now.orchestrator.rows →
+            IsOrchestratorOf present (orchestrator_service_parts self.now) (kept_of self.now.orchestrator) }
         ensures alone { (parts : List StoredPart) → (one other : RecordParts) → IsOrchestratorOf present parts one → IsOrchestratorOf present parts other →
             one ≡ other }
     {

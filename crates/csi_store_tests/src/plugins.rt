@@ -2,7 +2,7 @@
 mod failing;
 mod files;
 
-use Asked::{Controller, Node};
+use Asked::{Controller, Joined, Node};
 use csi_endings::Ending;
 use csi_frames::FaultKind;
 use csi_plugins::{Plugin, plugin};
@@ -55,12 +55,15 @@ const UNSTAGED: &[u8] = &[
 enum Asked {
     Controller,
     Node(&'static str),
+    // With the word of its joining.
+    Joined(&'static str, &'static str),
 }
 
 fn made(alloc: Global, asked: Asked) -> Result<Plugin, Ending> {
     match asked {
         Controller => Plugin::of_config(alloc, CONFIG),
-        Node(id) => Plugin::of_id(alloc, id),
+        Node(id) => Plugin::of_id(alloc, id, None),
+        Joined(id, word) => Plugin::of_id(alloc, id, Some(word)),
     }
 }
 
@@ -178,5 +181,113 @@ fn configurations_and_ids_are_refused(rt: HostRuntime) {
     assert!(&rt; is_refused(Plugin::of_config(rt.alloc(), b"{"), Ending::ConfigRefused));
     assert!(&rt; is_refused(Plugin::of_config(rt.alloc(), b"{}"), Ending::ConfigRefused));
     assert!(&rt; is_refused(Plugin::of_config(rt.alloc(), &[255]), Ending::NotUtf8));
-    assert!(&rt; is_refused(Plugin::of_id(rt.alloc(), ""), Ending::ConfigRefused));
+    assert!(&rt; is_refused(Plugin::of_id(rt.alloc(), "", None), Ending::ConfigRefused));
+    assert!(&rt;
+        is_refused(
+            Plugin::of_id(rt.alloc(), "", Some("2")),
+            Ending::ConfigRefused
+        )
+    );
+}
+
+// Words that say no session: nothing, no number, one that is written otherwise, and one of more than 64 bits.
+const NO_SESSIONS: &[&str] = &[
+    "",
+    "n1",
+    "00",
+    "01",
+    "0002",
+    "+2",
+    "-2",
+    "-0",
+    " 2",
+    "2 ",
+    "2\n",
+    "2.0",
+    "2e0",
+    "0x2",
+    "1_0",
+    "\u{662}",
+    "18446744073709551616",
+    "28446744073709551615",
+    "100000000000000000000",
+    "018446744073709551615",
+];
+
+// And words that do.
+const SESSIONS: &[(&str, u64)] = &[
+    ("0", 0),
+    ("1", 1),
+    ("9", 9),
+    ("10", 10),
+    ("2026", 2026),
+    ("18446744073709551615", u64::MAX),
+];
+
+// Whether the word says this session.
+fn says(alloc: Global, word: Option<&str>, wanted: u64) -> bool {
+    match Plugin::of_id(alloc, "n1", word) {
+        Ok(Plugin::Node { session, .. }) => session == wanted,
+        _ => false,
+    }
+}
+
+#[test]
+fn the_word_of_a_joining_is_a_whole_number(rt: HostRuntime) {
+    for word in NO_SESSIONS {
+        let made = Plugin::of_id(rt.alloc(), "n1", Some(word));
+        assert!(&rt; is_refused(made, Ending::Usage), "{word}");
+        // It is judged before the id.
+        let made = Plugin::of_id(rt.alloc(), "", Some(word));
+        assert!(&rt; is_refused(made, Ending::Usage), "{word}");
+    }
+    for (word, session) in SESSIONS {
+        assert!(&rt; says(rt.alloc(), Some(word), *session), "{word}");
+    }
+    assert!(&rt; says(rt.alloc(), None, 0));
+}
+
+// What the unstaging gets at a node that joined with a later session.
+const STALE: &[u8] = &[
+    0, 0, 0, 37, 1, 134, 0, 0, 0, 0, 0, 0, 0, 1, 0, 0, 0, 0, 0, 0, 0, 1, 1, 2, 110, 49, 10, 0, 0,
+    0, 0, 0, 0, 0, 0, 5, 115, 116, 97, 108, 101,
+];
+
+#[test]
+fn a_node_goes_on_with_the_word_of_its_joining(rt: HostRuntime) {
+    let mut keep = MemoryKeep::new(rt.alloc(), 1000);
+    let late = (Joined("n1", "2"), UNSTAGE);
+    assert!(&rt; ends(&rt, &mut keep, late, Ending::Done, STALE));
+    assert!(&rt; ends(&rt, &mut keep, late, Ending::Done, STALE));
+    // A word that is above what it heard of, and none: nothing is raised or lowered.
+    let newer = (Joined("n1", "3"), UNSTAGE);
+    assert!(&rt; ends(&rt, &mut keep, newer, Ending::EarlierSession, &[]));
+    assert!(&rt; ends(&rt, &mut keep, (Node("n1"), UNSTAGE), Ending::Done, STALE));
+    assert!(&rt; ends(&rt, &mut keep, late, Ending::Done, STALE));
+    // Another node's store is no record, whatever the word.
+    let other = (Joined("n2", "3"), UNSTAGE);
+    assert!(&rt; ends(&rt, &mut keep, other, Ending::RecordFault(0), &[]));
+    drop(keep);
+    // The store of a node that heard of session 1 is that of a lost one.
+    let mut lost = MemoryKeep::new(rt.alloc(), 1000);
+    assert!(&rt;
+        ends(
+            &rt,
+            &mut lost,
+            (Node("n1"), UNSTAGE),
+            Ending::Done,
+            UNSTAGED
+        )
+    );
+    assert!(&rt; ends(&rt, &mut lost, late, Ending::EarlierSession, &[]));
+    assert!(&rt;
+        ends(
+            &rt,
+            &mut lost,
+            (Node("n1"), UNSTAGE),
+            Ending::Done,
+            UNSTAGED
+        )
+    );
+    drop(lost);
 }

@@ -6,6 +6,7 @@ mod files;
 mod flushes;
 mod full;
 mod growths;
+mod joined;
 mod limited;
 mod limits;
 mod older;
@@ -22,7 +23,9 @@ mod stores;
 mod turns;
 
 use csi_json::read_config;
-use csi_service::{ControllerService, Keep, KeepFault, MemoryKeep, NodeService, Part};
+use csi_service::{
+    ControllerService, Keep, KeepFault, MemoryKeep, NodeService, NodeUnopened, Part,
+};
 use csi_sqlite::SqliteKeep;
 use csi_types::{Config, NodeId};
 use sqlite::Connection;
@@ -102,17 +105,31 @@ fn controller<K: Keep>(
     ControllerService::open(rt.alloc(), config(rt, NO_NODES), keep)
 }
 
-// The node of this id of this store. Where memory is refused for the id it is made the second time.
+// The node of this id, which joined with this session, of this store. Where memory is refused for the id it is made the second time.
+fn joined_node<K: Keep>(
+    rt: &(impl Abort + AllocGlobal),
+    keep: &mut K,
+    text: &str,
+    session: u64,
+) -> Result<NodeService, NodeUnopened> {
+    let id = match NodeId::try_new(rt.alloc(), text) {
+        Ok(id) => id,
+        Err(_) => NodeId::try_new(rt.alloc(), text).expect(rt, "a node id"),
+    };
+    NodeService::open(rt.alloc(), id, session, keep)
+}
+
+// The node of this id of this store. No store is of an earlier session than 0.
 fn node<K: Keep>(
     rt: &(impl Abort + AllocGlobal),
     keep: &mut K,
     text: &str,
 ) -> Result<NodeService, KeepFault> {
-    let id = match NodeId::try_new(rt.alloc(), text) {
-        Ok(id) => id,
-        Err(_) => NodeId::try_new(rt.alloc(), text).expect(rt, "a node id"),
-    };
-    NodeService::open(rt.alloc(), id, keep)
+    match joined_node(rt, keep, text, 0) {
+        Ok(service) => Ok(service),
+        Err(NodeUnopened::Keep(fault)) => Err(fault),
+        Err(NodeUnopened::EarlierSession) => panic!(rt; "a store of an earlier session than 0"),
+    }
 }
 
 // Why no controller is opened of this store, if none is.

@@ -69,6 +69,24 @@ const NAMED: &[(&[&str], CommandLine<'static>)] = &[
         CommandLine::Node {
             store: "a.db",
             id: "n1",
+            session: None,
+        },
+    ),
+    (
+        &["csi-replay", "node", "a.db", "n1", "2"],
+        CommandLine::Node {
+            store: "a.db",
+            id: "n1",
+            session: Some("2"),
+        },
+    ),
+    // Of the words nothing is asked here.
+    (
+        &["csi-replay", "node", "a.db", "n1", ""],
+        CommandLine::Node {
+            store: "a.db",
+            id: "n1",
+            session: Some(""),
         },
     ),
     (
@@ -136,7 +154,8 @@ const REFUSED: &[&[&str]] = &[
     &["csi-replay", "controller", "a"],
     &["csi-replay", "controller", "a", "b", "c"],
     &["csi-replay", "node", "a"],
-    &["csi-replay", "node", "a", "n1", "n2"],
+    &["csi-replay", "node", "a", "n1", "2", "3"],
+    &["csi-replay", "node", "a", "n1", "-1"],
     &["csi-replay", "orchestrator", "a"],
     &["csi-replay", "orchestrator", "a", "b", "c"],
     &["csi-replay", "record"],

@@ -181,7 +181,7 @@ fn refusal(rt: &(impl Abort + AllocGlobal), ids: &[&str]) -> Option<AssembleFaul
     drop(controller);
     let mut nodes = room(rt, ids.len());
     for id in ids {
-        let node = Node::new(rt.alloc(), node_id(rt, id));
+        let node = Node::new(rt.alloc(), node_id(rt, id), 0);
         nodes.push(kept_node(rt, &node)).expect(rt, "room");
         drop(node);
     }

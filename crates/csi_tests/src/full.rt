@@ -48,7 +48,7 @@ fn new_nodes(rt: &(impl Abort + AllocGlobal)) -> Vec<Node> {
     let mut nodes = room(rt, 64);
     for node in 0..NODES {
         nodes
-            .push(Node::new(rt.alloc(), node_of(rt, node)))
+            .push(Node::new(rt.alloc(), node_of(rt, node), 0))
             .expect(rt, "room");
     }
     nodes

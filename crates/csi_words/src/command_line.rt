@@ -7,6 +7,7 @@ ghost use Rattle.csi_words.specs.Public.Help.{help_asked as asked};
 ghost use Rattle.csi_words.specs.Public.Words.{
   command_entered,
   command_in as named_in,
+  on_node,
   controller_in,
   node_in,
   orchestrator_in,
@@ -34,11 +35,22 @@ pub enum CommandLine<'a> {
     /// `answer FILE`, `show FILE`, `run FILE`, `frames FILE` and `draw FILE`: what is done, and the path of the file.
     File(FileCommand, &'a str),
     /// `controller DB CONFIG`: the paths of the store and of the file of the configuration.
-    Controller { store: &'a str, config: &'a str },
-    /// `node DB ID`: the path of the store, and the node's id, of which nothing is asked yet.
-    Node { store: &'a str, id: &'a str },
+    Controller {
+        store: &'a str,
+        config: &'a str,
+    },
+    /// `node DB ID` or `node DB ID SESSION`: the path of the store, the node's id, and the session of its joining, of which nothing is
+    /// asked yet.
+    Node {
+        store: &'a str,
+        id: &'a str,
+        session: Option<&'a str>,
+    },
     /// `orchestrator DB CONFIG`: the paths of the store and of the file of the configuration.
-    Orchestrator { store: &'a str, config: &'a str },
+    Orchestrator {
+        store: &'a str,
+        config: &'a str,
+    },
     /// `record DB`: the path of the store.
     Record(&'a str),
 }
@@ -67,6 +79,18 @@ fn store_command<'a>(
     let command = Command::new(alloc, name).arg(store)?;
     let other = Arg::new(alloc, second).required(true);
     command.arg(other)
+}
+
+// The command that serves a node: its store, its id, and the session of its joining, which may be left out.
+fn node_command<'a>(alloc: Global) -> Result<Command<'a>, AllocError>
+    ensures { IfOk result (IsAddedAs on_node.top) }
+{
+    let store = Arg::new(alloc, "DB").required(true);
+    let with_store = Command::new(alloc, "node").arg(store)?;
+    let id = Arg::new(alloc, "ID").required(true);
+    let with_id = with_store.arg(id)?;
+    let session = Arg::new(alloc, "SESSION");
+    with_id.arg(session)
 }
 
 // The program with this command more, if there was memory to make it.
@@ -107,7 +131,7 @@ fn with_all_commands<'a>(alloc: Global) -> Result<Command<'a>, AllocError>
     let names = ["answer", "show", "run", "frames", "draw"];
     let three = with_file_commands(alloc, bare, &names)?;
     let four = with_command(three, store_command(alloc, "controller", "CONFIG"))?;
-    let five = with_command(four, store_command(alloc, "node", "ID"))?;
+    let five = with_command(four, node_command(alloc))?;
     let six = with_command(five, store_command(alloc, "orchestrator", "CONFIG"))?;
     with_command(six, one_word_command(alloc, "record", "DB"))
 }
@@ -156,13 +180,14 @@ fn controller<'a>(matches: &ArgMatches<'a>) -> Option<CommandLine<'a>>
     Some(CommandLine::Controller { store, config })
 }
 
-// The node's store and id.
+// The node's store, its id, and the session of its joining, where it is there.
 fn node<'a>(matches: &ArgMatches<'a>) -> Option<CommandLine<'a>>
     ensures { option_map named_by result ≡ node_in (rows_of (found_of matches.now)) }
 {
     let store = word(matches, "DB")?;
     let id = word(matches, "ID")?;
-    Some(CommandLine::Node { store, id })
+    let session = word(matches, "SESSION");
+    Some(CommandLine::Node { store, id, session })
 }
 
 // The orchestrator's store and configuration.

@@ -21,7 +21,7 @@ pub enum Help {
     Draw,
     /// `controller DB CONFIG`.
     Controller,
-    /// `node DB ID`.
+    /// `node DB ID [SESSION]`.
     Node,
     /// `orchestrator DB CONFIG`.
     Orchestrator,

@@ -16,7 +16,7 @@ Subcommands:
   frames FILE             simulate a schedule, and write the frames sent in it
   draw FILE               simulate a schedule, and draw its run
   controller DB CONFIG    serve as the controller
-  node DB ID              serve as a node
+  node DB ID [SESSION]    serve as a node
   orchestrator DB CONFIG  serve as the orchestrator, which is asked by lines
   record DB               print what a store has
 
@@ -121,17 +121,22 @@ More: csi-replay --help
 ";
 
 const NODE: &str = "\
-Usage: csi-replay node DB ID
+Usage: csi-replay node DB ID [SESSION]
 
 Reads calls from standard input, as frames, and writes the node's replies to
 standard output, each after its changes are committed to DB. It ends where the
 input ends.
 
-  DB  its store, a SQLite file, made if it is missing; while it runs, and after
-      any exit status but 0, the log DB-wal is part of the store
-  ID  the node's id, 1 to 255 bytes
+  DB       its store, a SQLite file, made if it is missing; while it runs, and
+           after any exit status but 0, the log DB-wal is part of the store
+  ID       the node's id, 1 to 255 bytes
+  SESSION  the orchestrator's present session when the node joins (csi-replay
+           record tells it), at least the session that began when the id was
+           lost, and not above the present one; given unchanged at each start.
+           Without it 0, right only for an id that was never in an
+           orchestrator's list. A store of an earlier session is refused
 
-Example: csi-replay node n1.db n1 < calls > replies
+Example: csi-replay node n1.db n1 2 < calls > replies
 
 More: csi-replay --help
 ";

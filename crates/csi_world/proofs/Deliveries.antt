@@ -201,7 +201,7 @@ call-got laws config world name number (Node id) c good among = by (node_state i
         let changed : World = with_node id after.state world in
         let frames = node-of-frames config world id state good.reached is in
         let of_kind = (of_thing good.given name (Node id) c (good.well.so_far.named.own call among)).of_kind in
-        let delivered = subst (λ (s : NodeState). nodes.IsDeliveredTo id s number c) (sym frames.1) (laws.node.delivered id frames.0 number c of_kind) in
+        let delivered = subst (λ (s : NodeState). nodes.IsDeliveredTo id s number c) (sym frames.1) (laws.node.delivered id 0 frames.0 number c of_kind) in
         let new_view = ap (node_view id) (sym (node_state-same id state after.state world is)) in
         let now = subst (λ v. IsDelivered (Node id) number c (nodes.thing_of id c) (nodes.view_of id state) v after.reply) new_view delivered in
         good-delivered laws config world world.controller changed.nodes call good among (node-next config world id state (call_frame number (Node id) c) good.reached is)

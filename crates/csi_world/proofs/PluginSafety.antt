@@ -33,5 +33,5 @@ staged_there state id capability h =
 pub published-staged : NodeSafetyLaw → (config : Config) (world : World) → IsReached config world → IsPublishedWhereStaged world
 published-staged law config world reached at published there among =
     let of = each_of IsNodeOfFrames world.nodes at reached.nodes there in
-    let right : IsPublishedRight at.state = subst IsPublishedRight (sym of.1) (law at.id of.0) in
+    let right : IsPublishedRight at.state = subst IsPublishedRight (sym of.1) (law at.id 0 of.0) in
     staged_there at.state published.volume published.capability (right.staged published among)

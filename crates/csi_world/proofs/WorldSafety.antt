@@ -46,7 +46,7 @@ staged-seen : PluginLaws → (config : Config) (world : World) (at : NodeAt) (st
 staged-seen laws config world at staged right there among =
     let of = each_of IsNodeOfFrames world.nodes at right.good.reached.nodes there in
     let found : staged_of staged.volume at.state ≡ Some staged.capability
-    = subst (λ (s : NodeState). staged_of staged.volume s ≡ Some staged.capability) (sym of.1) (laws.node.found at.id of.0 staged (subst (λ (s : NodeState). IsAmong staged s.staged) of.1 among)) in
+    = subst (λ (s : NodeState). staged_of staged.volume s ≡ Some staged.capability) (sym of.1) (laws.node.found at.id 0 of.0 staged (subst (λ (s : NodeState). IsAmong staged s.staged) of.1 among)) in
     ap (λ o. (node_view at.id o).held (Staged staged.volume at.id)) (right.good.reached.alike at there)
     ∙ ap (λ b. cond b (option_map StagedAs (staged_of staged.volume at.state)) None) ((same_text-tells at.id at.id).1 refl)
     ∙ ap (option_map StagedAs) found

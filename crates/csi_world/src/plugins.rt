@@ -36,7 +36,7 @@ pub(crate) fn new_nodes(alloc: Global, slots: &[NodeSlots]) -> Result<Vec<Node>,
     let mut nodes = Vec::new(alloc);
     for one in slots {
         let id = one.id.clone()?;
-        nodes.push(Node::new(alloc, id))?;
+        nodes.push(Node::new(alloc, id, 0))?;
     }
     Ok(nodes)
 }

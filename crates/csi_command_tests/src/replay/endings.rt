@@ -43,6 +43,11 @@ const ENDINGS: &[(Ending, &str, u8)] = &[
         "csi-replay: line fault at 18446744073709551615",
         1,
     ),
+    (
+        Ending::EarlierSession,
+        "csi-replay: store of an earlier session",
+        1,
+    ),
     (Ending::NumbersSpent, "csi-replay: numbers spent", 1),
     (Ending::Usage, "csi-replay: usage", 2),
     (Ending::Device, "csi-replay: device", 3),

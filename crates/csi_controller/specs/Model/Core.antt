@@ -1,4 +1,4 @@
--- How a controller's parts are a state, and the rules of its rows.
+-- How a controller's parts are a state.
 use Rattle.std.specs.Prelude.{◌≡◌, ℕ, ◌≤◌, ◌^◌, List}
 use Rattle.csi_types.specs.Model.Config.{Config}
 use Rattle.csi_controller.specs.declared.row.ControllerRow.{ControllerRow}

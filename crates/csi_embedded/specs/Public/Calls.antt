@@ -1,5 +1,5 @@
 -- What an embedded plugin does with bytes: it answers the frame that they begin with, or says why not. This profile's own.
-use Rattle.std.specs.Prelude.{◌≡◌, ◌≢◌, ◌⊎◌, ◌<◌, ℕ, Bool, List, [], map, length, take, slice_get, Option, Some, None}
+use Rattle.std.specs.Prelude.{◌≡◌, ◌≢◌, ◌⊎◌, ◌<◌, ℕ, Bool, true, List, [], map, length, take, slice_get, Option, Some, None}
 use Rattle.std.specs.Global.{Vec}
 use Rattle.csi_types.specs.Model.Frame.{Frame}
 use Rattle.csi_frames.specs.declared.fault.FaultKind.{FaultKind}
@@ -11,9 +11,9 @@ use Rattle.csi_stores.specs.Public.Part.{StoredChange, part_change}
 use Rattle.csi_stores.specs.Public.Content.{all_changed}
 use Rattle.csi_service.specs.Public.Answering.{AppendsReply}
 use Rattle.csi_embedded.specs.declared.ending.Ending.{Ending}
-use Rattle.csi_embedded.specs.declared.ending.Ending.TheVariants.{Done, NoMemory, Empty, Short, BadFrame, NoRoom, TakenOut, NoMore}
+use Rattle.csi_embedded.specs.declared.ending.Ending.TheVariants.{Done, NoMemory, Empty, Short, BadFrame, NoRoom, TakenOut, NoMore, OtherKind}
 use Rattle.csi_embedded.specs.declared.embedded.Embedded.{Embedded}
-use Rattle.csi_embedded.specs.Public.Plugins.{plugin_parts, plugin_changes, PluginAnswers, IsAsItWas, IsPluginRecord}
+use Rattle.csi_embedded.specs.Public.Plugins.{plugin_parts, plugin_changes, is_orchestrator, PluginAnswers, IsAsItWas, IsPluginRecord}
 use Rattle.csi_embedded.specs.Public.Endings.{ending_number}
 
 -- so many bytes as a frame may take: a length of four, and a body of at most 1280
@@ -27,7 +27,7 @@ abbrev pub told_or : List StoredChange → Option (Vec Part) → List StoredChan
 told_or changes None = changes
 told_or changes (Some parts) = map part_change parts.items
 
--- what was told once stays; else what the last frame that was answered changed
+-- what was told once stays; else what the last call changed that was carried out
 abbrev pub told_changes : Embedded → List StoredChange
 told_changes embedded = told_or (plugin_changes embedded.plugin) embedded.changed
 
@@ -39,6 +39,10 @@ IsNoFrame bytes NoMemory = Unit {0}
 IsNoFrame bytes Short = IsFaulty bytes faults.Short (length bytes)
 IsNoFrame bytes BadFrame = (kind : FaultKind) × (place : ℕ) × (kind ≢ faults.Short) × IsFaulty bytes kind place
 IsNoFrame bytes _ = ⊥
+
+-- the same of one that may be an orchestrator, which answers no frame
+abbrev pub IsNoAnswer : Embedded → List ℕ → Ending → Type 0
+IsNoAnswer embedded bytes ending = ((ending ≡ OtherKind) × (is_orchestrator embedded.plugin ≡ true)) ⊎ IsNoFrame bytes ending
 
 -- The frame that the bytes begin with was answered and took so many of them. The reply's bytes are these, none where there is no reply. What the
 -- store has to be given leads from the old record to the new one.
@@ -69,10 +73,10 @@ HandleAnswers (Some old) bytes used (Some new) reply = AnswersFrame old bytes us
 HandleAnswers (Some old) bytes used None reply = ⊥
 HandleAnswers None bytes used new reply = ⊥
 
--- why none was answered: the handle is empty, or there is no room for any reply, or there is no frame
+-- why none was answered: the handle is empty, or there is no room for any reply, or it has an orchestrator, or there is no frame
 abbrev pub IsUnanswered : Option Embedded → List ℕ → ℕ → Ending → Type 0
 IsUnanswered None bytes room ending = ending ≡ Empty
-IsUnanswered (Some old) bytes room ending = ((ending ≡ NoRoom) × (room < 544)) ⊎ IsNoFrame (frame_front bytes) ending
+IsUnanswered (Some old) bytes room ending = ((ending ≡ NoRoom) × (room < 544)) ⊎ IsNoAnswer old (frame_front bytes) ending
 
 -- all is as it was, and the number is that of why
 pub record HasFailed (old : Option Embedded) (bytes : List ℕ) (room : ℕ) (new : Option Embedded) (number : ℕ) : Type 0 where

@@ -1,7 +1,7 @@
 -- The number of each ending, as a C program sees it. This profile's own.
 use Rattle.std.specs.Prelude.{ℕ}
 use Rattle.csi_embedded.specs.declared.ending.Ending.{Ending}
-use Rattle.csi_embedded.specs.declared.ending.Ending.TheVariants.{Done, NoMemory, Empty, Full, BadName, BadRecord, Short, BadFrame, NoRoom, Renewed, TakenOut, NoMore}
+use Rattle.csi_embedded.specs.declared.ending.Ending.TheVariants.{Done, NoMemory, Empty, Full, BadName, BadRecord, Short, BadFrame, NoRoom, Renewed, TakenOut, NoMore, Refused, OtherKind, Met, Ignored, EarlierSession}
 
 -- an ending's number
 abbrev pub ending_number : Ending → ℕ
@@ -17,3 +17,8 @@ ending_number NoRoom = 8
 ending_number Renewed = 9
 ending_number TakenOut = 10
 ending_number NoMore = 11
+ending_number Refused = 12
+ending_number OtherKind = 13
+ending_number Met = 14
+ending_number Ignored = 15
+ending_number EarlierSession = 16

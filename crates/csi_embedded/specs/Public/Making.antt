@@ -1,5 +1,5 @@
 -- Plugins that are made: new ones, and those of a record's bytes; and what the store has to be given of them. This profile's own.
-use Rattle.std.specs.Prelude.{◌≡◌, ◌≢◌, ◌⊎◌, ℕ, List, [], ◌∷◌, Option, Some, None, Ok}
+use Rattle.std.specs.Prelude.{◌≡◌, ◌≢◌, ◌⊎◌, ◌<◌, ◌≤◌, ℕ, List, [], ◌∷◌, Option, Some, None, Ok}
 use Rattle.std.specs.Str.{IsUtf8}
 use Rattle.csi_types.specs.Model.Config.{Config}
 use Rattle.csi_types.specs.Public.Text.{IsNodeId}
@@ -17,7 +17,7 @@ use Rattle.csi_service.specs.declared.controller_service.ControllerService.{Cont
 use Rattle.csi_service.specs.declared.node_service.NodeService.{NodeService}
 use Rattle.csi_service.specs.Public.Services.{controller_service_parts, node_service_parts}
 use Rattle.csi_embedded.specs.declared.ending.Ending.{Ending}
-use Rattle.csi_embedded.specs.declared.ending.Ending.TheVariants.{Done, NoMemory, Full, BadName, BadRecord, Renewed}
+use Rattle.csi_embedded.specs.declared.ending.Ending.TheVariants.{Done, NoMemory, Full, BadName, BadRecord, Renewed, EarlierSession}
 use Rattle.csi_embedded.specs.declared.embedded.Embedded.{Embedded}
 use Rattle.csi_embedded.specs.declared.plugin.Plugin.TheVariants.{Controller, Node}
 use Rattle.csi_embedded.specs.Public.Calls.{told_changes}
@@ -48,12 +48,12 @@ pub record IsNewController (text : List ℕ) (made : Embedded) : Type 0 where
   pub parts : controller_service_parts service ≡ controller_head present 1 (Some 0) ∷ []
   pub told : told_changes made ≡ put_all (controller_service_parts service)
 
--- the node of this id, with no volume
-pub record IsNewNode (id : List ℕ) (made : Embedded) : Type 0 where
+-- the node of this id that joins with this session, with no volume
+pub record IsNewNode (id : List ℕ) (session : ℕ) (made : Embedded) : Type 0 where
   pub service : NodeService
   pub is : made.plugin ≡ Node service
   pub own : service.node.id ≡ id
-  pub parts : node_service_parts service ≡ node_head present id (Some 0) ∷ []
+  pub parts : node_service_parts service ≡ node_head present id (Some session) ∷ []
   pub told : told_changes made ≡ put_all (node_service_parts service)
 
 -- ---- those of a record
@@ -75,13 +75,14 @@ pub record IsReadController (text bytes : List ℕ) (made : Embedded) (ending : 
   pub has : service.controller ≡ record { config = config; next_id = kept.next_id; session = kept.session; rows = kept.rows }
   pub renews : Renews version (controller_service_parts service) (told_changes made) ending
 
--- the node of this id, of the record whose bytes these are in some version
-pub record IsReadNode (id bytes : List ℕ) (made : Embedded) (ending : Ending) : Type 0 where
+-- the node of this id, of the record whose bytes these are in some version, and which is of no earlier session than that of its joining
+pub record IsReadNode (id : List ℕ) (session : ℕ) (bytes : List ℕ) (made : Embedded) (ending : Ending) : Type 0 where
   pub service : NodeService
   pub is : made.plugin ≡ Node service
   pub version : RecordVersion
   pub read : AreBytesOf (λ v. IsRecordOf (node_layout v None)) (λ v. IsNodeOf v None) version bytes service.node
   pub own : service.node.id ≡ id
+  pub joined : session ≤ service.node.session
   pub renews : Renews version (node_service_parts service) (told_changes made) ending
 
 -- why there is none: as there is no new one, or the bytes are no controller's record in any version
@@ -91,13 +92,17 @@ IsNoReadController text bytes BadName = IsNoConfig text BadName
 IsNoReadController text bytes BadRecord = (place : ℕ) × IsBadAt (λ v. IsRecordOf (controller_layout v)) bytes place
 IsNoReadController text bytes _ = ⊥
 
--- the same of a node, whose record may be another node's too
-abbrev pub IsNoReadNode : List ℕ → List ℕ → Ending → Type 0
-IsNoReadNode id bytes NoMemory = Unit {0}
-IsNoReadNode id bytes BadName = IsNoId id BadName
-IsNoReadNode id bytes BadRecord = ((place : ℕ) × IsBadAt (λ v. IsRecordOf (node_layout v None)) bytes place)
-    ⊎ ((version : RecordVersion) × (kept : NodeParts) × AreBytesOf (λ v. IsRecordOf (node_layout v None)) (λ v. IsNodeOf v None) version bytes kept × (kept.id ≢ id))
-IsNoReadNode id bytes _ = ⊥
+-- these bytes are some node's record, of which this is so
+abbrev pub IsNodeRecordWhere : (NodeParts → Type 0) → List ℕ → Type 0
+IsNodeRecordWhere Is bytes = (version : RecordVersion) × (kept : NodeParts) × AreBytesOf (λ v. IsRecordOf (node_layout v None)) (λ v. IsNodeOf v None) version bytes kept × Is kept
+
+-- the same of a node, whose record may be another node's too, or its own of an earlier session than that of its joining
+abbrev pub IsNoReadNode : List ℕ → ℕ → List ℕ → Ending → Type 0
+IsNoReadNode id session bytes NoMemory = Unit {0}
+IsNoReadNode id session bytes BadName = IsNoId id BadName
+IsNoReadNode id session bytes BadRecord = ((place : ℕ) × IsBadAt (λ v. IsRecordOf (node_layout v None)) bytes place) ⊎ IsNodeRecordWhere (λ kept. kept.id ≢ id) bytes
+IsNoReadNode id session bytes EarlierSession = IsNodeRecordWhere (λ kept. (kept.id ≡ id) × kept.session < session) bytes
+IsNoReadNode id session bytes _ = ⊥
 
 -- ---- the same of handles
 

@@ -1,29 +1,46 @@
--- A controller or a node: the parts of its record, what its last call changed, and how it answers, as its service does. This profile's own.
-use Rattle.std.specs.Prelude.{◌≡◌, ℕ, List, map, Option, Some}
+-- A controller, a node or an orchestrator: the parts of its record, what its last call changed, and how a plugin answers, as its service does.
+-- This profile's own.
+use Rattle.std.specs.Prelude.{◌≡◌, ℕ, Bool, true, false, List, map, Option, Some, None}
 use Rattle.csi_types.specs.Model.Frame.{Frame}
 use Rattle.csi_controller.specs.Model.Core.{Shows}
 use Rattle.csi_controller.specs.Model.State.{ControllerState}
 use Rattle.csi_controller.specs.Public.Views.{RecordParts}
 use Rattle.csi_node.specs.Model.Record.{Shows as NodeShows}
 use Rattle.csi_node.specs.Model.State.{NodeState}
+use Rattle.csi_orchestrator.specs.Model.Shown.{OrchestratorParts}
 use Rattle.csi_stores.specs.Public.Part.{StoredPart, StoredChange}
 use Rattle.csi_records.specs.Public.Spelling.{present, controller_parts, volume_row, record_bytes}
 use Rattle.csi_service.specs.declared.controller_service.ControllerService.{ControllerService}
 use Rattle.csi_service.specs.declared.node_service.NodeService.{NodeService}
 use Rattle.csi_service.specs.Public.Services.{controller_service_parts, controller_service_changes, ControllerAnswers, node_service_parts}
 use Rattle.csi_service.specs.Public.NodeServices.{node_service_changes, NodeServiceAnswers}
+use Rattle.csi_service.specs.Public.OrchestratorServices.{ServedOrchestrator, orchestrator_service_parts, orchestrator_service_changes}
 use Rattle.csi_embedded.specs.declared.plugin.Plugin.{Plugin}
-use Rattle.csi_embedded.specs.declared.plugin.Plugin.TheVariants.{Controller, Node}
+use Rattle.csi_embedded.specs.declared.plugin.Plugin.TheVariants.{Controller, Node, Orchestrator}
+
+-- whether it is an orchestrator
+abbrev pub is_orchestrator : Plugin → Bool
+is_orchestrator (Controller service) = false
+is_orchestrator (Node service) = false
+is_orchestrator (Orchestrator service) = true
+
+-- the orchestrator, if it is one
+abbrev pub orchestrator_of : Plugin → Option OrchestratorParts
+orchestrator_of (Controller service) = None
+orchestrator_of (Node service) = None
+orchestrator_of (Orchestrator service) = Some service.orchestrator
 
 -- the parts of its record
 abbrev pub plugin_parts : Plugin → List StoredPart
 plugin_parts (Controller service) = controller_service_parts service
 plugin_parts (Node service) = node_service_parts service
+plugin_parts (Orchestrator service) = orchestrator_service_parts service
 
 -- what its last call changed
 abbrev pub plugin_changes : Plugin → List StoredChange
 plugin_changes (Controller service) = controller_service_changes service
 plugin_changes (Node service) = node_service_changes service
+plugin_changes (Orchestrator service) = orchestrator_service_changes service
 
 -- a frame gets this reply, or none, and leads from one plugin to the other: reply and state are those of the fence over the plugin's table
 abbrev pub PluginAnswers : Plugin → Frame → Option Frame → Plugin → Type 0
@@ -31,6 +48,9 @@ PluginAnswers (Controller old) frame reply (Controller new) = ControllerAnswers 
 PluginAnswers (Node old) frame reply (Node new) = NodeServiceAnswers old frame reply new
 PluginAnswers (Controller old) frame reply (Node new) = ⊥
 PluginAnswers (Node old) frame reply (Controller new) = ⊥
+PluginAnswers (Controller old) frame reply (Orchestrator new) = ⊥
+PluginAnswers (Node old) frame reply (Orchestrator new) = ⊥
+PluginAnswers (Orchestrator old) frame reply new = ⊥
 
 -- ---- what a refusal leaves
 
@@ -47,12 +67,21 @@ pub record IsSameNodeService (old new : NodeService) : Type 0 where
   pub parts : node_service_parts new ≡ node_service_parts old
   pub changes : node_service_changes new ≡ node_service_changes old
 
--- the plugin is as it was: its state, its record, and what its last call changed
+-- an orchestrator is as it was; its last call is another one, whose changes were told before
+pub record IsSameOrchestratorService (old new : ServedOrchestrator) : Type 0 where
+  pub orchestrator : new.orchestrator ≡ old.orchestrator
+
+-- it is as it was: its state, its record, and what a plugin's last call changed
 abbrev pub IsAsItWas : Plugin → Plugin → Type 0
 IsAsItWas (Controller old) (Controller new) = IsSameControllerService old new
 IsAsItWas (Node old) (Node new) = IsSameNodeService old new
+IsAsItWas (Orchestrator old) (Orchestrator new) = IsSameOrchestratorService old new
 IsAsItWas (Controller old) (Node new) = ⊥
+IsAsItWas (Controller old) (Orchestrator new) = ⊥
 IsAsItWas (Node old) (Controller new) = ⊥
+IsAsItWas (Node old) (Orchestrator new) = ⊥
+IsAsItWas (Orchestrator old) (Controller new) = ⊥
+IsAsItWas (Orchestrator old) (Node new) = ⊥
 
 -- ---- its record as bytes
 
@@ -62,7 +91,8 @@ pub record AreControllerRecordBytes (service : ControllerService) (bytes : List 
   pub shows : (state : ControllerState) → Shows service.controller state → Shows (record { config = service.controller.config; next_id = kept.next_id; session = kept.session; rows = kept.rows }) state
   pub spelled : bytes ≡ record_bytes present (controller_parts present kept.next_id (Some kept.session) (map volume_row kept.rows))
 
--- the bytes of the plugin's whole record, in the present version
+-- the bytes of its whole record, in the present version
 abbrev pub IsPluginRecord : Plugin → List ℕ → Type 0
 IsPluginRecord (Controller service) bytes = AreControllerRecordBytes service bytes
 IsPluginRecord (Node service) bytes = bytes ≡ record_bytes present (node_service_parts service)
+IsPluginRecord (Orchestrator service) bytes = bytes ≡ record_bytes present (orchestrator_service_parts service)

@@ -5,6 +5,7 @@ use Rattle.serde_json.specs.Data.{Data}
 use Rattle.serde_json.specs.Find.{as_str}
 use Rattle.serde_json.specs.Read.{read}
 use Rattle.csi_types.specs.declared.event.Event.{Event}
+use Rattle.csi_types.specs.declared.event.Event.TheVariants as events
 use Rattle.csi_json.specs.declared.request.Request.{Request}
 use Rattle.csi_json.specs.declared.request.Request.TheVariants as requests
 use Rattle.csi_json.specs.declared.request_fault.RequestFault.{RequestFault}
@@ -33,6 +34,23 @@ is_command_key key =
 abbrev pub command_or_fault : Option Event → Result RequestShown RequestFault
 command_or_fault (Some event) = Ok (Command event)
 command_or_fault None = Err BadLine
+
+-- an event is a command or a timeout
+abbrev pub IsCommand : Event → Type 0
+IsCommand (events.Create name required limit capabilities) = Unit {0}
+IsCommand (events.Use name node target capability readonly) = Unit {0}
+IsCommand (events.Stop name node target) = Unit {0}
+IsCommand (events.Delete name) = Unit {0}
+IsCommand (events.Timeout name) = Unit {0}
+IsCommand (events.Deliver number) = ⊥
+IsCommand events.RestartOrchestrator = ⊥
+IsCommand events.RestartController = ⊥
+IsCommand (events.RestartNode node) = ⊥
+
+-- what is asked is one of these, or to take bytes
+abbrev pub IsAsked : RequestShown → Type 0
+IsAsked (Command event) = IsCommand event
+IsAsked (Reply bytes) = Unit {0}
 
 -- the bytes of a frame, or the fault that there are none
 abbrev pub reply_or_fault : Option (List ℕ) → Result RequestShown RequestFault

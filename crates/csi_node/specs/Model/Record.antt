@@ -1,11 +1,11 @@
--- A node's record as a value, and the rules that it keeps. This profile's own.
+-- A node's record as a value, and the state that it shows. This profile's own.
 use Rattle.std.specs.Prelude.{◌≡◌, ℕ, List, map}
 use Rattle.csi_node.specs.declared.row.NodeRow.{NodeRow}
 use Rattle.csi_node.specs.Model.State.{NodeState}
 use Rattle.csi_node.specs.Model.Shown.{RowsShow}
 use Rattle.csi_node.specs.Model.OneRow.{NodeRowShown, node_row_shown}
 
--- a record: its node, the greatest session that came, and its rows
+-- a record: its node, the greatest session that it heard of, and its rows
 pub record NodeParts : Type 0 where
   pub id : List ℕ
   pub session : ℕ

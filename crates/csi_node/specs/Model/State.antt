@@ -24,17 +24,21 @@ pub record PublishedVolume : Type 0 where
   pub capability : Capability
   pub readonly : Bool
 
--- the rows, the greatest session that came (0 before any did), what is staged, and all that is published, of all volumes, the newest
--- last. The row of a volume that isn't staged is forgotten where a later session begins
+-- the rows, the greatest session that it heard of (at its joining or by a call; 0 before any), what is staged, and all that is
+-- published, of all volumes, the newest last. The row of a volume that isn't staged is forgotten where a later session begins
 pub record NodeState : Type 0 where
   pub rows : List AnsweredVolume
   pub session : ℕ
   pub staged : List StagedVolume
   pub published : List PublishedVolume
 
--- a node that has answered nothing
+-- a node that has answered nothing, and heard of this session when it joined
+abbrev pub joined_node : ℕ → NodeState
+joined_node session = record { rows = []; session = session; staged = []; published = [] }
+
+-- a node that has answered nothing, and heard of no session
 abbrev pub empty_node : NodeState
-empty_node = record { rows = []; session = 0; staged = []; published = [] }
+empty_node = joined_node 0
 
 -- a volume's row, if it has one
 abbrev pub row_with_id : ℕ → NodeState → Option AnsweredVolume

@@ -18,7 +18,7 @@ use Rattle.csi_types.specs.declared.frame.Body.TheVariants as bodies
 use Rattle.csi_types.specs.Model.Call.{kind_of}
 use Rattle.csi_types.specs.Model.Frame.{Frame}
 use Rattle.csi_types.specs.Model.Replies.{plain_reply, ok_reply, call_frame, reply_frame}
-use Rattle.csi_node.specs.Model.State.{NodeState, AnsweredVolume, empty_node, staged_of, published_at, row_for}
+use Rattle.csi_node.specs.Model.State.{NodeState, AnsweredVolume, empty_node, joined_node, staged_of, published_at, row_for}
 use Rattle.csi_node.specs.Model.Fenced.{fenced}
 use Rattle.csi_node.specs.Public.Fenced.{after_frames}
 use Rattle.csi_node.specs.Model.Shown.{RowsShow}
@@ -157,9 +157,26 @@ FullNodeForgets =
       };
     }
 
+-- the calls that were sent to node n1 before it was lost: to stage volume 1, and to publish it
+abbrev pub lost_stage : Frame
+lost_stage = first_session_call 3 (NodeStageVolume 1 (block SingleNodeWriter))
+
+-- and to publish it there
+abbrev pub lost_publish : Frame
+lost_publish = first_session_call 4 (publish_call (codes "/a") SingleNodeWriter false)
+
+-- node n1 was lost in session 1, and joins again with session 2: what was under way all the time is stale, and changes nothing; calls of session
+-- 2 are answered by the table, and those of session 1 are stale then too. A node that heard of session 1 alone would stage the volume
+pub record LateAtJoinedRow : Type 0 where
+  pub late : fenced (codes "n1") (joined_node 2) lost_publish
+      ≡ record { reply = Some (reply_frame (number 4) (Node (codes "n1")) kinds.NodePublishVolume (plain_reply Aborted (codes "stale"))); state = joined_node 2 }
+  pub later : replies_from (joined_node 2) (lost_stage ∷ second_session (NodeStageVolume 1 (block SingleNodeWriter)) ∷ lost_publish ∷ [])
+      ≡ plain_reply Aborted (codes "stale") ∷ ok_reply ∷ plain_reply Aborted (codes "stale") ∷ []
+  pub untold : replies_from (joined_node 1) (lost_stage ∷ lost_publish ∷ []) ≡ ok_reply ∷ ok_reply ∷ []
+
 -- a node that has answered nothing is shown by a record without rows
 abbrev pub EmptyIsShown : Type 0
-EmptyIsShown = RowsShow [] empty_node
+EmptyIsShown = (session : ℕ) → RowsShow [] (joined_node session)
 
 -- what the laws tell of a publish of a staged volume: it is published as asked
 abbrev pub staged_v : List Frame

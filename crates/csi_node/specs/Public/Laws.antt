@@ -5,7 +5,7 @@ use Rattle.csi_types.specs.declared.call.Call.{Call}
 use Rattle.csi_types.specs.declared.call.Call.TheVariants as calls
 use Rattle.csi_types.specs.declared.reply.Reply.{Reply}
 use Rattle.csi_fence.specs.Public.Lawful.{Plugin, TableLaw}
-use Rattle.csi_node.specs.Model.State.{NodeState, AnsweredVolume, PublishedVolume, empty_node, staged_of, published_at, volume_of}
+use Rattle.csi_node.specs.Model.State.{NodeState, AnsweredVolume, PublishedVolume, joined_node, staged_of, published_at, volume_of}
 use Rattle.csi_node.specs.Model.Table.{node_row}
 use Rattle.csi_node.specs.Model.Fenced.{node_at}
 
@@ -65,4 +65,4 @@ plugin_at node =
 
 -- the laws, for every state that frames reach and every call that the table answers there
 abbrev pub NodeTableLaw : Type 0
-NodeTableLaw = (node : List ℕ) → TableLaw (plugin_at node) empty_node
+NodeTableLaw = (node : List ℕ) (session : ℕ) → TableLaw (plugin_at node) (joined_node session)

@@ -4,7 +4,7 @@ use Rattle.std.specs.Prelude.{◌≡◌, ◌⊎◌, ◌≤◌, ◌+◌, ◌==◌
 use Rattle.csi_types.specs.Model.Frame.{Frame}
 use Rattle.csi_lists.specs.Model.Members.{IsAmong, EachTwo}
 use Rattle.csi_types.specs.Model.Sharing.{allows_one_target}
-use Rattle.csi_node.specs.Model.State.{NodeState, AnsweredVolume, PublishedVolume, empty_node, staged_of}
+use Rattle.csi_node.specs.Model.State.{NodeState, AnsweredVolume, PublishedVolume, joined_node, staged_of}
 use Rattle.csi_node.specs.Public.Fenced.{after_frames}
 
 -- at two targets, if they are of one volume, neither is in a mode that allows one target
@@ -24,10 +24,10 @@ pub record Remembers (state : NodeState) : Type 0 where
   pub before : (row : AnsweredVolume) → IsAmong row state.rows → row.kept.number.session ≤ state.session
   pub few : length state.rows ≤ count_by (λ row. is_some (staged_of row.id state)) state.rows + count_by (λ row. row.kept.number.session == state.session) state.rows
 
--- in every state that frames lead to, at every node
+-- in every state that frames lead to, at every node, whichever session it joined with
 abbrev pub NodeSessionsLaw : Type 0
-NodeSessionsLaw = (node : List ℕ) (frames : List Frame) → Remembers (after_frames node empty_node frames)
+NodeSessionsLaw = (node : List ℕ) (session : ℕ) (frames : List Frame) → Remembers (after_frames node (joined_node session) frames)
 
--- in every state that frames lead to, at every node
+-- in every state that frames lead to, at every node, whichever session it joined with
 abbrev pub NodeSafetyLaw : Type 0
-NodeSafetyLaw = (node : List ℕ) (frames : List Frame) → IsPublishedRight (after_frames node empty_node frames)
+NodeSafetyLaw = (node : List ℕ) (session : ℕ) (frames : List Frame) → IsPublishedRight (after_frames node (joined_node session) frames)

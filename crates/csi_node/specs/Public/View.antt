@@ -14,7 +14,7 @@ use Rattle.csi_types.specs.Public.PluginThing.{PluginThing, Exists, Attached, St
 use Rattle.csi_lists.specs.Model.Members.{IsAmong}
 use Rattle.csi_types.specs.Model.Replies.{call_frame}
 use Rattle.csi_types.specs.Model.Same.{same_text}
-use Rattle.csi_node.specs.Model.State.{NodeState, StagedVolume, empty_node, row_with_id, staged_of, published_at}
+use Rattle.csi_node.specs.Model.State.{NodeState, StagedVolume, empty_node, joined_node, row_with_id, staged_of, published_at}
 use Rattle.csi_node.specs.Model.Fenced.{fenced}
 use Rattle.csi_node.specs.Public.Fenced.{after_frames}
 
@@ -59,11 +59,11 @@ IsDeliveredTo node state number call =
     (fenced node state (call_frame number (Node node) call)).reply
 
 -- in every state that frames lead to, whichever call comes next: it is delivered as the laws say, and each staged volume
--- is found as it is staged; and a new node has nothing, and what came before a spent number is spent
+-- is found as it is staged; and a node that has heard of nothing has nothing, and what came before a spent number is spent
 pub record NodeDeliveryLaw : Type 0 where
   pub empty : (node : List ℕ) → IsEmpty (view_of node empty_node)
   pub closed : (node : List ℕ) (state : NodeState) → IsClosed (view_of node state)
-  pub delivered : (node : List ℕ) (frames : List Frame) (number : Number) (call : Call) → IsTrue (is_party_of (kind_of call) (Node node))
-      → IsDeliveredTo node (after_frames node empty_node frames) number call
-  pub found : (node : List ℕ) (frames : List Frame) (staged : StagedVolume) → IsAmong staged (after_frames node empty_node frames).staged
-      → staged_of staged.volume (after_frames node empty_node frames) ≡ Some staged.capability
+  pub delivered : (node : List ℕ) (session : ℕ) (frames : List Frame) (number : Number) (call : Call) → IsTrue (is_party_of (kind_of call) (Node node))
+      → IsDeliveredTo node (after_frames node (joined_node session) frames) number call
+  pub found : (node : List ℕ) (session : ℕ) (frames : List Frame) (staged : StagedVolume) → IsAmong staged (after_frames node (joined_node session) frames).staged
+      → staged_of staged.volume (after_frames node (joined_node session) frames) ≡ Some staged.capability

@@ -1,5 +1,5 @@
 -- How an orchestrator answers a line: a command, a timeout, or a frame that came. This profile's own.
-use Rattle.std.specs.Prelude.{◌≡◌, ◌⊎◌, ℕ, List, slice_get, Option, Some, None, option_map, option_and_then, Result, Ok, Err}
+use Rattle.std.specs.Prelude.{◌≡◌, ◌⊎◌, ℕ, List, slice_get, Option, Some, None, option_map, option_and_then, Result, Ok, Err, IfOk}
 use Rattle.serde_json.specs.Data.{Data}
 use Rattle.serde_json.specs.Written.{compact_text}
 use Rattle.csi_types.specs.declared.event.Event.{Event}
@@ -10,9 +10,10 @@ use Rattle.csi_orchestrator.specs.declared.fault.Heard.{Heard}
 use Rattle.csi_orchestrator.specs.declared.fault.Heard.TheVariants as heards
 use Rattle.csi_orchestrator.specs.declared.fault.OrchFault.{OrchFault}
 use Rattle.csi_orchestrator.specs.declared.fault.OrchFault.TheVariants as faults
+use Rattle.csi_orchestrator.specs.Model.History.{Goal}
 use Rattle.csi_orchestrator.specs.Model.Moves.{Input, ToCreate, ToUse, ToStop, ToDelete, TimesOut, Comes, Sends, Hears}
 use Rattle.csi_orchestrator.specs.Model.Shown.{RowShown, OrchestratorParts, goal_in}
-use Rattle.csi_orchestrator.specs.Public.Changed.{place_by_name, place_by_call}
+use Rattle.csi_orchestrator.specs.Public.Changed.{place_by_name, place_by_call, ChangesAsHeard}
 use Rattle.csi_service.specs.Public.OrchestratorServices.{ServedOrchestrator, OrchestratorAnswers}
 use Rattle.csi_json.specs.declared.request_fault.RequestFault.{RequestFault}
 use Rattle.csi_json.specs.declared.request_fault.RequestFault.TheVariants as no_requests
@@ -30,11 +31,11 @@ row_at rows place = option_and_then (slice_get rows) place
 abbrev pub with_bytes : Frame → Frame × List ℕ
 with_bytes frame = (frame, spelling frame)
 
--- of a command or a timeout: what became of it, and the call that is to be sent; about the volume of its name, by the row that it has then
-abbrev pub command_entry : List ℕ → Option RowShown → Result (Option Frame) OrchFault → Data
-command_entry name row (Ok (Some frame)) = answer_entry name (option_and_then goal_in row) Sent (Some (with_bytes frame))
-command_entry name row (Ok None) = answer_entry name (option_and_then goal_in row) Met None
-command_entry name row (Err fault) = answer_entry name (option_and_then goal_in row) (Refused fault) None
+-- of a command or a timeout: what became of it, and the call that is to be sent; about the volume of its name, with what is wanted of it then
+abbrev pub command_entry : List ℕ → Option Goal → Result (Option Frame) OrchFault → Data
+command_entry name goal (Ok (Some frame)) = answer_entry name goal Sent (Some (with_bytes frame))
+command_entry name goal (Ok None) = answer_entry name goal Met None
+command_entry name goal (Err fault) = answer_entry name goal (Refused fault) None
 
 -- of a frame that was a reply to the call of this row, or that was refused
 abbrev pub reply_entry : RowShown → Result (Option Frame) OrchFault → Data
@@ -55,13 +56,14 @@ pub record AnswersCommand (input : Input) (name : List ℕ) (old : ServedOrchest
   pub told : Result (Option Frame) OrchFault
   pub answered : OrchestratorAnswers Sends old input told new
   pub memory : told ≡ Err faults.NoMemory → ⊥
-  pub line : answer ≡ compact_text (command_entry name (row_at new.orchestrator.rows (place_by_name name new.orchestrator.rows)) told)
+  pub line : answer ≡ compact_text (command_entry name (option_and_then goal_in (row_at new.orchestrator.rows (place_by_name name new.orchestrator.rows))) told)
 
--- a frame that came: the same
+-- a frame that came: the same; where it was taken, the row whose call it was is there, and has its name still
 pub record AnswersFrame (frame : Frame) (old : ServedOrchestrator) (answer : List ℕ) (new : ServedOrchestrator) : Type 0 where
   pub heard : Result Heard OrchFault
   pub answered : OrchestratorAnswers Hears old (Comes frame) heard new
   pub memory : heard ≡ Err faults.NoMemory → ⊥
+  pub row : IfOk heard (λ what. ChangesAsHeard frame.number what old.orchestrator new.orchestrator)
   pub line : answer ≡ compact_text (heard_entry (row_at new.orchestrator.rows (place_by_call frame.number old.orchestrator.rows)) heard)
 
 -- a line that is no request: its fault is told, and nothing is changed
@@ -69,30 +71,53 @@ pub record AnswersFault (fault : RequestFault) (old : ServedOrchestrator) (answe
   pub stays : new ≡ old
   pub line : answer ≡ compact_text (fault_entry (request_fault_name fault))
 
+-- ---- by what it asks
+
+-- how what a line asks is answered: a command or a timeout about the volume of a name, a frame that came, or nothing
+pub record LineJudge (S : Type 0) : Type 1 where
+  pub command : Input → List ℕ → S → List ℕ → S → Type 0
+  pub frame : Frame → S → List ℕ → S → Type 0
+  pub fault : RequestFault → S → List ℕ → S → Type 0
+
 -- by what happens; what is no command and no timeout is no request
-abbrev pub AnswersEvent : Event → ServedOrchestrator → List ℕ → ServedOrchestrator → Type 0
-AnswersEvent (events.Create name required limit capabilities) = AnswersCommand (ToCreate name (record { required = required; limit = limit; capabilities = capabilities })) name
-AnswersEvent (events.Use name node target capability readonly) = AnswersCommand (ToUse name (record { node = node; target = target; capability = capability; readonly = readonly })) name
-AnswersEvent (events.Stop name node target) = AnswersCommand (ToStop name node target) name
-AnswersEvent (events.Delete name) = AnswersCommand (ToDelete name) name
-AnswersEvent (events.Timeout name) = AnswersCommand (TimesOut name) name
-AnswersEvent (events.Deliver number) = AnswersFault no_requests.BadLine
-AnswersEvent events.RestartOrchestrator = AnswersFault no_requests.BadLine
-AnswersEvent events.RestartController = AnswersFault no_requests.BadLine
-AnswersEvent (events.RestartNode node) = AnswersFault no_requests.BadLine
+abbrev pub EventBy : {S : Type 0} → LineJudge S → Event → S → List ℕ → S → Type 0
+EventBy judge (events.Create name required limit capabilities) = judge.command (ToCreate name (record { required = required; limit = limit; capabilities = capabilities })) name
+EventBy judge (events.Use name node target capability readonly) =
+    judge.command (ToUse name (record { node = node; target = target; capability = capability; readonly = readonly })) name
+EventBy judge (events.Stop name node target) = judge.command (ToStop name node target) name
+EventBy judge (events.Delete name) = judge.command (ToDelete name) name
+EventBy judge (events.Timeout name) = judge.command (TimesOut name) name
+EventBy judge (events.Deliver number) = judge.fault no_requests.BadLine
+EventBy judge events.RestartOrchestrator = judge.fault no_requests.BadLine
+EventBy judge events.RestartController = judge.fault no_requests.BadLine
+EventBy judge (events.RestartNode node) = judge.fault no_requests.BadLine
 
 -- bytes that came: exactly one whole frame, or a fault
+abbrev pub ReplyBy : {S : Type 0} → LineJudge S → List ℕ → S → List ℕ → S → Type 0
+ReplyBy judge bytes old answer new =
+    ((frame : Frame) × Spells frame bytes × judge.frame frame old answer new) ⊎ (((frame : Frame) → Spells frame bytes → ⊥) × judge.fault no_requests.BadFrame old answer new)
+
+-- a request, or a fault
+abbrev pub RequestBy : {S : Type 0} → LineJudge S → Result RequestShown RequestFault → S → List ℕ → S → Type 0
+RequestBy judge (Ok (Command event)) = EventBy judge event
+RequestBy judge (Ok (Reply bytes)) = ReplyBy judge bytes
+RequestBy judge (Err fault) = judge.fault fault
+
+-- ---- an orchestrator that is served
+
+-- how it answers
+abbrev pub served_lines : LineJudge ServedOrchestrator
+served_lines = record { command = AnswersCommand; frame = AnswersFrame; fault = AnswersFault }
+
+-- this and the next three: by what happens, bytes that came, a request, and a line
+abbrev pub AnswersEvent : Event → ServedOrchestrator → List ℕ → ServedOrchestrator → Type 0
+AnswersEvent = EventBy served_lines
+
 abbrev pub AnswersReply : List ℕ → ServedOrchestrator → List ℕ → ServedOrchestrator → Type 0
-AnswersReply bytes old answer new =
-    ((frame : Frame) × Spells frame bytes × AnswersFrame frame old answer new)
-    ⊎ (((frame : Frame) → Spells frame bytes → ⊥) × AnswersFault no_requests.BadFrame old answer new)
+AnswersReply = ReplyBy served_lines
 
--- by what a line asks
 abbrev pub AnswersRequest : Result RequestShown RequestFault → ServedOrchestrator → List ℕ → ServedOrchestrator → Type 0
-AnswersRequest (Ok (Command event)) = AnswersEvent event
-AnswersRequest (Ok (Reply bytes)) = AnswersReply bytes
-AnswersRequest (Err fault) = AnswersFault fault
+AnswersRequest = RequestBy served_lines
 
--- a line
 abbrev pub AnswersLine : List ℕ → ServedOrchestrator → List ℕ → ServedOrchestrator → Type 0
 AnswersLine line = AnswersRequest (line_request line)

@@ -5,7 +5,7 @@ use Rattle.csi_stores.specs.Public.Part.{StoredPart, StoredChange}
 use Rattle.csi_records.specs.Public.OrchestratorRecords.{IsOrchestratorOf}
 use Rattle.csi_records.specs.Public.Spelling.{present}
 use Rattle.csi_service.specs.Public.OrchestratorOpening.{IsOrchestratorOpened}
-use Rattle.csi_service.specs.Public.OrchestratorServices.{orchestrator_service_parts, orchestrator_service_changes, AreFitOrchestratorRows, IsChangedRowFit}
+use Rattle.csi_service.specs.Public.OrchestratorServices.{kept_of, orchestrator_service_parts, orchestrator_service_changes, AreFitOrchestratorRows, IsChangedRowFit}
 use Rattle.csi_orchestration.specs.declared.orchestrator_responder.OrchestratorResponder.{OrchestratorResponder}
 use Rattle.csi_orchestration.specs.Public.OrchestratorLines.{AnswersLine}
 
@@ -34,10 +34,16 @@ IsFitWhere false responder = Unit {0}
 abbrev pub IsFitResponderChange : OrchestratorResponder → Type 0
 IsFitResponderChange responder = IsFitWhere responder.has_asked responder
 
--- it answers a line so
-abbrev pub ResponderAnswers : OrchestratorResponder → List ℕ → List ℕ → OrchestratorResponder → Type 0
-ResponderAnswers old line answer new = AnswersLine line old.service answer new.service
+-- its parts are those of its own record
+abbrev pub HasItsRecord : OrchestratorResponder → Type 0
+HasItsRecord responder = SpellsOrchestrator (kept_of responder.service.orchestrator) (responder_parts responder)
 
--- opening makes it of a store with this content: the orchestrator in the next session
-abbrev pub OpensResponder : List StoredPart → OrchestratorResponder → Type 0
-OpensResponder content responder = IsOrchestratorOpened responder.service.orchestrator.nodes content responder.service.orchestrator
+-- it answers a line so, and then, where all in it is within its limits, its parts are those of its record
+abbrev pub ResponderAnswers : OrchestratorResponder → List ℕ → List ℕ → OrchestratorResponder → Type 0
+ResponderAnswers old line answer new = AnswersLine line old.service answer new.service × (IsFitResponder new → HasItsRecord new)
+
+-- opening makes it of a store with this content: the orchestrator in the next session, whose record is within its limits
+pub record OpensResponder (content : List StoredPart) (responder : OrchestratorResponder) : Type 0 where
+  pub opened : IsOrchestratorOpened responder.service.orchestrator.nodes content responder.service.orchestrator
+  pub fit : IsFitResponder responder
+  pub its : HasItsRecord responder

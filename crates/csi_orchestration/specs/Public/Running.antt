@@ -19,7 +19,7 @@ use Rattle.csi_orchestration.specs.declared.orchestrator_responder.OrchestratorR
 use Rattle.csi_orchestration.specs.Public.Ending.{ending_unopened, ending_of_serving}
 use Rattle.csi_orchestration.specs.Public.LinesAnswering.{AnswersInRecord}
 use Rattle.csi_orchestration.specs.Public.LinesRuns.{RunSetting, Ran}
-use Rattle.csi_orchestration.specs.Public.OrchestratorResponding.{SpellsOrchestrator, responder_parts, IsFitResponder, ResponderAnswers, OpensResponder}
+use Rattle.csi_orchestration.specs.Public.OrchestratorResponding.{SpellsOrchestrator, HasItsRecord, responder_parts, IsFitResponder, ResponderAnswers, OpensResponder}
 
 -- what its runs are judged by, where stores, readers and writers are seen so
 abbrev pub orchestrator_setting : {K R W : Type 0} → (K → Store) → (R → Option (List ℕ)) → (W → Option (List ℕ)) → RunSetting OrchestratorResponder K R W
@@ -65,6 +65,7 @@ pub record IsOpened {K R W : Type 0} (setting : RunSetting OrchestratorResponder
   pub found : HasOrchestrator nodes (setting.seen before) (setting.seen opened) responder.service
   pub asked : responder.service.orchestrator.nodes ≡ nodes
   pub fit : IsFitResponder responder
+  pub its : HasItsRecord responder
   pub honest : (setting.seen opened).honest → (setting.seen before).honest
   pub left : LeavesOpening (orchestrator_rules nodes) (setting.seen before) (setting.seen opened)
 

@@ -19,7 +19,7 @@ fn controller(rt: &(impl Abort + AllocGlobal)) -> Controller {
 }
 
 fn node(rt: &(impl Abort + AllocGlobal)) -> Node {
-    let mut node = Node::new(rt.alloc(), node_id(rt, "n1"));
+    let mut node = Node::new(rt.alloc(), node_id(rt, "n1"), 0);
     for bytes in [STAGE.as_slice(), PUBLISH_TO_WRITE.as_slice()] {
         let frame = read(rt, bytes);
         drop(node.step(&frame).expect(rt, "memory"));

@@ -6,8 +6,8 @@ use crate::replies::{are_ids, is_none};
 use crate::values::detail;
 use csi_types::Reply;
 
-// What there is after a call: the greatest session that came, how many rows, and the ids of those that are empty.
-type Left = (u64, usize, &'static [u64]);
+// What there is after a call: the greatest session that it heard of, how many rows, and the ids of those that are empty.
+pub(super) type Left = (u64, usize, &'static [u64]);
 
 // A call under this number of this session, the status and the detail that it is answered, and what there is then.
 pub(super) type Line = ((u64, u64), Ask, Status, &'static str, Left);
@@ -19,7 +19,7 @@ const STALE: Status = Status::Aborted;
 const REFUSED: Status = Status::FailedPrecondition;
 
 // Whether this is there.
-fn has_left(rt: &impl Abort, node: &Node, left: Left) -> bool {
+pub(super) fn has_left(rt: &impl Abort, node: &Node, left: Left) -> bool {
     let empty = empty_of(rt, node);
     let are_empty = are_ids(empty.as_slice(), left.2);
     drop(empty);

@@ -4,6 +4,8 @@ use Rattle.csi_endings.specs.declared.ending.Ending.{Ending}
 use Rattle.csi_endings.specs.declared.ending.Ending.TheVariants as endings
 use Rattle.csi_stores.specs.declared.keep.KeepFault.{KeepFault}
 use Rattle.csi_stores.specs.declared.keep.KeepFault.TheVariants.{Device, NoMemory, BadRecord, Full}
+use Rattle.csi_service.specs.declared.node_unopened.NodeUnopened.{NodeUnopened}
+use Rattle.csi_service.specs.declared.node_unopened.NodeUnopened.TheVariants.{Keep, EarlierSession}
 use Rattle.csi_service.specs.declared.serving.fault.Served.{Served}
 use Rattle.csi_service.specs.declared.serving.fault.ServeFault.{ServeFault}
 use Rattle.csi_service.specs.declared.serving.fault.ServeFaultKind.{ServeFaultKind}
@@ -15,6 +17,11 @@ ending_of_store Device = endings.Device
 ending_of_store NoMemory = endings.Memory
 ending_of_store (BadRecord place) = endings.RecordFault place
 ending_of_store Full = endings.Device
+
+-- by why a node isn't opened
+abbrev pub ending_of_node : NodeUnopened → Ending
+ending_of_node (Keep fault) = ending_of_store fault
+ending_of_node EarlierSession = endings.EarlierSession
 
 -- how a process may end whose store has no list of parts, but at this place what is none
 abbrev pub EndsAt : ℕ → Ending → Type 0

@@ -7,21 +7,22 @@ use Rattle.csi_stores.specs.declared.keep.KeepFault.{KeepFault}
 use Rattle.csi_stores.specs.declared.keep.KeepFault.TheVariants as faults
 use Rattle.csi_stores.specs.Public.Part.{StoredPart}
 use Rattle.csi_stores.specs.Public.Stores.{Store, Found, Parts, Has, IsOnly}
-use Rattle.csi_records.specs.Public.Spelling.{present, controller_head, node_head}
+use Rattle.csi_records.specs.Public.Spelling.{present, controller_head}
 use Rattle.csi_service.specs.declared.serving.fault.Served.{Served}
 use Rattle.csi_service.specs.declared.serving.fault.ServeFault.{ServeFault}
 use Rattle.csi_service.specs.declared.serving.fault.ServeFaultKind.{ServeFaultKind}
 use Rattle.csi_service.specs.declared.serving.fault.ServeFaultKind.TheVariants as kinds
 use Rattle.csi_service.specs.Public.Serving.{frames_counted}
 use Rattle.csi_service.specs.Public.Opening.{Records, controller_records, node_records, OpensTo}
+use Rattle.csi_service.specs.Public.NodeOpening.{joined_head}
 use Rattle.csi_service.specs.Public.Services.{controller_service_parts, node_service_parts}
 use Rattle.csi_endings.specs.declared.ending.Ending.{Ending}
 use Rattle.csi_plugins.specs.declared.kind.Plugin.{Plugin}
 use Rattle.csi_plugins.specs.declared.kind.Plugin.TheVariants.{Controller, Node}
 use Rattle.csi_plugins.specs.Public.Ending.{ending_of_store}
 use Rattle.csi_plugins.specs.Public.Service.{Streams, streams, IsServed}
-use Rattle.csi_plugins.specs.Public.Serving.{IsControllerUnder, ControllerServes, IsNodeNamed, NodeServes}
-use Rattle.csi_plugins.specs.Public.Running.{IsOpeningRefused, PluginRuns}
+use Rattle.csi_plugins.specs.Public.Serving.{IsControllerUnder, ControllerServes, IsNodeJoined, NodeServes}
+use Rattle.csi_plugins.specs.Public.Running.{IsOpeningRefused, IsEarlierRefused, PluginRuns}
 
 -- ---- the second run begins with what the first left
 
@@ -94,10 +95,16 @@ Joins seen records IsAsked answers parts_of head content before between again af
     IsOpeningRefused records (seen before) (seen between) head first ending
     ⊎ (IsHindered (seen again) (seen after) second ending_too ⊎ AreOneRun seen records IsAsked answers parts_of head content between after first second ending ending_too)
 
--- of either plugin, under the same configuration or of the same id
+-- of a node: or the first run found its store of an earlier session than that of the node's joining. The second never does, where the first was opened
+abbrev pub NodeJoins : {K : Type 0} → (K → Store) → List ℕ → ℕ → List StoredPart → K → K → K → K → Streams → Streams → Ending → Ending → Type 0
+NodeJoins seen id session content before between again after first second ending ending_too =
+    IsEarlierRefused id session (seen before) (seen between) first ending
+    ⊎ Joins seen (node_records id) (IsNodeJoined id session) NodeServes node_service_parts (joined_head id session) content before between again after first second ending ending_too
+
+-- of either plugin, under the same configuration, or of the same id and with the same session of its joining
 abbrev pub PluginJoins : {K : Type 0} → (K → Store) → Plugin → List StoredPart → K → K → K → K → Streams → Streams → Ending → Ending → Type 0
 PluginJoins seen (Controller config) = Joins seen controller_records (IsControllerUnder config) ControllerServes controller_service_parts (controller_head present 1 (Some 0))
-PluginJoins seen (Node id) = Joins seen (node_records id) (IsNodeNamed id) NodeServes node_service_parts (node_head present id (Some 0))
+PluginJoins seen (Node id session) = NodeJoins seen id session
 
 -- ---- the law
 

@@ -3,17 +3,20 @@ use Rattle.std.specs.Prelude.{◌≡◌, ◌⊎◌, ℕ, List, Option, Some}
 use Rattle.csi_types.specs.Model.Frame.{Frame}
 use Rattle.csi_types.specs.Model.Config.{Config}
 use Rattle.csi_stores.specs.Public.Part.{StoredPart}
-use Rattle.csi_records.specs.Public.Spelling.{present, controller_head, node_head}
+use Rattle.csi_records.specs.Public.Spelling.{present, controller_head}
 use Rattle.csi_stores.specs.declared.keep.KeepFault.{KeepFault}
 use Rattle.csi_stores.specs.Public.Stores.{Store}
 use Rattle.csi_service.specs.Public.Opening.{Records, controller_records, node_records, HasRecord, IsOpenFault, LeavesOpened}
+use Rattle.csi_service.specs.Public.NodeOpening.{joined_head, IsOfEarlierSession}
 use Rattle.csi_service.specs.Public.Services.{controller_service_parts, node_service_parts}
+use Rattle.csi_service.specs.Public.StoreOpening.{StaysFor}
 use Rattle.csi_endings.specs.declared.ending.Ending.{Ending}
+use Rattle.csi_endings.specs.declared.ending.Ending.TheVariants as endings
 use Rattle.csi_plugins.specs.declared.kind.Plugin.{Plugin}
 use Rattle.csi_plugins.specs.declared.kind.Plugin.TheVariants.{Controller, Node}
 use Rattle.csi_plugins.specs.Public.Ending.{ending_of_store}
 use Rattle.csi_plugins.specs.Public.Service.{Streams, IsServed}
-use Rattle.csi_plugins.specs.Public.Serving.{IsControllerUnder, ControllerServes, IsNodeNamed, NodeServes}
+use Rattle.csi_plugins.specs.Public.Serving.{IsControllerUnder, ControllerServes, IsNodeJoined, NodeServes}
 
 -- the plugin couldn't be opened from its store: nothing was read nor written, and it ended by the refusal
 pub record IsOpeningRefused {X : Type 0} (records : Records X) (before after : Store) (head : StoredPart) (io : Streams) (ending : Ending) : Type 0 where
@@ -42,11 +45,19 @@ Runs seen records IsAsked answers parts_of head before after io ending =
 abbrev pub ControllerRuns : {K : Type 0} → (K → Store) → Config → K → K → Streams → Ending → Type 0
 ControllerRuns seen config = Runs seen controller_records (IsControllerUnder config) ControllerServes controller_service_parts (controller_head present 1 (Some 0))
 
--- the process of a node's plugin
-abbrev pub NodeRuns : {K : Type 0} → (K → Store) → List ℕ → K → K → Streams → Ending → Type 0
-NodeRuns seen id = Runs seen (node_records id) (IsNodeNamed id) NodeServes node_service_parts (node_head present id (Some 0))
+-- the store has the node's record of an earlier session than that of its joining: nothing was read nor written, and the store stays as it is
+pub record IsEarlierRefused (id : List ℕ) (session : ℕ) (before after : Store) (io : Streams) (ending : Ending) : Type 0 where
+  pub earlier : StaysFor (IsOfEarlierSession id session) before after
+  pub untouched : io.untouched
+  pub ends : ending ≡ endings.EarlierSession
+
+-- the process of the plugin of the node of this id, which joined with this session
+abbrev pub NodeRuns : {K : Type 0} → (K → Store) → List ℕ → ℕ → K → K → Streams → Ending → Type 0
+NodeRuns seen id session before after io ending =
+    IsEarlierRefused id session (seen before) (seen after) io ending
+    ⊎ Runs seen (node_records id) (IsNodeJoined id session) NodeServes node_service_parts (joined_head id session) before after io ending
 
 -- of either
 abbrev pub PluginRuns : {K : Type 0} → (K → Store) → Plugin → K → K → Streams → Ending → Type 0
 PluginRuns seen (Controller config) = ControllerRuns seen config
-PluginRuns seen (Node id) = NodeRuns seen id
+PluginRuns seen (Node id session) = NodeRuns seen id session

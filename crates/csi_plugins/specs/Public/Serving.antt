@@ -35,9 +35,9 @@ ControllerServes =
 abbrev pub IsFitNode : NodeService → Type 0
 IsFitNode service = nodes.AreFitNodeRows (parts service.node.rows)
 
--- the node of this id, whose record is within its limits
-abbrev pub IsNodeNamed : List ℕ → NodeService → Type 0
-IsNodeNamed id service = (service.node.id ≡ id) × IsFitNode service
+-- the node of this id, which heard of this session, that of its joining, or of a later one, and whose record is within its limits
+abbrev pub IsNodeJoined : List ℕ → ℕ → NodeService → Type 0
+IsNodeJoined id session service = (service.node.id ≡ id) × nodes.IsFrom session service.node.session × IsFitNode service
 
 -- its answers, which lead from record to record
 abbrev pub NodeServes : NodeService → Frame → Option Frame → NodeService → Type 0

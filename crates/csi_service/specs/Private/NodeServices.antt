@@ -38,6 +38,7 @@ pub record AnswersNodeCall (old new : NodeService) (number : Number) (call : Cal
   pub party : new.party ≡ old.party
   pub err_shows : (state : NodeState) → Shows old.node state → OnErr result (Shows new.node state)
   pub err : OnErr result (node_service_parts new ≡ node_service_parts old)
+  pub err_session : OnErr result (new.node.session ≡ old.node.session)
   pub err_changes : OnErr result (node_service_changes new ≡ node_service_changes old)
   pub differs : OnOk result (NodeDiffers new.changed old.node new.node)
   pub fit : OnOk result (NodeStaysFit old new)

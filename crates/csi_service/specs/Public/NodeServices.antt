@@ -1,5 +1,5 @@
 -- A node's plugin that is served: what an answer changed of its record's parts, and what it answers. This profile's own.
-use Rattle.std.specs.Prelude.{◌≡◌, ℕ, List, [], ◌∷◌, ◌++◌, slice_get, Option, Some, None, option_map, IfSome}
+use Rattle.std.specs.Prelude.{◌≡◌, ◌≤◌, ◌<◌, ◌^◌, ℕ, List, [], ◌∷◌, ◌++◌, slice_get, Option, Some, None, option_map, IfSome}
 use Rattle.std.specs.List.{AllByRecursion}
 use Rattle.csi_types.specs.declared.number.Number.{Number}
 use Rattle.csi_types.specs.Model.Frame.{Frame}
@@ -62,9 +62,14 @@ IsNamedNodeRowFit place rows = IfSome (node_row_at place rows) (IsAnsweredRow pr
 abbrev pub NodeStaysFit : NodeService → NodeService → Type 0
 NodeStaysFit old new = AreFitNodeRows (parts old.node.rows) → IsNamedNodeRowFit new.changed.row (parts new.node.rows) → AreFitNodeRows (parts new.node.rows)
 
--- for every state that the old node shows, the reply and the state that the new one shows are the fence's over the table, and the
--- node keeps its id
+-- a session, a number of 64 bits, is this one or a later one
+abbrev pub IsFrom : ℕ → ℕ → Type 0
+IsFrom session now = (session ≤ now) × (now < 2 ^ 64)
+
+-- for every state that the old node shows, the reply and the state that the new one shows are the fence's over the table; the node
+-- keeps its id, and its session never goes back
 pub record NodeServiceAnswers (old : NodeService) (frame : Frame) (reply : Option Frame) (new : NodeService) : Type 0 where
   pub replied : (state : NodeState) → Shows old.node state → reply ≡ (fenced old.node.id state frame).reply
   pub shows : (state : NodeState) → Shows old.node state → Shows new.node (fenced old.node.id state frame).state
   pub id : new.node.id ≡ old.node.id
+  pub session : IsFrom old.node.session new.node.session

@@ -15,7 +15,7 @@ use Rattle.csi_records.specs.Public.Spelling.{present}
 use Rattle.csi_service.specs.declared.orchestrator_unopened.OrchestratorUnopened.{OrchestratorUnopened}
 use Rattle.csi_service.specs.declared.orchestrator_unopened.OrchestratorUnopened.TheVariants.{Keep, BadNodes, OtherNodes, NumbersSpent}
 use Rattle.csi_service.specs.Public.OrchestratorServices.{ServedOrchestrator, parts_of_orchestrator, orchestrator_service_parts}
-use Rattle.csi_service.specs.Public.StoreOpening.{OpeningRules, IsUnopened}
+use Rattle.csi_service.specs.Public.StoreOpening.{OpeningRules, IsUnopened, StaysFor}
 
 -- ---- what opening makes
 
@@ -55,10 +55,6 @@ abbrev pub HasOrchestrator : List (List ℕ) → Store → Store → ServedOrche
 HasOrchestrator nodes before after service =
     after.honest → (content : List StoredPart) → before.holds content → IsOrchestratorOpened nodes content service.orchestrator
     × IsRecordOf (orchestrator_layout present) (orchestrator_service_parts service) × IsOnly after (Parts (orchestrator_service_parts service))
-
--- for this reason nothing was changed, and the store has what it had alone
-abbrev pub StaysFor : (List StoredPart → Type 0) → Store → Store → Type 0
-StaysFor Why before after = after.honest → (content : List StoredPart) → before.holds content → Why content × IsOnly after (Parts content)
 
 -- the record is one of other nodes
 pub record IsOfOthers (nodes : List (List ℕ)) (content : List StoredPart) : Type 0 where

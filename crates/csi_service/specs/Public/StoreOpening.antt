@@ -36,6 +36,10 @@ IsUnopened rules before after (BadRecord place) = after.honest → (content : Li
 IsUnopened rules before after Full =
     after.honest → (content : List StoredPart) → before.holds content → (new : List StoredPart) × rules.becomes content new × (before.fits new → ⊥)
 
+-- for this reason nothing was changed, and the store has what it had alone
+abbrev pub StaysFor : (List StoredPart → Type 0) → Store → Store → Type 0
+StaysFor Why before after = after.honest → (content : List StoredPart) → before.holds content → Why content × IsOnly after (Parts content)
+
 -- what the commit of opening makes, a record, is found
 pub record IsRewritten (rules : OpeningRules) (content : List StoredPart) (found : Found) : Type 0 where
   pub new : List StoredPart

@@ -22,13 +22,17 @@ pub(crate) struct Answering<C> {
 impl<C: Core, K: Keep, W: Write> FrameHandler<K, Counted<W>> for Answering<C> {
     type Fault = FrameStop;
 
-    ghost handles = { λ old place frame new. IsHandled (AnswersInRecord C.is_fit C.spells C.parts_of C.answers) C.parts_of old.own.core new.own.core (K.store old.store) (K.store new.store) (W.contents old.out.inner) (W.contents new.out.inner) old.out.faults new.out.faults old.own.replies new.own.replies frame };
+    ghost handles = { λ old place frame new. IsHandled (AnswersInRecord C.is_fit C.spells C.parts_of C.answers) C.parts_of
+        old.own.core new.own.core (K.store old.store) (K.store new.store)
+        (W.contents old.out.inner) (W.contents new.out.inner) old.out.faults new.out.faults old.own.replies new.own.replies frame };
 
     ghost flushes = { λ old new. new ≡ old };
 
     ghost is_flushed = { λ answering. Unit {0} };
 
-    ghost stops = { λ old frame new. StopsAt (AnswersInRecord C.is_fit C.spells C.parts_of C.answers) C.parts_of old.own.core new.own.core (K.store old.store) (K.store new.store) (W.contents old.out.inner) (W.contents new.out.inner) old.out.faults new.out.faults frame };
+    ghost stops = { λ old frame new. StopsAt (AnswersInRecord C.is_fit C.spells C.parts_of C.answers) C.parts_of
+        old.own.core new.own.core (K.store old.store) (K.store new.store)
+        (W.contents old.out.inner) (W.contents new.out.inner) old.out.faults new.out.faults frame };
 
     fn handle(
         &mut self,

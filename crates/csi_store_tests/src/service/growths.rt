@@ -2,6 +2,7 @@
 //! allocation refused, each in turn (`tools/refusals`), the call that sees it wants memory, and is then
 //! answered in full, for `open` and `serve` after opening again.
 mod databases;
+mod orchestrators;
 mod sessions;
 
 use super::older::{FIRST, FORGETS, FORGOTTEN, NODE_FORGETS, NODE_FORGOTTEN, parts_of};

@@ -82,8 +82,8 @@ pub(super) const FIRST_FORGETS: Content = (FIRST_TWO_MADE, FIRST_GONE, FIRST_LAT
 
 pub(super) const FORGOTTEN: Content = (IN_SESSION_2, &[], LATER);
 
-// A node `n1` that staged volume 1 and published it at `/a`; and the same in later versions.
-const FIRST_NODE: Content = (
+/// A node `n1` that staged volume 1 and published it at `/a`; and the same in later versions.
+pub(super) const FIRST_NODE: Content = (
     &[1, 1, 2, 110, 49],
     &[
         1, 1, 0, 1, 1, 2, 47, 97, 0, 0, 0, 0, 0, 0, 0, 0, 1, 0, 0, 0, 0, 0, 0, 0, 2, 135, 0, 0, 0,
@@ -92,7 +92,7 @@ const FIRST_NODE: Content = (
     &[],
 );
 
-const SECOND_NODE: Content = (
+pub(super) const SECOND_NODE: Content = (
     &[2, 1, 2, 110, 49],
     &[
         2, 1, 0, 1, 1, 2, 47, 97, 0, 0, 0, 0, 0, 0, 0, 0, 1, 0, 0, 0, 0, 0, 0, 0, 2, 135, 0, 0, 0,
@@ -101,7 +101,7 @@ const SECOND_NODE: Content = (
     &[],
 );
 
-const NODE: Content = (
+pub(super) const NODE: Content = (
     NODE_HEAD,
     &[
         3, 1, 0, 1, 1, 2, 47, 97, 0, 0, 0, 0, 0, 0, 0, 0, 1, 0, 0, 0, 0, 0, 0, 0, 2, 135, 0, 0, 0,

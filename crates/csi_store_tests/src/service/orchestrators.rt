@@ -1,4 +1,13 @@
-//! Records of orchestrators as bytes: written as they were read, refused at the first bad part, no plugin's, and as large as they can be.
+//! Orchestrators. Here are their records as bytes: written as they were read, refused at the first bad part, no plugin's, and as large as they can be.
+//! Below it is how they are opened from stores, served over them, and stopped.
+mod asking;
+mod files;
+mod full;
+mod opening;
+pub(super) mod playing;
+pub(super) mod script;
+mod stops;
+
 use super::limits::put_place;
 use super::records::{
     FIRST_RECORD, NODE_RECORD, RECORD, changed, is_node_refused_at, is_refused_at, is_written_as,
@@ -110,7 +119,7 @@ fn put_known(rt: &impl Abort, out: &mut Spelled, is_sure: bool) {
 
 // The row of a volume that is published at so many targets of each of so many nodes, but may not be at the last target of all, where it is
 // to be used. All texts are as long as they can be.
-fn used_row(rt: &(impl Abort + AllocGlobal), nodes: u8, targets: u8) -> Vec<u8> {
+fn used_row(rt: &(impl Abort + AllocGlobal), nodes: u8, targets: u8, tries: u8) -> Vec<u8> {
     let mut out = Spelled::new(rt.alloc());
     out.put(rt, &[3]);
     out.put_text(rt, &[b'v'; 128]);
@@ -126,7 +135,7 @@ fn used_row(rt: &(impl Abort + AllocGlobal), nodes: u8, targets: u8) -> Vec<u8> 
     put_place(rt, &mut out, 255, nodes.saturating_sub(1));
     put_place(rt, &mut out, 255, targets.saturating_sub(1));
     out.put_access(rt, Access::Mount);
-    out.put(rt, &[0, 1, nodes]);
+    out.put(rt, &[0, tries, nodes]);
     for node in 0..nodes {
         put_place(rt, &mut out, 255, node);
         out.put_access(rt, Access::Mount);
@@ -140,11 +149,11 @@ fn used_row(rt: &(impl Abort + AllocGlobal), nodes: u8, targets: u8) -> Vec<u8> 
     bytes_of(out)
 }
 
-// The head of an orchestrator of so many nodes.
-fn head_of(rt: &(impl Abort + AllocGlobal), nodes: u8) -> Vec<u8> {
+// The head of an orchestrator of so many nodes, in this session.
+fn head_of(rt: &(impl Abort + AllocGlobal), session: u64, nodes: u8) -> Vec<u8> {
     let mut out = Spelled::new(rt.alloc());
     out.put(rt, &[3, 2]);
-    out.put_word(rt, 1);
+    out.put_word(rt, session);
     out.put(rt, &[nodes]);
     for node in 0..nodes {
         put_place(rt, &mut out, 255, node);
@@ -155,8 +164,8 @@ fn head_of(rt: &(impl Abort + AllocGlobal), nodes: u8) -> Vec<u8> {
 // A record of one row.
 fn used_record(rt: &(impl Abort + AllocGlobal), nodes: u8, targets: u8) -> Spelled {
     let mut parts = Vec::new(rt.alloc());
-    push_part(rt, &mut parts, 0, head_of(rt, nodes));
-    push_part(rt, &mut parts, 1, used_row(rt, nodes, targets));
+    push_part(rt, &mut parts, 0, head_of(rt, 1, nodes));
+    push_part(rt, &mut parts, 1, used_row(rt, nodes, targets, 1));
     let record = record_bytes(rt, 3, &parts);
     drop(parts);
     record
@@ -186,8 +195,8 @@ fn records_of_orchestrators_have_64_nodes_and_16_targets_of_each(rt: HostRuntime
 
 #[test]
 fn the_values_of_an_orchestrator_have_at_most_so_many_bytes(rt: HostRuntime) {
-    let head = head_of(&rt, 64);
-    let row = used_row(&rt, 64, 16);
+    let head = head_of(&rt, 1, 64);
+    let row = used_row(&rt, 64, 16, 1);
     assert!(&rt; head.len() == 16_395 && row.len() == 290_044);
     drop((head, row));
 }
@@ -210,7 +219,7 @@ fn asked_row(rt: &(impl Abort + AllocGlobal), place: u64) -> Vec<u8> {
 // A record of so many rows.
 fn asked_record(rt: &(impl Abort + AllocGlobal), count: u64) -> Spelled {
     let mut parts = Vec::new(rt.alloc());
-    push_part(rt, &mut parts, 0, head_of(rt, 0));
+    push_part(rt, &mut parts, 0, head_of(rt, 1, 0));
     for place in 1..=count {
         push_part(rt, &mut parts, place, asked_row(rt, place));
     }

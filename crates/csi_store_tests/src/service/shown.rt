@@ -55,6 +55,42 @@ const OLD_HELD: &[u8] = &[
     0, 0, 0, 0, 0, 0, 0, 2, 131, 0, 0, 0, 0, 0, 0, 0, 0, 0, 0,
 ];
 
+// The heads of orchestrators of `n1` and `n2` in session 3 and in the last one, and of one without nodes in session 1.
+const AN_ORCHESTRATOR: &[u8] = &[3, 2, 0, 0, 0, 0, 0, 0, 0, 3, 2, 2, 110, 49, 2, 110, 50];
+
+const AT_LAST: &[u8] = &[
+    3, 2, 255, 255, 255, 255, 255, 255, 255, 255, 2, 2, 110, 50, 2, 110, 49,
+];
+
+const WITHOUT_NODES: &[u8] = &[3, 2, 0, 0, 0, 0, 0, 0, 0, 1, 0];
+
+// A volume that is to be published at `/a` of `n1`, and may be attached there; one that is to be created; and one that was deleted.
+const TO_USE: &[u8] = &[
+    3, 1, 118, 0, 0, 0, 0, 0, 0, 0, 10, 0, 0, 0, 0, 0, 0, 0, 0, 1, 0, 1, 1, 0, 0, 0, 0, 0, 0, 0, 1,
+    1, 2, 2, 110, 49, 2, 47, 97, 0, 1, 0, 1, 1, 2, 110, 49, 0, 1, 0, 2, 0, 1, 2, 47, 97, 0,
+];
+
+const TO_CREATE: &[u8] = &[
+    3, 1, 98, 0, 0, 0, 0, 0, 0, 0, 0, 0, 0, 0, 0, 0, 0, 0, 20, 0, 0, 2, 1, 3, 0,
+];
+
+const DELETED: &[u8] = &[
+    3, 1, 97, 0, 0, 0, 0, 0, 0, 0, 1, 0, 0, 0, 0, 0, 0, 0, 0, 1, 1, 4, 101, 120, 116, 52, 5, 1, 0,
+    0, 0, 0, 0, 0, 0, 9, 0, 0, 0, 0,
+];
+
+// One that is to be deleted; and one that is at two nodes, for reading at the second one, where it is no longer to be published at `/b`.
+const TO_DELETE: &[u8] = &[
+    3, 1, 100, 0, 0, 0, 0, 0, 0, 0, 1, 0, 0, 0, 0, 0, 0, 0, 0, 0, 1, 0, 0, 0, 0, 0, 0, 0, 2, 2, 4,
+    2, 0,
+];
+
+const TO_STOP: &[u8] = &[
+    3, 1, 34, 0, 0, 0, 0, 0, 0, 0, 1, 0, 0, 0, 0, 0, 0, 0, 2, 1, 0, 5, 1, 0, 0, 0, 0, 0, 0, 0, 3,
+    1, 3, 2, 110, 50, 2, 47, 98, 3, 2, 2, 110, 49, 0, 5, 0, 1, 1, 2, 2, 47, 97, 1, 2, 47, 98, 1, 2,
+    110, 50, 0, 5, 1, 1, 1, 2, 2, 47, 98, 2, 2, 47, 97, 1,
+];
+
 const TOLD: &[Told] = &[
     (&[], "", Ending::RecordFault(0)),
     (
@@ -92,6 +128,36 @@ const TOLD: &[Told] = &[
         "{\"node\":\"n1\",\"plugin\":\"node\",\"session\":1,\"volumes\":[{\"id\":1,\"last\":{\"call\":3,\"session\":1},\"published\":[{\"readonly\":false,\"target\":\"/a\"},{\"readonly\":false,\"target\":\"/b\"}],\"staged\":{\"access\":\"block\",\"mode\":7}}]}\n",
         Ending::Done,
     ),
+    (
+        &[WITHOUT_NODES],
+        "{\"nodes\":[],\"plugin\":\"orchestrator\",\"session\":1,\"volumes\":[]}\n",
+        Ending::Done,
+    ),
+    (
+        &[AN_ORCHESTRATOR],
+        "{\"nodes\":[\"n1\",\"n2\"],\"plugin\":\"orchestrator\",\"session\":3,\"volumes\":[]}\n",
+        Ending::Done,
+    ),
+    (
+        &[AN_ORCHESTRATOR, TO_USE, TO_CREATE, DELETED],
+        "{\"nodes\":[\"n1\",\"n2\"],\"plugin\":\"orchestrator\",\"session\":3,\"volumes\":[{\"at\":[],\"capabilities\":[{\"access\":\"mount\",\"fs\":\"ext4\",\"mode\":5}],\"exists\":\"no\",\"goal\":null,\"id\":9,\"limit\":0,\"name\":\"a\",\"required\":1,\"tries\":0},{\"at\":[],\"capabilities\":[],\"exists\":\"maybe\",\"goal\":{\"create\":{\"capabilities\":[],\"limit\":20,\"name\":\"b\",\"required\":0}},\"id\":null,\"limit\":20,\"name\":\"b\",\"required\":0,\"tries\":3},{\"at\":[{\"attached\":\"maybe\",\"capability\":{\"access\":\"block\",\"mode\":1},\"node\":\"n1\",\"published\":[{\"known\":\"no\",\"target\":\"/a\"}],\"readonly\":false,\"staged\":\"no\"}],\"capabilities\":[{\"access\":\"block\",\"mode\":1}],\"exists\":\"yes\",\"goal\":{\"use\":{\"capability\":{\"access\":\"block\",\"mode\":1},\"name\":\"v\",\"node\":\"n1\",\"readonly\":false,\"target\":\"/a\"}},\"id\":1,\"limit\":0,\"name\":\"v\",\"required\":10,\"tries\":1}]}\n",
+        Ending::Done,
+    ),
+    (
+        &[AT_LAST, TO_DELETE, TO_STOP],
+        "{\"nodes\":[\"n2\",\"n1\"],\"plugin\":\"orchestrator\",\"session\":18446744073709551615,\"volumes\":[{\"at\":[{\"attached\":\"yes\",\"capability\":{\"access\":\"block\",\"mode\":5},\"node\":\"n1\",\"published\":[{\"known\":\"yes\",\"target\":\"/a\"},{\"known\":\"yes\",\"target\":\"/b\"}],\"readonly\":false,\"staged\":\"yes\"},{\"attached\":\"yes\",\"capability\":{\"access\":\"block\",\"mode\":5},\"node\":\"n2\",\"published\":[{\"known\":\"maybe\",\"target\":\"/b\"},{\"known\":\"yes\",\"target\":\"/a\"}],\"readonly\":true,\"staged\":\"yes\"}],\"capabilities\":[{\"access\":\"block\",\"mode\":5}],\"exists\":\"yes\",\"goal\":{\"stop\":{\"name\":\"\\\"\",\"node\":\"n2\",\"target\":\"/b\"}},\"id\":3,\"limit\":2,\"name\":\"\\\"\",\"required\":1,\"tries\":3},{\"at\":[],\"capabilities\":[],\"exists\":\"maybe\",\"goal\":{\"delete\":\"d\"},\"id\":2,\"limit\":0,\"name\":\"d\",\"required\":1,\"tries\":2}]}\n",
+        Ending::Done,
+    ),
+    (&[AN_ORCHESTRATOR, HELD], "", Ending::RecordFault(1)),
+    (
+        &[AN_ORCHESTRATOR, TO_USE, TO_USE],
+        "",
+        Ending::RecordFault(2),
+    ),
+    (&[WITHOUT_NODES, TO_USE], "", Ending::RecordFault(1)),
+    (&[ONE_MADE, TO_USE], "", Ending::RecordFault(1)),
+    (&[NODE_HEAD, TO_USE], "", Ending::RecordFault(1)),
+    (&[TO_USE], "", Ending::RecordFault(0)),
     (&[NODE_HEAD, ONE_WRITER], "", Ending::RecordFault(1)),
     (&[OLD_HEAD, HELD], "", Ending::RecordFault(1)),
     (&[ONE_MADE, OLD_HELD], "", Ending::RecordFault(1)),

@@ -37,6 +37,46 @@ pub(super) struct Image {
 
 pub(super) type Disks = FileStore<Fuse<Memory>>;
 
+impl Image {
+    // A byte of the log, which goes on by zeros.
+    fn log_byte(&self, at: usize) -> u8 {
+        match self.log.get(at) {
+            Some(byte) => *byte,
+            None => 0,
+        }
+    }
+
+    /// From which byte of the log on, and up to which, it differs from what was there before.
+    pub(super) fn written_since(&self, before: &Image) -> (usize, usize) {
+        let mut span = (self.log.len(), 0usize);
+        for (at, byte) in self.log.iter().enumerate() {
+            if *byte != before.log_byte(at) {
+                span = (span.0.min(at), at.saturating_add(1));
+            }
+        }
+        span
+    }
+}
+
+/// The files after a write of the log that is torn: these of its bytes, from one place up to another, are as they were before; and whether that
+/// differs from what was to be written. The database file isn't written.
+pub(super) fn torn(
+    rt: &(impl Abort + AllocGlobal),
+    (before, behind): (&Image, &Image),
+    (from, to): (usize, usize),
+) -> (Image, bool) {
+    assert!(rt; before.db.as_slice() == behind.db.as_slice());
+    let mut log = copied(rt, &behind.log);
+    for at in from..to.min(log.len()) {
+        if at < log.len() {
+            log[at] = before.log_byte(at);
+        }
+    }
+    let is_torn = log.as_slice() != behind.log.as_slice();
+    let db = copied(rt, &behind.db);
+    (Image { log, db }, is_torn)
+}
+
 /// That of new files.
 pub(super) fn new_image(rt: &impl AllocGlobal) -> Image {
     Image {

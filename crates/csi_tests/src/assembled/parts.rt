@@ -82,7 +82,7 @@ pub(super) fn new_orchestrator(rt: &(impl Abort + AllocGlobal)) -> Orchestrator 
 pub(super) fn empty_parts(rt: &(impl Abort + AllocGlobal)) -> Parts {
     Parts {
         controller: new_controller(rt),
-        node: Node::new(rt.alloc(), node_id(rt, "n1")),
+        node: Node::new(rt.alloc(), node_id(rt, "n1"), 0),
         heard: false,
         calls: 0,
     }

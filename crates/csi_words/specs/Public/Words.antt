@@ -15,7 +15,7 @@ pub data Named : Type 0 where
   Help : HelpOn → Named
   File : FileCommand → List ℕ → Named
   Controller : (store config : List ℕ) → Named
-  Node : (store id : List ℕ) → Named
+  Node : (store id : List ℕ) (session : Option (List ℕ)) → Named
   Orchestrator : (store config : List ℕ) → Named
   Record : (store : List ℕ) → Named
 
@@ -24,13 +24,17 @@ abbrev pub named_by : CommandLine → Named
 named_by (lines.Help about) = Help about
 named_by (lines.File command path) = File command path.now
 named_by (lines.Controller store config) = Controller store.now config.now
-named_by (lines.Node store id) = Node store.now id.now
+named_by (lines.Node store id session) = Node store.now id.now (option_map (λ word. word.now) session)
 named_by (lines.Orchestrator store config) = Orchestrator store.now config.now
 named_by (lines.Record store) = Record store.now
 
 -- one word more, which has to be there
 abbrev pub with_word : App → List ℕ → App
 with_word app id = with_rule app (record (new_rule id) { required = true })
+
+-- one word more, which may be left out
+abbrev pub with_optional_word : App → List ℕ → App
+with_optional_word app id = with_rule app (new_rule id)
 
 -- a command of this name, with one word more, which is called so
 abbrev pub with_one_word : App → List ℕ → List ℕ → App
@@ -52,9 +56,13 @@ bare = record (new_app (codes "csi-replay")) { top = record (new_app (codes "csi
 abbrev pub on_files : App
 on_files = with_file_command (with_file_command (with_file_command (with_file_command (with_file_command bare (codes "answer")) (codes "show")) (codes "run")) (codes "frames")) (codes "draw")
 
+-- the command that serves a node: its store, its id, and the session of its joining
+abbrev pub on_node : App
+on_node = with_optional_word (with_word (with_word (new_app (codes "node")) (codes "DB")) (codes "ID")) (codes "SESSION")
+
 -- its commands that serve a plugin
 abbrev pub on_plugins : App
-on_plugins = with_store_command (with_store_command on_files (codes "controller") (codes "CONFIG")) (codes "node") (codes "ID")
+on_plugins = with_subcommand (with_store_command on_files (codes "controller") (codes "CONFIG")) on_node.top
 
 -- all commands
 abbrev pub program : App
@@ -72,9 +80,9 @@ both command first second = option_and_then (λ a. option_map (λ b. command a b
 abbrev pub controller_in : List Row → Option Named
 controller_in rows = both Controller (first_of (codes "DB") rows) (first_of (codes "CONFIG") rows)
 
--- a node's process
+-- a node's process, and the session of its joining, where it is there
 abbrev pub node_in : List Row → Option Named
-node_in rows = both Node (first_of (codes "DB") rows) (first_of (codes "ID") rows)
+node_in rows = both (λ store id. Node store id (first_of (codes "SESSION") rows)) (first_of (codes "DB") rows) (first_of (codes "ID") rows)
 
 -- the orchestrator's process
 abbrev pub orchestrator_in : List Row → Option Named

@@ -11,8 +11,8 @@ returns-clause-made c =
         service = service;
         is = c.new-2.ensures.plugin;
         own = c.in_ok-service.ensures.node ∙ c.in_ok-id.ensures.made;
-        parts = c.in_ok-service.ensures.parts ∙ ap (λ (id : List ℕ). node_head present id (Some 0) ∷ []) c.in_ok-id.ensures.made;
-        told = told-head _ _ _ (node_head present c.in_ok-id.id (Some 0)) (node_service_parts service) c.new-2.ensures.told c.in_ok-head.ensures c.in_ok-node_head_value.ensures.value refl c.in_ok-service.ensures.parts;
+        parts = c.in_ok-service.ensures.parts ∙ ap (λ (id : List ℕ). node_head present id (Some c.args.session) ∷ []) c.in_ok-id.ensures.made;
+        told = told-head _ _ _ (node_head present c.in_ok-id.id (Some c.args.session)) (node_service_parts service) c.new-2.ensures.told c.in_ok-head.ensures c.in_ok-node_head_value.ensures.value refl c.in_ok-service.ensures.parts;
       },
       refl,
     )

@@ -1,5 +1,5 @@
 -- In every state that frames lead to, by what the fence and then the table make of the call.
-use Rattle.csi_node.specs.Model.State.{empty_node}
+use Rattle.csi_node.specs.Model.State.{joined_node}
 use Rattle.csi_node.specs.Public.Fenced.{after_frames}
 use Rattle.csi_node.proofs.DeliveryLaw.{empty, closed, delivered}
 use Rattle.csi_node.proofs.SessionsLaw.{all_current}
@@ -10,6 +10,6 @@ pub returns : goal.returns
 returns c = record {
   empty = empty;
   closed = closed;
-  delivered = λ node frames number call party. delivered node (after_frames node empty_node frames) number call (all_current node frames) party;
+  delivered = λ node session frames number call party. delivered node (after_frames node (joined_node session) frames) number call (all_current node session frames) party;
   found = all_found;
 }

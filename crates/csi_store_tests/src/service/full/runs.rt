@@ -62,7 +62,7 @@ fn node<K: Keep>(rt: &(impl Abort + AllocGlobal), keep: &mut K) -> NodeService {
     let id = str::from_utf8(&text).expect(rt, "a text");
     let id = NodeId::try_new(rt.alloc(), id).expect(rt, "a node id");
     drop(text);
-    NodeService::open(rt.alloc(), id, keep).expect(rt, "a node")
+    NodeService::open(rt.alloc(), id, 0, keep).expect(rt, "a node")
 }
 
 // How often as much as there is has to be read: 4,096 bytes at most each time, and once more for the end.

@@ -1,7 +1,6 @@
--- The parts of its record are read as an orchestrator's.
-use Rattle.csi_orchestration.specs.Public.OrchestratorResponding.{responder_parts}
-use Rattle.csi_orchestration.proofs.OrchestratorResponding.{record-of}
+-- The parts of its record are read as its own.
+use Rattle.csi_service.specs.Public.OrchestratorServices.{kept_of}
 use Rattle.csi_orchestration.proofs.orchestrator_responder.OrchestratorResponderResponder.record_law.Goals as goal
 
 pub returns : goal.returns
-returns c = λ fit. record-of (responder_parts c.args.self.now) (c.record_law.ensures.there fit)
+returns c = λ fit. (kept_of c.args.self.now.service.orchestrator, c.record_law.ensures.there fit)

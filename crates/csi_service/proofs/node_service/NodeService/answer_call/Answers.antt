@@ -1,5 +1,5 @@
 -- A call of the node gets an answer, which tells what it changed.
-use Rattle.std.proofs.Common.{◌∙◌, refl, sym, ap, subst}
+use Rattle.std.proofs.Common.{◌∙◌, refl, sym, ap, subst, arith}
 use Rattle.std.specs.Prelude.{not, option_map, ◌==◌}
 use Rattle.csi_types.specs.declared.call.Party.{Party}
 use Rattle.csi_types.specs.declared.call.Party.TheVariants.{Node as OfNode}
@@ -15,7 +15,7 @@ use Rattle.csi_service.specs.declared.changed.Changed.{Changed}
 use Rattle.csi_service.proofs.AnsweredFrames.{has-reply, some-answer, told-answer}
 use Rattle.csi_service.proofs.NodeChanges.{parts-changed, all-differ, same-session, other-session, carries-reply}
 use Rattle.csi_service.proofs.FitRows.{node-fit}
-use Rattle.csi_service.proofs.SameNode.{nothing-told}
+use Rattle.csi_service.proofs.SameNode.{nothing-told, risen}
 use Rattle.csi_service.proofs.node_service.NodeService.answer_call.Goals as goal
 
 pub unwrap-answer-requires : goal.unwrap-answer-requires
@@ -49,6 +49,7 @@ returns c =
             ∙ ap (λ (p : Party). (fenced old.id state (call_frame number p call)).reply) (sym service.own);
         shows = λ state shown. subst (λ (p : Party). Shows new (fenced old.id state (call_frame number p call)).state) (sym service.own) (c.in-Ok.ensures.state state shown allowed texts);
         id = c.in-Ok.ensures.id;
+        session = (risen old new (call_frame number (OfNode old.id) call) c.showing_law.ensures.0 c.showing_law.ensures.1 (c.in-Ok.ensures.state c.showing_law.ensures.0 c.showing_law.ensures.1 allowed texts), omega (arith, c.session-session.ensures));
       };
       allowed =
           subst (λ (p : Party). IsAllowed p (bodies.Reply answer.kind answer.reply)) (sym service.own)
@@ -61,6 +62,7 @@ returns c =
       party = refl;
       err_shows = λ state shown. tt;
       err = tt;
+      err_session = tt;
       err_changes = tt;
       differs = differs;
       fit = λ fit named. node-fit old new answer.row number c.record_law-2.ensures.rules.rising changes fit named;

@@ -1,5 +1,5 @@
 -- A frame that is no call for the node gets nothing.
-use Rattle.std.proofs.Common.{sym, ap, subst, refl}
+use Rattle.std.proofs.Common.{sym, ap, subst, refl, arith}
 use Rattle.csi_types.specs.declared.call.Party.{Party}
 use Rattle.csi_fence.specs.Model.Fenced.{Fenced}
 use Rattle.csi_node.specs.Model.State.{NodeState}
@@ -17,4 +17,5 @@ returns-clause-answered c = λ frame none.
       replied = λ state shown. sym (ap (λ (f : Fenced NodeState). f.reply) (passed (node_at service.node.id) state frame other));
       shows = λ state shown. subst (Shows service.node) (sym (ap (λ (f : Fenced NodeState). f.state) (passed (node_at service.node.id) state frame other))) shown;
       id = refl;
+      session = (omega arith, omega (arith, c.session-session.ensures));
     }

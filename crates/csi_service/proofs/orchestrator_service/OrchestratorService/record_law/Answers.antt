@@ -5,14 +5,13 @@ use Rattle.std.proofs.lemmas.List.{length-map}
 use Rattle.csi_types.specs.Public.Text.{IsNodeId}
 use Rattle.csi_orchestrator.specs.Model.Shown.{OrchestratorParts}
 use Rattle.csi_orchestrator.specs.Public.Shown.{closed}
-use Rattle.csi_records.specs.Public.OrchestratorRecords.{keyed_from, orchestrator_layout}
-use Rattle.csi_records.specs.Public.Records.{IsRecordOf}
+use Rattle.csi_records.specs.Public.OrchestratorRecords.{keyed_from, orchestrator_layout, IsOrchestratorOf}
 use Rattle.csi_records.specs.Public.Spelling.{present}
 use Rattle.csi_records.proofs.KeyedRows.{keyed-same}
 use Rattle.csi_records.proofs.Layouts.{parts-same}
 use Rattle.csi_records.proofs.OrchestratorLayouts.{orchestrator_one}
-use Rattle.csi_service.specs.Public.OrchestratorServices.{ServedOrchestrator, parts_of_orchestrator, AreFitOrchestratorRows}
-use Rattle.csi_service.proofs.OrchestratorRecords.{is-record}
+use Rattle.csi_service.specs.Public.OrchestratorServices.{ServedOrchestrator, kept_of, parts_of_orchestrator, AreFitOrchestratorRows}
+use Rattle.csi_service.proofs.OrchestratorRecords.{is-its-record}
 use Rattle.csi_service.proofs.orchestrator_service.OrchestratorService.record_law.Goals as goal
 
 pub returns-clause-there : goal.returns-clause-there
@@ -20,8 +19,8 @@ returns-clause-there c = λ fit.
     let kept = c.self.inside.orchestrator in
     let same : kept ≡ c.args.self.now.orchestrator = ap (λ (service : ServedOrchestrator). service.orchestrator) c.self.view_is in
     let rules = c.rows_law.ensures c.self.invariant.few in
-    subst (λ (o : OrchestratorParts). IsRecordOf (orchestrator_layout present) (parts_of_orchestrator o)) same
-    (is-record kept (omega (arith, c.session-session.ensures.value)) c.self.invariant (subst (AllByRecursion IsNodeId) c.nodes.ensures c.nodes_law.ensures) rules
+    subst (λ (o : OrchestratorParts). IsOrchestratorOf present (parts_of_orchestrator o) (kept_of o)) same
+    (is-its-record kept (omega (arith, c.session-session.ensures.value)) c.self.invariant (subst (AllByRecursion IsNodeId) c.nodes.ensures c.nodes_law.ensures) rules
     (omega (arith, rules.few, length-map kept.rows closed)) (subst (λ (o : OrchestratorParts). AreFitOrchestratorRows o.rows) (sym same) fit))
 
 pub returns-clause-alone : goal.returns-clause-alone

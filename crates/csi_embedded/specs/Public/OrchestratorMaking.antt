@@ -1,0 +1,96 @@
+-- Orchestrators that are made: a new one, and that of a record's bytes; and what the store has to be given of them. This profile's own.
+use Rattle.std.specs.Prelude.{◌≡◌, ◌≢◌, ◌⊎◌, ◌+◌, ◌^◌, ℕ, List, [], ◌∷◌, map, Ok}
+use Rattle.std.specs.Str.{IsUtf8}
+use Rattle.csi_types.specs.declared.config.NodeSlots.{NodeSlots}
+use Rattle.csi_types.specs.Model.Config.{Config}
+use Rattle.csi_json.specs.Public.Configs.{text_config}
+use Rattle.csi_orchestrator.specs.Model.History.{new_history}
+use Rattle.csi_orchestrator.specs.Model.Shown.{Shows}
+use Rattle.csi_orchestrator.specs.Public.Laws.{opened_parts}
+use Rattle.csi_orchestrator.specs.Public.Record.{RecordParts, AreNodesFit}
+use Rattle.csi_stores.specs.Public.Part.{put_all}
+use Rattle.csi_records.specs.declared.version.RecordVersion.{RecordVersion}
+use Rattle.csi_records.specs.Public.OrchestratorRecords.{orchestrator_layout, IsOrchestratorOf}
+use Rattle.csi_records.specs.Public.OrchestratorSpelling.{orchestrator_head}
+use Rattle.csi_records.specs.Public.Places.{AreBytesOf, IsBadAt}
+use Rattle.csi_records.specs.Public.Records.{IsRecordOf}
+use Rattle.csi_records.specs.Public.Spelling.{present}
+use Rattle.csi_service.specs.Public.OrchestratorOpening.{new_record}
+use Rattle.csi_service.specs.Public.OrchestratorServices.{ServedOrchestrator}
+use Rattle.csi_embedded.specs.declared.ending.Ending.{Ending}
+use Rattle.csi_embedded.specs.declared.ending.Ending.TheVariants.{NoMemory, BadName, BadRecord, Refused}
+use Rattle.csi_embedded.specs.declared.embedded.Embedded.{Embedded}
+use Rattle.csi_embedded.specs.declared.plugin.Plugin.TheVariants.{Orchestrator}
+use Rattle.csi_embedded.specs.Public.Calls.{told_changes}
+
+-- the ids of a configuration's nodes, in order
+abbrev pub node_ids : List NodeSlots → List (List ℕ)
+node_ids nodes = map (λ node. node.id) nodes
+
+-- the text says a configuration, and these are its nodes' ids
+abbrev pub AreNodesOf : List ℕ → List (List ℕ) → Type 0
+AreNodesOf text nodes = (config : Config) × (text_config text ≡ Ok config) × (nodes ≡ node_ids config.nodes)
+
+-- the orchestrator of these nodes that did nothing, in session 1; the store has to be given its head, which is its record
+pub record IsNewOrchestrator (text : List ℕ) (made : Embedded) : Type 0 where
+  pub service : ServedOrchestrator
+  pub is : made.plugin ≡ Orchestrator service
+  pub nodes : List (List ℕ)
+  pub said : AreNodesOf text nodes
+  pub has : service.orchestrator ≡ opened_parts (new_record nodes)
+  pub shows : Shows service.orchestrator new_history
+  pub told : told_changes made ≡ put_all (orchestrator_head present 1 nodes ∷ [])
+
+-- the bytes are those of this orchestrator's record, in some version
+abbrev pub IsOrchestratorRecord : List ℕ → RecordParts → Type 0
+IsOrchestratorRecord bytes kept =
+    (version : RecordVersion) × AreBytesOf (λ v. IsRecordOf (orchestrator_layout v)) (λ v. IsOrchestratorOf v) version bytes kept
+
+-- the orchestrator of a record, as a restart leaves it: in the next session. The store has to be given its head, which has that session.
+pub record IsReopened (kept : RecordParts) (made : Embedded) : Type 0 where
+  pub service : ServedOrchestrator
+  pub is : made.plugin ≡ Orchestrator service
+  pub has : service.orchestrator ≡ opened_parts kept
+  pub told : told_changes made ≡ put_all (orchestrator_head present (kept.session + 1) kept.nodes ∷ [])
+
+-- that of the record whose bytes these are, which has the nodes that the text says
+pub record IsReadOrchestrator (text bytes : List ℕ) (made : Embedded) : Type 0 where
+  pub kept : RecordParts
+  pub read : IsOrchestratorRecord bytes kept
+  pub said : AreNodesOf text kept.nodes
+  pub reopened : IsReopened kept made
+
+-- why no nodes are said
+abbrev pub IsNoNodes : List ℕ → Ending → Type 0
+IsNoNodes text NoMemory = Unit {0}
+IsNoNodes text BadName = IsUtf8 text → (nodes : List (List ℕ)) → AreNodesOf text nodes → ⊥
+IsNoNodes text _ = ⊥
+
+-- why there is no new orchestrator: none are said, or no orchestrator has them
+abbrev pub IsNoOrchestrator : List ℕ → Ending → Type 0
+IsNoOrchestrator text NoMemory = Unit {0}
+IsNoOrchestrator text BadName = IsUtf8 text → (nodes : List (List ℕ)) → AreNodesOf text nodes → AreNodesFit nodes → ⊥
+IsNoOrchestrator text _ = ⊥
+
+-- a record of other nodes
+pub record IsOfOtherNodes (text bytes : List ℕ) : Type 0 where
+  pub nodes : List (List ℕ)
+  pub said : AreNodesOf text nodes
+  pub kept : RecordParts
+  pub read : IsOrchestratorRecord bytes kept
+  pub others : kept.nodes ≢ nodes
+
+-- a record of the last session
+pub record IsOfLastSession (bytes : List ℕ) : Type 0 where
+  pub kept : RecordParts
+  pub read : IsOrchestratorRecord bytes kept
+  pub spent : kept.session + 1 ≡ 2 ^ 64
+
+-- why there is none of a record: no nodes are said; or the bytes are no orchestrator's record in any version, or one of other nodes; or no session
+-- is left
+abbrev pub IsNoReadOrchestrator : List ℕ → List ℕ → Ending → Type 0
+IsNoReadOrchestrator text bytes NoMemory = Unit {0}
+IsNoReadOrchestrator text bytes BadName = IsNoNodes text BadName
+IsNoReadOrchestrator text bytes BadRecord = ((place : ℕ) × IsBadAt (λ v. IsRecordOf (orchestrator_layout v)) bytes place) ⊎ IsOfOtherNodes text bytes
+IsNoReadOrchestrator text bytes Refused = IsOfLastSession bytes
+IsNoReadOrchestrator text bytes _ = ⊥

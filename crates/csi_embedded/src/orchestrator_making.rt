@@ -1,0 +1,128 @@
+//! Orchestrators that are made: a new one, and that of a record.
+ghost use Rattle.std.specs.Prelude.{◌≡◌, ◌↔◌, IsTrue, map, IfOk, IfErr};
+ghost use Rattle.csi_service.specs.Public.OrchestratorServices.{orchestrator_service_changes};
+ghost use Rattle.csi_embedded.specs.Public.Calls.{told_changes};
+ghost use Rattle.csi_embedded.specs.Public.Making.{EndsDone};
+ghost use Rattle.csi_embedded.specs.Public.OrchestratorMaking.{AreNodesOf, node_ids, IsNewOrchestrator, IsReadOrchestrator, IsOrchestratorRecord};
+ghost use Rattle.csi_embedded.specs.Public.OrchestratorMaking.{IsReopened, IsNoNodes, IsNoOrchestrator, IsNoReadOrchestrator};
+ghost use Rattle.csi_embedded.specs.Private.OrchestratorMaking.{IsNoRecord, IsNotReopened};
+
+use crate::embedded::Embedded;
+use crate::ending::Ending;
+use crate::making::{config_of, ending_of};
+use crate::plugin::Plugin;
+use csi_orchestrator::{OrchRecordFault, OrchestratorRecord};
+use csi_records::{Stored, read_record};
+use csi_service::OrchestratorService;
+use csi_types::{NoMemory, NodeId, NodeSlots};
+use std::alloc::Global;
+
+// The ids of these nodes, in order.
+fn ids_of(alloc: Global, nodes: &[NodeSlots]) -> Result<Vec<NodeId>, NoMemory>
+    ensures { IfOk result (λ ids. ids.items ≡ node_ids nodes.now) }
+{
+    let mut ids = Vec::new(alloc);
+    for node in nodes {
+        let id = node.id.clone()?;
+        ids.push(id)?;
+    }
+    Ok(ids)
+}
+
+// The nodes of the configuration that these bytes say.
+fn nodes_of(alloc: Global, config: &[u8]) -> Result<Vec<NodeId>, Ending>
+    ensures made { IfOk result (λ ids. AreNodesOf config.now ids.items) }
+    ensures refused { IfErr result (IsNoNodes config.now) }
+{
+    let config = match config_of(alloc, config) {
+        Ok(config) => config,
+        Err(ending) => return Err(ending),
+    };
+    match ids_of(alloc, config.nodes()) {
+        Ok(ids) => Ok(ids),
+        Err(_) => Err(Ending::NoMemory),
+    }
+}
+
+// Whether these are the same nodes in the same order.
+fn same_nodes(one: &[NodeId], other: &[NodeId]) -> bool
+    ensures { IsTrue result ↔ (one.now ≡ other.now) }
+{
+    one == other
+}
+
+// The orchestrator, of which the store has to be given what its opening changed.
+fn embedded(alloc: Global, service: OrchestratorService) -> Result<Embedded, NoMemory>
+    ensures plugin { IfOk result (λ made. made.plugin ≡ Plugin.Orchestrator service) }
+    ensures told { IfOk result (λ made. told_changes made ≡ orchestrator_service_changes service) }
+{
+    let changed = service.parts()?;
+    Ok(Embedded::new(alloc, Plugin::Orchestrator(service), changed))
+}
+
+/// The orchestrator of the configuration's nodes that did nothing, in session 1. The store has to be given its record.
+pub(crate) fn new_orchestrator(alloc: Global, config: &[u8]) -> Result<(Embedded, Ending), Ending>
+    ensures made { IfOk result (λ made. IsNewOrchestrator config.now made.0 × EndsDone made.1) }
+    ensures refused { IfErr result (IsNoOrchestrator config.now) }
+{
+    let nodes = match nodes_of(alloc, config) {
+        Ok(nodes) => nodes,
+        Err(ending) => return Err(ending),
+    };
+    let service = match OrchestratorService::new(alloc, nodes) {
+        Ok(service) => service,
+        Err(OrchRecordFault::NoMemory) => return Err(Ending::NoMemory),
+        Err(_) => return Err(Ending::BadName),
+    };
+    match embedded(alloc, service) {
+        Ok(made) => Ok((made, Ending::Done)),
+        Err(_) => Err(Ending::NoMemory),
+    }
+}
+
+// The orchestrator's record whose bytes these are.
+fn record_of(alloc: Global, bytes: &[u8]) -> Result<OrchestratorRecord, Ending>
+    ensures read { IfOk result (IsOrchestratorRecord bytes.now) }
+    ensures refused { IfErr result (IsNoRecord bytes.now) }
+{
+    match read_record::<OrchestratorRecord>(alloc, bytes) {
+        Ok(Stored { kept, .. }) => Ok(kept),
+        Err(stop) => Err(ending_of(stop)),
+    }
+}
+
+// The orchestrator of a record, in the next session.
+fn reopened(alloc: Global, kept: OrchestratorRecord) -> Result<Embedded, Ending>
+    ensures made { IfOk result (IsReopened kept) }
+    ensures refused { IfErr result (IsNotReopened kept) }
+{
+    let service = match OrchestratorService::from_record(alloc, kept) {
+        Ok(service) => service,
+        Err(_) => return Err(Ending::Refused),
+    };
+    match embedded(alloc, service) {
+        Ok(made) => Ok(made),
+        Err(_) => Err(Ending::NoMemory),
+    }
+}
+
+/// The orchestrator of a record's bytes, in the next session. The nodes have to be those of the configuration, in the same order. The store has
+/// to be given its head, which has that session.
+pub(crate) fn read_orchestrator(
+    alloc: Global,
+    config: &[u8],
+    bytes: &[u8],
+) -> Result<(Embedded, Ending), Ending>
+    ensures made { IfOk result (λ made. IsReadOrchestrator config.now bytes.now made.0 × EndsDone made.1) }
+    ensures refused { IfErr result (IsNoReadOrchestrator config.now bytes.now) }
+{
+    let nodes = nodes_of(alloc, config)?;
+    let kept = record_of(alloc, bytes)?;
+    if !same_nodes(kept.nodes(), &nodes) {
+        return Err(Ending::BadRecord);
+    }
+    match reopened(alloc, kept) {
+        Ok(made) => Ok((made, Ending::Done)),
+        Err(ending) => Err(ending),
+    }
+}

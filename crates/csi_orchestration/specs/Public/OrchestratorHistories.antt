@@ -1,0 +1,107 @@
+-- The lines that an orchestrator answers, as the stated machine goes on by them: from a history, by `moves`. This profile's own.
+use Rattle.std.specs.Prelude.{◌≡◌, ℕ, List, [], ◌++◌, take, Option, Some, None, option_map, Result, Ok, Err}
+use Rattle.serde_json.specs.Written.{compact_text}
+use Rattle.csi_types.specs.declared.number.Number.{Number}
+use Rattle.csi_types.specs.declared.call.Party.{Party}
+use Rattle.csi_types.specs.declared.frame.Body.{Body}
+use Rattle.csi_types.specs.declared.frame.Body.TheVariants as bodies
+use Rattle.csi_types.specs.Model.Frame.{Frame}
+use Rattle.csi_orchestrator.specs.declared.fault.Heard.{Heard}
+use Rattle.csi_orchestrator.specs.declared.fault.Heard.TheVariants as heards
+use Rattle.csi_orchestrator.specs.declared.fault.OrchFault.{OrchFault}
+use Rattle.csi_orchestrator.specs.Model.History.{History, new_history, with_items}
+use Rattle.csi_orchestrator.specs.Model.Thing.{Issued}
+use Rattle.csi_orchestrator.specs.Model.Moves.{Input, Comes, Restarts, Answer, Sends, Hears, Restarted, Moved, call_replied, moves}
+use Rattle.csi_orchestrator.specs.Model.Readings.{goal_of}
+use Rattle.csi_orchestrator.specs.Model.Shown.{Shows}
+use Rattle.csi_orchestrator.specs.Model.WellFormed.{IsWellFormed}
+use Rattle.csi_orchestrator.specs.Public.Sound.{HasHistory}
+use Rattle.csi_json.specs.declared.request_fault.RequestFault.{RequestFault}
+use Rattle.csi_json.specs.Public.Requests.{line_request, request_fault_name}
+use Rattle.csi_reports.specs.declared.responses.RequestOutcome.TheVariants as outcomes
+use Rattle.csi_reports.specs.Public.Responses.{answer_entry, ignored_entry, fault_entry}
+use Rattle.csi_stores.specs.declared.counted.Counted.{Counted}
+use Rattle.csi_stores.specs.Public.Part.{StoredPart}
+use Rattle.csi_stores.specs.Public.Stores.{Store}
+use Rattle.csi_orchestration.specs.declared.lines_serving.fault.ServedLines.{ServedLines}
+use Rattle.csi_orchestration.specs.declared.lines_serving.fault.LinesServeFault.{LinesServeFault}
+use Rattle.csi_orchestration.specs.declared.orchestrator_responder.OrchestratorResponder.{OrchestratorResponder}
+use Rattle.csi_orchestration.specs.Public.LinesRuns.{RunSetting, Ran, Reopens, AreOneRun}
+use Rattle.csi_orchestration.specs.Public.LinesServing.{AnswersEach, lines_counted}
+use Rattle.csi_orchestration.specs.Public.OrchestratorLines.{LineJudge, RequestBy, with_bytes, command_entry}
+use Rattle.csi_orchestration.specs.Public.Running.{orchestrator_setting}
+
+-- ---- a line
+
+-- `moves` answers an input so, and the history goes on by it; or it refuses it so, and the history stays
+abbrev pub IsMoved : {A : Type 0} → (A → Answer) → List (List ℕ) → History → Input → Result A OrchFault → History → Type 0
+IsMoved told nodes history input (Ok answer) next = (moved : Moved) × (moves nodes history input ≡ Ok moved) × (moved.answer ≡ told answer) × (next ≡ with_items history moved.items)
+IsMoved told nodes history input (Err fault) next = (moves nodes history input ≡ Err fault) × (next ≡ history)
+
+-- a command or a timeout about the volume of a name: what `moves` says is told, and what is wanted of the volume then
+pub record MovesCommand (nodes : List (List ℕ)) (input : Input) (name : List ℕ) (history : History) (answer : List ℕ) (next : History) : Type 0 where
+  pub told : Result (Option Frame) OrchFault
+  pub moved : IsMoved Sends nodes history input told next
+  pub line : answer ≡ compact_text (command_entry name (goal_of next name) told)
+
+-- the open call that a frame is a reply to, if it is one to an open call
+abbrev pub call_answered : History → Number → Party → Body → Option Issued
+call_answered history number party (bodies.Call call) = None
+call_answered history number party (bodies.Reply kind reply) = call_replied history number party kind
+
+-- What is told of a frame that came: no more than that it was ignored; of a reply that was taken, the volume of the call that it is a reply to, what is
+-- wanted of it then, and the call that is to be sent; of a reply that was refused, since no number is left, a volume.
+abbrev pub TellsHeard : History → Frame → Result Heard OrchFault → List ℕ → History → Type 0
+TellsHeard history frame (Ok heards.Ignored) answer next = answer ≡ compact_text ignored_entry
+TellsHeard history frame (Ok (heards.Taken sent)) answer next =
+    (issued : Issued) × (call_answered history frame.number frame.party frame.body ≡ Some issued)
+    × (answer ≡ compact_text (answer_entry issued.name (goal_of next issued.name) outcomes.Taken (option_map with_bytes sent)))
+TellsHeard history frame (Err fault) answer next = (name : List ℕ) × (answer ≡ compact_text (answer_entry name (goal_of next name) (outcomes.Refused fault) None))
+
+-- a frame that came: what `moves` says is told
+pub record MovesFrame (nodes : List (List ℕ)) (frame : Frame) (history : History) (answer : List ℕ) (next : History) : Type 0 where
+  pub heard : Result Heard OrchFault
+  pub moved : IsMoved Hears nodes history (Comes frame) heard next
+  pub line : TellsHeard history frame heard answer next
+
+-- a line that is no request
+pub record MovesNothing (fault : RequestFault) (history : History) (answer : List ℕ) (next : History) : Type 0 where
+  pub stays : next ≡ history
+  pub line : answer ≡ compact_text (fault_entry (request_fault_name fault))
+
+-- how an orchestrator of these nodes answers
+abbrev pub moved_lines : List (List ℕ) → LineJudge History
+moved_lines nodes = record { command = MovesCommand nodes; frame = MovesFrame nodes; fault = MovesNothing }
+
+-- a line
+abbrev pub MovesLine : List (List ℕ) → History → List ℕ → List ℕ → History → Type 0
+MovesLine nodes history line answer next = RequestBy (moved_lines nodes) (line_request line) history answer next
+
+-- ---- two runs
+
+-- From a history, the first lines of the first run lead to another one; the orchestrator restarts; and the second run's lines lead on. The answers are
+-- those that were given, and of a line whose commit was refused.
+pub record AreOneHistory {K R W : Type 0} (setting : RunSetting OrchestratorResponder K R W) (content : List StoredPart) (before between again after : K) (r r_read s s_read : Counted R) (w w_written v v_written : Counted W) (result result_too : Result ServedLines LinesServeFault)
+    (one : Ran setting before between r r_read w w_written result) (two : Ran setting again after s s_read v v_written result_too)
+    (run : AreOneRun setting content before between again after r r_read s s_read w w_written v v_written result result_too one two) (history : History) : Type 0 where
+  pub came : History
+  pub first : AnswersEach (MovesLine one.responder.service.orchestrator.nodes) history (take run.made one.served.serves.there) (one.served.serves.given ++ run.unwritten) came
+  pub begun : History
+  pub restarts : IsMoved {A = Unit {0}} (λ done. Restarted) one.responder.service.orchestrator.nodes came Restarts (Ok tt) begun
+  pub last : History
+  pub second : AnswersEach (MovesLine one.responder.service.orchestrator.nodes) begun (take (lines_counted result_too) two.served.serves.there) two.served.serves.given last
+  pub shown : Shows two.served.serves.now.service.orchestrator last
+
+-- Two runs of an orchestrator, the second over what opening the store again found after the first, are one; and from each history that the first one's
+-- orchestrator shows, of which there is one, and a new one's where the store was empty, they are one run of the stated machine, with a restart between:
+-- where the store had a content before, and was honest after both.
+abbrev pub OrchestratorRunsLaw : {K R W : Type 0} → (K → Store) → (R → Option (List ℕ)) → (W → Option (List ℕ)) → Type 0
+OrchestratorRunsLaw {K} {R} {W} seen remaining contents =
+    (before between again after : K) (content : List StoredPart) (r r_read s s_read : Counted R) (w w_written v v_written : Counted W) (result result_too : Result ServedLines LinesServeFault)
+    → (seen between).honest → (seen after).honest → (seen before).holds content
+    → (one : Ran (orchestrator_setting seen remaining contents) before between r r_read w w_written result) → Reopens (seen between) (seen again)
+    → (two : Ran (orchestrator_setting seen remaining contents) again after s s_read v v_written result_too)
+    → (run : AreOneRun (orchestrator_setting seen remaining contents) content before between again after r r_read s s_read w w_written v v_written result result_too one two)
+    × HasHistory one.responder.service.orchestrator × (content ≡ [] → Shows one.responder.service.orchestrator new_history)
+    × ((history : History) → IsWellFormed history → Shows one.responder.service.orchestrator history
+    → AreOneHistory (orchestrator_setting seen remaining contents) content before between again after r r_read s s_read w w_written v v_written result result_too one two run history)

@@ -1,0 +1,161 @@
+package store
+
+import (
+	"context"
+	"database/sql"
+	"encoding/binary"
+	"errors"
+	"fmt"
+	"net/url"
+	"path/filepath"
+
+	_ "github.com/mattn/go-sqlite3" // the driver of "sqlite3"
+)
+
+const (
+	makeTable = "CREATE TABLE IF NOT EXISTS parts (key BLOB NOT NULL PRIMARY KEY, value BLOB NOT NULL)"
+	putPart   = "INSERT INTO parts (key, value) VALUES (?, ?) ON CONFLICT (key) DO UPDATE SET value = excluded.value"
+	takePart  = "DELETE FROM parts WHERE key = ?"
+	takeAll   = "DELETE FROM parts"
+	readParts = "SELECT key, value FROM parts ORDER BY key"
+	listOther = "SELECT count(*) FROM sqlite_master WHERE NOT " +
+		"(type = 'table' AND name = 'parts' OR type = 'index' AND tbl_name = 'parts' AND sql IS NULL)"
+	how = "_locking_mode=EXCLUSIVE&_synchronous=FULL&_txlock=immediate&_busy_timeout=0"
+)
+
+// sqlite is the store that csi-replay has too: a file with the table parts.
+type sqlite struct {
+	db   *sql.DB
+	lost chan struct{}
+}
+
+// OpenSQLite opens the file of a store, and makes it where it is missing. It holds the file's lock until it is closed.
+func OpenSQLite(ctx context.Context, path string) (Store, error) {
+	absolute, err := filepath.Abs(path)
+	if err != nil {
+		return nil, fmt.Errorf("%w: %v", ErrNotOpened, err)
+	}
+	name := url.URL{Scheme: "file", Path: absolute, RawQuery: how}
+	db, err := sql.Open("sqlite3", name.String())
+	if err != nil {
+		return nil, fmt.Errorf("%w: %v", ErrNotOpened, err)
+	}
+	db.SetMaxOpenConns(1) // one connection, which has the lock
+	store := &sqlite{db: db, lost: make(chan struct{})}
+	if err := store.prepare(ctx); err != nil {
+		db.Close()
+		return nil, fmt.Errorf("%w: %v", ErrNotOpened, err)
+	}
+	return store, nil
+}
+
+// prepare makes the table where it is missing, and takes the file's lock. It changes no other database.
+func (store *sqlite) prepare(ctx context.Context) error {
+	var others int
+	if err := store.db.QueryRowContext(ctx, listOther).Scan(&others); err != nil {
+		return err
+	}
+	if others > 0 {
+		return errors.New("it has other tables")
+	}
+	// Only now: this writes the mode into the file, where it stays.
+	var mode string
+	if err := store.db.QueryRowContext(ctx, "PRAGMA journal_mode = WAL").Scan(&mode); err != nil {
+		return err
+	}
+	if mode != "wal" {
+		return fmt.Errorf("it stays in the mode %s", mode)
+	}
+	return store.transact(ctx, func(tx *sql.Tx) error {
+		_, err := tx.ExecContext(ctx, makeTable)
+		return err
+	})
+}
+
+func (store *sqlite) transact(ctx context.Context, change func(*sql.Tx) error) error {
+	tx, err := store.db.BeginTx(ctx, nil)
+	if err != nil {
+		return err
+	}
+	if err := change(tx); err != nil {
+		tx.Rollback()
+		return err
+	}
+	return tx.Commit()
+}
+
+func (store *sqlite) Load(ctx context.Context) ([]Part, error) {
+	rows, err := store.db.QueryContext(ctx, readParts)
+	if err != nil {
+		return nil, fmt.Errorf("%w: %v", ErrDevice, err)
+	}
+	defer rows.Close()
+	var parts []Part
+	for rows.Next() {
+		var key, value []byte
+		if err := rows.Scan(&key, &value); err != nil {
+			return nil, fmt.Errorf("%w: %v", ErrDevice, err)
+		}
+		if len(key) != 8 {
+			return nil, fmt.Errorf("%w: a key of %d bytes", ErrNotOpened, len(key))
+		}
+		parts = append(parts, Part{Key: binary.BigEndian.Uint64(key), Value: value})
+	}
+	if err := rows.Err(); err != nil {
+		return nil, fmt.Errorf("%w: %v", ErrDevice, err)
+	}
+	return parts, nil
+}
+
+func (store *sqlite) Commit(ctx context.Context, anew bool, changes []Change) error {
+	if !anew && len(changes) == 0 {
+		return nil // the file's lock says that it is ours
+	}
+	err := store.transact(ctx, func(tx *sql.Tx) error {
+		if anew {
+			if _, err := tx.ExecContext(ctx, takeAll); err != nil {
+				return err
+			}
+		}
+		for _, change := range changes {
+			if err := apply(ctx, tx, change); err != nil {
+				return err
+			}
+		}
+		return nil
+	})
+	if err != nil {
+		return fmt.Errorf("%w: %v", ErrDevice, err)
+	}
+	return nil
+}
+
+func apply(ctx context.Context, tx *sql.Tx, change Change) error {
+	key := binary.BigEndian.AppendUint64(nil, change.Key)
+	if change.Out {
+		_, err := tx.ExecContext(ctx, takePart, key)
+		return err
+	}
+	_, err := tx.ExecContext(ctx, putPart, key, change.Value)
+	return err
+}
+
+func (store *sqlite) Lost() <-chan struct{} { return store.lost }
+
+// Close puts the log back into the file, which alone is the store then.
+func (store *sqlite) Close() error {
+	_, failed := store.db.Exec("PRAGMA wal_checkpoint(TRUNCATE)")
+	if err := store.db.Close(); err != nil || failed != nil {
+		return fmt.Errorf("%w: the last checkpoint: %v", ErrDevice, firstOf(failed, err))
+	}
+	return nil
+}
+
+func firstOf(errs ...error) error {
+	for _, err := range errs {
+		if err != nil {
+			return err
+		}
+	}
+	return nil
+}

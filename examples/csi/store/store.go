@@ -1,0 +1,61 @@
+// Package store keeps a plugin's record where it outlives the process: in a file of SQLite, or in etcd.
+package store
+
+import (
+	"context"
+	"encoding/binary"
+	"errors"
+)
+
+// A Part is a part of a record: a key, and a value.
+type Part struct {
+	Key   uint64
+	Value []byte
+}
+
+// A Change puts a value under a key, in place of what is there, or takes out what is there.
+type Change struct {
+	Key   uint64
+	Value []byte
+	Out   bool
+}
+
+// A Store has the parts of one plugin's record. One process at a time has it.
+type Store interface {
+	// Load gives all parts, by rising key.
+	Load(ctx context.Context) ([]Part, error)
+	// Commit makes all changes, in order, or none. Where anew is set, nothing else is left in the store. Where it fails, they may be
+	// made or not: then nothing may be answered any more. With no changes it only says whether this process still has the store.
+	Commit(ctx context.Context, anew bool, changes []Change) error
+	// Lost is closed once this process knows that it hasn't the store any more.
+	Lost() <-chan struct{}
+	// Close gives the store up.
+	Close() error
+}
+
+// What a store's failures are.
+var (
+	ErrNotOpened = errors.New("store not opened")
+	ErrDevice    = errors.New("device")
+	ErrLost      = errors.New("leadership lost")
+	ErrUnknown   = errors.New("a commit's outcome isn't known")
+	ErrTooSmall  = errors.New("etcd takes no commit that is large enough")
+)
+
+// Record gives the bytes of the whole record that has these parts, by rising key: none where there are no parts.
+func Record(parts []Part) []byte {
+	if len(parts) == 0 {
+		return nil
+	}
+	version := []byte{0} // of no record
+	if head := parts[0].Value; len(head) > 0 {
+		version = head[:1:1]
+	}
+	record := binary.BigEndian.AppendUint32(version, uint32(len(parts)))
+	for _, part := range parts {
+		record = binary.BigEndian.AppendUint64(record, part.Key)
+		record = binary.BigEndian.AppendUint32(record, uint32(len(part.Value)))
+		record = append(record, part.Value...)
+	}
+	return record
+}

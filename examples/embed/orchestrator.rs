@@ -1,0 +1,103 @@
+// An orchestrator in Rust: what `orchestrator.c` does, over the same file, asked by the same lines.
+//     orchestrator DB CONFIG < REQUESTS > ANSWERS
+mod store;
+#[allow(dead_code)]
+mod tufayon;
+
+use std::io::{Write, stdin, stdout};
+use tufayon::*;
+
+// The frame that is to be sent, and a refusal's number.
+struct Told {
+    frame: [u8; FRAME_ROOM],
+    written: usize,
+    fault: u32,
+}
+
+fn hex(digits: &str) -> Vec<u8> {
+    digits.as_bytes().chunks(2).map(|two| u8::from_str_radix(std::str::from_utf8(two).unwrap(), 16).unwrap()).collect()
+}
+
+// Asks what the words say, and how that ends.
+fn ask(of: &mut Plugin, words: &[&str], told: &mut Told) -> u32 {
+    let (frame, written, fault) = (told.frame.as_mut_ptr(), &mut told.written, &mut told.fault);
+    let (name, size, mut used) = (words[1].as_ptr(), words[1].len(), 0);
+    unsafe {
+        match (words[0], words) {
+            ("create", [_, _, required, limit, rest @ ..]) => {
+                let given = hex(rest.first().unwrap_or(&""));
+                let (required, limit) = (required.parse().unwrap(), limit.parse().unwrap());
+                tufayon_create(of, name, size, required, limit, given.as_ptr(), given.len(), frame, FRAME_ROOM, written, fault)
+            }
+            ("use", [_, _, node, target, capability, flag]) => {
+                let given = hex(capability);
+                tufayon_use(of, name, size, node.as_ptr(), node.len(), target.as_ptr(), target.len(), given.as_ptr(), given.len(), *flag == "ro", frame,
+                    FRAME_ROOM, written, fault)
+            }
+            ("stop", [_, _, node, target]) => {
+                tufayon_stop(of, name, size, node.as_ptr(), node.len(), target.as_ptr(), target.len(), frame, FRAME_ROOM, written, fault)
+            }
+            ("delete", _) => tufayon_delete(of, name, size, frame, FRAME_ROOM, written, fault),
+            ("timeout", _) => tufayon_timeout(of, name, size, frame, FRAME_ROOM, written, fault),
+            ("reply", _) => {
+                let came = hex(words[1]);
+                tufayon_deliver(of, came.as_ptr(), came.len(), &mut used, frame, FRAME_ROOM, written, fault)
+            }
+            _ => panic!("no request"),
+        }
+    }
+}
+
+fn answer(ending: u32, is_reply: bool, told: &Told) -> String {
+    let mut line = match ending {
+        DONE => if is_reply { "taken" } else { "sent" }.to_string(),
+        MET => "met".to_string(),
+        IGNORED => "ignored".to_string(),
+        REFUSED => format!("refused {}", told.fault),
+        ending => panic!("no request, or no memory: {ending}"),
+    };
+    if ending == DONE && told.written > 0 {
+        line.push(' ');
+        told.frame[..told.written].iter().for_each(|byte| line.push_str(&format!("{byte:02x}")));
+    }
+    line
+}
+
+// The names of which something is wanted: when it begins, their timeouts are due.
+fn wanted(of: &mut Plugin) -> String {
+    let (mut line, mut name, mut goal, mut size, mut written) = ("wanted".to_string(), [0; NAME_ROOM], [0; GOAL_ROOM], 0, 0);
+    let mut place = 0;
+    while unsafe { tufayon_volume(of, place, name.as_mut_ptr(), NAME_ROOM, &mut size) } == DONE {
+        assert!(unsafe { tufayon_goal(of, name.as_ptr(), size, goal.as_mut_ptr(), GOAL_ROOM, &mut written) } == DONE, "memory");
+        if goal[0] != 0 { line.push_str(&format!(" {}", String::from_utf8_lossy(&name[..size]))) }
+        place += 1;
+    }
+    line
+}
+
+fn tell(line: &str) {
+    stdout().write_all(format!("{line}\n").as_bytes()).and_then(|_| stdout().flush()).unwrap();
+}
+
+fn main() {
+    let words: Vec<String> = std::env::args().collect();
+    let config = std::fs::read(&words[2]).unwrap();
+    let store = store::open(&words[1]);
+    let (mut held, record) = (Plugin::EMPTY, store::load(&store));
+    let (bytes, size, at, count) = (config.as_ptr(), config.len(), record.as_ptr(), record.len());
+    let ending = unsafe {
+        if count == 0 { tufayon_orchestrator_new(bytes, size, &mut held) } else { tufayon_orchestrator_from_record(bytes, size, at, count, &mut held) }
+    };
+    assert!(ending == DONE, "no record of this orchestrator, or no session is left: {ending}");
+    store::commit(&store, &mut held, ""); // its session, before any frame is sent
+    tell(&wanted(&mut held));
+    let mut told = Told { frame: [0; FRAME_ROOM], written: 0, fault: 0 };
+    for line in stdin().lines() {
+        let line = line.unwrap();
+        let asked: Vec<&str> = line.split(' ').collect();
+        let ending = ask(&mut held, &asked, &mut told);
+        if ending != REFUSED { store::commit(&store, &mut held, "") }
+        tell(&answer(ending, asked[0] == "reply", &told));
+    }
+    store::close(store, held);
+}

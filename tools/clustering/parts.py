@@ -1,0 +1,162 @@
+"""The programs of a system as processes: each is given bytes, and what it says is read; it is ended, killed, stopped and let go."""
+import json
+import os
+import select
+import signal
+import subprocess
+import time
+
+from program.frames import split
+from program.running import LIMIT
+
+
+TRIES = 50  # how often the record of a store is asked for that is in use
+
+
+class Found(Exception):
+    """What isn't as the documents say."""
+
+
+class Part:
+    """A program over its store, in a folder. It is down, or it runs, or it was stopped (`is_asleep`)."""
+
+    def __init__(self, program, folder, name, subcommand, store, word):
+        self.program, self.folder, self.name, self.store = program, folder, name, store
+        self.words = [subcommand, store, word]
+        self.process = None
+        self.is_asleep = False
+        self.came = b""  # what it said that was not taken yet
+        self.given = []  # what it was given while it was asleep, or before that, and hasn't answered
+
+    @property
+    def is_up(self):
+        return self.process is not None
+
+    def at(self, end):
+        return f"{self.folder}/{self.store}{end}"
+
+    def start(self):
+        with open(self.at(".error"), "ab") as error:
+            pipes = {"stdin": subprocess.PIPE, "stdout": subprocess.PIPE, "stderr": error}
+            self.process = subprocess.Popen([self.program, *self.words], cwd=self.folder, env={}, bufsize=0, **pipes)
+        self.came, self.given, self.is_asleep = b"", [], False
+
+    def give(self, content):
+        while content:
+            try:
+                content = content[os.write(self.process.stdin.fileno(), content) :]
+            except BrokenPipeError:
+                return  # it ended, as is seen by what comes of it
+
+    def more(self):
+        """Reads more of what it says."""
+        out = self.process.stdout
+        if not select.select([out], [], [], LIMIT)[0]:
+            raise Found(f"{self.name} says nothing for {LIMIT} seconds")
+        piece = os.read(out.fileno(), 65_536)
+        if not piece:
+            raise Found(f"{self.name} ended: {self.ended()}")
+        self.came += piece
+
+    def ended(self):
+        """How it ended, in words."""
+        status = self.process.wait(LIMIT)
+        with open(self.at(".error"), encoding="utf-8", errors="replace") as error:
+            return f"status {status}, {error.read()[-200:].strip() or 'and nothing on standard error'}"
+
+    def close(self):
+        """All that it said and that was not taken; its pipes are closed."""
+        rest = self.came + self.process.stdout.read()
+        self.process.wait(LIMIT)
+        for pipe in (self.process.stdin, self.process.stdout):
+            pipe.close()
+        self.process, self.came, self.given, self.is_asleep = None, b"", [], False
+        return rest
+
+    def kill(self):
+        self.process.kill()
+        return self.close()
+
+    def end(self):
+        """It ends well where its input ends, and says nothing more."""
+        self.process.stdin.close()
+        said = self.came + self.process.stdout.read()
+        if self.process.wait(LIMIT) or said:
+            raise Found(f"{self.name} ended, and said {said[:100]!r}: {self.ended()}")
+        self.close()
+
+    def sleep(self):
+        """Stops it, wherever it is."""
+        os.kill(self.process.pid, signal.SIGSTOP)
+        os.waitid(os.P_PID, self.process.pid, os.WSTOPPED | os.WNOWAIT)
+        self.is_asleep = True
+
+    def wake(self):
+        os.kill(self.process.pid, signal.SIGCONT)
+        self.is_asleep = False
+
+    def log_state(self):
+        """Something that is other once its store's log was written."""
+        try:
+            found = os.stat(self.at("-wal"))
+            return found.st_mtime_ns, found.st_size
+        except FileNotFoundError:
+            return None
+
+    def files(self):
+        """The paths of its store's files that are there."""
+        return [path for end in ("", "-wal", "-shm", "-journal") if os.path.exists(path := self.at(end))]
+
+    def content(self):
+        """The bytes of its store, by file."""
+        found = {}
+        for path in self.files():
+            with open(path, "rb") as file:
+                found[path] = file.read()
+        return found
+
+    def record(self):
+        """What `csi-replay record` prints of its store. A part that was just started may be putting its log back: then it is asked for again."""
+        words = [self.program, "record", self.store]
+        for _ in range(TRIES if self.is_up else 1):
+            ran = subprocess.run(words, cwd=self.folder, env={}, stdin=subprocess.DEVNULL, capture_output=True, timeout=LIMIT, check=False)
+            if ran.returncode == 0:
+                return ran.stdout
+            time.sleep(0.02)
+        raise Found(f"record of {self.name}: status {ran.returncode}, {ran.stderr.decode(errors='replace').strip()}")
+
+
+class Plugin(Part):
+    """A controller or a node: it is given frames, and answers by frames."""
+
+    def take(self):
+        """Its next reply."""
+        while not (frames := split(self.came)[0]):
+            self.more()
+        self.came = self.came[len(frames[0]) :]
+        return frames[0]
+
+    def killed(self):
+        """Kills it: the whole replies that nobody took."""
+        return split(self.kill())[0]
+
+
+class Orchestrator(Part):
+    """It is given lines, and answers by lines."""
+
+    def take(self):
+        while b"\n" not in self.came:
+            self.more()
+        line, self.came = self.came.split(b"\n", 1)
+        return json.loads(line)
+
+    def killed(self):
+        """Kills it: the whole answers that nobody took."""
+        return [json.loads(line) for line in self.kill().split(b"\n")[:-1]]
+
+
+def wait(seconds, is_over=lambda: False):
+    """Waits, also for less than the clock of `sleep` can tell, or until this is so."""
+    until = time.monotonic() + seconds
+    while time.monotonic() < until and not is_over():
+        pass

@@ -1,0 +1,290 @@
+"""One run: what happens is drawn from a seed, and is watched."""
+import json
+import random
+from dataclasses import dataclass
+
+from .breaking import Breaks
+from .cluster import ORCHESTRATOR, Cluster, numbers_of
+from .drawing import Commands, configuration
+from .parts import Found, wait
+from .reading import read
+from .watching import Watch
+
+AUDIT_EVERY, BROKEN_EVERY = 200, 50  # turns between audits, and where something is broken, which may mend itself
+BREAK_EVERY = 10  # a break is tried so often, from the first audit on, until one changed something
+MOST_GIVEN = 8  # what a part that is asleep is given at most, so that its pipe has room
+NONSENSE = ((b"no JSON", "NotJson"), (b'{"delete":1}', "BadLine"), (b'{"reply":"00"}', "BadFrame"), (b'{"restart":"controller"}', "BadLine"))
+MOMENTS = ("idle", "reading", "working", "working", "committing", "committing", "ending", "starting")
+
+
+@dataclass
+class Counts:
+    """What a run did."""
+
+    events: int = 0  # those of the schedule, of which a turn may give none or several
+    frames: int = 0
+    kills: int = 0  # a turn gives none or one, and two where a part is killed as it starts
+    unheard: int = 0  # what a process did, and was killed before it said so
+    audits: int = 0
+    repeats: int = 0
+    settled: int = 0
+    broken: int = 0  # how many breaks changed something
+
+
+class Run:
+    def __init__(self, program, folder, seed, turns, kills, broken=None):
+        self.drawn = drawn = random.Random(seed)
+        config = configuration(drawn)
+        self.folder = folder
+        self.cluster = Cluster(program, folder, config)
+        self.commands = Commands(drawn, config, lambda: self.cluster.goals)
+        self.watch = Watch(self.cluster, drawn)
+        self.cluster.watchers.append(self.watch)
+        self.turns, self.audit_every = turns, BROKEN_EVERY if broken else AUDIT_EVERY
+        self.kills = set(drawn.sample(range(turns), min(kills, turns)))
+        self.break_name, self.breaks = broken, Breaks(self.cluster, drawn)
+        self.late = []  # frames that are delayed for long: when they come, and their numbers
+        self.back = {}  # of parts that are down or asleep: when they are started, or let go
+        self.counts = Counts()
+
+    # ---- the whole run
+
+    def play(self):
+        cluster = self.cluster
+        try:
+            cluster.start_all()
+            for self.at in range(self.turns):
+                self.turn()
+            self.rest()
+            self.watch.settle()
+            self.watch.at_rest()
+            if not self.break_name:
+                self.cluster.history.compare_end(self.compare(), self.cluster.lines())
+        except Found as found:
+            raise found if self.break_name else Found(f"{found}; {self.verdict()}") from None
+        finally:
+            cluster.close()
+            self.tell()
+        return self.counts
+
+    def tell(self):
+        """Leaves the schedule and what came of it in the folder, and counts."""
+        history, watch = self.cluster.history, self.watch
+        with open(f"{self.folder}/events", "w", encoding="utf-8") as file:
+            file.writelines(history.told())
+        self.counts.events, self.counts.frames = len(history.events), len(history.frames)
+        self.counts.unheard = history.unheard
+        self.counts.broken = int(self.breaks.changed)
+        self.counts.audits, self.counts.repeats, self.counts.settled = watch.audits, watch.repeats, watch.settled
+
+    def compare(self):
+        return self.cluster.history.compare(self.cluster.program, f"{self.folder}/schedule.json")
+
+    def verdict(self):
+        """Of a run in which something was found: whether the machines do the same."""
+        try:
+            self.compare()
+            return "a run of the schedule says the same up to there"
+        except Found as found:
+            return str(found)
+
+    def rest(self):
+        """All parts run, and none is asleep."""
+        self.cluster.start_all()
+        self.back = {}
+
+    def turn(self):
+        for name in [name for name, at in self.back.items() if at <= self.at]:
+            self.bring_back(name)
+        while self.late and self.late[0][0] <= self.at:
+            self.cluster.pending.append(self.late.pop(0)[1])
+        if self.at in self.kills:
+            self.kill()
+        if self.at % self.audit_every == self.audit_every - 1:
+            self.rest()
+            self.watch.at_rest()
+            self.commands.learn(json.loads(self.cluster.orchestrator.record()))
+        if self.break_name and not self.breaks.changed and self.at > AUDIT_EVERY and self.at % BREAK_EVERY == 0:
+            self.rest()
+            getattr(self.breaks, self.break_name)()
+        self.action()()
+
+    def action(self):
+        """Something that can be done now."""
+        weights = dict(self.actions())
+        return self.drawn.choices(list(weights), list(weights.values()))[0]
+
+    def actions(self):
+        cluster = self.cluster
+        if cluster.orchestrator.is_up and len(cluster.orchestrator.given) < MOST_GIVEN:
+            yield self.command, 22
+            yield self.time_out, 4
+            yield self.say_nonsense, 1
+        if self.can_come():
+            yield self.deliver, 60
+            yield self.lose, 4
+            yield self.delay, 4
+        if cluster.history.frames:
+            yield self.repeat, 6
+        yield self.restart, 1
+        yield self.put_to_sleep, 2
+
+    # ---- the network
+
+    def is_there(self, number):
+        """Whether a frame can be delivered now: its part is up, and hasn't too much to read."""
+        part = self.cluster.parts[self.cluster.target_of(number)]
+        return part.is_up and len(part.given) < MOST_GIVEN
+
+    def can_come(self):
+        return [it for it in self.cluster.pending if self.is_there(it)]
+
+    def deliver(self):
+        """A frame that is under way arrives: mostly the oldest, or any; sometimes it goes on being under way."""
+        ready = self.can_come()
+        number = ready[0] if self.drawn.random() < 0.6 else self.drawn.choice(ready)
+        if self.drawn.random() < 0.95:
+            self.cluster.pending.remove(number)
+        self.arrive(number)
+
+    def arrive(self, number):
+        """A frame arrives, perhaps in one piece with others: those that are under way to the same part, and before them one that is no call of that plugin."""
+        cluster, drawn, name = self.cluster, self.drawn, self.cluster.target_of(number)
+        numbers = [number]
+        if drawn.random() < 0.1 and len(cluster.parts[name].given) < MOST_GIVEN - 4:
+            more = [it for it in cluster.pending if it != number and cluster.target_of(it) == name][:4]
+            cluster.pending[:] = [it for it in cluster.pending if it not in more]
+            numbers += more
+        if name == ORCHESTRATOR:
+            cluster.give(name, [{"deliver": it} for it in numbers])
+        else:
+            cluster.give(name, numbers, self.stray(name) if drawn.random() < 0.05 else b"")
+
+    def stray(self, plugin):
+        """Some frame that isn't a call of this plugin; it gets no reply there."""
+        history = self.cluster.history
+        for _ in range(5):
+            frame = history.frame(self.drawn.randint(1, len(history.frames)))
+            if frame and (read(frame).is_reply or read(frame).plugin != plugin):
+                return frame
+        return b""
+
+    def lose(self):
+        self.cluster.pending.remove(self.drawn.choice(self.can_come()))
+
+    def delay(self):
+        """A frame takes long, perhaps for the rest of the run."""
+        number = self.drawn.choice(self.can_come())
+        self.cluster.pending.remove(number)
+        self.late.append((self.at + int(10 ** self.drawn.uniform(1, 3.3)), number))
+        self.late.sort()
+
+    def repeat(self):
+        """A frame of the past comes, once more or at last."""
+        history = self.cluster.history
+        count = len(history.frames)
+        number = self.drawn.randint(1, count) if self.drawn.random() < 0.5 else max(1, count - int(self.drawn.expovariate(0.1)))
+        if history.frame(number) and self.is_there(number):
+            self.arrive(number)
+
+    # ---- what is asked
+
+    def command(self):
+        event = self.commands.draw()
+        answer = self.cluster.tell(event)
+        if answer is None or answer["outcome"] == "sent":
+            self.commands.accepted(event)
+
+    def time_out(self):
+        wanted = [name for name, goal in self.cluster.goals.items() if goal]
+        name = self.drawn.choice(wanted) if wanted and self.drawn.random() < 0.95 else self.drawn.choice(self.commands.window)
+        self.cluster.tell({"timeout": name})
+
+    def say_nonsense(self):
+        if not self.cluster.orchestrator.is_asleep:
+            self.cluster.nonsense(*self.drawn.choice(NONSENSE))
+
+    # ---- parts
+
+    def restart(self):
+        """A part that is at rest ends well, and is started again."""
+        name = self.drawn.choice(list(self.cluster.parts))
+        if name not in self.back:
+            self.cluster.restart(name)
+
+    def put_to_sleep(self):
+        """A part is stopped, at rest or while it carries something out."""
+        name = self.drawn.choice(list(self.cluster.parts))
+        if name in self.back:
+            return
+        self.back[name] = self.at + self.drawn.randint(1, 40)
+        given = self.given_to(name)
+        if given and self.drawn.random() < 0.5:
+            self.cluster.sleep_inside(name, given[0], self.moment())
+        else:
+            self.put_back(given)
+            self.cluster.sleep(name)
+
+    def bring_back(self, name):
+        del self.back[name]
+        part = self.cluster.parts[name]
+        if part.is_asleep:
+            self.cluster.wake(name)
+        elif not part.is_up:
+            self.cluster.start(name)
+
+    def moment(self):
+        """How many seconds it takes until a part is stopped or killed. With a store in memory a call takes 20 to 300 millionths of one."""
+        return self.drawn.uniform(0, 0.0003) if self.drawn.random() < 0.8 else 10 ** self.drawn.uniform(-4, -2.3)
+
+    def given_to(self, name):
+        """What a part is given next: of a plugin one to three calls that are under way, which aren't so any more; of the orchestrator an event."""
+        cluster = self.cluster
+        came = [it for it in cluster.pending if cluster.target_of(it) == name]
+        if name == ORCHESTRATOR:
+            if not came or self.drawn.random() < 0.4:
+                wanted = [it for it, goal in cluster.goals.items() if goal]
+                return [{"timeout": self.drawn.choice(wanted)} if wanted and self.drawn.random() < 0.3 else self.commands.draw()]
+            chosen = [self.drawn.choice(came)]
+        else:
+            chosen = came[: self.drawn.randint(1, 3)]
+            if not chosen and (calls := list(cluster.history.delivered.get(name, ()))):
+                return [self.drawn.choice(calls)]
+        for it in chosen:
+            cluster.pending.remove(it)
+        return [{"deliver": it} for it in chosen] if name == ORCHESTRATOR else chosen
+
+    def put_back(self, given):
+        """What was to be given, and wasn't, is under way still."""
+        self.cluster.pending += [it for it in numbers_of(given) if self.drawn.random() < 0.7]
+
+    def kill(self):
+        """A part is killed: at rest, while it reads, works, commits, puts its log back or opens its store, or while it is asleep."""
+        cluster, drawn = self.cluster, self.drawn
+        running = [name for name, part in cluster.parts.items() if part.is_up]
+        if not running:
+            return
+        name, moment = drawn.choice(running), drawn.choice(MOMENTS)
+        part = cluster.parts[name]
+        if part.is_asleep:
+            left = cluster.kill(name)
+        elif moment == "reading":
+            given = self.given_to(name)
+            whole, last = given[:-1], given[-1:]
+            content = cluster.content(name, last[0]) if last else b"\0"
+            left = cluster.kill(name, whole, content[: drawn.randint(1, len(content)) - 1], self.moment())
+            self.put_back(last)
+        elif moment == "working":
+            left = cluster.kill(name, self.given_to(name), seconds=self.moment())
+        elif moment == "committing":
+            left = cluster.kill(name, self.given_to(name), seconds=0.005, after_log=drawn.uniform(0, 0.00004))
+        else:
+            left = cluster.kill(name, seconds=self.moment(), is_ending=moment == "ending")
+        self.counts.kills += 1
+        self.put_back(left)
+        if moment == "starting":
+            part.start()
+            wait(self.moment())
+            part.kill()
+            self.counts.kills += 1
+        self.back[name] = self.at + drawn.randint(0, 30)

@@ -1,0 +1,39 @@
+"""Tests of the CSI driver of examples/csi: the programs' folder, csi-replay, how many calls are drawn, a seed, and words that the cases' names have."""
+import sys
+import tempfile
+import time
+
+from program.running import LeftOut, Wrong
+
+from . import fields, hooking, hosting, late, leading, lives, memory, played, staged, starting
+from .box import Box
+
+
+def main():
+    built, program, drawn, seed, *words = sys.argv[1:]
+    modules = (fields, starting, memory, played, late, lives, hooking, staged, hosting, leading)
+    cases = [case for module in modules for case in module.cases(int(drawn), int(seed))]
+    passed, failed = 0, 0
+    print(f"seed {seed}", flush=True)
+    for name, body in cases:
+        if words and not any(word in name for word in words):
+            continue
+        since = time.monotonic()
+        with tempfile.TemporaryDirectory() as folder:
+            box = Box(built, program, folder)
+            try:
+                told = body(box)
+                passed += 1
+                print(f"{name}: {told + ', ' if told else ''}{time.monotonic() - since:.1f} s", flush=True)
+            except LeftOut as why:
+                print(f"csi: left out: {name}, since {why}", flush=True)
+            except Wrong as why:
+                failed += 1
+                print(f"{name}: FAILED: {why}", flush=True)
+            finally:
+                box.end()
+    print(f"{passed} passed, {failed} failed")
+    sys.exit(1 if failed or not passed else 0)
+
+
+main()

@@ -1,0 +1,229 @@
+"""What becomes of each field of each request, and the responses: by the tables of docs/FORMATS.md, "From CSI to a frame"."""
+import os
+import stat
+
+import csi_pb2
+from program.running import wanted
+
+from .requests import BLOCK, attach, capability, create, delete, detach, publish, stage, unpublish, unstage, validate
+
+UNKNOWN = b"\xf8\x3f\x01"  # field 1023, which no message has
+SECRETS = {"secrets": {"k": "v"}}
+CONTEXT = {"volume_context": {"k": "v"}}
+LONG = "x" * 4097
+
+
+def bad_capabilities(made, fields):
+    """Requests that `made` makes of a bad capability, and what they get."""
+    flags, group = capability(1, "ext4"), capability(1, "ext4")
+    flags.mount.mount_flags.append("noatime")
+    group.mount.volume_mount_group = "g"
+    yield made(csi_pb2.VolumeCapability(access_mode={"mode": 1})), "access_type"
+    yield made(capability(0)), "access_mode"
+    yield made(capability(8)), "access_mode"
+    yield made(csi_pb2.VolumeCapability(block={})), "access_mode"
+    yield made(capability(1, "x" * 129)), "fs_type"
+    yield made(flags), "mount_flags"
+    yield made(group), "volume_mount_group"
+    if fields:
+        yield made(csi_pb2.VolumeCapability.FromString(BLOCK.SerializeToString() + UNKNOWN)), "unknown field"
+
+
+def bad_of_controller():
+    """Each request that no controller's frame can carry, and the text of its refusal, status 3."""
+    for request in (create("v"), delete(1), attach(1), detach(1), validate(1)):
+        yield request.SerializeToString() + UNKNOWN, type(request).DESCRIPTOR.name, "unknown field"
+    rows = [
+        (create(""), "name"),
+        (create("x" * 129), "name"),
+        (create("v\0"), "name"),
+        (create("v", -1), "capacity"),
+        (create("v", 1, -1), "capacity"),
+        (create("v", capabilities=[BLOCK] * 9), "volume_capabilities"),
+        (create("v", parameters={"k": "v"}), "parameters"),
+        (create("v", **SECRETS), "secrets"),
+        (create("v", volume_content_source={}), "volume_content_source"),
+        (create("v", volume_content_source={"snapshot": {"snapshot_id": "s"}}), "volume_content_source"),
+        (create("v", accessibility_requirements={}), "accessibility_requirements"),
+        (create("", **SECRETS), "name"),
+        (delete(""), "volume_id"),
+        (delete(1, **SECRETS), "secrets"),
+        (delete("x", **SECRETS), "secrets"),
+        (attach(""), "volume_id"),
+        (attach(1, ""), "node_id"),
+        (attach(1, "x" * 256), "node_id"),
+        (attach(1, **SECRETS), "secrets"),
+        (csi_pb2.ControllerPublishVolumeRequest(volume_id="1", node_id="n1"), "volume_capability"),
+        (detach(""), "volume_id"),
+        (detach(1, ""), "node_id"),
+        (detach(1, "x" * 256), "node_id"),
+        (detach(1, **SECRETS), "secrets"),
+        (validate(""), "volume_id"),
+        (validate(1, []), "volume_capabilities"),
+        (validate(1, **SECRETS), "secrets"),
+        *bad_capabilities(lambda it: create("v", capabilities=[BLOCK, it]), True),
+        *bad_capabilities(lambda it: attach(1, how=it), True),
+        *bad_capabilities(lambda it: validate(1, [it]), True),
+    ]
+    for request, text in rows:
+        yield request.SerializeToString(), type(request).DESCRIPTOR.name, text
+
+
+def bad_of_node():
+    for request in (stage(1), unstage(1), publish(1), unpublish(1)):
+        yield request.SerializeToString() + UNKNOWN, type(request).DESCRIPTOR.name, "unknown field"
+    rows = [
+        (stage(""), "volume_id"),
+        (stage(1, path=""), "staging_target_path"),
+        (stage(1, path=LONG), "staging_target_path"),
+        (stage(1, path="/a\0"), "staging_target_path"),
+        (stage(1, **SECRETS), "secrets"),
+        (csi_pb2.NodeStageVolumeRequest(volume_id="1", staging_target_path="/s"), "volume_capability"),
+        (unstage(""), "volume_id"),
+        (unstage(1, path=""), "staging_target_path"),
+        (publish(""), "volume_id"),
+        (publish(1, path=""), "staging_target_path"),
+        (publish(1, ""), "target_path"),
+        (publish(1, "/" + "x" * 255), "target_path"),
+        (publish(1, "/a\0"), "target_path"),
+        (publish(1, "a"), "target"),  # by the plugin
+        (publish(1, **SECRETS), "secrets"),
+        (unpublish(""), "volume_id"),
+        (unpublish(1, ""), "target_path"),
+        *bad_capabilities(lambda it: stage(1, it), True),
+        *bad_capabilities(lambda it: publish(1, how=it), True),
+    ]
+    for request, text in rows:
+        yield request.SerializeToString(), type(request).DESCRIPTOR.name, text
+
+
+def refused(driver, rows):
+    count = 0
+    for count, (content, name, text) in enumerate(rows, 1):
+        driver.wants((3, text), name.removesuffix("Request"), content, (1, count))
+    return count
+
+
+def controller(box):
+    """What a frame can't carry is refused; what it can is carried."""
+    driver = box.controller()
+    count = refused(driver, bad_of_controller())
+    wanted("the record", box.record("controller.db")["session"], 0)
+    bare = csi_pb2.CreateVolumeRequest(name="w", volume_capabilities=[BLOCK])
+    made = driver.wants(0, "CreateVolume", bare, (2, 1))
+    wanted("the volume", (made.volume.volume_id, made.volume.capacity_bytes), ("1", 1 << 30))
+    made = driver.wants(0, "CreateVolume", create("v", 10, 20, [capability(5, "ext4"), BLOCK]), (2, 2))
+    wanted("the volume", made.SerializeToString(), csi_pb2.CreateVolumeResponse(volume={"volume_id": "2", "capacity_bytes": 10}).SerializeToString())
+    made = driver.wants(0, "CreateVolume", create("v", 5, 0, [BLOCK]), (2, 3))
+    wanted("the same volume", made.volume.capacity_bytes, 10)
+    driver.wants((3, "capabilities"), "CreateVolume", create("u", capabilities=[]), (2, 4))
+    driver.wants((3, "capacity"), "CreateVolume", create("u", 0, 0), (2, 5))
+    made = driver.wants(0, "CreateVolume", create("u", 0, 7), (2, 6))
+    wanted("the capacity", made.volume.capacity_bytes, 7)
+    for at, volume in enumerate(("x", "0", "01", "+1", " 1", str(1 << 64), "-1", "\u0661")):
+        driver.wants((5, "volume"), "ControllerPublishVolume", attach(volume), (2, 10 + at))
+        driver.wants((5, "volume"), "ValidateVolumeCapabilities", validate(volume))
+        driver.wants(0, "DeleteVolume", delete(volume), (2, 20 + at))
+        driver.wants(0, "ControllerUnpublishVolume", detach(volume), (2, 30 + at))
+    driver.wants(0, "ControllerPublishVolume", attach(2, "n1", capability(5, "ext4"), True, **CONTEXT), (2, 40))
+    driver.wants((9, "n1"), "DeleteVolume", delete(2), (2, 41))
+    driver.wants((9, "number"), "DeleteVolume", delete(1), (2, 1))
+    driver.wants((12, "unknown service csi.v1.Node"), "NodeGetInfo", csi_pb2.NodeGetInfoRequest())
+    for content in (b"\x0a\x01\xff", b"\x0a\x02v"):
+        wanted("no message", driver.ask("CreateVolume", content, (2, 60))[0], 13)
+    wanted("ListVolumes", driver.ask("ListVolumes", b"")[0], 12)
+    validated(driver)
+    record = box.record("controller.db")
+    wanted("attached", record["volumes"][1]["attached"], [{"capability": {"access": "mount", "fs": "ext4", "mode": 5}, "node": "n1", "readonly": True}])
+    wanted("the status", driver.stop(), 0)
+    return f"{count} requests refused by the driver"
+
+
+def validated(driver):
+    """Of volume 2, which has a mount in mode 5, and a block device in mode 1; volume 1 is deleted, and 9 isn't there."""
+    driver.wants(0, "DeleteVolume", delete(1), (2, 50))
+    for volume in (1, 9):
+        driver.wants((5, "volume"), "ValidateVolumeCapabilities", validate(volume))
+    response = driver.wants(0, "ValidateVolumeCapabilities", validate(2, [BLOCK, capability(5, "ext4")], **CONTEXT))
+    confirmed = csi_pb2.ValidateVolumeCapabilitiesResponse(confirmed={"volume_capabilities": [BLOCK, capability(5, "ext4")]})
+    wanted("confirmed", str(response), str(confirmed))
+    response = driver.wants(0, "ValidateVolumeCapabilities", validate(2, [BLOCK, capability(5, "xfs")]))
+    wanted("not confirmed", (response.HasField("confirmed"), response.message), (False, "capability"))
+    response = driver.wants(0, "ValidateVolumeCapabilities", validate(2, parameters={"k": "v"}))
+    wanted("not confirmed", (response.HasField("confirmed"), response.message), (False, "parameters"))
+
+
+def node(box):
+    driver = box.node("--max-volumes", "7")
+    count = refused(driver, bad_of_node())
+    for at, volume in enumerate(("x", "0", "01")):
+        driver.wants((5, "volume"), "NodeStageVolume", stage(volume), (2, 10 + at))
+        driver.wants((5, "volume"), "NodePublishVolume", publish(volume), (2, 20 + at))
+        driver.wants(0, "NodeUnstageVolume", unstage(volume), (2, 30 + at))
+        driver.wants(0, "NodeUnpublishVolume", unpublish(volume), (2, 40 + at))
+    how = capability(7, "")
+    driver.wants(0, "NodeStageVolume", stage(1 << 63, how, publish_context={"k": "v"}, **CONTEXT), (3, 1))
+    driver.wants(0, "NodePublishVolume", publish(1 << 63, "/t", how, True, publish_context={"k": "v"}, **CONTEXT), (3, 2))
+    info = driver.wants(0, "NodeGetInfo", csi_pb2.NodeGetInfoRequest())
+    wanted("NodeGetInfo", str(info), str(csi_pb2.NodeGetInfoResponse(node_id="n1", max_volumes_per_node=7)))
+    kinds = [it.rpc.type for it in driver.wants(0, "NodeGetCapabilities", csi_pb2.NodeGetCapabilitiesRequest()).capabilities]
+    wanted("NodeGetCapabilities", kinds, [1, 5])
+    wanted("the record", box.record("n1.db")["volumes"][0]["published"], [{"readonly": True, "target": "/t"}])
+    wanted("another service", driver.ask("CreateVolume", create("v"), (3, 3))[0], 12)
+    return f"{count} requests refused"
+
+
+def identity(box):
+    for driver in (box.controller("--name", "a.example"), box.node("--name", "a.example")):
+        info = driver.wants(0, "GetPluginInfo", csi_pb2.GetPluginInfoRequest())
+        wanted("GetPluginInfo", (info.name, info.vendor_version != ""), ("a.example", True))
+        told = driver.wants(0, "GetPluginCapabilities", csi_pb2.GetPluginCapabilitiesRequest())
+        wanted("GetPluginCapabilities", [it.service.type for it in told.capabilities], [1])
+        wanted("Probe", driver.wants(0, "Probe", csi_pb2.ProbeRequest()).ready.value, True)
+    kinds = box.drivers[0].wants(0, "ControllerGetCapabilities", csi_pb2.ControllerGetCapabilitiesRequest()).capabilities
+    wanted("ControllerGetCapabilities", [it.rpc.type for it in kinds], [1, 2, 8, 13])
+
+
+def numbers(box):
+    """A number is one, in decimal, and not of a session that is far above the latest."""
+    driver = box.controller()
+    for number in (None, "1", "1.", ".1", "1.x", "01.1", "1.1 ", "1.1.1", "-1.1", f"{1 << 64}.1"):
+        driver.wants((9, "number"), "CreateVolume", create("v"), number)
+    driver.wants((9, "session"), "CreateVolume", create("v"), (1000001, 1))
+    driver.wants(0, "CreateVolume", create("v"), (1000000, 1))
+    driver.wants((9, "session"), "CreateVolume", create("w"), (2000001, 1))
+    driver.wants((10, "stale"), "CreateVolume", create("w"), (999999, 9))
+    driver.wants(0, "CreateVolume", create("w"), (2000000, 1))
+    wanted("the status", driver.stop(), 0)
+    driver = box.controller("--sessions-above", "0")
+    driver.wants(0, "CreateVolume", create("u"), ((1 << 64) - 1, 1))
+    driver.stop()
+    driver = box.controller("--numbers", "arrival", serves=False)
+    wanted("the status", driver.close(), 1)
+    wanted("the line", driver.said, b"csi-driver: numbers spent\n")
+
+
+def sockets(box):
+    """Nobody else gets in, and a driver is ended where they might."""
+    driver = box.controller()
+    modes = [stat.S_IMODE(os.stat(it).st_mode) for it in (driver.socket, os.path.dirname(driver.socket))]
+    wanted("the modes of socket and folder", modes, [0o600, 0o700])
+    second = box.controller(socket="other", serves=False)
+    wanted("a second driver over the store", (second.close(), second.said[:34]), (3, b"csi-driver: store not opened: data"))
+    third = box.controller(store="third.db", serves=False)
+    wanted("another driver at its socket", (third.close(), third.said), (3, f"csi-driver: the socket: {driver.socket} is served by another process\n".encode()))
+    status, _, error = box.replay("controller", box.at("controller.db"), box.at("config"))
+    wanted("csi-replay over the store", (status, error), (3, b"csi-replay: store not opened\n"))
+    driver.kill()
+    box.controller().stop()
+    os.mkdir(box.at("open.d"), 0o755)
+    driver = box.controller(socket="open", serves=False)
+    wanted("a folder that others read", (driver.close(), driver.said[:23]), (3, b"csi-driver: the socket:"))
+
+
+def cases(_drawn, _seed):
+    yield "fields: a controller's", controller
+    yield "fields: a node's", node
+    yield "fields: Identity", identity
+    yield "fields: numbers", numbers
+    yield "fields: sockets", sockets
