@@ -1,6 +1,5 @@
 -- What an orchestrator is asked, and a handle, from what was read of what C handed over.
 use Rattle.std.proofs.Common.{◌≡◌, ℕ, List, Option, Some, None, Result, Ok, Err, IfOk, IfErr, refl, sym, ap, subst, ◌∙◌, inl, inr, ◌⊎◌}
-use Rattle.std.specs.Prelude.{OnOk, OnErr}
 use Rattle.std.proofs.lemmas.Result.{on_ok_weaker, on_err_weaker}
 use Rattle.csi_types.specs.Model.Frame.{Frame}
 use Rattle.csi_frames.specs.declared.fault.FaultKind.{FaultKind}
@@ -14,7 +13,6 @@ use Rattle.csi_orchestrator.specs.declared.fault.Heard.{Heard}
 use Rattle.csi_orchestrator.specs.declared.fault.OrchFault.{OrchFault}
 use Rattle.csi_orchestrator.specs.declared.thing.Thing.{Thing}
 use Rattle.csi_orchestrator.specs.Model.Moves.{Input, Answer, Sends, Hears, Comes}
-use Rattle.csi_stores.specs.Public.Part.{StoredPart}
 use Rattle.csi_stores.specs.Public.Content.{all_changed}
 use Rattle.csi_embedded.specs.declared.command.Command.{Command}
 use Rattle.csi_embedded.specs.declared.ending.Ending.{Ending}
@@ -24,8 +22,8 @@ use Rattle.csi_embedded.specs.declared.plugin.Plugin.{Plugin}
 use Rattle.csi_embedded.specs.declared.plugin.Plugin.TheVariants.{Controller, Node, Orchestrator}
 use Rattle.csi_embedded.specs.Public.Plugins.{plugin_parts, IsAsItWas}
 use Rattle.csi_embedded.specs.Public.Calls.{frame_front, told_changes, IsNoFrame, Remains}
-use Rattle.csi_embedded.specs.Public.Asking.{command_input, Carries, HasNone, EndsAsked, EndsHeard, IsAsked, AsksOne, IsHeard, HearsOne, HandleAsks, HasAsked, HasHeard}
-use Rattle.csi_embedded.specs.Public.Knowing.{Knows, TellsThing, HandleTellsThing, HasKnown, HasGoal, HasVolume}
+use Rattle.csi_embedded.specs.Public.Asking.{command_input, Carries, HasNone, EndsAsked, EndsHeard, AsksOne, HearsOne, HandleAsks, HasAsked, HasHeard}
+use Rattle.csi_embedded.specs.Public.Knowing.{TellsThing, HandleTellsThing, HasKnown, HasGoal, HasVolume}
 use Rattle.csi_embedded.specs.Private.Asking.{HearsFrame, HandleAsksRead, GivesAsked}
 use Rattle.csi_embedded.specs.Private.Knowing.{HandleTellsRead, GivesKnown}
 

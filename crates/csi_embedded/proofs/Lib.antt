@@ -2,7 +2,6 @@ mod AsBox
 pub mod Fullness
 pub mod Handles
 pub mod MadePlugins
-pub mod RecordedRows
 pub mod SpelledCapabilities
 pub mod Asked
 pub mod MadeOrchestrators

@@ -1,5 +1,5 @@
 -- Why no orchestrator is made.
-use Rattle.std.proofs.Common.{◌≡◌, ℕ, List, subst, inl, inr}
+use Rattle.std.proofs.Common.{ℕ, List, inl}
 use Rattle.csi_embedded.specs.declared.ending.Ending.{Ending}
 use Rattle.csi_embedded.specs.declared.ending.Ending.TheVariants.{NoMemory, BadName, BadRecord, Refused}
 use Rattle.csi_orchestrator.specs.Public.Record.{RecordParts}

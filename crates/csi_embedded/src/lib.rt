@@ -22,7 +22,6 @@ mod making;
 mod opened;
 mod orchestrator_exports;
 mod orchestrator_making;
-mod orchestrator_record;
 mod plugin;
 mod sending;
 mod splitting;

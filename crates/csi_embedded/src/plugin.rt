@@ -6,8 +6,8 @@ ghost use Rattle.csi_stores.specs.Public.Content.{all_changed};
 ghost use Rattle.csi_service.specs.Public.Answering.{AppendsReply};
 ghost use Rattle.csi_embedded.specs.Public.Plugins.{plugin_parts, plugin_changes, is_orchestrator as is_one, PluginAnswers, IsAsItWas, IsPluginRecord};
 
-use crate::orchestrator_record::orchestrator_record;
 use csi_frames::FrameRef;
+use csi_records::write_orchestrator;
 use csi_service::{ControllerService, Core, NodeService, OrchestratorService, Part, write_record};
 use csi_types::NoMemory;
 use std::alloc::Global;
@@ -72,7 +72,7 @@ impl Plugin {
                 let kept = service.record()?;
                 write_record(alloc, &kept)
             }
-            Plugin::Orchestrator(service) => orchestrator_record(alloc, service),
+            Plugin::Orchestrator(service) => write_orchestrator(alloc, service.orchestrator()),
         }
     }
 }

@@ -21,3 +21,4 @@ pub mod OrchestratorSizes
 pub mod KeyedParts
 pub mod OrchestratorLayouts
 pub mod KindsApart
+pub mod OrchestratorBytes

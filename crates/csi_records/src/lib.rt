@@ -11,6 +11,7 @@ mod items;
 mod known;
 mod laws;
 mod node_record;
+mod orchestrator_bytes;
 mod orchestrator_fields;
 mod orchestrator_head;
 mod orchestrator_parts;
@@ -33,6 +34,7 @@ mod writing;
 
 pub use fault::RecordStop;
 pub use laws::record_laws;
+pub use orchestrator_bytes::write_orchestrator;
 pub use orchestrator_parts::push_orchestrator_row;
 pub use orchestrator_values::{orchestrator_head_value, orchestrator_row_value};
 pub use record::{Record, read_record, record_of_node, write_record};

@@ -1,4 +1,4 @@
-use Rattle.std.proofs.Common.{◌≡◌, ◌∙◌, List, ℕ, sym, subst, refl, inr, true, false, rules}
+use Rattle.std.proofs.Common.{◌≡◌, ◌∙◌, sym, subst, refl, inr, true, false, rules}
 use Rattle.std.proofs.lemmas.Bool.{true≢false}
 use Rattle.csi_embedded.specs.Public.OrchestratorMaking.{AreNodesOf}
 use Rattle.csi_embedded.proofs.orchestrator_making.read_orchestrator.Goals as goal

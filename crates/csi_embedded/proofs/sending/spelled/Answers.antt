@@ -1,4 +1,4 @@
-use Rattle.std.proofs.Common.{◌≡◌, ◌++◌, ◌∙◌, [], ℕ, List, length, ap, arith, rules}
+use Rattle.std.proofs.Common.{◌≡◌, ◌++◌, ◌∙◌, ℕ, List, length, ap, arith, rules}
 use Rattle.csi_frames.specs.Public.Spelling.{spelling}
 use Rattle.csi_frames.proofs.Lengths.{short-spelling}
 use Rattle.csi_embedded.proofs.sending.spelled.Goals as goal
