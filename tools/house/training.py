@@ -52,6 +52,8 @@ def main():
             run(subcommand, put("schedule", figures.whole_lives(1000, 50)))
         for seed in (1, 2):
             run("controller", "controller.db", "config", given=figures.lives(500) + mixed(figures, 500, 100, seed))
+        run("controller", "controller.db", "config", given=b"".join(figures.create(5000 + it, 5000 + it) for it in range(1, 501)))
+        run("controller", "controller.db", "config", given=b"".join(figures.delete(1, 9_999, 2 + it) for it in range(100)))
         stage = b"".join(figures.stage(it, it) for it in range(1, 101))
         run("node", "node.db", "n1", given=stage + figures.in_turn((figures.publish_at, figures.unpublish_at), 500))
         run("node", "node.db", "n1", given=b"".join(figures.unstage(20_000 + it, it, 2) for it in range(1, 51)))
