@@ -1,7 +1,9 @@
 """Servers of etcd on loopback, and drivers over them."""
 import base64
+import contextlib
 import json
 import os
+import random
 import shutil
 import signal
 import socket
@@ -23,13 +25,15 @@ def decoded(text):
 
 
 def free_ports(count):
-    sockets = [socket.socket() for _ in range(count)]
-    for it in sockets:
-        it.bind(("127.0.0.1", 0))
-    ports = [it.getsockname()[1] for it in sockets]
-    for it in sockets:
-        it.close()
-    return ports
+    """Ports on loopback that nobody has, below those that Linux gives to clients by itself: one of these could be a client's while etcd is down."""
+    ports = set()
+    while len(ports) < count:
+        port = random.randrange(15000, 32768)
+        with socket.socket() as it:
+            with contextlib.suppress(OSError):
+                it.bind(("127.0.0.1", port))
+                ports.add(port)
+    return sorted(ports)
 
 
 class Cluster:
