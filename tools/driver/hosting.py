@@ -12,7 +12,7 @@ import time
 from program import frames, stores
 from program.running import LIMIT, Wrong, wanted
 
-from .box import Box
+from .box import Box, put_to_sleep
 
 TOP = os.path.dirname(os.path.dirname(os.path.dirname(os.path.realpath(__file__))))
 BLOCK = {"access": "block", "mode": 1}
@@ -166,7 +166,7 @@ def deadline(over):
         _, node = plugins(box)
         host = Host(box, over, 1.5)
         host.ask("v0", next(it for _, it in commands(0, 1)))
-        node.process.send_signal(signal.SIGSTOP)
+        put_to_sleep(node.process)
         wakes = threading.Timer(2.0, lambda: node.process.send_signal(signal.SIGCONT))
         wakes.start()
         host.ask("v0", list(commands(0, 1))[1][1])

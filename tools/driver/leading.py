@@ -10,6 +10,7 @@ from program import frames, stores
 from program.running import LIMIT, LeftOut, wanted
 
 from . import starting
+from .box import put_to_sleep
 from .requests import attach, create, delete, detach
 from .servers import LARGE, free_ports, over
 
@@ -79,7 +80,7 @@ def asleep(box, cluster):
     first, second = cluster.driver("first"), cluster.driver("second", serves=False)
     first.wants(0, "CreateVolume", create("v"), (1, 1))
     first.wants(0, "ControllerPublishVolume", attach(1), (1, 2))
-    first.process.send_signal(signal.SIGSTOP)
+    put_to_sleep(first.process)
     late = [first.start("ControllerUnpublishVolume", detach(1), (1, 3)), first.start("DeleteVolume", delete(9), (1, 4))]
     took = wait_to_serve(second, 30)
     second.wants(0, "ControllerPublishVolume", attach(1), (1, 2))
@@ -105,7 +106,7 @@ def cut_off(from_leader):
         first.wants(0, "CreateVolume", create("v"), (1, 1))
         first.wants(0, "ControllerPublishVolume", attach(1), (1, 2))
         cluster.await_drivers(2)
-        cluster.servers[at].send_signal(signal.SIGSTOP)
+        put_to_sleep(cluster.servers[at])
         late = first.start("ControllerUnpublishVolume", detach(1), (1, 3))
         took = wait_to_serve(second, 30)
         second.wants(0, "ControllerPublishVolume", attach(1), (1, 2))
@@ -113,7 +114,7 @@ def cut_off(from_leader):
         wanted("the late call", (late.code().value[0], late.details()), (14, "serving ended"))
         wanted("its end", (first.close(), b"csi-driver: a commit's outcome isn't known: " in first.said), (3, True))
         cluster.servers[at].send_signal(signal.SIGCONT)
-        cluster.await_healthy(cluster.clients[at])
+        cluster.await_healthy(at)
         time.sleep(1)
         wanted("the record", [cluster.parts(it) for it in cluster.clients], [before] * 3)
         second.wants((9, "n1"), "ControllerPublishVolume", attach(1, "n2"), (1, 6))
@@ -133,7 +134,7 @@ def asleep_by_turns(box, cluster):
             made[f"v{turn}.{at}"] = leads.wants(0, "CreateVolume", create(f"v{turn}.{at}"), number).volume.volume_id
         next_one = cluster.driver(f"d{turn}", serves=False)
         if turn % 2:
-            leads.process.send_signal(signal.SIGSTOP)
+            put_to_sleep(leads.process)
         else:
             leads.kill()
         wait_to_serve(next_one, 30)

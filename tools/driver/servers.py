@@ -50,8 +50,8 @@ class Cluster:
 
     def begin(self, options):
         self.servers = [self.start(at, options) for at in range(len(self.clients))]
-        for client in self.clients:
-            self.await_healthy(client)
+        for at in range(len(self.clients)):
+            self.await_healthy(at)
 
     def start(self, at, options):
         client, peer = self.clients[at], self.peers[at]
@@ -62,7 +62,8 @@ class Cluster:
         with open(self.box.at(f"e{at}.log"), "wb") as said:
             return subprocess.Popen(words, stdout=said, stderr=said, stdin=subprocess.DEVNULL)
 
-    def await_healthy(self, client):
+    def await_healthy(self, at):
+        client = self.clients[at]
         until = time.monotonic() + LIMIT
         while time.monotonic() < until:
             try:
@@ -72,7 +73,9 @@ class Cluster:
             except OSError:
                 pass
             time.sleep(0.1)
-        raise LeftOut("etcd doesn't get healthy here")
+        with open(self.box.at(f"e{at}.log"), encoding="utf-8", errors="replace") as said:
+            last = said.read().rstrip().rpartition("\n")[2]
+        raise LeftOut(f"etcd doesn't get healthy here: {last}")
 
     def ask(self, client, call, **request):
         """What etcd's gateway answers to a call."""

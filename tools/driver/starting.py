@@ -1,12 +1,12 @@
 """How a driver starts, over which stores, and when it doesn't."""
 import os
-import signal
 import subprocess
 
 from program import frames, stores
 from program.frames import block
 from program.running import LIMIT, wanted
 
+from .box import put_to_sleep
 from .requests import attach, create, publish, stage, unstage
 
 HEAD, ROW = stores.controller_head, stores.volume
@@ -168,7 +168,7 @@ def client(box):
     ):
         ran = subprocess.run([*words, *more], capture_output=True, timeout=LIMIT, check=False, text=True)
         wanted(f"{more}", (ran.returncode, ran.stdout, ran.stderr), (status, out, error))
-    driver.process.send_signal(signal.SIGSTOP)
+    put_to_sleep(driver.process)
     ran = subprocess.run([*words, "-seconds", "1", "Probe"], capture_output=True, timeout=LIMIT, check=False, text=True)
     wanted("a driver that sleeps", (ran.returncode, ran.stderr[:30]), (4, "csi-client: 4 DeadlineExceeded"))
 
