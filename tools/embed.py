@@ -109,8 +109,9 @@ def draw(program, folder, config, sessions, count, seed):
                 print(told(it), file=out)
 
 
-if sys.argv[1] == "draw":
-    draw(*sys.argv[2:5], *map(int, sys.argv[5:]))
-else:
-    for given in sys.stdin:
-        print(told(given))
+if __name__ == "__main__":
+    if sys.argv[1] == "draw":
+        draw(*sys.argv[2:5], *map(int, sys.argv[5:]))
+    else:
+        for given in sys.stdin:
+            print(told(given))

@@ -14,6 +14,25 @@ NODES = [{"id": "n1", "slots": 16}, {"id": "n2", "slots": 16}]
 KEY = "tufayon-number"
 
 
+def put_to_sleep(process):
+    """Stops a process, and waits until each of its threads stands still: until then it may do some more."""
+    process.send_signal(signal.SIGSTOP)
+    until = time.monotonic() + LIMIT
+    while any(state_of(f"/proc/{process.pid}/task/{it}/stat") not in "TZX" for it in os.listdir(f"/proc/{process.pid}/task")):
+        if time.monotonic() > until:
+            raise Wrong("a process doesn't stop")
+        time.sleep(0.01)
+
+
+def state_of(path):
+    """The letter of a thread's state; X of one that isn't there any more."""
+    try:
+        with open(path, encoding="utf-8", errors="replace") as file:
+            return file.read().rpartition(")")[2].split()[0]
+    except OSError:
+        return "X"
+
+
 def service_of(name):
     if name.startswith("GetPlugin") or name == "Probe":
         return "Identity"

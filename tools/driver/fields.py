@@ -23,6 +23,7 @@ def bad_capabilities(made, fields):
     yield made(capability(8)), "access_mode"
     yield made(csi_pb2.VolumeCapability(block={})), "access_mode"
     yield made(capability(1, "x" * 129)), "fs_type"
+    yield made(capability(1, "x\0")), "fs_type"
     yield made(flags), "mount_flags"
     yield made(group), "volume_mount_group"
     if fields:
@@ -31,7 +32,7 @@ def bad_capabilities(made, fields):
 
 def bad_of_controller():
     """Each request that no controller's frame can carry, and the text of its refusal, status 3."""
-    for request in (create("v"), delete(1), attach(1), detach(1), validate(1)):
+    for request in (create("v"), delete(1), attach(1), detach(1), validate(1), csi_pb2.ControllerGetCapabilitiesRequest()):
         yield request.SerializeToString() + UNKNOWN, type(request).DESCRIPTOR.name, "unknown field"
     rows = [
         (create(""), "name"),
@@ -52,6 +53,7 @@ def bad_of_controller():
         (attach(""), "volume_id"),
         (attach(1, ""), "node_id"),
         (attach(1, "x" * 256), "node_id"),
+        (attach(1, "n\0"), "node_id"),
         (attach(1, **SECRETS), "secrets"),
         (csi_pb2.ControllerPublishVolumeRequest(volume_id="1", node_id="n1"), "volume_capability"),
         (detach(""), "volume_id"),
@@ -70,7 +72,7 @@ def bad_of_controller():
 
 
 def bad_of_node():
-    for request in (stage(1), unstage(1), publish(1), unpublish(1)):
+    for request in (stage(1), unstage(1), publish(1), unpublish(1), csi_pb2.NodeGetCapabilitiesRequest(), csi_pb2.NodeGetInfoRequest()):
         yield request.SerializeToString() + UNKNOWN, type(request).DESCRIPTOR.name, "unknown field"
     rows = [
         (stage(""), "volume_id"),
@@ -180,8 +182,66 @@ def identity(box):
         told = driver.wants(0, "GetPluginCapabilities", csi_pb2.GetPluginCapabilitiesRequest())
         wanted("GetPluginCapabilities", [it.service.type for it in told.capabilities], [1])
         wanted("Probe", driver.wants(0, "Probe", csi_pb2.ProbeRequest()).ready.value, True)
+        for name in ("GetPluginInfo", "GetPluginCapabilities", "Probe"):
+            driver.wants((3, "unknown field"), name, UNKNOWN)
     kinds = box.drivers[0].wants(0, "ControllerGetCapabilities", csi_pb2.ControllerGetCapabilitiesRequest()).capabilities
     wanted("ControllerGetCapabilities", [it.rpc.type for it in kinds], [1, 2, 8, 13])
+
+
+# Of each request its fields by rising number: the text of the refusal, a wrong value and a right one. No volume can have the id "x".
+IDS = ("volume_id", "", "x")
+HIDDEN = ("secrets", {"k": "v"}, {})
+PATH, WAY = ("staging_target_path", "", "/s"), ("volume_capability", None, BLOCK)
+FIELDS = {
+    "CreateVolume": [
+        ("name", "", "v"),
+        ("capacity_range", {"required_bytes": -1}, None),
+        ("volume_capabilities", [BLOCK] * 9, [BLOCK]),
+        ("parameters", {"k": "v"}, {}),
+        HIDDEN,
+        ("volume_content_source", {}, None),
+        ("accessibility_requirements", {}, None),
+    ],
+    "DeleteVolume": [IDS, HIDDEN],
+    "ControllerPublishVolume": [IDS, ("node_id", "", "n1"), WAY, HIDDEN],
+    "ControllerUnpublishVolume": [IDS, ("node_id", "", "n1"), HIDDEN],
+    "ValidateVolumeCapabilities": [IDS, ("volume_capabilities", [], [BLOCK]), HIDDEN],
+    "NodeStageVolume": [IDS, PATH, WAY, HIDDEN],
+    "NodeUnstageVolume": [IDS, PATH],
+    "NodePublishVolume": [IDS, PATH, ("target_path", "", "/t"), WAY, HIDDEN],
+    "NodeUnpublishVolume": [IDS, ("target_path", "", "/t")],
+}
+MOUNT = [("fs_type", "x" * 129, ""), ("mount_flags", ["ro"], []), ("volume_mount_group", "g", "")]
+
+
+def mended(fields):
+    """Fields that are all wrong; and those with the first one mended, the first two, and so on. With each the field that is the first wrong one."""
+    for at in range(len(fields) + 1):
+        yield {name: right if place < at else wrong for place, (name, wrong, right) in enumerate(fields)}, fields[at][0] if at < len(fields) else None
+
+
+def by_number(box):
+    """Judged are the call's number, unknown fields, the fields by rising number, the session that has the plugin, and last the id."""
+    drivers, count = (box.controller(), box.node()), 0
+    for name, fields in FIELDS.items():
+        driver, request = drivers[name.startswith("Node")], getattr(csi_pb2, f"{name}Request")
+        for given, text in mended(fields):
+            content = request(**given).SerializeToString()
+            if name != "ValidateVolumeCapabilities":
+                driver.wants((9, "number"), name, content + UNKNOWN)
+            driver.wants((3, "unknown field"), name, content + UNKNOWN, (1000001, 1))
+            if text:
+                driver.wants((3, text.removesuffix("_range")), name, content, (1000001, 1))
+            count += 3
+        undoes = name.startswith("Delete") or "Un" in name
+        driver.wants((9, "session") if name == "CreateVolume" else 0 if undoes else (5, "volume"), name, content, (1000001, 1))
+    for given, text in mended(MOUNT):
+        for mode, right in ((0, text or "access_mode"), (1, text)):
+            made = csi_pb2.VolumeCapability(mount=given, access_mode={"mode": mode})
+            if right:
+                drivers[0].wants((3, right), "CreateVolume", create("v", capabilities=[made]), (1, 1))
+    wanted("the record", box.record("controller.db")["session"], 0)
+    return f"{count} requests"
 
 
 def numbers(box):
@@ -225,5 +285,6 @@ def cases(_drawn, _seed):
     yield "fields: a controller's", controller
     yield "fields: a node's", node
     yield "fields: Identity", identity
+    yield "fields: by rising number", by_number
     yield "fields: numbers", numbers
     yield "fields: sockets", sockets

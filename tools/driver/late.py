@@ -1,7 +1,11 @@
 """A late ControllerUnpublishVolume: refused by its number, and carried out where calls have none."""
+import os
+
 from program.running import wanted
 
 from .requests import attach, create, delete, detach
+
+TOP = os.path.dirname(os.path.dirname(os.path.dirname(os.path.realpath(__file__))))
 
 
 def attached(box):
@@ -24,7 +28,9 @@ def numbered(box):
 def by_arrival(box):
     """The smaller promise: the late call is taken for a new one."""
     driver = box.controller("--numbers", "arrival")
-    wanted("what it says", b"a call that was late before it arrived isn't known to be" in driver.said, True)
+    promise = driver.said.decode().split("\n")[0].removeprefix("csi-driver: ")
+    with open(f"{TOP}/docs/CSI.md", encoding="utf-8") as page:
+        wanted(f"what it says, in docs/CSI.md: {promise}", f"when it starts: *{promise}.*" in " ".join(page.read().split()), True)
     driver.wants((9, "number"), "CreateVolume", create("v"), (1, 1))
     driver.wants(0, "CreateVolume", create("v"))
     for name, request in (("ControllerPublishVolume", attach(1)), ("ControllerUnpublishVolume", detach(1)), ("ControllerPublishVolume", attach(1))):

@@ -1,126 +1,18 @@
-"""A controller's store in etcd: three servers on loopback, of which some die, and drivers that are killed, or sleep through their lease."""
-import base64
-import json
-import os
+"""A controller's store in etcd: three servers on loopback, of which some die, and drivers that are killed, cut off, or sleep through their
+lease."""
+import re
 import shutil
 import signal
-import socket
 import subprocess
 import time
-import urllib.request
 
-from program.running import LIMIT, LeftOut, Wrong, wanted
+from program import frames, stores
+from program.running import LIMIT, LeftOut, wanted
 
 from . import starting
+from .box import put_to_sleep
 from .requests import attach, create, delete, detach
-
-LEASE = 2  # seconds
-
-
-def coded(text):
-    return base64.b64encode(text.encode()).decode()
-
-
-def decoded(text):
-    return base64.b64decode(text)
-
-
-def free_ports(count):
-    sockets = [socket.socket() for _ in range(count)]
-    for it in sockets:
-        it.bind(("127.0.0.1", 0))
-    ports = [it.getsockname()[1] for it in sockets]
-    for it in sockets:
-        it.close()
-    return ports
-
-
-class Cluster:
-    """etcd servers on loopback, in the case's folder."""
-
-    def __init__(self, box, count=3, *options):
-        if not shutil.which("etcd"):
-            raise LeftOut("there is no etcd")
-        self.box, self.servers = box, []
-        ports = free_ports(2 * count)
-        self.clients = [f"http://127.0.0.1:{port}" for port in ports[:count]]
-        peers = [f"http://127.0.0.1:{port}" for port in ports[count:]]
-        members = ",".join(f"e{at}={peer}" for at, peer in enumerate(peers))
-        for at in range(count):
-            self.servers.append(self.start(at, peers[at], members, options))
-        for client in self.clients:
-            self.await_healthy(client)
-
-    def start(self, at, peer, members, options):
-        client = self.clients[at]
-        words = ["etcd", "--name", f"e{at}", "--data-dir", self.box.at(f"e{at}"), "--listen-client-urls", client, "--advertise-client-urls", client]
-        words += ["--listen-peer-urls", peer, "--initial-advertise-peer-urls", peer, "--initial-cluster", members]
-        words += ["--initial-cluster-token", str(os.getpid()), "--heartbeat-interval", "50", "--election-timeout", "500", *options]
-        with open(self.box.at(f"e{at}.log"), "wb") as said:
-            return subprocess.Popen(words, stdout=said, stderr=said, stdin=subprocess.DEVNULL)
-
-    def await_healthy(self, client):
-        until = time.monotonic() + LIMIT
-        while time.monotonic() < until:
-            try:
-                with urllib.request.urlopen(f"{client}/health", timeout=2) as answer:
-                    if json.load(answer)["health"] == "true":
-                        return
-            except OSError:
-                pass
-            time.sleep(0.1)
-        raise LeftOut("etcd doesn't get healthy here")
-
-    def ask(self, client, call, **request):
-        """What etcd's gateway answers to a call."""
-        with urllib.request.urlopen(f"{client}/v3/{call}", data=json.dumps(request).encode(), timeout=LIMIT) as answer:
-            return json.load(answer)
-
-    def leader(self):
-        """The place of the server that leads."""
-        for at, client in enumerate(self.clients):
-            told = self.ask(client, "maintenance/status")
-            if told["leader"] == told["header"]["member_id"]:
-                return at
-        raise Wrong("no etcd leads")
-
-    def parts(self):
-        """The parts of the record, by rising key."""
-        alive = next(client for client, server in zip(self.clients, self.servers) if server.poll() is None)
-        told = self.ask(alive, "kv/range", key=coded("/t/parts/"), range_end=coded("/t/parts0"))
-        return [(bytes.fromhex(decoded(it["key"]).decode().removeprefix("/t/parts/")), decoded(it["value"])) for it in told.get("kvs", [])]
-
-    def driver(self, name, serves=True):
-        options = ["--etcd", ",".join(self.clients), "--prefix", "/t", "--lease-seconds", str(LEASE)]
-        return self.box.controller(*options, store=None, socket=name, serves=serves)
-
-    def end(self):
-        for server in self.servers:
-            server.kill()
-            server.wait()
-
-
-LARGE = ("--max-txn-ops", "8500")
-
-
-def over(count, *options):
-    """A case over a cluster of so many servers."""
-
-    def with_body(body):
-        def run(box):
-            cluster = Cluster(box, count, *(options or LARGE))
-            try:
-                return body(box, cluster)
-            finally:
-                for driver in box.drivers:
-                    if driver.process.poll() is None:
-                        driver.process.send_signal(signal.SIGCONT)
-                        driver.process.kill()
-                cluster.end()
-
-        return run
-
-    return with_body
+from .servers import LARGE, free_ports, over
 
 
 def wait_to_serve(driver, within):
@@ -188,7 +80,7 @@ def asleep(box, cluster):
     first, second = cluster.driver("first"), cluster.driver("second", serves=False)
     first.wants(0, "CreateVolume", create("v"), (1, 1))
     first.wants(0, "ControllerPublishVolume", attach(1), (1, 2))
-    first.process.send_signal(signal.SIGSTOP)
+    put_to_sleep(first.process)
     late = [first.start("ControllerUnpublishVolume", detach(1), (1, 3)), first.start("DeleteVolume", delete(9), (1, 4))]
     took = wait_to_serve(second, 30)
     second.wants(0, "ControllerPublishVolume", attach(1), (1, 2))
@@ -204,6 +96,33 @@ def asleep(box, cluster):
     return f"the other served after {took:.1f} s"
 
 
+def cut_off(from_leader):
+    @over(3)
+    def body(_box, cluster):
+        """The one server that a driver speaks to sleeps: what became of its commit isn't known. It ends, another goes on, and the commit comes to nothing."""
+        at = (cluster.leader() + (0 if from_leader else 1)) % 3
+        others = [it for it in cluster.clients if it != cluster.clients[at]]
+        first, second = cluster.driver("first", clients=[cluster.clients[at]]), cluster.driver("second", serves=False, clients=others)
+        first.wants(0, "CreateVolume", create("v"), (1, 1))
+        first.wants(0, "ControllerPublishVolume", attach(1), (1, 2))
+        cluster.await_drivers(2)
+        put_to_sleep(cluster.servers[at])
+        late = first.start("ControllerUnpublishVolume", detach(1), (1, 3))
+        took = wait_to_serve(second, 30)
+        second.wants(0, "ControllerPublishVolume", attach(1), (1, 2))
+        before = cluster.parts(others[0])
+        wanted("the late call", (late.code().value[0], late.details()), (14, "serving ended"))
+        wanted("its end", (first.close(), b"csi-driver: a commit's outcome isn't known: " in first.said), (3, True))
+        cluster.servers[at].send_signal(signal.SIGCONT)
+        cluster.await_healthy(at)
+        time.sleep(1)
+        wanted("the record", [cluster.parts(it) for it in cluster.clients], [before] * 3)
+        second.wants((9, "n1"), "ControllerPublishVolume", attach(1, "n2"), (1, 6))
+        return f"the other served after {took:.1f} s"
+
+    return body
+
+
 @over(3)
 def asleep_by_turns(box, cluster):
     """Ten times one sleeps and another takes over: each volume was made once, whoever was asked, and no reply is lost."""
@@ -215,7 +134,7 @@ def asleep_by_turns(box, cluster):
             made[f"v{turn}.{at}"] = leads.wants(0, "CreateVolume", create(f"v{turn}.{at}"), number).volume.volume_id
         next_one = cluster.driver(f"d{turn}", serves=False)
         if turn % 2:
-            leads.process.send_signal(signal.SIGSTOP)
+            put_to_sleep(leads.process)
         else:
             leads.kill()
         wait_to_serve(next_one, 30)
@@ -230,36 +149,81 @@ def asleep_by_turns(box, cluster):
     return "5 turns, 25 volumes"
 
 
+def too_small(driver):
+    """What a driver says that ended since etcd takes no commit that is large enough: the options that it asks for."""
+    told = rb"csi-driver: etcd takes no commit that is large enough: it has to run with (--max-txn-ops) (\d+) and (--max-request-bytes) (\d+) or more: .*\n"
+    wanted("the end", driver.close(), 3)
+    said = re.fullmatch(told, driver.said)
+    wanted(f"its line: {driver.said}", bool(said), True)
+    return [it.decode() for it in said.groups()]
+
+
 @over(1, "--max-txn-ops", "128")
 def small(box, cluster):
-    """An etcd that takes no large commit isn't served from; one that isn't on loopback has to be spoken to by TLS."""
-    driver = cluster.driver("first", serves=False)
-    wanted("the end", (driver.close(), driver.said[:65]), (3, b"csi-driver: etcd takes no commit that is large enough: it has to "))
+    """An etcd that takes no large commit isn't served from, unless it gets the options that are told; nor one that isn't on loopback, without TLS."""
+    asked = too_small(cluster.driver("first", serves=False))
+    cluster.restart(*asked)
+    wanted("it serves then", cluster.driver("first").stop(), 0)
+    for size in (120, 300):  # with such keys it is more than etcd takes, and then more than gRPC takes
+        cluster.restart(*LARGE)
+        asked = too_small(cluster.driver("first", serves=False, prefix="/" + "p" * size))
+        cluster.restart(*asked)
+        wanted("it serves then", cluster.driver("first", prefix="/" + "p" * size).stop(), 0)
+    wanted("parts", cluster.parts(), [starting.HEAD(1, 0)])
     driver = box.controller("--etcd", "http://192.0.2.1:2379", "--prefix", "/t", store=None, serves=False)
     line = b"csi-driver: store not opened: http://192.0.2.1:2379 isn't on loopback, so a client's certificate is needed\n"
     wanted("no TLS", (driver.close(), driver.said), (3, line))
+    cluster.end()
+    driver = cluster.driver("first", serves=False)
+    wanted("no etcd", (driver.close(), driver.said[:30]), (3, b"csi-driver: store not opened: "))
+
+
+ROWS = 4096  # as many as there may be
 
 
 @over(1)
-def forgets(box, cluster):
-    """A session that forgets hundreds of volumes is one commit."""
+def forgets(_box, cluster):
+    """A session that forgets all volumes but one is one commit, within etcd's own limit of bytes."""
+    rows = [starting.ROW(at, f"v{at}", stores.kept("DeleteVolume", (1, at)), live=False) for at in range(2, ROWS + 1)]
+    kept = starting.ROW(1, "v", stores.kept("CreateVolume", (1, 1), 0, 1))
+    cluster.put([starting.HEAD(ROWS + 1, 1), kept, *rows])
     driver = cluster.driver("first")
-    for at in range(1, 301):
-        driver.wants(0, "CreateVolume", create(f"v{at}"), (1, 2 * at - 1))
-        driver.wants(0, "DeleteVolume", delete(at), (1, 2 * at))
-    wanted("parts", len(cluster.parts()), 301)
+    driver.wants((8, "volumes"), "CreateVolume", create("w"), (1, 9000))
+    wanted("parts", len(cluster.parts()), ROWS + 1)
     driver.wants(0, "CreateVolume", create("w"), (2, 1))
-    wanted("parts", [key.hex() for key, _ in cluster.parts()], ["0" * 16, f"{301:016x}"])
+    made = starting.ROW(ROWS + 1, "w", stores.kept("CreateVolume", (2, 1), 0, ROWS + 1))
+    wanted("parts", cluster.parts(), [starting.HEAD(ROWS + 2, 2), kept, made])
 
 
 @over(1)
-def renewed(box, cluster):
+def renewed(_box, cluster):
     """A record of an earlier version, put there by hand, becomes one of the present version, and nothing else is left."""
-    for key, value in starting.older(1):
-        cluster.ask(cluster.clients[0], "kv/put", key=coded(f"/t/parts/{key.hex()}"), value=base64.b64encode(value).decode())
+    cluster.put(starting.older(1))
     driver = cluster.driver("first")
     wanted("the parts", cluster.parts(), starting.RENEWED)
     driver.wants(0, "CreateVolume", create("v"), (1, 1))
+
+
+def rewritten(ways):
+    """A record of an earlier version that is larger than what etcd takes at once: rows of names of 128 bytes, and of so many capabilities."""
+
+    def row(at, version):
+        last, how = stores.kept("CreateVolume", (1, at), 0, at), [frames.mount("f" * 128, 1)] * ways
+        return starting.ROW(at, f"{at:0128}", last, capabilities=how, version=version)
+
+    @over(1)
+    def body(_box, cluster):
+        older, later = ([starting.HEAD(ROWS + 1, 1, version), *(row(at, version) for at in range(1, ROWS + 1))] for version in (2, 3))
+        cluster.put(older)
+        asked = too_small(cluster.driver("first", serves=False))
+        wanted("the parts", cluster.parts() == older, True)
+        cluster.restart(*asked)
+        driver = cluster.driver("first")
+        wanted("the parts then", cluster.parts() == later, True)
+        driver.wants(0, "DeleteVolume", delete(ROWS), (1, ROWS + 1))
+        return f"{sum(len(value) for _, value in later)} bytes of parts, with {' '.join(asked)}"
+
+    return body
 
 
 def certified(box, name, *more):
@@ -290,6 +254,8 @@ def secured(box):
         driver = box.controller("--etcd", f"https://{client}", "--prefix", "/t", *files, store=None)
         driver.wants(0, "CreateVolume", create("v"), (1, 1))
         wanted("the end", driver.stop(), 0)
+        driver = box.controller("--etcd", f"https://{client}", "--prefix", "/t", store=None, serves=False)
+        wanted("without a certificate", (driver.close(), driver.said[:30]), (3, b"csi-driver: store not opened: "))
         driver = box.controller("--etcd", f"http://{client}", "--prefix", "/t", *files, store=None, serves=False)
         wanted("without TLS", (driver.close(), driver.said), (3, f"csi-driver: store not opened: http://{client} isn't spoken to by TLS\n".encode()))
     finally:
@@ -319,8 +285,12 @@ def cases(drawn, _seed):
     yield "etcd: the driver is killed", killed
     yield "etcd: its leader is killed", etcd_leader
     yield "etcd: the driver sleeps", asleep
+    yield "etcd: a driver that is cut off", cut_off(False)
+    yield "etcd: a driver that is cut off with etcd's leader", cut_off(True)
     yield "etcd: drivers by turns", asleep_by_turns
     yield "etcd: a session that forgets", forgets
     yield "etcd: a record of an earlier version", renewed
+    yield "etcd: one that is too large for it", rewritten(2)
+    yield "etcd: one that is too large for gRPC", rewritten(8)
     yield "etcd: by TLS", secured
     yield "etcd: commits a second", paced(1000)

@@ -1,10 +1,13 @@
-"""A driver whose library is refused one allocation, each in a run of its own: a start ends then, a call is 8 `memory`, and nothing was changed."""
+"""A driver, and an orchestrator, whose library is refused one allocation, each in a run of its own: a start ends then, a call is 8 `memory`, and an
+orchestrator ends at any line. Nothing was changed."""
 import itertools
 import os
+import subprocess
 
 from program import stores
 from program.frames import block
-from program.running import LeftOut, wanted
+from program.running import LIMIT, LeftOut, wanted
+from program.talks import life
 
 from .requests import attach, create, delete, detach, publish, stage, unpublish, unstage
 from .starting import older
@@ -87,6 +90,46 @@ def each(of_node, step):
     return body
 
 
+# An orchestrator's store in session 1, of which a volume is deleted, and what it is asked in the next one.
+DELETED = [stores.orchestrator_head(1), stores.known(1, "w", volume=9, exists="no")]
+TALK = life(2)
+
+
+def answered(box, which, lines):
+    """What comes of an orchestrator that is asked so many lines and is refused this allocation, and what is in its store then."""
+    path = box.at("db")
+    if os.path.exists(path):
+        os.remove(path)
+    stores.make(path, DELETED)
+    words = [f"{box.built}/csi-orchestrator-refused", path, box.at("config")]
+    given = b"".join(given for given, _ in TALK.pairs[:lines])
+    ran = subprocess.run(words, input=given, env={"REFUSED": str(which)}, capture_output=True, timeout=LIMIT, check=False)
+    return ran.returncode, ran.stdout, ran.stderr, stores.parts_of(path)
+
+
+def orchestrator(box):
+    """What it answered before is committed, and nothing else is."""
+    if not os.path.exists(f"{box.built}/csi-orchestrator-refused"):
+        raise LeftOut("there is no orchestrator that refuses")
+    after, lines = [DELETED], len(TALK.pairs)  # what is in the store after so many lines
+    for at in range(1, lines + 1):
+        status, out, error, parts = answered(box, 0, at)
+        wanted("with memory", (status, out, error), (0, TALK.right(0, at), b""))
+        after.append(parts)
+    refused = set()
+    for which in itertools.count(1):
+        status, out, error, parts = answered(box, which, lines)
+        count = out.count(b"\n")
+        wanted(f"allocation {which}, its lines and its store", (out, parts), (TALK.right(0, count), after[count]))
+        if status == 0:
+            wanted("the lines that were refused memory", refused, set(range(lines)))
+            return f"{which - 1} allocations refused"
+        wanted(f"allocation {which}, its end", (status, error), (3, b"csi-orchestrator: memory\n"))
+        refused.add(count)
+
+
 def cases(drawn, _seed):
     for of_node, name in ((False, "a controller"), (True, "a node")):
         yield f"memory: {name}", each(of_node, 1 if drawn > 1000 else 6)
+    if drawn > 1000:
+        yield "memory: an orchestrator", orchestrator

@@ -1,5 +1,5 @@
-/* Refuses the library in a driver one of its allocations: the REFUSED-th of the process, by this number in its environment. `tools/csi` links it
-   by the linker's --wrap; the driver's own allocations, Go's and SQLite's, are never refused. */
+/* Refuses the library in a driver, or in an orchestrator, one of its allocations: the REFUSED-th of the process, by this number in its environment.
+   `tools/csi` links it by the linker's --wrap; the program's own allocations, Go's and SQLite's, are never refused. */
 #include "tufayon.h"
 #include <stdlib.h>
 
@@ -41,3 +41,21 @@ WRAP(tufayon_answer,
      plugin, frame, size, used, reply, room, written)
 WRAP(tufayon_changed, (tufayon_plugin *plugin, size_t place, uint64_t *key, uint8_t *value, size_t room, size_t *written),
      plugin, place, key, value, room, written)
+WRAP(tufayon_orchestrator_new, (const uint8_t *config, size_t size, tufayon_plugin *made), config, size, made)
+WRAP(tufayon_orchestrator_from_record, (const uint8_t *config, size_t size, const uint8_t *record, size_t record_size, tufayon_plugin *made),
+     config, size, record, record_size, made)
+/* What an orchestrator is asked ends with the same words. */
+#define ROOM uint8_t *frame, size_t room, size_t *written, uint32_t *fault
+WRAP(tufayon_create,
+     (tufayon_plugin *made, const uint8_t *name, size_t size, uint64_t required, uint64_t limit, const uint8_t *ways, size_t ways_size, ROOM),
+     made, name, size, required, limit, ways, ways_size, frame, room, written, fault)
+WRAP(tufayon_use,
+     (tufayon_plugin *made, const uint8_t *name, size_t size, const uint8_t *node, size_t node_size, const uint8_t *target, size_t target_size,
+      const uint8_t *way, size_t way_size, bool readonly, ROOM),
+     made, name, size, node, node_size, target, target_size, way, way_size, readonly, frame, room, written, fault)
+WRAP(tufayon_stop,
+     (tufayon_plugin *made, const uint8_t *name, size_t size, const uint8_t *node, size_t node_size, const uint8_t *target, size_t target_size, ROOM),
+     made, name, size, node, node_size, target, target_size, frame, room, written, fault)
+WRAP(tufayon_delete, (tufayon_plugin *made, const uint8_t *name, size_t size, ROOM), made, name, size, frame, room, written, fault)
+WRAP(tufayon_timeout, (tufayon_plugin *made, const uint8_t *name, size_t size, ROOM), made, name, size, frame, room, written, fault)
+WRAP(tufayon_deliver, (tufayon_plugin *made, const uint8_t *came, size_t size, size_t *used, ROOM), made, came, size, used, frame, room, written, fault)

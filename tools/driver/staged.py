@@ -1,4 +1,6 @@
 """The file of staging paths."""
+import os
+
 from program import frames, stores
 from program.running import wanted
 
@@ -53,6 +55,26 @@ def mended(box):
     wanted("a damaged file", (driver.close(), driver.said), (1, b"csi-driver: the file of staging paths: line 1: no volume, number and path\n"))
 
 
+def unwritten(box):
+    """Where the file can't be written, a stage is 13, and nothing is changed; an unstage was carried out, and the driver ends."""
+    driver = box.node()
+    driver.wants(0, "NodeStageVolume", stage(1, path="/s"), (1, 1))
+    os.mkdir(box.at("n1.db.paths.new"))
+    fault = f"the file of staging paths: open {box.at('n1.db.paths.new')}: is a directory"
+    driver.wants((13, fault), "NodeStageVolume", stage(2, path="/t"), (1, 2))
+    wanted("the record", [it["id"] for it in box.record("n1.db")["volumes"]], [1])
+    driver.wants((14, "serving ended"), "NodeUnstageVolume", unstage(1, "/s"), (1, 3))
+    wanted("its end", (driver.close(), driver.said.endswith(f"csi-driver: {fault}\n".encode())), (1, True))
+    wanted("the record", box.record("n1.db")["volumes"][0]["staged"], None)
+    wanted("the file", lines(box), '1 1.1 "/s"\n')
+    os.rmdir(box.at("n1.db.paths.new"))
+    driver = box.node()
+    wanted("the file", lines(box), "")
+    driver.wants(0, "NodeUnstageVolume", unstage(1, "/s"), (1, 3))
+    driver.wants(0, "NodeStageVolume", stage(2, path="/t"), (1, 2))
+
+
 def cases(_drawn, _seed):
     yield "staging paths: one for each volume", kept
     yield "staging paths: after a kill", mended
+    yield "staging paths: a file that can't be written", unwritten

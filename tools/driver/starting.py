@@ -6,6 +6,7 @@ from program import frames, stores
 from program.frames import block
 from program.running import LIMIT, wanted
 
+from .box import put_to_sleep
 from .requests import attach, create, publish, stage, unstage
 
 HEAD, ROW = stores.controller_head, stores.volume
@@ -131,9 +132,16 @@ def refused(box):
         wanted(f"{store} {config}", (came[0], came[1][: len(line) + 12]), (status, f"csi-driver: {line}"))
         if before is not None and status == 3:
             wanted(store, content(path) == before, True)
+    long = ["node", "--endpoint", f"unix://{box.at('d/s')}", box.at("new.db"), "n" * 256]
+    wanted("an id that is too long", started(box, long), (1, "csi-driver: config refused\n"))
+    wanted("that a store was made", os.path.exists(box.at("new.db")), False)
     words = [[], ["other"], ["controller"], ["controller", "a"], ["controller", "--numbers", "none", "a", "b"], ["node", "--etcd", "x", "a", "b"]]
     words += [["controller", "a", "b", "1"], ["node", "a", "b", "1", "1"], ["node", "--numbers", "arrival", "a", "b", "1"]]
     words += [["node", "a", "b", it] for it in ("", "01", "+1", "-1", "1.0", " 1", "0x1", "s", "18446744073709551616", "--hooks")]
+    words += [["controller", "--name", it, "a", "b"] for it in ("", "-a", "a.", "a_b", "a" * 64)]
+    words += [["node", f"--{name}", it, "a", "b"] for name, it in (("hook-seconds", "0"), ("max-volumes", "-1"), ("hooks", "some"))]
+    words += [["controller", "--prefix", "/t", "a", "b"], ["controller", "--etcd-ca", "f", "a", "b"], ["controller", "--etcd", "http://127.0.0.1:1", "b"]]
+    words += [["controller", "--etcd", "https://127.0.0.1:1", "--prefix", "/t", *it, "b"] for it in (["--lease-seconds", "0"], ["--etcd-ca", "f"])]
     for it in words:
         wanted(f"{it}", started(box, [*it[:1], "--endpoint", f"unix://{box.at('d/s')}", *it[1:]])[0], 2)
 
@@ -147,6 +155,7 @@ def client(box):
     """csi-client, by the JSON of the proto."""
     driver = box.controller()
     words = [f"{box.built}/csi-client", "-endpoint", f"unix://{driver.socket}"]
+    usage = "csi-client: usage: csi-client [-endpoint unix:///PATH] [-number SESSION.CALL] [-seconds N] CALL [REQUEST]\n"
     asked = '{"name":"v","capacityRange":{"requiredBytes":"10"},"volumeCapabilities":[{"block":{},"accessMode":{"mode":"SINGLE_NODE_WRITER"}}]}'
     for more, status, out, error in (
         (["-number", "1.1", "CreateVolume", asked], 0, '{"volume":{"capacityBytes":"10","volumeId":"1"}}\n', ""),
@@ -154,9 +163,14 @@ def client(box):
         (["Probe"], 0, '{"ready":true}\n', ""),
         (["-number", "1.2", "DeleteVolume", '{"volumeId":"1"}'], 0, "{}\n", ""),
         (["ListVolumes"], 12, "", 'csi-client: 12 Unimplemented "no call ListVolumes"\n'),
+        (["Probe", "{}", "{}"], 64, "", usage),
+        (["-other", "Probe"], 64, "", usage),
     ):
         ran = subprocess.run([*words, *more], capture_output=True, timeout=LIMIT, check=False, text=True)
         wanted(f"{more}", (ran.returncode, ran.stdout, ran.stderr), (status, out, error))
+    put_to_sleep(driver.process)
+    ran = subprocess.run([*words, "-seconds", "1", "Probe"], capture_output=True, timeout=LIMIT, check=False, text=True)
+    wanted("a driver that sleeps", (ran.returncode, ran.stderr[:30]), (4, "csi-client: 4 DeadlineExceeded"))
 
 
 def cases(_drawn, _seed):

@@ -13,6 +13,7 @@ import (
 	"google.golang.org/grpc"
 
 	"tufayon/csi/serving"
+	"tufayon/csi/translate"
 )
 
 // ErrSocket says that the socket can't be made where nobody else gets in.
@@ -74,13 +75,17 @@ var numbered = map[string]bool{
 	"NodeStageVolume": true, "NodeUnstageVolume": true, "NodePublishVolume": true, "NodeUnpublishVolume": true,
 }
 
-// NewServer makes a server without services, which judges the number of a call before anything else of it.
+// NewServer makes a server without services, which judges of each request first its number, if it is of a call that has one, and then whether the
+// proto has its fields.
 func NewServer(core *serving.Core) *grpc.Server {
 	admit := func(ctx context.Context, request any, info *grpc.UnaryServerInfo, handle grpc.UnaryHandler) (any, error) {
 		if numbered[info.FullMethod[strings.LastIndex(info.FullMethod, "/")+1:]] {
 			if err := core.Admit(ctx); err != nil {
 				return nil, err
 			}
+		}
+		if err := translate.Known(request); err != nil {
+			return nil, err
 		}
 		return handle(ctx, request)
 	}

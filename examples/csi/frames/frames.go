@@ -28,6 +28,16 @@ const (
 
 const replyBit = 128
 
+var kindNames = [...]string{
+	CreateVolumeKind: "CreateVolume", DeleteVolumeKind: "DeleteVolume",
+	ControllerPublishVolumeKind: "ControllerPublishVolume", ControllerUnpublishVolumeKind: "ControllerUnpublishVolume",
+	NodeStageVolumeKind: "NodeStageVolume", NodeUnstageVolumeKind: "NodeUnstageVolume",
+	NodePublishVolumeKind: "NodePublishVolume", NodeUnpublishVolumeKind: "NodeUnpublishVolume",
+}
+
+// String is CSI's name of the call.
+func (kind Kind) String() string { return kindNames[kind] }
+
 // The limits of what a frame carries, in bytes or in number.
 const (
 	MaxName         = 128

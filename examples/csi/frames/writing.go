@@ -149,6 +149,15 @@ func (call Call) Encode() ([]byte, error) {
 	return framed(to)
 }
 
+// EncodeCapabilities writes capabilities one after another, as a frame has them. It fails with ErrLimit where one is outside its limits.
+func EncodeCapabilities(capabilities []Capability) ([]byte, error) {
+	to := &writer{}
+	for _, capability := range capabilities {
+		to.capability(capability)
+	}
+	return to.bytes, to.err
+}
+
 // Encode writes the reply as a frame. It fails with ErrLimit where a field is outside its limits.
 func (reply Reply) Encode() ([]byte, error) {
 	to := &writer{bytes: make([]byte, lengthBytes)}

@@ -17,10 +17,11 @@ import (
 
 // Config says where the drivers are, and how long things take.
 type Config struct {
-	Orchestrator    []string          `json:"orchestrator"` // its command
-	Controller      string            `json:"controller"`   // its socket, unix://PATH
-	Nodes           map[string]string `json:"nodes"`        // each node's, by its id
-	Staging         string            `json:"staging"`      // the folder below which volumes are staged, each under its id
+	Store           string            `json:"store"`      // the orchestrator's DB
+	Config          string            `json:"config"`     // its CONFIG
+	Controller      string            `json:"controller"` // its socket, unix://PATH
+	Nodes           map[string]string `json:"nodes"`      // each node's, by its id
+	Staging         string            `json:"staging"`    // the folder below which volumes are staged, each under its id
 	DeadlineSeconds float64           `json:"deadline_seconds"`
 	RetrySeconds    float64           `json:"retry_seconds"`
 }

@@ -1,13 +1,14 @@
 package hosting
 
 import (
-	"bufio"
 	"context"
 	"encoding/hex"
 	"encoding/json"
 	"fmt"
 	"io"
 	"time"
+
+	"tufayon/csi/lines"
 )
 
 // A host asks an orchestrator, one line after another, and has the calls that it sends made meanwhile.
@@ -17,7 +18,7 @@ type host struct {
 	carrier      *carrier
 	output       io.Writer
 	came         chan event
-	waiting      map[string]bool // the volumes of which a call or a timeout is under way
+	waiting      map[string]int // how many calls and timeouts are under way, of each volume of which there is one
 }
 
 // An event is what came of a call, or that it is time to try again: a line for the orchestrator.
@@ -27,30 +28,24 @@ type event struct {
 	err  error
 }
 
-// Serve answers each line of the input, commands, by the orchestrator's answer, and prints its answers to replies and timeouts too. It ends once
-// the input has, and nothing is wanted that can still be done.
-func Serve(ctx context.Context, config Config, input io.Reader, output io.Writer) error {
+// Serve has each line of the input, a command, answered by an orchestrator that has just been made, whose first line this is, and prints its answers
+// to replies and timeouts too. It ends once the input has, and nothing is wanted that can still be done, and closes the orchestrator.
+func Serve(ctx context.Context, config Config, orchestrator Orchestrator, first Answer, input io.Reader, output io.Writer) error {
 	ctx, cancel := context.WithCancel(ctx)
 	defer cancel()
-	orchestrator, first, err := Run(config.Orchestrator)
-	if err != nil {
-		return err
-	}
 	carrier, err := connect(config)
-	if err != nil {
-		orchestrator.Close()
-		return err
+	if err == nil {
+		defer carrier.close()
+		host := &host{config, orchestrator, carrier, output, make(chan event), map[string]int{}}
+		err = host.serve(ctx, first, read(ctx, input))
 	}
-	defer carrier.close()
-	host := &host{config, orchestrator, carrier, output, make(chan event), map[string]bool{}}
-	err = host.serve(ctx, first, linesOf(ctx, input))
 	if closed := orchestrator.Close(); err == nil {
 		err = closed
 	}
 	return err
 }
 
-func (host *host) serve(ctx context.Context, first Answer, lines <-chan []byte) error {
+func (host *host) serve(ctx context.Context, first Answer, input *reading) error {
 	if _, err := host.output.Write(first.Line); err != nil {
 		return err
 	}
@@ -59,10 +54,13 @@ func (host *host) serve(ctx context.Context, first Answer, lines <-chan []byte) 
 			return err
 		}
 	}
-	for lines != nil || len(host.waiting) > 0 {
+	for lines := input.lines; lines != nil || len(host.waiting) > 0; {
 		select {
 		case line, more := <-lines:
 			if !more {
+				if input.err != nil {
+					return input.err
+				}
 				lines = nil
 				continue
 			}
@@ -70,7 +68,9 @@ func (host *host) serve(ctx context.Context, first Answer, lines <-chan []byte) 
 				return err
 			}
 		case event := <-host.came:
-			delete(host.waiting, event.name)
+			if host.waiting[event.name]--; host.waiting[event.name] == 0 {
+				delete(host.waiting, event.name)
+			}
 			if event.err != nil {
 				return event.err
 			}
@@ -96,10 +96,10 @@ func (host *host) ask(ctx context.Context, line []byte) error {
 	}
 	switch {
 	case answer.Send != nil:
-		host.waiting[answer.Name] = true
+		host.waiting[answer.Name]++
 		go host.call(ctx, answer.Name, *answer.Send)
-	case answer.HasGoal() && !host.waiting[answer.Name]:
-		host.waiting[answer.Name] = true
+	case answer.HasGoal() && host.waiting[answer.Name] == 0:
+		host.waiting[answer.Name]++
 		time.AfterFunc(seconds(host.config.RetrySeconds), func() { host.tell(ctx, event{name: answer.Name, line: timeoutOf(answer.Name)}) })
 	}
 	return nil
@@ -131,20 +131,26 @@ func lineOf(key, value string) []byte {
 	return line
 }
 
-// linesOf gives the lines of the input, until it ends.
-func linesOf(ctx context.Context, input io.Reader) <-chan []byte {
-	lines := make(chan []byte)
+// A reading is the lines of an input, and why they ended, once they did.
+type reading struct {
+	lines chan []byte
+	err   error
+}
+
+// read reads the lines of the input, until it ends.
+func read(ctx context.Context, input io.Reader) *reading {
+	reading := &reading{lines: make(chan []byte)}
 	go func() {
-		defer close(lines)
-		scanner := bufio.NewScanner(input)
-		scanner.Buffer(nil, 1<<17)
+		defer close(reading.lines)
+		scanner := lines.NewScanner(input)
 		for scanner.Scan() {
 			select {
-			case lines <- append([]byte(nil), scanner.Bytes()...):
+			case reading.lines <- append([]byte(nil), scanner.Line()...):
 			case <-ctx.Done():
 				return
 			}
 		}
+		reading.err = scanner.Err()
 	}()
-	return lines
+	return reading
 }

@@ -2,22 +2,22 @@
 package hosting
 
 import (
-	"bufio"
 	"encoding/json"
 	"errors"
 	"fmt"
-	"io"
-	"os"
-	"os/exec"
+
+	"tufayon/csi/lines"
+	"tufayon/csi/numbers"
+	"tufayon/csi/plugin"
 )
 
-// ErrOrchestrator says that the orchestrator ended, or wrote what no orchestrator writes.
+// ErrOrchestrator says that the program of an orchestrator ended, or wrote what no orchestrator writes.
 var ErrOrchestrator = errors.New("the orchestrator")
 
-// An Orchestrator answers lines by lines, as docs/FORMATS.md, "The lines of csi-replay orchestrator", has them. What an answer says is committed.
-// Any program of these lines is one; one of the library's would be another.
+// An Orchestrator answers lines by lines, as docs/FORMATS.md, "The lines of `csi-replay orchestrator`", has them: the library's (Open), or a program
+// that runs beside this one (Run). What an answer says is committed. One thread asks, that which made it.
 type Orchestrator interface {
-	// Answer gives the answer to a line.
+	// Answer gives the answer to a line. Where it fails, nothing more is to be asked.
 	Answer(line []byte) (Answer, error)
 	// Close ends it.
 	Close() error
@@ -42,45 +42,8 @@ type Sending struct {
 // HasGoal says whether something is wanted of the volume now.
 func (answer Answer) HasGoal() bool { return len(answer.Goal) > 0 && string(answer.Goal) != "null" }
 
-// process is an orchestrator that runs beside this program.
-type process struct {
-	command *exec.Cmd
-	input   io.WriteCloser
-	output  *bufio.Reader
-}
-
-// Run starts the command of an orchestrator, and gives its first line too.
-func Run(words []string) (Orchestrator, Answer, error) {
-	if len(words) == 0 {
-		return nil, Answer{}, fmt.Errorf("%w has no command", ErrOrchestrator)
-	}
-	running := &process{command: exec.Command(words[0], words[1:]...)}
-	running.command.Stderr = os.Stderr
-	input, err := running.command.StdinPipe()
-	if err != nil {
-		return nil, Answer{}, fmt.Errorf("%w: %v", ErrOrchestrator, err)
-	}
-	output, err := running.command.StdoutPipe()
-	if err != nil {
-		return nil, Answer{}, fmt.Errorf("%w: %v", ErrOrchestrator, err)
-	}
-	running.input, running.output = input, bufio.NewReader(output)
-	if err := running.command.Start(); err != nil {
-		return nil, Answer{}, fmt.Errorf("%w: %v", ErrOrchestrator, err)
-	}
-	first, err := running.read()
-	if err != nil {
-		running.Close()
-		return nil, Answer{}, err
-	}
-	return running, first, nil
-}
-
-func (running *process) read() (Answer, error) {
-	line, err := running.output.ReadBytes('\n')
-	if err != nil {
-		return Answer{}, fmt.Errorf("%w: %v", ErrOrchestrator, err)
-	}
+// answerOf reads what a line says, which ends with its newline.
+func answerOf(line []byte) (Answer, error) {
 	answer := Answer{Line: line}
 	if err := json.Unmarshal(line, &answer); err != nil {
 		return Answer{}, fmt.Errorf("%w: %v", ErrOrchestrator, err)
@@ -88,17 +51,13 @@ func (running *process) read() (Answer, error) {
 	return answer, nil
 }
 
-func (running *process) Answer(line []byte) (Answer, error) {
-	if _, err := running.input.Write(append(line, '\n')); err != nil {
-		return Answer{}, fmt.Errorf("%w: %v", ErrOrchestrator, err)
+// StatusOf is the exit status of an end, as csi-replay's.
+func StatusOf(err error) int {
+	switch {
+	case err == nil:
+		return 0
+	case errors.Is(err, plugin.BadName), errors.Is(err, plugin.BadRecord), errors.Is(err, numbers.ErrSpent), errors.Is(err, lines.ErrLong):
+		return 1
 	}
-	return running.read()
-}
-
-func (running *process) Close() error {
-	running.input.Close()
-	if err := running.command.Wait(); err != nil {
-		return fmt.Errorf("%w: %v", ErrOrchestrator, err)
-	}
-	return nil
+	return 3
 }

@@ -1,4 +1,4 @@
-// Package plugin calls the proved plugins of include/tufayon.h.
+// Package plugin calls the proved plugins, and the orchestrator, of include/tufayon.h.
 package plugin
 
 // #include "tufayon.h"
@@ -18,6 +18,8 @@ const (
 	NoMemory       Ending = C.TUFAYON_NO_MEMORY
 	BadName        Ending = C.TUFAYON_BAD_NAME
 	BadRecord      Ending = C.TUFAYON_BAD_RECORD
+	Short          Ending = C.TUFAYON_SHORT
+	BadFrame       Ending = C.TUFAYON_BAD_FRAME
 	EarlierSession Ending = C.TUFAYON_EARLIER_SESSION
 )
 
@@ -42,10 +44,17 @@ type Maker struct {
 	Session      uint64 // that of a node's joining, the same each time: a new record gets it, any other one is checked by it
 }
 
-// A Plugin is a controller or a node. The thread that made it makes all its calls: who has one is locked to its thread (runtime.LockOSThread).
-type Plugin struct {
+// held is what the library made. The thread that made it makes all its calls: who has one is locked to its thread (runtime.LockOSThread).
+type held struct {
 	handle *C.tufayon_plugin
 	room   []byte // for the value of a change, which grows
+}
+
+func nothing() held { return held{handle: new(C.tufayon_plugin), room: make([]byte, 512)} }
+
+// A Plugin is a controller or a node. One thread makes all its calls.
+type Plugin struct {
+	held
 }
 
 // Bytes that C reads: some lie there even where there are none.
@@ -59,7 +68,7 @@ func in(bytes []byte) *C.uint8_t {
 // Make makes the plugin of a whole record, or a new one where the record has no bytes. Then Changes are what the store has to be given before
 // anything is answered; where renewed is set, in place of all that it has.
 func (maker Maker) Make(record []byte) (plugin *Plugin, renewed bool, err error) {
-	plugin = &Plugin{handle: new(C.tufayon_plugin), room: make([]byte, 512)}
+	plugin = &Plugin{nothing()}
 	name, nameSize := in(maker.Name), C.size_t(len(maker.Name))
 	bytes, size := in(record), C.size_t(len(record))
 	var ending C.uint32_t
@@ -79,6 +88,17 @@ func (maker Maker) Make(record []byte) (plugin *Plugin, renewed bool, err error)
 	return plugin, ending == C.TUFAYON_RENEWED, nil
 }
 
+// Check fails where no plugin can be made, whatever its record: it makes a new one, which is freed.
+func (maker Maker) Check() error {
+	runtime.LockOSThread()
+	defer runtime.UnlockOSThread()
+	plugin, _, err := maker.Make(nil)
+	if err == nil {
+		plugin.Free()
+	}
+	return err
+}
+
 // Answer answers one whole frame. The reply has no bytes where the frame is a reply, or another plugin's.
 func (plugin *Plugin) Answer(frame []byte) ([]byte, error) {
 	reply := make([]byte, C.TUFAYON_REPLY_ROOM)
@@ -90,20 +110,20 @@ func (plugin *Plugin) Answer(frame []byte) ([]byte, error) {
 	return reply[:written], nil
 }
 
-// Changes are those of the last answered frame, or of making the plugin.
-func (plugin *Plugin) Changes() ([]store.Change, error) {
+// Changes are those of the last answered frame, of the last that an orchestrator was asked, or of making what there is.
+func (it *held) Changes() ([]store.Change, error) {
 	var changes []store.Change
 	for {
 		var key C.uint64_t
 		var size C.size_t
-		ending := C.tufayon_changed(plugin.handle, C.size_t(len(changes)), &key, in(plugin.room), C.size_t(len(plugin.room)), &size)
+		ending := C.tufayon_changed(it.handle, C.size_t(len(changes)), &key, in(it.room), C.size_t(len(it.room)), &size)
 		switch ending {
 		case C.TUFAYON_DONE:
-			changes = append(changes, store.Change{Key: uint64(key), Value: append([]byte(nil), plugin.room[:size]...)})
+			changes = append(changes, store.Change{Key: uint64(key), Value: append([]byte(nil), it.room[:size]...)})
 		case C.TUFAYON_TAKE_OUT:
 			changes = append(changes, store.Change{Key: uint64(key), Out: true})
 		case C.TUFAYON_NO_ROOM:
-			plugin.room = make([]byte, size)
+			it.room = make([]byte, size)
 		case C.TUFAYON_NO_MORE:
 			return changes, nil
 		default:
@@ -112,8 +132,8 @@ func (plugin *Plugin) Changes() ([]store.Change, error) {
 	}
 }
 
-// Free frees what the plugin has. It is used no more.
-func (plugin *Plugin) Free() {
-	C.tufayon_free(plugin.handle)
-	runtime.KeepAlive(plugin)
+// Free frees what there is. It is used no more.
+func (it *held) Free() {
+	C.tufayon_free(it.handle)
+	runtime.KeepAlive(it)
 }

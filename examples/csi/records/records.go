@@ -1,4 +1,4 @@
-// Package records reads what a driver wants to know of a plugin's record, by docs/FORMATS.md, "Records".
+// Package records reads what a driver wants to know of a plugin's record, and a host of an orchestrator's, by docs/FORMATS.md, "Records".
 package records
 
 import (
@@ -11,7 +11,10 @@ import (
 // ErrValue says that bytes aren't the value of such a part.
 var ErrValue = errors.New("no part of a record in the present version")
 
-const version = 3
+const (
+	version      = 3
+	orchestrator = 2 // the kind of a head
+)
 
 // unstaged is the kind of the reply to a NodeUnstageVolume.
 const unstaged = 128 + uint8(frames.NodeUnstageVolumeKind)
@@ -36,27 +39,14 @@ type Volume struct {
 
 // ReadVolume reads the value of a controller's row, as far as its capabilities.
 func ReadVolume(value []byte) (Volume, error) {
-	if len(value) < 3 || value[0] != version || value[1] < 1 || value[1] > 2 {
+	from := &fields{rest: value}
+	head, state := from.byte(), from.byte()
+	if head != version || state < 1 || state > 2 {
 		return Volume{}, ErrValue
 	}
-	rest := value[3:]
-	if name := int(value[2]); len(rest) < name+9 {
-		return Volume{}, ErrValue
-	} else {
-		rest = rest[name:]
-	}
-	volume := Volume{Live: value[1] == 1, Capacity: binary.BigEndian.Uint64(rest)}
-	count := rest[8]
-	rest = rest[9:]
-	for ; count > 0; count-- {
-		capability, left, err := frames.DecodeCapability(rest)
-		if err != nil {
-			return Volume{}, err
-		}
-		volume.Capabilities = append(volume.Capabilities, capability)
-		rest = left
-	}
-	return volume, nil
+	from.text() // its name
+	volume := Volume{Live: state == 1, Capacity: from.number(), Capabilities: from.capabilities()}
+	return volume, from.err
 }
 
 // Has says whether the volume was made with this capability.

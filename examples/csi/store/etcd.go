@@ -6,6 +6,7 @@ import (
 	"crypto/x509"
 	"errors"
 	"fmt"
+	"math"
 	"net"
 	"net/url"
 	"os"
@@ -15,12 +16,17 @@ import (
 
 	"go.etcd.io/etcd/clientv3"
 	"go.etcd.io/etcd/clientv3/concurrency"
+	"go.etcd.io/etcd/etcdserver/api/v3rpc/rpctypes"
 	"go.uber.org/zap"
+	"google.golang.org/grpc/codes"
+	"google.golang.org/grpc/status"
 )
 
 const (
-	mostVolumes = 4096 // rows that a plugin keeps
-	page        = 500  // parts that are read at once
+	mostVolumes = 4096    // rows that a plugin keeps
+	txnOps      = 8500    // operations of a transaction: more than there are ever
+	usualBytes  = 1572864 // what etcd takes at once unless it is told otherwise
+	page        = 500     // parts that are read at once
 	dialWithin  = 5 * time.Second
 	within      = 10 * time.Second // what a commit may take, before its outcome isn't known
 )
@@ -50,7 +56,7 @@ func (config Etcd) Open(ctx context.Context) (Store, error) {
 		return nil, fmt.Errorf("%w: %v", ErrNotOpened, err)
 	}
 	client, err := clientv3.New(clientv3.Config{
-		Endpoints: config.Endpoints, TLS: secure, DialTimeout: dialWithin, MaxCallSendMsgSize: 64 << 20, LogConfig: silent(),
+		Endpoints: config.Endpoints, TLS: secure, DialTimeout: dialWithin, MaxCallSendMsgSize: math.MaxInt32, LogConfig: silent(),
 	})
 	if err != nil {
 		return nil, fmt.Errorf("%w: %v", ErrNotOpened, err)
@@ -74,7 +80,7 @@ func (config Etcd) lead(ctx context.Context, client *clientv3.Client) (Store, er
 		case <-leads:
 		}
 	}()
-	session, err := concurrency.NewSession(client, concurrency.WithTTL(config.LeaseSeconds), concurrency.WithContext(life))
+	session, err := config.begin(life, client)
 	if err != nil {
 		end()
 		return nil, fmt.Errorf("%w: %v", ErrNotOpened, err)
@@ -103,24 +109,68 @@ func (config Etcd) lead(ctx context.Context, client *clientv3.Client) (Store, er
 	return store, nil
 }
 
+// begin begins a session with a lease, if etcd can be reached.
+func (config Etcd) begin(life context.Context, client *clientv3.Client) (*concurrency.Session, error) {
+	ctx, cancel := context.WithTimeout(life, within)
+	defer cancel()
+	lease, err := client.Grant(ctx, int64(config.LeaseSeconds))
+	if err != nil {
+		return nil, err
+	}
+	return concurrency.NewSession(client, concurrency.WithLease(lease.ID), concurrency.WithTTL(config.LeaseSeconds), concurrency.WithContext(life))
+}
+
 // silent has etcd's client write nothing: what fails is told by errors.
 func silent() *zap.Config {
 	return &zap.Config{Level: zap.NewAtomicLevelAt(zap.FatalLevel), Encoding: "json", EncoderConfig: zap.NewProductionEncoderConfig()}
 }
 
-// try asks for a transaction as large as the largest commit, which isn't carried out: a session that forgets all volumes, or a rewrite of an
-// older record.
+// try asks for a transaction that is larger than any commit of a call, also where a session forgets all volumes. It isn't carried out.
 func (store *etcd) try(ctx context.Context) error {
 	operations := make([]clientv3.Op, 0, 2*mostVolumes+1)
 	for row := uint64(0); row < 2*mostVolumes+1; row++ {
 		operations = append(operations, clientv3.OpPut(store.key(row), strings.Repeat(" ", 64)))
 	}
+	_, err := store.transact(ctx, operations, store.leads, store.never)
+	if err != nil && !errors.Is(err, ErrTooSmall) {
+		return fmt.Errorf("%w: %v", ErrNotOpened, err)
+	}
+	return err
+}
+
+// transact asks for a transaction, and says whether its conditions held. It fails with ErrTooSmall where etcd refused it for its size, and nothing
+// was done, and else with ErrUnknown.
+func (store *etcd) transact(ctx context.Context, operations []clientv3.Op, conditions ...clientv3.Cmp) (bool, error) {
 	ctx, cancel := context.WithTimeout(ctx, within)
 	defer cancel()
-	if _, err := store.client.Txn(ctx).If(store.leads, store.never).Then(operations...).Commit(); err != nil {
-		return fmt.Errorf("%w: it has to run with --max-txn-ops 8500 or more: %v", ErrTooSmall, err)
+	done, err := store.client.Txn(ctx).If(conditions...).Then(operations...).Commit()
+	if isTooLarge(err) {
+		return false, fmt.Errorf("%w: it has to run with --max-txn-ops %d and --max-request-bytes %d or more: %v", ErrTooSmall, txnOps, sizeOf(operations), err)
 	}
-	return nil
+	if err != nil {
+		return false, fmt.Errorf("%w: %v", ErrUnknown, err)
+	}
+	return done.Succeeded, nil
+}
+
+// isTooLarge says whether etcd refused a request for its size: by its own limits, or by that of gRPC, which it sets 512 KiB above.
+func isTooLarge(err error) bool {
+	if errors.Is(err, rpctypes.ErrRequestTooLarge) || errors.Is(err, rpctypes.ErrTooManyOps) {
+		return true
+	}
+	return status.Code(err) == codes.ResourceExhausted && strings.Contains(err.Error(), "larger than max")
+}
+
+// sizeOf is as many bytes as a transaction of these operations, with a condition or two, has at most, and not below what etcd takes anyway.
+func sizeOf(operations []clientv3.Op) int {
+	size := 1024
+	for _, it := range operations {
+		size += len(it.KeyBytes()) + len(it.ValueBytes()) + 32
+	}
+	if size < usualBytes {
+		return usualBytes
+	}
+	return size
 }
 
 func (store *etcd) key(part uint64) string { return fmt.Sprintf("%s%016x", store.parts, part) }
@@ -158,16 +208,11 @@ func (store *etcd) Commit(ctx context.Context, anew bool, changes []Change) erro
 	if err != nil {
 		return err
 	}
-	ctx, cancel := context.WithTimeout(ctx, within)
-	defer cancel()
-	done, err := store.client.Txn(ctx).If(store.leads).Then(operations...).Commit()
-	if err != nil {
-		return fmt.Errorf("%w: %v", ErrUnknown, err)
+	stillLeads, err := store.transact(ctx, operations, store.leads)
+	if err == nil && !stillLeads {
+		err = ErrLost
 	}
-	if !done.Succeeded {
-		return ErrLost
-	}
-	return nil
+	return err
 }
 
 // operations has one for each key, since a transaction may name none twice.
@@ -215,9 +260,6 @@ func (store *etcd) Close() error {
 
 // secure gives what TLS needs: a client's certificate, unless etcd is on loopback.
 func (config Etcd) secure() (*tls.Config, error) {
-	if config.Prefix == "" || config.LeaseSeconds < 1 {
-		return nil, errors.New("a prefix and a lease are needed")
-	}
 	if config.Certificate == "" {
 		for _, endpoint := range config.Endpoints {
 			if !isLoopback(endpoint) {

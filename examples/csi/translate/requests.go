@@ -1,5 +1,5 @@
 // Package translate makes a plugin's calls of CSI's requests, and CSI's requests of a plugin's calls, by docs/FORMATS.md, "From CSI to a frame":
-// that table has a row for each field, and these functions judge the fields in its order.
+// that table has a row for each field, and these functions judge the fields in its order, once Known has judged the request.
 package translate
 
 import (
@@ -37,8 +37,10 @@ func (judged *fields) refuse(field string, wrong bool) {
 }
 
 func (judged *fields) text(field, value string, most int) {
-	judged.refuse(field, value == "" || len(value) > most || strings.ContainsRune(value, 0))
+	judged.refuse(field, value == "" || len(value) > most || hasZero(value))
 }
+
+func hasZero(text string) bool { return strings.ContainsRune(text, 0) }
 
 func (judged *fields) noMap(field string, value map[string]string) {
 	judged.refuse(field, len(value) > 0)
@@ -51,7 +53,7 @@ func (judged *fields) capability(field string, value *wire.VolumeCapability) fra
 	case *wire.VolumeCapability_Block:
 	case *wire.VolumeCapability_Mount:
 		mount := access.Mount
-		judged.refuse("fs_type", len(mount.GetFsType()) > frames.MaxFsType)
+		judged.refuse("fs_type", len(mount.GetFsType()) > frames.MaxFsType || hasZero(mount.GetFsType()))
 		judged.refuse("mount_flags", len(mount.GetMountFlags()) > 0)
 		judged.refuse("volume_mount_group", mount.GetVolumeMountGroup() != "")
 		capability.Mount, capability.FsType = true, mount.GetFsType()
@@ -96,7 +98,7 @@ func VolumeID(volume uint64) string { return strconv.FormatUint(volume, 10) }
 
 // CreateVolume makes the call of the request.
 func CreateVolume(request *wire.CreateVolumeRequest) (frames.CreateVolume, error) {
-	judged := fields{err: known(request)}
+	judged := fields{}
 	judged.text("name", request.GetName(), frames.MaxName)
 	body := frames.CreateVolume{Name: request.GetName(), Required: noRange}
 	if bounds := request.GetCapacityRange(); bounds != nil {
@@ -113,7 +115,7 @@ func CreateVolume(request *wire.CreateVolumeRequest) (frames.CreateVolume, error
 
 // DeleteVolume makes the call of the request.
 func DeleteVolume(request *wire.DeleteVolumeRequest) (frames.DeleteVolume, error) {
-	judged := fields{err: known(request)}
+	judged := fields{}
 	body := frames.DeleteVolume{ID: judged.volume(request.GetVolumeId())}
 	judged.noMap("secrets", request.GetSecrets())
 	return body, judged.end(body.ID)
@@ -121,7 +123,7 @@ func DeleteVolume(request *wire.DeleteVolumeRequest) (frames.DeleteVolume, error
 
 // ControllerPublishVolume makes the call of the request.
 func ControllerPublishVolume(request *wire.ControllerPublishVolumeRequest) (frames.ControllerPublishVolume, error) {
-	judged := fields{err: known(request)}
+	judged := fields{}
 	body := frames.ControllerPublishVolume{ID: judged.volume(request.GetVolumeId()), Node: request.GetNodeId(), Readonly: request.GetReadonly()}
 	judged.text("node_id", body.Node, frames.MaxNode)
 	body.Capability = judged.capability("volume_capability", request.GetVolumeCapability())
@@ -131,7 +133,7 @@ func ControllerPublishVolume(request *wire.ControllerPublishVolumeRequest) (fram
 
 // ControllerUnpublishVolume makes the call of the request.
 func ControllerUnpublishVolume(request *wire.ControllerUnpublishVolumeRequest) (frames.ControllerUnpublishVolume, error) {
-	judged := fields{err: known(request)}
+	judged := fields{}
 	body := frames.ControllerUnpublishVolume{ID: judged.volume(request.GetVolumeId()), Node: request.GetNodeId()}
 	judged.text("node_id", body.Node, frames.MaxNode)
 	judged.noMap("secrets", request.GetSecrets())
@@ -140,7 +142,7 @@ func ControllerUnpublishVolume(request *wire.ControllerUnpublishVolumeRequest) (
 
 // NodeStageVolume makes the call of the request. The staging path isn't in it.
 func NodeStageVolume(request *wire.NodeStageVolumeRequest) (frames.NodeStageVolume, error) {
-	judged := fields{err: known(request)}
+	judged := fields{}
 	body := frames.NodeStageVolume{ID: judged.volume(request.GetVolumeId())}
 	judged.text("staging_target_path", request.GetStagingTargetPath(), maxPath)
 	body.Capability = judged.capability("volume_capability", request.GetVolumeCapability())
@@ -150,7 +152,7 @@ func NodeStageVolume(request *wire.NodeStageVolumeRequest) (frames.NodeStageVolu
 
 // NodeUnstageVolume makes the call of the request. The staging path isn't in it.
 func NodeUnstageVolume(request *wire.NodeUnstageVolumeRequest) (frames.NodeUnstageVolume, error) {
-	judged := fields{err: known(request)}
+	judged := fields{}
 	body := frames.NodeUnstageVolume{ID: judged.volume(request.GetVolumeId())}
 	judged.text("staging_target_path", request.GetStagingTargetPath(), maxPath)
 	return body, judged.end(body.ID)
@@ -158,7 +160,7 @@ func NodeUnstageVolume(request *wire.NodeUnstageVolumeRequest) (frames.NodeUnsta
 
 // NodePublishVolume makes the call of the request. The staging path isn't in it.
 func NodePublishVolume(request *wire.NodePublishVolumeRequest) (frames.NodePublishVolume, error) {
-	judged := fields{err: known(request)}
+	judged := fields{}
 	body := frames.NodePublishVolume{ID: judged.volume(request.GetVolumeId()), Target: request.GetTargetPath(), Readonly: request.GetReadonly()}
 	judged.text("staging_target_path", request.GetStagingTargetPath(), maxPath)
 	judged.text("target_path", body.Target, frames.MaxTarget)
@@ -169,7 +171,7 @@ func NodePublishVolume(request *wire.NodePublishVolumeRequest) (frames.NodePubli
 
 // NodeUnpublishVolume makes the call of the request.
 func NodeUnpublishVolume(request *wire.NodeUnpublishVolumeRequest) (frames.NodeUnpublishVolume, error) {
-	judged := fields{err: known(request)}
+	judged := fields{}
 	body := frames.NodeUnpublishVolume{ID: judged.volume(request.GetVolumeId()), Target: request.GetTargetPath()}
 	judged.text("target_path", body.Target, frames.MaxTarget)
 	return body, judged.end(body.ID)
@@ -183,7 +185,7 @@ type Validation struct {
 
 // ValidateVolumeCapabilities reads the request, which becomes no call: the record answers it.
 func ValidateVolumeCapabilities(request *wire.ValidateVolumeCapabilitiesRequest) (Validation, error) {
-	judged := fields{err: known(request)}
+	judged := fields{}
 	asked := Validation{Volume: judged.volume(request.GetVolumeId())}
 	judged.refuse("volume_capabilities", len(request.GetVolumeCapabilities()) == 0)
 	for _, value := range request.GetVolumeCapabilities() {

@@ -5,8 +5,8 @@ import "reflect"
 // unknownFields is the field of each generated message that has the bytes of fields which the proto hasn't.
 const unknownFields = "XXX_unrecognized"
 
-// known refuses a message that has, at any depth, a field that the proto hasn't: what it asks for would be dropped in silence.
-func known(message any) error {
+// Known refuses a request that has, at any depth, a field that the proto hasn't: what it asks for would be dropped in silence.
+func Known(message any) error {
 	if hasUnknown(reflect.ValueOf(message)) {
 		return invalid("unknown field")
 	}

@@ -10,6 +10,7 @@ import (
 	"context"
 	"flag"
 	"fmt"
+	"io"
 	"os"
 	"reflect"
 	"strings"
@@ -29,11 +30,12 @@ import (
 const badUse = 64 // no status of gRPC's
 
 func main() {
-	endpoint := flag.String("endpoint", os.Getenv("CSI_ENDPOINT"), "the driver's socket")
-	number := flag.String("number", "", "the call's number, SESSION.CALL")
-	seconds := flag.Int("seconds", 60, "how long to wait")
-	flag.Parse()
-	if flag.NArg() < 1 || flag.NArg() > 2 {
+	flags := flag.NewFlagSet("csi-client", flag.ContinueOnError)
+	flags.SetOutput(io.Discard)
+	endpoint := flags.String("endpoint", os.Getenv("CSI_ENDPOINT"), "the driver's socket")
+	number := flags.String("number", "", "the call's number, SESSION.CALL")
+	seconds := flags.Int("seconds", 60, "how long to wait")
+	if err := flags.Parse(os.Args[1:]); err != nil || flags.NArg() < 1 || flags.NArg() > 2 {
 		fmt.Fprintln(os.Stderr, "csi-client: usage: csi-client [-endpoint unix:///PATH] [-number SESSION.CALL] [-seconds N] CALL [REQUEST]")
 		os.Exit(badUse)
 	}
@@ -42,7 +44,7 @@ func main() {
 	if *number != "" {
 		ctx = metadata.AppendToOutgoingContext(ctx, numbers.Key, *number)
 	}
-	if err := call(ctx, *endpoint, flag.Arg(0), flag.Arg(1)); err != nil {
+	if err := call(ctx, *endpoint, flags.Arg(0), flags.Arg(1)); err != nil {
 		told := status.Convert(err)
 		fmt.Fprintf(os.Stderr, "csi-client: %d %s %q\n", told.Code(), told.Code(), told.Message())
 		os.Exit(int(told.Code()))

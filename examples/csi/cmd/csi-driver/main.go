@@ -50,6 +50,9 @@ func run(ctx context.Context, words []string) error {
 	if err != nil {
 		return err
 	}
+	if err := options.maker.Check(); err != nil {
+		return err // before there is a store
+	}
 	kept, err := options.open(ctx)
 	if err != nil {
 		if ctx.Err() != nil {
@@ -89,7 +92,7 @@ func serve(ctx context.Context, options *options, kept store.Store) error {
 	case err := <-served:
 		return err
 	case <-core.Done():
-		server.Stop()
+		finish(server) // each call that is under way gets its refusal
 		return core.Err()
 	case <-ctx.Done():
 		finish(server)

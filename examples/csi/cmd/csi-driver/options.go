@@ -7,6 +7,7 @@ import (
 	"fmt"
 	"io"
 	"os"
+	"regexp"
 	"strings"
 	"time"
 
@@ -67,7 +68,7 @@ func parse(words []string) (*options, error) {
 		options.etcd.Endpoints = strings.Split(endpoints, ",")
 	}
 	name, ok := options.words(flags.Args())
-	if !ok || *source != "metadata" && *source != "arrival" || options.hooks != "" && options.hooks != "mounts" && options.hooks != "none" {
+	if !ok || *source != "metadata" && *source != "arrival" || !options.fit() {
 		return nil, errUsage
 	}
 	options.byArrival = *source == "arrival"
@@ -85,6 +86,25 @@ func parse(words []string) (*options, error) {
 		}
 	}
 	return options, nil
+}
+
+// pluginName is what CSI has a plugin's name be: as a domain name, and at most 63 characters.
+var pluginName = regexp.MustCompile(`^[A-Za-z0-9]([-.A-Za-z0-9]{0,61}[A-Za-z0-9])?$`)
+
+// fit says whether the options have values that they may have, and each that another one needs.
+func (options *options) fit() bool {
+	if !pluginName.MatchString(options.name) {
+		return false
+	}
+	if !options.maker.IsController {
+		return (options.hooks == "mounts" || options.hooks == "none") && options.hookSeconds > 0 && options.maxVolumes >= 0
+	}
+	etcd := options.etcd
+	isTLS := etcd.CA != "" && etcd.Certificate != "" && etcd.Key != ""
+	if len(etcd.Endpoints) == 0 {
+		return etcd.Prefix+etcd.CA+etcd.Certificate+etcd.Key == ""
+	}
+	return etcd.Prefix != "" && etcd.LeaseSeconds > 0 && (isTLS || etcd.CA+etcd.Certificate+etcd.Key == "")
 }
 
 // words takes what stands behind the options: DB, unless the store is in etcd, CONFIG or ID, which it gives, and of a node SESSION, where it is said.

@@ -1,0 +1,63 @@
+package hosting
+
+import (
+	"bufio"
+	"fmt"
+	"io"
+	"os"
+	"os/exec"
+)
+
+// process is an orchestrator that runs beside this program.
+type process struct {
+	command *exec.Cmd
+	input   io.WriteCloser
+	output  *bufio.Reader
+}
+
+// Run starts the command of an orchestrator, and gives its first line too.
+func Run(words ...string) (Orchestrator, Answer, error) {
+	running := &process{command: exec.Command(words[0], words[1:]...)}
+	running.command.Stderr = os.Stderr
+	input, err := running.command.StdinPipe()
+	if err != nil {
+		return nil, Answer{}, fmt.Errorf("%w: %v", ErrOrchestrator, err)
+	}
+	output, err := running.command.StdoutPipe()
+	if err != nil {
+		return nil, Answer{}, fmt.Errorf("%w: %v", ErrOrchestrator, err)
+	}
+	running.input, running.output = input, bufio.NewReader(output)
+	if err := running.command.Start(); err != nil {
+		return nil, Answer{}, fmt.Errorf("%w: %v", ErrOrchestrator, err)
+	}
+	first, err := running.read()
+	if err != nil {
+		running.Close()
+		return nil, Answer{}, err
+	}
+	return running, first, nil
+}
+
+func (running *process) read() (Answer, error) {
+	line, err := running.output.ReadBytes('\n')
+	if err != nil {
+		return Answer{}, fmt.Errorf("%w: %v", ErrOrchestrator, err)
+	}
+	return answerOf(line)
+}
+
+func (running *process) Answer(line []byte) (Answer, error) {
+	if _, err := running.input.Write(append(line, '\n')); err != nil {
+		return Answer{}, fmt.Errorf("%w: %v", ErrOrchestrator, err)
+	}
+	return running.read()
+}
+
+func (running *process) Close() error {
+	running.input.Close()
+	if err := running.command.Wait(); err != nil {
+		return fmt.Errorf("%w: %v", ErrOrchestrator, err)
+	}
+	return nil
+}
