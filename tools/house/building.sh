@@ -3,7 +3,7 @@
 kit="$(dirname "$(rt doc)")"
 
 # Proves the crate $1, a program (src/main.rt) or a static library, and leaves what LLVM makes of it in $2. The libraries below it lie in the folders
-# that follow, as NAME.rlib; those of the kit in its own.
+# that follow, as NAME.rlib; those of the kit in its own. Its clang compiles it, or that of the folder `toolchain`, if there is one.
 build_over() {
     local crate="$1" out="$2" it folder at root=main words
     shift 2
@@ -17,5 +17,5 @@ build_over() {
     done
     for folder in "$@"; do words+=(-L "dependency=$folder"); done
     words+=(-L "dependency=$kit/rlibs" --antt-project "$kit/rattle/logic/antt-project.json" --logic-built "$kit/logic_built" --jobs 2)
-    (cd "$top/crates/$crate" && "$kit/bin/rattle" build "${words[@]}" --backend llvm --toolchain "$kit/toolchain" -o "$out")
+    (cd "$top/crates/$crate" && "$kit/bin/rattle" build "${words[@]}" --backend llvm --toolchain "${toolchain:-$kit/toolchain}" -o "$out")
 }

@@ -8,14 +8,22 @@ PLAIN = b'{"greatest":1000,"nodes":[]}'
 NO_CONFIG = ended(1, "config refused")
 NO_FILE = ended(3, "device")
 NODE = b'{"id":"%s","slots":%d}'
+EMPTY_RUN = b'{"attached":[],"events":[],"frames":0,"known":[],"published":[],"safe":true,"session":1,"staged":[],"volumes":[]}\n'
 
 
 def with_nodes(*nodes):
     return b'{"greatest":1000,"nodes":[%s]}' % b",".join(nodes)
 
 
-def refused(box, right, content):
+def as_schedule(box, right, content):
+    """The CONFIG of a schedule without events, which says more of why it is refused."""
+    box.put("schedule", b'{"events":[],"config":%s}' % content)
+    box.wants(right, "run", "schedule")
+
+
+def refused(box, right, content, fault=2):
     """Nothing is answered, and nothing made, where there is no store and where there is one."""
+    as_schedule(box, ended(1, f"schedule fault {fault} at 0") if right is NO_CONFIG else right, content)
     box.put("config", content)
     before = box.files()
     box.wants(right, "controller", "new.db", "config", given=create((1, 1), "v"))
@@ -29,6 +37,7 @@ def refused(box, right, content):
 
 
 def taken(box, content):
+    as_schedule(box, ended(0, out=EMPTY_RUN), content)
     box.put("config", content)
     box.wants(ended(0, out=b'{"session":1,"wanted":[]}\n'), "orchestrator", "o.db", "config")
     box.wants(ended(0, out=reply("CreateVolume", (1, 1), 0, 1)), "controller", "db", "config", given=create((1, 1), "v"))
@@ -75,14 +84,14 @@ def good_id(box, it):
 NODES_64 = [NODE % (b"%03d" % at + b"n" * 252, 4096) for at in range(64)]
 
 CONFIGS = [
-    ("an empty file", refused, NO_CONFIG, b""),
-    ("no JSON", refused, NO_CONFIG, b"{"),
+    ("an empty file", refused, NO_CONFIG, b"", 1),
+    ("no JSON", refused, NO_CONFIG, b"{", 1),
     ("a whole schedule", refused, NO_CONFIG, b'{"config":%s,"events":[]}' % PLAIN),
     ("a list", refused, NO_CONFIG, b"[]"),
     ("no nodes", refused, NO_CONFIG, b'{"greatest":1000}'),
     ("no greatest", refused, NO_CONFIG, b'{"nodes":[]}'),
     ("a key more", refused, NO_CONFIG, b'{"greatest":1000,"nodes":[],"x":1}'),
-    ("bytes behind it", refused, NO_CONFIG, PLAIN + b"0"),
+    ("bytes behind it", refused, NO_CONFIG, PLAIN + b"0", 1),
     ("a greatest of 0", refused, NO_CONFIG, b'{"greatest":0,"nodes":[]}'),
     ("a greatest of 2^63", refused, NO_CONFIG, b'{"greatest":9223372036854775808,"nodes":[]}'),
     ("a greatest with a point", refused, NO_CONFIG, b'{"greatest":1.0,"nodes":[]}'),
