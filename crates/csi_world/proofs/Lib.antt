@@ -4,8 +4,11 @@ pub mod ListedNodes
 pub mod FoundByHalving
 pub mod MarksMade
 pub mod ThingsHeld
-pub mod AssembledNodes
 pub mod PluginSafety
+pub mod Parties
+pub mod Lifetimes
+pub mod NamedCalls
+pub mod KnownThings
 pub mod WorldView
 pub mod GivenIds
 pub mod CallThings
@@ -21,6 +24,10 @@ pub mod RecordedRight
 pub mod PluginsReached
 pub mod DeliveredCalls
 pub mod Deliveries
+pub mod RightWorlds
+pub mod NamesForgotten
+pub mod NodesLost
+pub mod NodesJoined
 pub mod ChoicesRight
 pub mod WorldSafety
 pub mod RunSteps
@@ -28,5 +35,6 @@ pub mod CarriedFrames
 pub mod SystemInputs
 pub mod SystemNodes
 pub mod SystemCalls
+pub mod SystemChanges
 pub mod SimulatedRuns
 pub mod WholeLists

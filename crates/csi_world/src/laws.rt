@@ -18,9 +18,10 @@ pub(crate) fn runs_are_steps()
     csi_orchestrator::moves_law();
 }
 
-/// A law, and nothing that runs: after every beginning of every list of commands, deliveries, repeats, timeouts and restarts
-/// the world is safe, as `safety_law` says it, for every configuration. What isn't delivered is lost, and frames may come
-/// again and out of order.
+/// A law, and nothing that runs: after every beginning of every list of commands, deliveries, repeats, timeouts, restarts, joins and
+/// losses of nodes the world is safe, as `safety_law` says it, whatever the configuration is first. What isn't delivered is lost, and
+/// frames may come again and out of order. By the loss of a node the operator promises that its machine is off for good, and that its
+/// store never comes back; an emptied store is a lost node.
 pub fn runs_law()
     ensures { RunsAreSafe }
 {
@@ -44,7 +45,8 @@ pub fn table_law()
 /// write where one of their modes has a single writer; what is staged at a node is attached there, and what is
 /// published is staged there, in the same capability; what is attached wasn't deleted; and what the
 /// orchestrator's history tells as done or undone is so. It holds whichever guarded calls are sent, given up
-/// and sent again, whichever frames are lost, late, repeated or out of order, and wherever sessions start anew
+/// and sent again, whichever frames are lost, late, repeated or out of order, and wherever sessions start anew, with
+/// whichever list of nodes, names are forgotten, the controller has another configuration, nodes join and nodes are lost
 /// (CSI's spec.md, "CreateVolume", `AccessMode`, and "Volume Lifecycle"; the guards are those of
 /// `csi_orchestrator`).
 pub fn safety_law()

@@ -5,6 +5,7 @@
 mod assembling;
 mod auditing;
 mod carrying;
+mod changing;
 mod laws;
 mod occurring;
 mod outcomes;

@@ -9,10 +9,10 @@ use Rattle.csi_world.specs.Public.Step.{Choice, MayChooseAll, chosen_all}
 use Rattle.csi_world.specs.Model.Safe.{Safe}
 use Rattle.csi_world.specs.Model.After.{after}
 
--- a fact of every world to which steps lead, for every configuration
+-- a fact of every world to which steps lead, whatever the configuration is first
 abbrev pub HoldsInEveryWorld : (World → Type 0) → Type 0
 HoldsInEveryWorld P =
-    (config : Config) (choices : List Choice) → MayChooseAll config (empty_world config) choices → P (chosen_all config (empty_world config) choices)
+    (config : Config) (choices : List Choice) → MayChooseAll (empty_world config) choices → P (chosen_all (empty_world config) choices)
 
 -- every clause of safety, whatever an orchestrator does that keeps the guards, and whatever the network does
 abbrev pub SafetyLaw : Type 0
