@@ -3,6 +3,7 @@
 mod asking;
 mod files;
 mod full;
+mod losing;
 mod opening;
 pub(super) mod playing;
 pub(super) mod script;

@@ -4,7 +4,7 @@ use Rattle.csi_records.specs.Public.Spelling.{present}
 use Rattle.csi_records.specs.Public.OrchestratorRows.{IsOrchestratorRow}
 use Rattle.csi_records.proofs.KeyedParts.{one_more_keyed}
 use Rattle.csi_records.proofs.WritingPieces.{one_more_fit}
-use Rattle.csi_records.proofs.orchestrator_parts.keyed_parts.Goals as goal
+use Rattle.csi_records.proofs.orchestrator_parts.push_orchestrator_rows.Goals as goal
 
 pub loop-index-preserved : goal.loop-index-preserved
 loop-index-preserved c =

@@ -6,7 +6,7 @@ use Rattle.csi_records.specs.Public.Spelling.{present}
 use Rattle.csi_records.specs.Public.OrchestratorSpelling.{orchestrator_part}
 use Rattle.csi_records.specs.Public.OrchestratorRows.{IsOrchestratorRow}
 use Rattle.csi_records.proofs.KeyedParts.{keyed_rows}
-use Rattle.csi_records.proofs.orchestrator_parts.keyed_parts.Given as goal
+use Rattle.csi_records.proofs.orchestrator_parts.push_orchestrator_rows.Given as goal
 
 -- the parts of the rows so far are there, and the rows are within their limits
 abbrev pub invariant-loop-index : goal.invariant-loop-index
