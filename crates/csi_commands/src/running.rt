@@ -62,19 +62,20 @@ fn frames_of(alloc: Global, world: &World) -> Result<Vec<u8>, NoMemory>
     Ok(bytes)
 }
 
-// What the command gives of a world, to which these events led.
+// What the command gives of a world, to which these events led from the configuration.
 fn given_of<D: Draws>(
     alloc: Global,
     command: ScheduleCommand,
+    config: &Config,
     events: &[Event],
     world: &World,
 ) -> Result<Vec<u8>, NoMemory>
-    ensures { IfOk result (λ given. IsGivenOf D.draws command events.now world.now given.items) }
+    ensures { IfOk result (λ given. IsGivenOf D.draws command (record { config = config.now; events = events.now }) world.now given.items) }
 {
     match command {
         ScheduleCommand::Run => line_of(alloc, world),
         ScheduleCommand::Frames => frames_of(alloc, world),
-        ScheduleCommand::Draw => D::draw(alloc, world, events),
+        ScheduleCommand::Draw => D::draw(alloc, config, world, events),
     }
 }
 
@@ -88,7 +89,7 @@ fn given<D: Draws>(
     ensures { IfOk result (λ given. IsGiven D.draws command (record { config = config.now; events = events.now }) given.items) }
 {
     let world = simulate(alloc, config, events)?;
-    given_of::<D>(alloc, command, events, &world)
+    given_of::<D>(alloc, command, config, events, &world)
 }
 
 /// Reads `input` as a schedule, lets its events happen one after another to an empty world, and appends to `out` what the

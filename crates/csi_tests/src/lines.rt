@@ -5,7 +5,8 @@ use csi_orchestrator::{
     TargetEntry, Usage,
 };
 use csi_reports::{
-    RequestOutcome, Sending, answer_line, fault_line, ignored_line, opened_line, orchestrator_line,
+    RequestOutcome, Sending, answer_line, fault_line, ignored_line, loss_line, opened_line,
+    orchestrator_line,
 };
 use csi_types::Mode::{MultiNodeMultiWriter, SingleNodeWriter};
 use csi_types::{Call, CapabilityList, Frame, Party};
@@ -253,4 +254,29 @@ fn what_is_no_answer_about_a_volume_is_told_so(rt: HostRuntime) {
         line => line,
     };
     assert!(&rt; is_line(line, "{\"fault\":\"BadLine\"}"));
+}
+
+const LOSSES: &[(RequestOutcome, u64, &str)] = &[
+    (
+        RequestOutcome::Lost,
+        3,
+        "{\"node\":\"n1\",\"outcome\":\"lost\",\"session\":3}",
+    ),
+    (
+        RequestOutcome::Refused(OrchFault::NumbersSpent),
+        u64::MAX,
+        "{\"node\":\"n1\",\"outcome\":\"refused 14 NumbersSpent\",\"session\":18446744073709551615}",
+    ),
+];
+
+#[test]
+fn a_loss_is_told_with_its_session(rt: HostRuntime) {
+    let node = node_id(&rt, "n1");
+    for (outcome, session, wanted) in LOSSES {
+        let line = match loss_line(rt.alloc(), &node, *outcome, *session) {
+            Err(_) => loss_line(rt.alloc(), &node, *outcome, *session),
+            line => line,
+        };
+        assert!(&rt; is_line(line, wanted));
+    }
 }

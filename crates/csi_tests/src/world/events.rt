@@ -1,7 +1,7 @@
 //! Events, as a table writes them.
 use super::{Does, ONE};
-use crate::values::{block, blocks, name, node_id, target};
-use csi_types::Mode;
+use crate::values::{block, blocks, config, name, node_id, room, target};
+use csi_types::{Mode, NodeList};
 use csi_world::Event;
 use std::alloc::Global;
 use std::process::Abort;
@@ -39,6 +39,14 @@ fn stop(rt: &(impl Abort + AllocGlobal), at: &str, path: &str) -> Event {
     }
 }
 
+fn list(rt: &(impl Abort + AllocGlobal), ids: &[&str]) -> NodeList {
+    let mut list = room(rt, ids.len());
+    for id in ids {
+        list.push(node_id(rt, id)).expect(rt, "room");
+    }
+    NodeList::of(list)
+}
+
 pub(super) fn event(rt: &(impl Abort + AllocGlobal), does: Does) -> Event {
     match does {
         Does::Create(mode) => create(rt, "v", mode),
@@ -51,5 +59,9 @@ pub(super) fn event(rt: &(impl Abort + AllocGlobal), does: Does) -> Event {
         Does::RestartOrchestrator => Event::RestartOrchestrator,
         Does::RestartController => Event::RestartController,
         Does::RestartNode(at) => Event::RestartNode(node_id(rt, at)),
+        Does::Configures(nodes) => Event::RestartControllerWith(config(rt, nodes)),
+        Does::Lists(ids) => Event::RestartOrchestratorWith(list(rt, ids)),
+        Does::Join(at) => Event::Join(node_id(rt, at)),
+        Does::Lose(at) => Event::Lose(node_id(rt, at)),
     }
 }
