@@ -69,6 +69,11 @@ REFUSED = [
     ("no name", *bad_event(CREATE % (b"1", b"0", b""))),
     ("a name of 129 bytes", *bad_event(CREATE % (b"1", b"0", b"v" * 129))),
     ("a restart of nothing", *bad_event(b'{"restart":"node"}')),
+    ("a restart with a list that is none", *bad_event(b'{"restart_orchestrator":"n1"}')),
+    ("a list with an empty id", *bad_event(EVENT, b'{"restart_orchestrator":["n1",""]}')),
+    ("a restart with a bad configuration", *bad_event(b'{"restart_controller":{"greatest":0,"nodes":[]}}')),
+    ("an empty id that joins", *bad_event(b'{"join":""}')),
+    ("a loss of 256 bytes", *bad_event(b'{"lose":"%s"}' % (b"n" * 256))),
     ("nine capabilities", *bad_event((CREATE % (b"1", b"0", b"v")).replace(b"}]", b'}' + b',{"access":"block","mode":1}' * 8 + b"]"))),
     ("a bad event at the end of 100,000", *bad_event(*[EVENT] * 99_999, b"{}")),
     ("no UTF-8", "not UTF-8", b"\xff"),
@@ -80,6 +85,14 @@ SENT = b'{"create":{"capabilities":[{"access":"block","mode":1}],"limit":0,"name
 REPORTED = [
     ("no events", NO_FRAME % b"", schedule()),
     ("a frame that there isn't", NO_FRAME % b'"no such frame"', schedule(b'{"deliver":99}')),
+    (
+        "nodes that come and go",
+        (NO_FRAME % b'"no such node","joined","node there","restarted","lost","no such node","restarted","lost","restarted"').replace(b'"session":1', b'"session":4'),
+        schedule(
+            b'{"lose":"n1"},{"join":"n1"},{"join":"n1"},{"restart_node":"n1"},{"lose":"n1"},{"lose":"n1"},{"restart_orchestrator":["n1"]},'
+            b'{"lose":"n1"},{"restart_controller":{"greatest":1,"nodes":[{"id":"n1","slots":1}]}}'
+        ),
+    ),
     ("100,000 events", NO_FRAME % b",".join([b'"no such frame"'] * 100_000), schedule(b",".join([EVENT] * 100_000))),
     ("other keys' order, blanks, a repeated key", NO_FRAME % b"", b' { "events" : [ ] , "config" : [ ] , "config" : {"nodes":[],"greatest":1} } \n'),
     (
