@@ -32,13 +32,14 @@
  *         commit(false);
  *         send the frame's `written` bytes, where there are any, to the plugin that they name, and wait for the reply for so long as is wished;
  *     }                                                           then tufayon_deliver it, or tufayon_timeout
+ *     where a node was lost: tufayon_orchestrator_lose, commit(false), and what is wanted goes on by timeouts as at the start
  *     tufayon_free(&orchestrator);
  *
  * Every call but tufayon_free returns a number, below. Unless it is TUFAYON_DONE, TUFAYON_RENEWED, TUFAYON_TAKE_OUT, TUFAYON_MET or
  * TUFAYON_IGNORED, what the handle has and its changes stay as they were: no call leaves anything half done, and after TUFAYON_NO_MEMORY it may be
  * made again. That this number comes only where an allocation was refused isn't proved: tools/library tests that each call succeeds where none is.
  *
- * What is proved of each call stands at crates/csi_embedded/src/exports.rt and orchestrator_exports.rt, where it is checked. It supposes of the
+ * What is proved of each call stands in crates/csi_embedded/src, at its name in the three files *exports.rt, where it is checked. It supposes of the
  * calling program:
  *
  *   Pointers. None is null, even if a size is 0. Each points to as many bytes as its size says, or to one value. Nothing else uses these during
@@ -87,6 +88,7 @@ extern "C" {
 #define TUFAYON_MET 14       /* done: what is asked is so already, and nothing is sent */
 #define TUFAYON_IGNORED 15   /* done: the frame is no reply to an open call, and nothing changed */
 #define TUFAYON_EARLIER_SESSION 16 /* the record is of an earlier session than that of the node's joining: it is a lost node's */
+#define TUFAYON_NODE_IN_USE 17 /* a volume may be attached at a node of the record that the configuration leaves out */
 
 /* What an orchestrator knows: as in a record. */
 #define TUFAYON_KNOWN_NO 0
@@ -149,11 +151,13 @@ uint32_t tufayon_answer(tufayon_plugin *plugin, const uint8_t *frame, size_t fra
 uint32_t tufayon_orchestrator_new(const uint8_t *config, size_t config_size, tufayon_plugin *orchestrator);
 
 /*
- * The orchestrator of a whole record, in an empty handle, as a restart leaves it: in the session after the record's, and with no open call. The
- * configuration's nodes have to be the record's, in the same order. Its changes are that session, which the store has to be given before any frame
- * is sent. What is wanted of volumes goes on by a tufayon_timeout of each.
- * Fails with TUFAYON_NO_MEMORY, TUFAYON_FULL, TUFAYON_BAD_NAME, TUFAYON_BAD_RECORD (also if the record is of other nodes), or with TUFAYON_REFUSED,
- * if the record's session is the last one: 14, NumbersSpent.
+ * The orchestrator of a whole record, in an empty handle, as a restart with the configuration's nodes leaves it: in the session after the record's,
+ * with no open call, and without the names whose volumes are gone and of which nothing is wanted, which are free again. Its changes are the session
+ * and the nodes, or, where names were forgotten, the whole record: the store has to be given them before any frame is sent. What is wanted of volumes
+ * goes on by a tufayon_timeout of each.
+ * Fails with TUFAYON_NO_MEMORY, TUFAYON_FULL, TUFAYON_BAD_NAME, TUFAYON_BAD_RECORD, with TUFAYON_REFUSED, if the record's session is the last one:
+ * 14, NumbersSpent; or with TUFAYON_NODE_IN_USE, if a volume may be attached at a node of the record that the configuration leaves out: undo first
+ * what is there, or take the node as lost.
  */
 uint32_t tufayon_orchestrator_from_record(const uint8_t *config, size_t config_size, const uint8_t *record, size_t record_size,
                                           tufayon_plugin *orchestrator);
@@ -190,8 +194,21 @@ uint32_t tufayon_deliver(tufayon_plugin *orchestrator, const uint8_t *came, size
                          size_t *written, uint32_t *fault);
 
 /*
+ * The node of an id is lost, listed or not. Whoever makes this call promises that its machine is off for good, and that its store never comes back;
+ * an emptied store is a lost node. A session begins without the node in the list: what was staged and published there is so no more, a use there
+ * becomes its stop, open calls are given up, and names whose volumes are gone and of which nothing is wanted are free again. What the controller
+ * attached to it stays attached until tufayon_stop there, of any target, or tufayon_timeout detached it. Nothing is sent: what is wanted of volumes
+ * goes on by a tufayon_timeout of each. Its changes are the whole record; the session that began stands in the value under key 0 (docs/FORMATS.md,
+ * "Records"). The node joins again by tufayon_node_joined, with a session from this one on, and is listed again when the orchestrator is made of its
+ * record with a configuration that has it.
+ * TUFAYON_REFUSED: `fault` is 14, NumbersSpent, in the last session. Fails also with TUFAYON_NO_MEMORY, TUFAYON_EMPTY, TUFAYON_OTHER_KIND, or
+ * TUFAYON_BAD_NAME.
+ */
+uint32_t tufayon_orchestrator_lose(tufayon_plugin *orchestrator, const uint8_t *node, size_t node_size, uint32_t *fault);
+
+/*
  * What the orchestrator knows: whether the volume of a name is there, is attached to a node, is staged there, and is published at a target there.
- * `known` is one of the three numbers above; TUFAYON_KNOWN_NO of what no call was sent about.
+ * `known` is one of the three numbers above; TUFAYON_KNOWN_NO of what no call was sent about, and of what was staged or published at a lost node.
  * Fails with TUFAYON_NO_MEMORY, TUFAYON_EMPTY, TUFAYON_OTHER_KIND, or TUFAYON_BAD_NAME.
  */
 uint32_t tufayon_exists(tufayon_plugin *orchestrator, const uint8_t *name, size_t name_size, uint32_t *known);
@@ -208,15 +225,17 @@ uint32_t tufayon_published(tufayon_plugin *orchestrator, const uint8_t *name, si
 uint32_t tufayon_goal(tufayon_plugin *orchestrator, const uint8_t *name, size_t name_size, uint8_t *goal, size_t goal_room, size_t *written);
 
 /*
- * The name of the volume of index `place`, from 0, in the order in which they were first asked for. TUFAYON_NO_MORE: there are not so many.
+ * The name of the volume of index `place`, from 0, in the order in which they were first asked for; where names are forgotten, those behind move up.
+ * TUFAYON_NO_MORE: there are not so many.
  * TUFAYON_NAME_ROOM bytes are room enough. It takes no memory.
  * Fails with TUFAYON_EMPTY, TUFAYON_OTHER_KIND, or TUFAYON_NO_ROOM: then `written` says how many bytes it has.
  */
 uint32_t tufayon_volume(tufayon_plugin *orchestrator, size_t place, uint8_t *name, size_t name_room, size_t *written);
 
 /*
- * The change of index `place`, from 0, among those of the last call that was carried out: of an answered frame, a command, a timeout or a frame
- * that came, or of making what the handle has. The program puts all of them into the store, in order, in one commit, before it sends anything.
+ * The change of index `place`, from 0, among those of the last call that was carried out: of an answered frame, a command, a timeout, a frame
+ * that came, a node that was lost, or of making what the handle has. The program puts all of them into the store, in order, in one commit, before
+ * it sends anything.
  * TUFAYON_DONE: the `written` bytes of the value are put in under the key, in place of what is there. TUFAYON_TAKE_OUT: what is under the key is
  * taken out. TUFAYON_NO_MORE: there are not so many. They stay until the next such call is carried out, and may be asked for again.
  * Fails with TUFAYON_NO_MEMORY, TUFAYON_EMPTY, or TUFAYON_NO_ROOM: then `written` says how many bytes the value has.

@@ -3,75 +3,76 @@
 One thread waits for whatever comes first: a reply, an answer, a command, or the end of some seconds. What it keeps in the folder:
 
 - `orchestrator.db`, `controller.db`, `n1.db` and so on: the stores;
+- `config`: the configuration with which the orchestrator and the controller are started;
+- `nodes`: the nodes that are there, each with the session of its joining, if it was told one;
 - `log`: what happened, in lines; `errors`: what the programs said on standard error;
-- `events`: the schedule, one line for each event, with how many frames were sent by then; `null` where a program was killed, so that nobody knows
-  what it did last: the schedule ends there.
+- `config.first`, `events`: the schedule.
 """
 import json
 import os
+import re
 import selectors
 import socket
 import time
 
 from parts import Orchestrator, Plugin, told
+from schedule import Schedule, ids
 
+SLOTS = 16  # of a node that joins
 PATIENCE = 2  # seconds until a call has timed out
 AGAIN = 1  # seconds until a part that ended by itself is started again
 SOON = 0.05  # seconds until it is seen whether a part has ended that is to be started again
+NODE_ID = re.compile(r"[A-Za-z0-9][A-Za-z0-9._-]{0,63}")  # the names of nodes are those of their files
 
 
 class Host:
-    def __init__(self, program, folder, nodes, is_shown):
+    def __init__(self, program, folder, is_shown):
         self.program, self.folder, self.is_shown = program, folder, is_shown
         self.selector = selectors.DefaultSelector()
         self.errors = open(f"{folder}/errors", "ab")
         self.log = open(f"{folder}/log", "a", encoding="utf-8")
         self.orchestrator = Orchestrator(self, "orchestrator", "orchestrator", "orchestrator.db", "config")
         self.plugins = {"controller": Plugin(self, "controller", "controller", "controller.db", "config")}
-        self.plugins |= {node: Plugin(self, node, "node", f"{node}.db", node) for node in nodes}
         self.parts = {"orchestrator": self.orchestrator, **self.plugins}
+        self.config, self.nodes = self.read("config"), {}
+        for node, session in self.read("nodes").items():
+            self.add(node, session)
         self.goals = {}  # by name: what is wanted
         self.open = {}  # by name: the call that was sent and not answered yet, in words
         self.due = {}  # by name: when it times out
         self.starting = {}  # by part: when it is started again
+        self.killing = {}  # by node that is lost: when its program is killed, if it didn't end
         self.commands = {}  # by name: the last command that was accepted
         self.was_refused = {}  # by name: whether the last call was refused
-        self.clients = {}  # by name of a volume: the connections that want to know of it
+        self.clients = {}  # by name of a volume, or a node that is lost: the connections that want to know of it
+        self.joining = []  # the connections that wait until the orchestrator and the controller were started again
         self.session = 0
         self.is_ending = False
-        self.resume()
-
-    # ---- the schedule
-
-    def resume(self):
-        """Goes on with the schedule of an earlier run of this folder, of which nothing is under way any more."""
-        self.frames = 0
-        self.kept = open(f"{self.folder}/events", "a+", encoding="utf-8")
-        self.kept.seek(0)
-        *whole, rest = self.kept.read().split("\n")
-        lines = [json.loads(line) for line in whole]
-        if rest:  # the host was killed while it wrote this
-            self.kept.truncate(len("".join(f"{line}\n" for line in whole).encode()))
-        self.was_run = bool(lines)
-        if lines and lines[-1] != ["end"]:
-            self.note(None)  # the host itself was killed
-        if self.was_run:
-            self.frames = max([line[1] for line in lines if line and len(line) == 2], default=0)
+        self.schedule = Schedule(folder)
+        if self.schedule.was_run:
             for part in self.plugins:
                 self.restarted(part)
 
-    def note(self, line):
-        self.kept.write(json.dumps(line, ensure_ascii=False) + "\n")
-        self.kept.flush()
+    def read(self, name):
+        with open(f"{self.folder}/{name}", encoding="utf-8") as file:
+            return json.load(file)
 
-    def happened(self, event, sent=0):
-        """An event, and how many frames it sent; the number of the last one."""
-        self.frames += sent
-        self.note([event, self.frames])
-        return self.frames
+    def write(self, name, value):
+        """Replaces a file by another, whole."""
+        with open(f"{self.folder}/{name}.new", "w", encoding="utf-8") as file:
+            json.dump(value, file)
+        os.replace(f"{self.folder}/{name}.new", f"{self.folder}/{name}")
+
+    def add(self, node, session):
+        """A node is there, which was told this session where it joined, or none."""
+        words = [] if session is None else [str(session)]
+        self.parts[node] = self.plugins[node] = Plugin(self, node, "node", f"{node}.db", node, *words)
+        self.nodes[node] = session
+
+    # ---- the schedule
 
     def restarted(self, part):
-        self.happened({"restart_node": part} if part not in ("orchestrator", "controller") else {"restart": part})
+        self.schedule.restarted(part, self.config)
 
     # ---- what it says
 
@@ -118,7 +119,7 @@ class Host:
         if not was_wanted and status == 0:
             self.say(part.name, "down")
         else:
-            self.note(None)
+            self.schedule.killed()
             how = f"was killed by signal {-status}" if status < 0 else f"ended with status {status}"
             self.say(part.name, how + (f", is started again in {AGAIN} s" if was_wanted else ""))
             if was_wanted and not self.is_ending:
@@ -126,6 +127,8 @@ class Host:
         if part is self.orchestrator:
             for _, name, client in filter(None, lost):
                 self.leave(name, client, False)
+        if part.is_lost:
+            self.throw_away(part)
 
     # ---- what the orchestrator says
 
@@ -139,10 +142,12 @@ class Host:
         if asked is None:
             return self.begun(said)
         event, asked_of, client = asked
+        if "lose" in event:
+            return self.lost(event["lose"], said, client)
         if "fault" in said:
             return self.leave(asked_of, client, False, f"{asked_of}: the command isn't one ({said['fault']})")
         send, outcome = said.get("send"), said["outcome"]
-        number = self.happened(event, 1 if send else 0)
+        number = self.schedule.happened(event, 1 if send else 0)
         if outcome == "ignored":
             return None
         name, goal, before = said["name"], said["goal"], self.goals.get(said["name"])
@@ -166,12 +171,16 @@ class Host:
 
     def begun(self, first):
         """The orchestrator's first line: of what is wanted, the calls are sent again."""
-        if self.session or self.was_run:
+        if self.session or self.schedule.was_run:
             self.restarted("orchestrator")
         self.session = first["session"]
         self.say("orchestrator", f"session {self.session}")
+        self.send_again(first["wanted"])
+
+    def send_again(self, names):
+        """A session began, in which no call was sent yet: of what is wanted, they are sent again."""
         self.open.clear()
-        for name in first["wanted"]:
+        for name in names:
             self.goals[name] = self.goals.get(name) or {}
             self.ask({"timeout": name})
 
@@ -183,7 +192,7 @@ class Host:
             then = f"again as {what.split()[1]}" if timed_out.startswith(send["kind"]) else f"so {what}"
             self.say(name, f"{timed_out}, no answer for {PATIENCE} s, {then}")
         self.open[name] = f"{what} to {plugin}"
-        if self.plugins[plugin].is_up:
+        if plugin in self.plugins and self.plugins[plugin].is_up:
             self.plugins[plugin].give(bytes.fromhex(send["frame"]), (name, number, self.open[name]))
 
     # ---- what plugins say
@@ -191,12 +200,96 @@ class Host:
     def replied(self, part, asked, frame):
         """A plugin replied: the reply goes to the orchestrator; if that is down, it is lost."""
         name, call, what = asked
-        number = self.happened({"deliver": call}, 1)
+        number = self.schedule.happened({"deliver": call}, 1)
         status, words = told(frame)
         self.was_refused[name] = bool(status)
         self.say(name, f"{what}: {words}" + ("" if self.open.get(name) == what else ", too late"))
         if self.orchestrator.is_up:
             self.ask({"deliver": number}, frame)
+
+    # ---- nodes that join and are lost
+
+    def lose(self, client, node):
+        """A node's machine is off for good, and its store never comes back; an emptied store is a lost node. Its program is ended, if it runs, and then
+        the orchestrator is told."""
+        if not self.orchestrator.is_up:
+            return refuse(client, "the orchestrator is down")
+        if node not in self.nodes and node not in self.schedule.listed:
+            return refuse(client, f"there is no node {node}: {', '.join(self.nodes)}")
+        self.clients.setdefault(node, []).append(client)
+        part = self.parts.get(node)
+        if part is None:
+            return self.tell_lost(node)
+        part.is_lost = True
+        self.starting.pop(node, None)
+        if not part.process:
+            return self.throw_away(part)
+        self.killing[node] = time.monotonic() + PATIENCE
+        return part.end()
+
+    def throw_away(self, part):
+        """A lost node's store, of which the program has ended."""
+        node = part.name
+        del self.parts[node], self.plugins[node], self.nodes[node]
+        self.starting.pop(node, None)
+        self.killing.pop(node, None)
+        self.write("nodes", self.nodes)
+        for end in ("", "-wal"):
+            if os.path.exists(f"{self.folder}/{node}.db{end}"):
+                os.remove(f"{self.folder}/{node}.db{end}")
+        self.tell_lost(node)
+
+    def tell_lost(self, node):
+        if self.orchestrator.is_up:
+            self.ask({"lose": node}, name=node)
+        else:
+            for client in self.clients.pop(node, ()):
+                refuse(client, f"the orchestrator is down: say again that {node} is lost")
+
+    def lost(self, node, said, client):
+        """The orchestrator was told: a session began without the node, in which a use there is its stop, and what is wanted is sent again."""
+        if said["outcome"] != "lost":
+            for client in self.clients.pop(node, ()):
+                refuse(client, f"{node}: {said['outcome']}")
+            return
+        self.schedule.happened({"lose": node})
+        self.session = said["session"]
+        self.config = {**self.config, "nodes": [it for it in self.config["nodes"] if it["id"] != node]}
+        self.write("config", self.config)
+        self.say(node, f"lost, session {self.session}")
+        for client in self.clients.pop(node, ()):
+            close(client, True)
+        self.send_again([name for name, goal in self.goals.items() if goal is not None])
+
+    def join(self, client, node):
+        """A node comes, with a new store, and is told the present session; then the controller and the orchestrator are started again, with it."""
+        if not self.orchestrator.is_up or not self.session:
+            return refuse(client, "the orchestrator is down")
+        if node in self.parts or not NODE_ID.fullmatch(node):
+            return refuse(client, f"there is a node {node}" if node in self.nodes else f"no node's name: {node}")
+        self.add(node, self.session)
+        self.write("nodes", self.nodes)
+        self.schedule.happened({"join": node})
+        self.parts[node].start()
+        self.clients[node] = [client]
+        self.say(node, f"joined, session {self.session}")
+        del self.clients[node]
+        if node not in ids(self.config):
+            self.config = {**self.config, "nodes": [*self.config["nodes"], {"id": node, "slots": SLOTS}]}
+            self.write("config", self.config)
+        for name in ("controller", "orchestrator"):
+            if self.parts[name].is_up:
+                self.parts[name].end()
+                self.starting[name] = 0
+        self.joining.append(client)
+
+    def release(self):
+        """Answers who waits until a node that joined can be used."""
+        waits = self.starting.keys() & {"controller", "orchestrator"}
+        if self.joining and not waits and not self.orchestrator.asked:
+            for client in self.joining:
+                close(client, True)
+            self.joining = []
 
     # ---- commands
 
@@ -219,21 +312,23 @@ class Host:
             return client.close()
         if "up" in words or "down" in words:
             return self.move(client, *next(iter(words.items())))
+        if "join" in words:
+            return self.join(client, words["join"])
+        if "lose" in words:
+            return self.lose(client, words["lose"])
         if "end" in words:
             return self.finish(client)
         return self.command(client, words)
 
     def move(self, client, where, part):
         if part not in self.parts:
-            answer(client, f"there is no {part}: {', '.join(self.parts)}")
-            return close(client, False)
+            return refuse(client, f"there is no {part}: {', '.join(self.parts)}")
         (self.up if where == "up" else self.down)(part)
         return close(client, True)
 
     def command(self, client, event):
         if not self.orchestrator.is_up:
-            answer(client, "the orchestrator is down")
-            return close(client, False)
+            return refuse(client, "the orchestrator is down")
         words = next(iter(event.values()))
         name = words if isinstance(words, str) else words["name"]
         self.clients.setdefault(name, []).append(client)
@@ -251,13 +346,14 @@ class Host:
 
     def run(self):
         while not self.is_ending or any(part.process for part in self.parts.values()):
-            times = [*self.due.values(), *self.starting.values()]
+            times = [*self.due.values(), *self.starting.values(), *self.killing.values()]
             wait = max(0, min(times) - time.monotonic()) if times and not self.is_ending else None
             for key, _ in self.selector.select(wait):
                 key.data()
             if not self.is_ending:
                 self.pass_time(time.monotonic())
-        self.note(["end"])
+                self.release()
+        self.schedule.ended()
         os.remove(f"{self.folder}/socket")
         if getattr(self, "last", None):
             close(self.last, True)
@@ -265,6 +361,9 @@ class Host:
     def pass_time(self, now):
         for name in [name for name, at in self.starting.items() if at <= now]:
             self.up(name)
+        for name in [name for name, at in self.killing.items() if at <= now]:
+            self.killing.pop(name)
+            self.parts[name].process.kill()
         for name in [name for name, at in self.due.items() if at <= now]:
             self.due[name] = now + PATIENCE
             if self.orchestrator.is_up and not self.orchestrator.asked:
@@ -278,6 +377,12 @@ def answer(client, line):
         client.sendall(line.encode() + b"\n")
     except OSError:
         pass  # it went away
+
+
+def refuse(client, line):
+    """A command that isn't carried out, and why."""
+    answer(client, line)
+    close(client, False)
 
 
 def close(client, well):

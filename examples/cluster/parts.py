@@ -29,6 +29,7 @@ class Part:
     def __init__(self, host, name, *words):
         self.host, self.name, self.words = host, name, words
         self.process, self.is_wanted, self.asked, self.came = None, True, deque(), b""
+        self.is_lost = False  # it is ended for good
 
     @property
     def is_up(self):

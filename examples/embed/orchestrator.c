@@ -2,8 +2,9 @@
  * answers each by a line; capabilities and frames are in hexadecimal, as in docs/FORMATS.md.
  *     orchestrator DB CONFIG < REQUESTS > ANSWERS
  *     create NAME REQUIRED LIMIT CAPABILITIES       use NAME NODE TARGET CAPABILITY ro|rw       stop NAME NODE TARGET
- *     delete NAME        timeout NAME        reply FRAME
- * It answers `sent FRAME`, `met`, `taken`, `taken FRAME`, `ignored` or `refused NUMBER`, and first `wanted NAME..`, of which something is wanted. */
+ *     delete NAME        timeout NAME        reply FRAME        lose NODE
+ * It answers `sent FRAME`, `met`, `taken`, `taken FRAME`, `ignored`, `lost` or `refused NUMBER`, and first `wanted NAME..`, of which something is wanted.
+ * Who types `lose` promises that the node's machine is off for good, and that its store never comes back; an emptied store is a lost node. */
 #include "store.h"
 
 static uint8_t frame[TUFAYON_FRAME_ROOM];
@@ -41,16 +42,18 @@ static uint32_t ask(int count, char words[][2 * sizeof frame + 1]) {
     if (strcmp(words[0], "stop") == 0)
         return tufayon_stop(&held, name.bytes, name.size, node.bytes, node.size, target.bytes, target.size, frame, sizeof frame, &written, &fault);
     if (strcmp(words[0], "delete") == 0) return tufayon_delete(&held, name.bytes, name.size, frame, sizeof frame, &written, &fault);
+    if (strcmp(words[0], "lose") == 0) return written = 0, tufayon_orchestrator_lose(&held, name.bytes, name.size, &fault);
     if (strcmp(words[0], "timeout") == 0) return tufayon_timeout(&held, name.bytes, name.size, frame, sizeof frame, &written, &fault);
     must(strcmp(words[0], "reply") == 0, "no request");
     hex(&given, words[1]);
     return tufayon_deliver(&held, given.bytes, given.size, &used, frame, sizeof frame, &written, &fault);
 }
 
-static void answer(uint32_t ending, bool is_reply) {
+static void answer(uint32_t ending, const char *asked) {
+    const char *done = strcmp(asked, "reply") == 0 ? "taken" : strcmp(asked, "lose") == 0 ? "lost" : "sent";
     must(ending == TUFAYON_DONE || ending == TUFAYON_MET || ending == TUFAYON_IGNORED || ending == TUFAYON_REFUSED, "no request, or no memory");
     if (ending == TUFAYON_REFUSED) printf("refused %u", (unsigned)fault);
-    else printf("%s", ending == TUFAYON_MET ? "met" : ending == TUFAYON_IGNORED ? "ignored" : is_reply ? "taken" : "sent");
+    else printf("%s", ending == TUFAYON_MET ? "met" : ending == TUFAYON_IGNORED ? "ignored" : done);
     for (size_t at = 0; ending == TUFAYON_DONE && at < written; at++) printf(at > 0 ? "%02x" : " %02x", frame[at]);
     must(printf("\n") == 1 && fflush(stdout) == 0, "no output");
 }
@@ -77,7 +80,8 @@ int main(int count, char **words) {
     record = load(&size);
     uint32_t ending = size == 0 ? tufayon_orchestrator_new(config, config_size, &held)
                                 : tufayon_orchestrator_from_record(config, config_size, record, size, &held);
-    must(ending == TUFAYON_DONE, ending == TUFAYON_REFUSED ? "no session is left" : "no record of this orchestrator");
+    must(ending != TUFAYON_NODE_IN_USE, "a volume may be attached at a node that CONFIG leaves out");
+    must(ending == TUFAYON_DONE, ending == TUFAYON_REFUSED ? "no session is left" : "no record of an orchestrator");
     commit(""); /* its session, before any frame is sent */
     tell_wanted();
     while (fgets(line, sizeof line, stdin) != NULL) {
@@ -85,7 +89,7 @@ int main(int count, char **words) {
         int given = sscanf(line, "%2568s%2568s%2568s%2568s%2568s%2568s", asked[0], asked[1], asked[2], asked[3], asked[4], asked[5]);
         ending = ask(given, asked);
         if (ending != TUFAYON_REFUSED) commit("");
-        answer(ending, strcmp(asked[0], "reply") == 0);
+        answer(ending, asked[0]);
     }
     free(record);
     close_store();

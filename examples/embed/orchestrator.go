@@ -52,6 +52,9 @@ func ask(words []string) C.uint32_t {
 		return C.tufayon_stop(&held, in(name), size(name), in(node), size(node), in(target), size(target), out(frame), room, &written, &fault)
 	case "delete":
 		return C.tufayon_delete(&held, in(name), size(name), out(frame), room, &written, &fault)
+	case "lose":
+		written = 0
+		return C.tufayon_orchestrator_lose(&held, in(name), size(name), &fault)
 	case "timeout":
 		return C.tufayon_timeout(&held, in(name), size(name), out(frame), room, &written, &fault)
 	}
@@ -60,7 +63,7 @@ func ask(words []string) C.uint32_t {
 	return C.tufayon_deliver(&held, in(given), size(given), &used, out(frame), room, &written, &fault)
 }
 
-func answer(ending C.uint32_t, isReply bool) string {
+func answer(ending C.uint32_t, asked string) string {
 	switch ending {
 	case C.TUFAYON_MET:
 		return "met"
@@ -70,7 +73,13 @@ func answer(ending C.uint32_t, isReply bool) string {
 		return fmt.Sprint("refused ", fault)
 	}
 	must(ending == C.TUFAYON_DONE, "no request, or no memory")
-	line := map[bool]string{true: "taken", false: "sent"}[isReply]
+	line := "sent"
+	switch asked {
+	case "reply":
+		line = "taken"
+	case "lose":
+		line = "lost"
+	}
 	if written > 0 {
 		line += " " + hex.EncodeToString(frame[:written])
 	}
@@ -97,7 +106,8 @@ func main() {
 	openStore(os.Args[1])
 	record := load()
 	ending := C.made(in(config), size(config), in(record), size(record), &held)
-	must(ending == C.TUFAYON_DONE, "no record of this orchestrator, or no session is left")
+	must(ending != C.TUFAYON_NODE_IN_USE, "a volume may be attached at a node that CONFIG leaves out")
+	must(ending == C.TUFAYON_DONE, "no record of an orchestrator, or no session is left")
 	commit("") // its session, before any frame is sent
 	fmt.Println(wanted())
 	for lines := bufio.NewScanner(os.Stdin); lines.Scan(); {
@@ -106,7 +116,7 @@ func main() {
 		if ending != C.TUFAYON_REFUSED {
 			commit("")
 		}
-		fmt.Println(answer(ending, words[0] == "reply"))
+		fmt.Println(answer(ending, words[0]))
 	}
 	closeStore()
 }

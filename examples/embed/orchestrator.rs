@@ -38,6 +38,10 @@ fn ask(of: &mut Plugin, words: &[&str], told: &mut Told) -> u32 {
                 tufayon_stop(of, name, size, node.as_ptr(), node.len(), target.as_ptr(), target.len(), frame, FRAME_ROOM, written, fault)
             }
             ("delete", _) => tufayon_delete(of, name, size, frame, FRAME_ROOM, written, fault),
+            ("lose", _) => {
+                *written = 0;
+                tufayon_orchestrator_lose(of, name, size, fault)
+            }
             ("timeout", _) => tufayon_timeout(of, name, size, frame, FRAME_ROOM, written, fault),
             ("reply", _) => {
                 let came = hex(words[1]);
@@ -48,9 +52,9 @@ fn ask(of: &mut Plugin, words: &[&str], told: &mut Told) -> u32 {
     }
 }
 
-fn answer(ending: u32, is_reply: bool, told: &Told) -> String {
+fn answer(ending: u32, asked: &str, told: &Told) -> String {
     let mut line = match ending {
-        DONE => if is_reply { "taken" } else { "sent" }.to_string(),
+        DONE => match asked { "reply" => "taken", "lose" => "lost", _ => "sent" }.to_string(),
         MET => "met".to_string(),
         IGNORED => "ignored".to_string(),
         REFUSED => format!("refused {}", told.fault),
@@ -88,7 +92,8 @@ fn main() {
     let ending = unsafe {
         if count == 0 { tufayon_orchestrator_new(bytes, size, &mut held) } else { tufayon_orchestrator_from_record(bytes, size, at, count, &mut held) }
     };
-    assert!(ending == DONE, "no record of this orchestrator, or no session is left: {ending}");
+    assert!(ending != NODE_IN_USE, "a volume may be attached at a node that CONFIG leaves out");
+    assert!(ending == DONE, "no record of an orchestrator, or no session is left: {ending}");
     store::commit(&store, &mut held, ""); // its session, before any frame is sent
     tell(&wanted(&mut held));
     let mut told = Told { frame: [0; FRAME_ROOM], written: 0, fault: 0 };
@@ -97,7 +102,7 @@ fn main() {
         let asked: Vec<&str> = line.split(' ').collect();
         let ending = ask(&mut held, &asked, &mut told);
         if ending != REFUSED { store::commit(&store, &mut held, "") }
-        tell(&answer(ending, asked[0] == "reply", &told));
+        tell(&answer(ending, asked[0], &told));
     }
     store::close(store, held);
 }

@@ -23,6 +23,7 @@ pub const OTHER_KIND: u32 = 13;
 pub const MET: u32 = 14;
 pub const IGNORED: u32 = 15;
 pub const EARLIER_SESSION: u32 = 16;
+pub const NODE_IN_USE: u32 = 17;
 
 // A plugin, an orchestrator, or nothing.
 #[repr(C)]
@@ -58,6 +59,7 @@ unsafe extern "C" {
         fault: *mut u32) -> u32;
     pub fn tufayon_deliver(orchestrator: *mut Plugin, came: *const u8, came_size: usize, used: *mut usize, frame: *mut u8, frame_room: usize,
         written: *mut usize, fault: *mut u32) -> u32;
+    pub fn tufayon_orchestrator_lose(orchestrator: *mut Plugin, node: *const u8, node_size: usize, fault: *mut u32) -> u32;
     pub fn tufayon_exists(orchestrator: *mut Plugin, name: *const u8, name_size: usize, known: *mut u32) -> u32;
     pub fn tufayon_attached(orchestrator: *mut Plugin, name: *const u8, name_size: usize, node: *const u8, node_size: usize, known: *mut u32) -> u32;
     pub fn tufayon_staged(orchestrator: *mut Plugin, name: *const u8, name_size: usize, node: *const u8, node_size: usize, known: *mut u32) -> u32;

@@ -234,8 +234,8 @@ def put(system, line):
         raise Bad("an id stands there twice")
 
 
-def system_of(lines):
-    """The system that these lines tell, each behind its place."""
+def system_of(lines, absent=()):
+    """The system that these lines tell, each behind its place, where no node of these ids is there."""
     system = System()
     for place, line in lines:
         try:
@@ -245,6 +245,9 @@ def system_of(lines):
     if system.controller is None:
         raise Bad("there is no line of the controller")
     for node in system.listed:
-        if node not in system.nodes:
+        if node not in system.nodes and node not in absent:
             raise Bad(f"there is no line of the node {json.dumps(node)}, which the orchestrator lists")
+    for node in absent:
+        if node in system.nodes:
+            raise Bad(f"there is a line of the node {json.dumps(node)}, which isn't there")
     return system

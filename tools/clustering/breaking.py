@@ -6,6 +6,7 @@ import shutil
 from program.frames import number, reply
 
 from .cluster import CONTROLLER
+from .parts import Plugin
 from .reading import read
 
 DOES = ("CreateVolume", "ControllerPublishVolume", "NodeStageVolume", "NodePublishVolume")
@@ -27,7 +28,7 @@ def calls_under_way(cluster):
 class Breaks:
     def __init__(self, cluster, drawn):
         self.cluster, self.drawn = cluster, drawn
-        self.copies = {}  # of a part: its store, as it was once
+        self.copies = {}  # of a part's store: that, as it was once
         self.changed = False
 
     def made_up_reply(self):
@@ -84,16 +85,18 @@ class Breaks:
         if not self.copies:
             for name in cluster.plugins():
                 cluster.end(name)
-                self.copies[name] = shutil.copy(cluster.parts[name].at(""), cluster.parts[name].at(".older"))
+                self.copies[cluster.parts[name].store] = shutil.copy(cluster.parts[name].at(""), cluster.parts[name].at(".older"))
                 cluster.start(name)
             return
-        name = self.drawn.choice(cluster.plugins())
-        self.replace_store(name, lambda: shutil.copy(self.copies[name], cluster.parts[name].at("")))
+        part = self.drawn.choice([part for name in cluster.plugins() if (part := cluster.parts[name]).store in self.copies])
+        self.replace_store(part.name, lambda: shutil.copy(self.copies[part.store], part.at("")))
 
     def new_store(self):
         """A node is started again with a new store, which has heard of no session."""
-        name = self.drawn.choice([it for it in self.cluster.plugins() if it != CONTROLLER])
-        self.replace_store(name, lambda: None)
+        name = self.node(lambda name: True)
+        if name:
+            del self.cluster.parts[name].words[3:]
+            self.replace_store(name, lambda: None)
 
     def replace_store(self, name, put):
         """A plugin's store is taken away, and perhaps another put there."""
@@ -108,5 +111,57 @@ class Breaks:
         self.changed = part.record() != before
         cluster.start(name)
 
+    # ---- nodes that are lost
 
-NAMES = ("made_up_reply", "later_number", "other_node", "older_store", "new_store")
+    def node(self, is_fit):
+        """Some node that is there, and of which this is so; or None."""
+        fit = [f"node:{it}" for it in self.cluster.nodes() if is_fit(f"node:{it}")]
+        return self.drawn.choice(fit) if fit else None
+
+    def is_in_use(self, name):
+        """Whether something is staged at a node."""
+        return any(it["staged"] for it in json.loads(self.cluster.parts[name].record())["volumes"])
+
+    def waits_for(self, name):
+        """Calls to a node that never arrived, by which something is done."""
+        return [it for it in calls_under_way(self.cluster) if (call := read(self.cluster.history.frame(it))).plugin == name and call.kind in DOES]
+
+    def lost_node_goes_on(self):
+        """A node is declared lost, and its machine is on: what is staged there stays so, or a call comes that stages it."""
+        cluster = self.cluster
+        if name := self.node(lambda name: self.is_in_use(name) or self.waits_for(name)):
+            part, calls = cluster.parts[name], self.waits_for(name)
+            cluster.tell({"lose": name.partition(":")[2]})
+            for call in calls:
+                cluster.deliver(call)
+            self.changed = self.is_in_use(part.name)
+
+    def lost_store(self):
+        """A lost node's machine is on again, with its old store, and nobody says the session of its joining."""
+        cluster = self.cluster
+        if name := self.node(self.is_in_use):
+            node, part = name.partition(":")[2], cluster.parts[name]
+            cluster.kill(name)
+            part.is_dead = True
+            cluster.tell({"lose": node})
+            cluster.parts[name] = Plugin(cluster.program, cluster.folder, name, "node", part.store, node)
+            cluster.start(name)
+            for watcher in cluster.watchers:
+                watcher.joined(name, json.loads(cluster.parts[name].record())["session"])
+            self.changed = True
+
+    def earlier_word(self):
+        """A node of an id that was lost joins, and is told an earlier session, or none. A call that is under way to the lost one comes."""
+        cluster = self.cluster
+        if name := self.node(self.waits_for):
+            calls, node = self.waits_for(name), name.partition(":")[2]
+            cluster.kill(name)
+            cluster.parts[name].is_dead = True
+            cluster.tell({"lose": node})
+            self.changed = True
+            cluster.join(node, self.drawn.choice((0, cluster.session - 1)))
+            for call in calls:
+                cluster.deliver(call)
+
+
+NAMES = ("made_up_reply", "later_number", "other_node", "older_store", "new_store", "lost_node_goes_on", "lost_store", "earlier_word")

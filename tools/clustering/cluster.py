@@ -1,7 +1,7 @@
-"""A system in processes, and what may happen to it: commands, timeouts, deliveries, and parts that end, are killed, stopped and let go.
+"""A system in processes, and what may happen to it: commands, timeouts, deliveries, parts that end, are killed, stopped and let go, nodes that join and
+are lost, other lists of nodes and other configurations.
 
-Each is an event of the history, taken down once its answer came. An event that the programs get (a node that joins, one that is lost, another
-configuration) is one more such method, beside `restart`: parts are a dictionary, of which nothing here but the first two keys is fixed.
+Each is an event of the history, taken down once its answer came.
 """
 import json
 
@@ -10,6 +10,7 @@ from .parts import Found, Orchestrator, Plugin, wait
 from .reading import read
 
 ORCHESTRATOR, CONTROLLER = "orchestrator", "controller"
+OLD_STORE = (1, "csi-replay: store of an earlier session")
 
 
 def numbers_of(items):
@@ -25,16 +26,19 @@ class Cluster:
         self.goals = {}  # by name: what is wanted, as the orchestrator said it last
         self.session, self.last_number = 0, (0, 0)
         self.numbers = {}  # of each call that was given out: its frame's number
-        self.watchers = []  # each is told of every reply of a plugin
-        with open(f"{folder}/config", "w", encoding="utf-8") as file:
-            json.dump(config, file)
+        self.watchers = []
+        self.listed = [it["id"] for it in config["nodes"]]  # by the orchestrator
+        self.ever_listed = set(self.listed)
+        self.config = config  # the controller's
+        self.next_listed, self.next_config = self.listed, config  # with which they are started the next time
         self.parts = {
-            ORCHESTRATOR: Orchestrator(program, folder, ORCHESTRATOR, "orchestrator", "orchestrator.db", "config"),
+            ORCHESTRATOR: Orchestrator(program, folder, ORCHESTRATOR, "orchestrator", "orchestrator.db", "nodes"),
             CONTROLLER: Plugin(program, folder, CONTROLLER, "controller", "controller.db", "config"),
         }
-        for at, node in enumerate(config["nodes"], 1):
-            name = f"node:{node['id']}"
-            self.parts[name] = Plugin(program, folder, name, "node", f"node{at}.db", node["id"])
+        self.stores = 0  # how many nodes there were
+        self.lost_stores = {}  # of a node that was lost: its store, which must never come back
+        for node in self.listed:
+            self.add_node(node)
         self.since_start = set()  # the plugins that were started once
 
     @property
@@ -42,48 +46,115 @@ class Cluster:
         return self.parts[ORCHESTRATOR]
 
     def plugins(self):
-        return [name for name in self.parts if name != ORCHESTRATOR]
+        """Those that aren't dead."""
+        return [name for name, part in self.parts.items() if name != ORCHESTRATOR and not part.is_dead]
+
+    def nodes(self):
+        """The ids of the nodes that are there and aren't dead."""
+        return [name.partition(":")[2] for name in self.plugins() if name != CONTROLLER]
+
+    def add_node(self, node, *session):
+        self.stores += 1
+        name = f"node:{node}"
+        self.parts[name] = Plugin(self.program, self.folder, name, "node", f"node{self.stores}.db", node, *session)
+        return name
 
     # ---- starting, ending
 
-    def start(self, name):
-        """Starts a part that is down; a part that ran before has restarted."""
-        part = self.parts[name]
-        part.start()
+    def put(self, name, config):
+        with open(f"{self.folder}/{name}", "w", encoding="utf-8") as file:
+            json.dump(config, file)
+
+    def launch(self, name):
+        """Starts a part with what is its next list, or configuration. A program may read that late, so its file stays until it is started again."""
         if name == ORCHESTRATOR:
-            self.begin(part.take())
-        else:
-            if name in self.since_start:
-                self.restarted(name)
-                for watcher in self.watchers:
-                    watcher.started(name, json.loads(part.record()))
-            else:  # it opens its store, and ends, so that there is one from now on
-                part.end()
-                part.start()
-            self.since_start.add(name)
+            self.put("nodes", {"greatest": 1, "nodes": [{"id": node, "slots": 0} for node in self.next_listed]})
+        elif name == CONTROLLER:
+            self.put("config", self.next_config)
+        self.parts[name].start()
+
+    def start(self, name):
+        """Starts a part that is down; a part that ran before has restarted. Another configuration changes nothing of what the controller has."""
+        part = self.parts[name]
+        if name == ORCHESTRATOR:
+            return self.start_orchestrator()
+        if name not in self.since_start:  # it opens its store, and ends, so that there is one from now on
+            self.launch(name)
+            part.end()
+            part.start()
+            return self.since_start.add(name)
+        is_other = name == CONTROLLER and self.next_config != self.config
+        before = part.record() if is_other else None
+        self.launch(name)
+        self.restarted(name)
+        if is_other and (after := part.record()) != before:
+            raise Found(f"the record of {name} was changed by another configuration: {before.decode()} became {after.decode()}")
+        if part.was_killed:
+            part.was_killed = False
+            for watcher in self.watchers:
+                watcher.started(name, json.loads(part.record()))
 
     def restarted(self, name):
         kind, _, node = name.partition(":")
+        if name == CONTROLLER and self.next_config != self.config:
+            self.config = self.next_config
+            return self.history.happened({"restart_controller": self.config}, "restarted")
         self.history.happened({"restart_node": node} if node else {"restart": kind}, "restarted")
 
+    def start_orchestrator(self):
+        """Starts it with its next list; where that is refused, since a node that it leaves out is in use, with the one that it had."""
+        before = self.orchestrator.record() if self.next_listed != self.listed else None
+        is_refused = before is not None and self.leaves_out_used(json.loads(before))
+        self.launch(ORCHESTRATOR)
+        first = self.orchestrator.first()
+        if (first is None) != is_refused:
+            raise Found(f"the orchestrator was started with {self.next_listed}, and says {first or 'node in use'}; its record was {before}")
+        if first:
+            return self.begin(first)
+        if self.orchestrator.record() != before:
+            raise Found("the record of the orchestrator was changed, though it was refused to open it")
+        self.history.happened({"restart_orchestrator": self.next_listed}, "refused 17 NodeInUse")
+        self.next_listed = self.listed
+        self.start_orchestrator()
+
+    def leaves_out_used(self, record):
+        """Whether a volume may be attached at a node that is listed, and isn't any more."""
+        used = {at["node"] for volume in record["volumes"] for at in volume["at"] if at["attached"] != "no"}
+        return any(node in used and node not in self.next_listed for node in record["nodes"])
+
     def begin(self, first):
-        """The orchestrator's first line. Each session since the last one that was seen is a restart: one that was killed may have begun it."""
-        if not first["session"] > self.session:
-            raise Found(f"the orchestrator begins session {first['session']} after session {self.session}")
-        for _ in range(max(self.session, 1), first["session"]):
-            self.restarted(ORCHESTRATOR)
-        self.session = first["session"]
+        """The orchestrator's first line."""
+        if self.session:
+            self.began()
+        else:
+            self.session = 1
         record = json.loads(self.orchestrator.record())
-        self.goals = {volume["name"]: volume["goal"] for volume in record["volumes"]}
-        wanted = sorted((name for name, goal in self.goals.items() if goal), key=str.encode)
-        if (record["session"], wanted) != (self.session, first["wanted"]):
-            raise Found(f"the orchestrator's first line is {first}, and its record says session {record['session']}, wanted {wanted}")
+        goals, wanted = {volume["name"]: volume["goal"] for volume in record["volumes"]}, self.wanted()
+        right = {"session": self.session, "wanted": sorted(wanted, key=str.encode)}
+        if first != right or (record["session"], record["nodes"]) != (self.session, self.listed) or {it: goal for it, goal in goals.items() if goal} != wanted:
+            raise Found(f"the orchestrator's first line is {first}, and should be {right}, with {self.listed}; its record is {record}, and wanted is {wanted}")
+        self.goals = goals
+        for watcher in self.watchers:
+            watcher.began(record)
+
+    def began(self):
+        """The orchestrator began a session, with its next list."""
+        is_same = self.listed == self.next_listed
+        self.history.happened({"restart": ORCHESTRATOR} if is_same else {"restart_orchestrator": self.next_listed}, "restarted")
+        self.listed = self.next_listed
+        self.ever_listed |= set(self.listed)
+        self.session += 1
+
+    def wanted(self):
+        """What is wanted, by name."""
+        return {name: goal for name, goal in self.goals.items() if goal}
 
     def start_all(self):
-        for name, part in self.parts.items():
+        for name, part in list(self.parts.items()):
             if part.is_asleep:
                 self.wake(name)
-            if not part.is_up:
+        for name, part in list(self.parts.items()):
+            if not part.is_up and not part.is_dead:
                 self.start(name)
 
     def restart(self, name):
@@ -99,6 +170,52 @@ class Cluster:
         for part in self.parts.values():
             if part.is_up:
                 part.kill()
+
+    # ---- nodes that join and are lost
+
+    def join(self, node, word=None):
+        """A node comes, with a new store; the word is the session of its joining. An id that was never listed needs none."""
+        right = self.session if node in self.ever_listed else 0
+        if node in self.lost_stores:
+            self.refuse_old(node)
+        word = right if word is None else word
+        name = self.add_node(node, *([str(word)] if word else []))
+        self.start(name)
+        self.history.happened({"join": node}, "joined")
+        for watcher in self.watchers:
+            watcher.joined(name, right)
+
+    def refuse_old(self, node):
+        """A lost node's store isn't a joining node's: that is refused, and its record stays. (The log may be put back.)"""
+        old = Plugin(self.program, self.folder, f"node:{node}", "node", self.lost_stores[node], node, str(self.session))
+        before = old.record()
+        old.start()
+        old.process.stdin.close()
+        ended = old.ended()
+        if (ended.status, ended.line) != OLD_STORE or old.close() or old.record() != before:
+            raise Found(f"over the store of a lost node: {ended}, or it was changed")
+
+    def given_up(self, node, answer):
+        """The orchestrator was told that a node is lost: a session began without it, and a use there is its stop. Of one that is neither listed nor there
+        it can't know that: to it that is one more session, as after a restart."""
+        self.session += 1
+        if answer != (right := {"node": node, "outcome": "lost", "session": self.session}):
+            raise Found(f"the orchestrator answers {answer} to the loss of {node!r}, and should answer {right}")
+        name = f"node:{node}"
+        is_there = node in self.listed or name in self.parts
+        self.history.happened(*(({"lose": node}, "lost") if is_there else ({"restart": ORCHESTRATOR}, "restarted")))
+        self.listed = [it for it in self.listed if it != node]
+        self.next_listed = [it for it in self.next_listed if it != node]
+        for other, goal in self.goals.items():
+            if goal and (use := goal.get("use")) and use["node"] == node:
+                self.goals[other] = {"stop": {"name": other, "node": node, "target": use["target"]}}
+        if name in self.parts and self.parts[name].is_dead:
+            self.lost_stores[node] = self.parts.pop(name).store
+            self.since_start.discard(name)
+            self.history.lost(name)
+            for watcher in self.watchers:
+                watcher.lost(name)
+        return answer
 
     # ---- what is given to a part: events to the orchestrator, numbers of calls to a plugin
 
@@ -130,10 +247,12 @@ class Cluster:
     def deliver(self, number):
         """Delivers a frame, once more or for the first time."""
         name = self.target_of(number)
+        if name not in self.parts:
+            return self.history.happened({"deliver": number}, "no such node")
         return self.tell({"deliver": number}) if name == ORCHESTRATOR else self.give(name, [number])[0]
 
     def target_of(self, number):
-        """The part that a frame goes to."""
+        """The part that a frame goes to, which may not be there."""
         frame = read(self.history.frame(number))
         return ORCHESTRATOR if frame.is_reply else frame.plugin
 
@@ -141,6 +260,8 @@ class Cluster:
 
     def hear(self, event, answer):
         """Takes down what the orchestrator answered."""
+        if "lose" in event:
+            return self.given_up(event["lose"], answer)
         if "outcome" not in answer:
             raise Found(f"the orchestrator answers {answer} to {event}")
         outcome = answer["outcome"]
@@ -228,14 +349,30 @@ class Cluster:
             del left[0]
         return numbers_of(left)
 
+    def kill_starting(self, name, seconds, after_log=None):
+        """Starts a part that is down, and kills it so long after that, or after it wrote its log. The orchestrator may have begun a session by then, and only
+        its store tells."""
+        part, written = self.parts[name], self.parts[name].log_state()
+        self.launch(name)
+        wait(seconds, lambda: after_log is not None and part.log_state() != written)
+        wait(after_log or 0)
+        part.kill()
+        if name == ORCHESTRATOR and json.loads(self.orchestrator.record())["session"] > self.session:
+            self.began()
+
     def was_told(self, event):
         """Whether the orchestrator carried out an event, to which nobody has its answer; then it is taken down. Where its record is what it was,
         the event may as well not have come."""
-        before, after = (json.loads(it)["volumes"] for it in (self.orchestrator.before, self.orchestrator.record()))
-        changed = [it for it in after if it not in before]
+        before, after = (json.loads(it) for it in (self.orchestrator.before, self.orchestrator.record()))
+        if "lose" in event:
+            if after["session"] > before["session"]:
+                self.given_up(event["lose"], {"node": event["lose"], "outcome": "lost", "session": after["session"]})
+            return after["session"] > before["session"]
+        changed = [it for it in after["volumes"] if it not in before["volumes"]]
         if not changed:
             return False
         goal, is_reply = changed[0]["goal"], "deliver" in event
+        self.goals[changed[0]["name"]] = goal
         sent = None if is_reply and goal is None else self.history.sent(None)
         self.history.happened(event, f"sent {sent}" if not is_reply else f"taken, sent {sent}" if sent else "taken")
         return True
@@ -246,6 +383,7 @@ class Cluster:
         rows = [it for it in record["volumes"] if (it["name"] == call.name if call.name else it["id"] == call.volume)]
         is_last = any((it["last"]["session"], it["last"]["call"]) == call.number for it in rows)
         heard = max((read(self.history.frame(it)).number[0] for it in self.history.delivered.get(name, ())), default=0)
+        heard = max(heard, *map(int, self.parts[name].words[3:]), 0)
         if not is_last and not heard < call.number[0] <= record["session"]:
             return False
         for watcher in self.watchers:

@@ -8,9 +8,10 @@ MOST = 2**63 - 1
 WINDOW = 8  # how many names are in use at a time
 
 
-def configuration(drawn):
-    """A controller of a few nodes, some with few slots."""
-    names = [f"n{at}" for at in range(1, drawn.randint(2, 5))] + [ODD_NODE] * drawn.randint(0, 1)
+def configuration(drawn, names=None):
+    """A controller of these nodes, or of a few, some with few slots."""
+    if names is None:
+        names = [f"n{at}" for at in range(1, drawn.randint(2, 5))] + [ODD_NODE] * drawn.randint(0, 1)
     nodes = [{"id": name, "slots": drawn.choice((1, 2, 4096))} for name in names]
     return {"greatest": drawn.choice((500, 2**40, MOST)), "nodes": nodes}
 
@@ -25,12 +26,11 @@ def capability(drawn, mode=None):
 class Commands:
     """Keeps the names in use, and what was asked of each, so that what is drawn has a chance."""
 
-    def __init__(self, drawn, config, goals):
-        """`goals` tells what is wanted of each name."""
-        self.drawn, self.goals = drawn, goals
-        self.nodes = [it["id"] for it in config["nodes"]]
-        self.greatest = config["greatest"]
-        self.count = 0
+    def __init__(self, drawn, nodes, goals):
+        """`nodes` tells those that the orchestrator lists, and `goals` what is wanted of each name."""
+        self.drawn, self.nodes, self.goals = drawn, nodes, goals
+        self.count = self.again = 0
+        self.ended = set()  # the names that were to be deleted: one that is created once more was forgotten
         self.made = {}  # by name: the capabilities that it was created with
         self.uses = {}  # by name: what was used
         self.window = [self.new_name() for _ in range(WINDOW)]
@@ -56,7 +56,7 @@ class Commands:
 
     def any_of(self, name):
         """Whatever comes, whether or not it can be."""
-        other = {"name": name, "node": self.drawn.choice([*self.nodes, "nowhere"]), "target": self.drawn.choice(TARGETS)}
+        other = {"name": name, "node": self.drawn.choice([*self.nodes(), "nowhere"]), "target": self.drawn.choice(TARGETS)}
         return self.drawn.choice((self.create, self.use, self.delete, lambda it: self.stop(it, other)))(name)
 
     def create(self, name):
@@ -74,7 +74,7 @@ class Commands:
         chosen = drawn.choice(made) if made and drawn.random() < 0.9 else capability(drawn)
         if like and drawn.random() < 0.7:
             chosen = like["capability"]
-        node = drawn.choice(self.nodes) if drawn.random() < 0.95 else "nowhere"
+        node = drawn.choice(self.nodes() or ["nowhere"]) if drawn.random() < 0.95 else "nowhere"
         if like and (drawn.random() < 0.5 or like["capability"]["mode"] in FOR_ONE_NODE):
             node = like["node"]
         target = drawn.choice(TARGETS[:-1]) if drawn.random() < 0.95 else TARGETS[-1]
@@ -87,22 +87,26 @@ class Commands:
         return {"delete": name}
 
     def learn(self, record):
-        """What the orchestrator knows now; a name whose volume was deleted goes out of use, or is tried once more."""
+        """What the orchestrator knows now; a name whose volume was deleted goes out of use, or is tried once more. What a lost node left can be stopped by
+        any target."""
+        self.made, self.uses = {}, {}
         for volume in record["volumes"]:
             name = volume["name"]
-            self.made.pop(name, None)
             if volume["exists"] == "yes" or volume["id"] is not None and volume["exists"] == "maybe":
                 self.made[name] = volume["capabilities"]
             self.uses[name] = [
-                {"name": name, "node": at["node"], "target": it["target"], "capability": at["capability"]} for at in volume["at"] for it in at["published"]
+                {"name": name, "node": at["node"], "target": target, "capability": at["capability"]}
+                for at in volume["at"]
+                for target in [it["target"] for it in at["published"]] or [self.drawn.choice(TARGETS)]
             ]
-            if volume["exists"] == "no" and name in self.window and self.drawn.random() < 0.7:
+            if volume["exists"] == "no" and name in self.window and self.drawn.random() < 0.3:
                 self.window[self.window.index(name)] = self.new_name()
 
     def accepted(self, event):
         """A command had a call sent."""
         if "create" in event:
             self.made[event["create"]["name"]] = event["create"]["capabilities"]
+            self.again += event["create"]["name"] in self.ended
         elif "use" in event:
             self.uses.setdefault(event["use"]["name"], []).append(event["use"])
         elif "stop" in event:
@@ -111,3 +115,4 @@ class Commands:
             self.uses[stopped["name"]] = [it for it in uses if (it["node"], it["target"]) != (stopped["node"], stopped["target"])]
         else:
             self.made.pop(event["delete"], None)
+            self.ended.add(event["delete"])

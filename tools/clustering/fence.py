@@ -9,8 +9,8 @@ from .reading import read
 class Fence:
     """Keeps what came to a plugin. Calls of earlier sessions are all stale, so only those of its session are kept."""
 
-    def __init__(self):
-        self.session = 0
+    def __init__(self, session=0):
+        self.session = session
         self.last = {}  # by id: the number of its last call that passed, and the reply, or None where nobody has that
         self.ids = {}  # by name: the id that the controller gave
         self.unsure = set()  # names of which a CreateVolume was carried out, and nobody has the reply

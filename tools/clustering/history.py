@@ -25,6 +25,7 @@ class History:
         self.frames = []  # by number, from 1
         self.replies = {}  # of a call's number: the first reply to it
         self.delivered = {}  # of a plugin: the numbers of the calls that it got, each once
+        self.former = {}  # of a plugin: those that lost nodes of its id got
         self.events = []
         self.outcomes = []
         self.unheard = 0
@@ -50,6 +51,10 @@ class History:
         answer = self.sent(reply)
         self.happened({"deliver": number}, f"answered {answer}")
         return answer
+
+    def lost(self, plugin):
+        """A plugin is no more."""
+        self.former.setdefault(plugin, []).extend(self.delivered.pop(plugin, ()))
 
     def schedule(self):
         """One event a line."""

@@ -17,14 +17,22 @@ class Found(Exception):
     """What isn't as the documents say."""
 
 
-class Part:
-    """A program over its store, in a folder. It is down, or it runs, or it was stopped (`is_asleep`)."""
+class Ended(Found):
+    """A program ended by itself: its status, and what it said on standard error."""
 
-    def __init__(self, program, folder, name, subcommand, store, word):
+    def __init__(self, name, status, line):
+        super().__init__(f"{name} ended: status {status}, {line or 'and nothing on standard error'}")
+        self.status, self.line = status, line
+
+
+class Part:
+    """A program over its store, in a folder. It is down, or it runs, or it was stopped (`is_asleep`), or it was killed for good (`is_dead`)."""
+
+    def __init__(self, program, folder, name, subcommand, store, *words):
         self.program, self.folder, self.name, self.store = program, folder, name, store
-        self.words = [subcommand, store, word]
+        self.words = [subcommand, store, *words]
         self.process = None
-        self.is_asleep = False
+        self.is_asleep = self.is_dead = self.was_killed = False
         self.came = b""  # what it said that was not taken yet
         self.given = []  # what it was given while it was asleep, or before that, and hasn't answered
 
@@ -36,7 +44,7 @@ class Part:
         return f"{self.folder}/{self.store}{end}"
 
     def start(self):
-        with open(self.at(".error"), "ab") as error:
+        with open(self.at(".error"), "wb") as error:
             pipes = {"stdin": subprocess.PIPE, "stdout": subprocess.PIPE, "stderr": error}
             self.process = subprocess.Popen([self.program, *self.words], cwd=self.folder, env={}, bufsize=0, **pipes)
         self.came, self.given, self.is_asleep = b"", [], False
@@ -55,14 +63,14 @@ class Part:
             raise Found(f"{self.name} says nothing for {LIMIT} seconds")
         piece = os.read(out.fileno(), 65_536)
         if not piece:
-            raise Found(f"{self.name} ended: {self.ended()}")
+            raise self.ended()
         self.came += piece
 
     def ended(self):
-        """How it ended, in words."""
+        """How it ended."""
         status = self.process.wait(LIMIT)
         with open(self.at(".error"), encoding="utf-8", errors="replace") as error:
-            return f"status {status}, {error.read()[-200:].strip() or 'and nothing on standard error'}"
+            return Ended(self.name, status, error.read()[-200:].strip())
 
     def close(self):
         """All that it said and that was not taken; its pipes are closed."""
@@ -74,6 +82,7 @@ class Part:
         return rest
 
     def kill(self):
+        self.was_killed = True
         self.process.kill()
         return self.close()
 
@@ -82,7 +91,7 @@ class Part:
         self.process.stdin.close()
         said = self.came + self.process.stdout.read()
         if self.process.wait(LIMIT) or said:
-            raise Found(f"{self.name} ended, and said {said[:100]!r}: {self.ended()}")
+            raise Found(f"{self.ended()}, and it said {said[:100]!r}")
         self.close()
 
     def sleep(self):
@@ -153,6 +162,16 @@ class Orchestrator(Part):
     def killed(self):
         """Kills it: the whole answers that nobody took."""
         return [json.loads(line) for line in self.kill().split(b"\n")[:-1]]
+
+    def first(self):
+        """Its first line, or None where it ended since a node that it isn't started with any more is in use."""
+        try:
+            return self.take()
+        except Ended as ended:
+            if (ended.status, ended.line) != (1, "csi-replay: node in use"):
+                raise
+            self.close()
+            return None
 
 
 def wait(seconds, is_over=lambda: False):

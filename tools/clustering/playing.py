@@ -4,13 +4,14 @@ import random
 from dataclasses import dataclass
 
 from .breaking import Breaks
-from .cluster import ORCHESTRATOR, Cluster, numbers_of
+from .changing import Changes
+from .cluster import CONTROLLER, ORCHESTRATOR, Cluster, numbers_of
 from .drawing import Commands, configuration
-from .parts import Found, wait
+from .parts import Found
 from .reading import read
 from .watching import Watch
 
-AUDIT_EVERY, BROKEN_EVERY = 200, 50  # turns between audits, and where something is broken, which may mend itself
+AUDIT_EVERY, BROKEN_EVERY = 200, 20  # turns between audits, and where something is broken, which may mend itself
 BREAK_EVERY = 10  # a break is tried so often, from the first audit on, until one changed something
 MOST_GIVEN = 8  # what a part that is asleep is given at most, so that its pipe has room
 NONSENSE = ((b"no JSON", "NotJson"), (b'{"delete":1}', "BadLine"), (b'{"reply":"00"}', "BadFrame"), (b'{"restart":"controller"}', "BadLine"))
@@ -24,6 +25,11 @@ class Counts:
     events: int = 0  # those of the schedule, of which a turn may give none or several
     frames: int = 0
     kills: int = 0  # a turn gives none or one, and two where a part is killed as it starts
+    losses: int = 0  # of nodes, of which each is killed once more
+    joins: int = 0
+    lists: int = 0  # with which the orchestrator was started, or that were refused
+    configurations: int = 0
+    names_again: int = 0  # that were created again after their volumes were deleted
     unheard: int = 0  # what a process did, and was killed before it said so
     audits: int = 0
     repeats: int = 0
@@ -37,14 +43,15 @@ class Run:
         config = configuration(drawn)
         self.folder = folder
         self.cluster = Cluster(program, folder, config)
-        self.commands = Commands(drawn, config, lambda: self.cluster.goals)
+        self.commands = Commands(drawn, lambda: self.cluster.listed, lambda: self.cluster.goals)
         self.watch = Watch(self.cluster, drawn)
-        self.cluster.watchers.append(self.watch)
         self.turns, self.audit_every = turns, BROKEN_EVERY if broken else AUDIT_EVERY
         self.kills = set(drawn.sample(range(turns), min(kills, turns)))
         self.break_name, self.breaks = broken, Breaks(self.cluster, drawn)
         self.late = []  # frames that are delayed for long: when they come, and their numbers
         self.back = {}  # of parts that are down or asleep: when they are started, or let go
+        self.changes = Changes(self)
+        self.cluster.watchers += [self.watch, self.changes]
         self.counts = Counts()
 
     # ---- the whole run
@@ -56,6 +63,7 @@ class Run:
             for self.at in range(self.turns):
                 self.turn()
             self.rest()
+            self.changes.give_up_all()
             self.watch.settle()
             self.watch.at_rest()
             if not self.break_name:
@@ -75,6 +83,9 @@ class Run:
         self.counts.events, self.counts.frames = len(history.events), len(history.frames)
         self.counts.unheard = history.unheard
         self.counts.broken = int(self.breaks.changed)
+        self.counts.names_again = self.commands.again
+        for kind, name in (("lose", "losses"), ("join", "joins"), ("restart_orchestrator", "lists"), ("restart_controller", "configurations")):
+            setattr(self.counts, name, sum(kind in it for it in history.events))
         self.counts.audits, self.counts.repeats, self.counts.settled = watch.audits, watch.repeats, watch.settled
 
     def compare(self):
@@ -89,7 +100,7 @@ class Run:
             return str(found)
 
     def rest(self):
-        """All parts run, and none is asleep."""
+        """All parts run but those that are dead, and none is asleep."""
         self.cluster.start_all()
         self.back = {}
 
@@ -107,6 +118,8 @@ class Run:
         if self.break_name and not self.breaks.changed and self.at > AUDIT_EVERY and self.at % BREAK_EVERY == 0:
             self.rest()
             getattr(self.breaks, self.break_name)()
+        self.changes.give_up()
+        self.changes.send_again()
         self.action()()
 
     def action(self):
@@ -122,19 +135,20 @@ class Run:
             yield self.say_nonsense, 1
         if self.can_come():
             yield self.deliver, 60
-            yield self.lose, 4
+            yield self.drop, 4
             yield self.delay, 4
         if cluster.history.frames:
             yield self.repeat, 6
-        yield self.restart, 1
+        yield self.restart, 2
         yield self.put_to_sleep, 2
+        yield from self.changes.actions()
 
     # ---- the network
 
     def is_there(self, number):
-        """Whether a frame can be delivered now: its part is up, and hasn't too much to read."""
-        part = self.cluster.parts[self.cluster.target_of(number)]
-        return part.is_up and len(part.given) < MOST_GIVEN
+        """Whether a frame can be delivered now: its part is up, and hasn't too much to read; or it is of a node that isn't there, and gets lost."""
+        part = self.cluster.parts.get(self.cluster.target_of(number))
+        return part is None or part.is_up and len(part.given) < MOST_GIVEN
 
     def can_come(self):
         return [it for it in self.cluster.pending if self.is_there(it)]
@@ -150,6 +164,8 @@ class Run:
     def arrive(self, number):
         """A frame arrives, perhaps in one piece with others: those that are under way to the same part, and before them one that is no call of that plugin."""
         cluster, drawn, name = self.cluster, self.drawn, self.cluster.target_of(number)
+        if name not in cluster.parts:
+            return cluster.deliver(number)
         numbers = [number]
         if drawn.random() < 0.1 and len(cluster.parts[name].given) < MOST_GIVEN - 4:
             more = [it for it in cluster.pending if it != number and cluster.target_of(it) == name][:4]
@@ -169,7 +185,7 @@ class Run:
                 return frame
         return b""
 
-    def lose(self):
+    def drop(self):
         self.cluster.pending.remove(self.drawn.choice(self.can_come()))
 
     def delay(self):
@@ -206,16 +222,21 @@ class Run:
 
     # ---- parts
 
+    def is_idle(self, name):
+        """Whether a part runs, and isn't asleep."""
+        part = self.cluster.parts[name]
+        return part.is_up and not part.is_asleep
+
     def restart(self):
         """A part that is at rest ends well, and is started again."""
         name = self.drawn.choice(list(self.cluster.parts))
-        if name not in self.back:
+        if self.is_idle(name):
             self.cluster.restart(name)
 
     def put_to_sleep(self):
         """A part is stopped, at rest or while it carries something out."""
         name = self.drawn.choice(list(self.cluster.parts))
-        if name in self.back:
+        if not self.is_idle(name):
             return
         self.back[name] = self.at + self.drawn.randint(1, 40)
         given = self.given_to(name)
@@ -240,6 +261,8 @@ class Run:
     def given_to(self, name):
         """What a part is given next: of a plugin one to three calls that are under way, which aren't so any more; of the orchestrator an event."""
         cluster = self.cluster
+        if name == ORCHESTRATOR and (dead := self.changes.dead()) and self.drawn.random() < 0.5:
+            return [{"lose": self.drawn.choice(dead)}]
         came = [it for it in cluster.pending if cluster.target_of(it) == name]
         if name == ORCHESTRATOR:
             if not came or self.drawn.random() < 0.4:
@@ -265,8 +288,7 @@ class Run:
         if not running:
             return
         name, moment = drawn.choice(running), drawn.choice(MOMENTS)
-        part = cluster.parts[name]
-        if part.is_asleep:
+        if cluster.parts[name].is_asleep:
             left = cluster.kill(name)
         elif moment == "reading":
             given = self.given_to(name)
@@ -277,14 +299,14 @@ class Run:
         elif moment == "working":
             left = cluster.kill(name, self.given_to(name), seconds=self.moment())
         elif moment == "committing":
-            left = cluster.kill(name, self.given_to(name), seconds=0.005, after_log=drawn.uniform(0, 0.00004))
+            left = cluster.kill(name, self.given_to(name), seconds=0.02, after_log=drawn.uniform(0, 0.00004))
         else:
             left = cluster.kill(name, seconds=self.moment(), is_ending=moment == "ending")
         self.counts.kills += 1
         self.put_back(left)
+        if name not in (ORCHESTRATOR, CONTROLLER) and drawn.random() < 0.2:
+            return self.changes.died(name)
         if moment == "starting":
-            part.start()
-            wait(self.moment())
-            part.kill()
+            cluster.kill_starting(name, 0.1, drawn.choice((0, drawn.uniform(0, 0.0003), drawn.uniform(0, 0.005))))
             self.counts.kills += 1
         self.back[name] = self.at + drawn.randint(0, 30)

@@ -8,18 +8,21 @@ from .cluster import CONTROLLER, ORCHESTRATOR
 from .fence import Fence, stale
 from .parts import Found
 from .reading import read
+from .watcher import Watcher
 
 REPEATED = 4  # how many frames of each plugin are repeated at an audit
+FORMER = 2  # and of those that a lost node of its id got
 MOST = 12  # how many deliveries settle a volume
 
 
-class Watch:
+class Watch(Watcher):
     """Keeps what may never go back: sessions, the numbers of rows, ids."""
 
     def __init__(self, cluster, drawn):
         self.cluster, self.drawn = cluster, drawn
         self.sessions = {}  # of each part
         self.last = {}  # of a plugin, and an id: the number of its last call
+        self.rows = set()  # the names that the orchestrator has
         self.names = {}  # of an id: the name that it was given to
         self.gone = set()  # the ids of volumes that were deleted
         self.next_id = 1
@@ -34,10 +37,24 @@ class Watch:
             self.give_id(it.volume, call.name)
 
     def started(self, name, record):
-        """A plugin was started again over its store, which may say nothing older than before."""
+        """A plugin that was killed was started again over its store, which may say nothing older than before."""
         self.advance(name, record, self.cluster.session)
         if name == CONTROLLER:
             self.ids(record)
+
+    def began(self, record):
+        """The orchestrator began a session, over this record."""
+        self.advance(ORCHESTRATOR, record, record["session"])
+
+    def joined(self, name, session):
+        """A node joined, with a new store, and was told a session."""
+        self.sessions[name], self.fences[name] = session, Fence(session)
+
+    def lost(self, name):
+        """A node is no more, and one of its id that joins is another one."""
+        del self.fences[name]
+        self.sessions.pop(name, None)
+        self.last = {key: number for key, number in self.last.items() if key[0] != name}
 
     def give_id(self, volume, name):
         """An id is of one name, and of no volume once that was deleted."""
@@ -48,19 +65,23 @@ class Watch:
         """All parts are at rest: an audit; then frames are repeated, which changes no record."""
         lines = self.audit()
         for name, before in zip(self.cluster.parts, lines):
-            if name != ORCHESTRATOR:
+            if name in self.cluster.plugins():
                 self.repeat(name, self.cluster.parts[name], before)
 
     def audit(self):
-        """The records, which meet the five clauses, and don't go back."""
-        lines = self.cluster.lines()
+        """The records, which meet the five clauses, and don't go back. Of a node that is dead, and not given up, the store tells; of one that is listed, and
+        isn't there, there is none."""
+        lines, absent = self.cluster.lines(), [it for it in self.cluster.listed if f"node:{it}" not in self.cluster.parts]
         try:
-            system = system_of((name, line.rstrip(b"\n")) for name, line in zip(self.cluster.parts, lines))
+            system = system_of(((name, line.rstrip(b"\n")) for name, line in zip(self.cluster.parts, lines)), absent)
         except Bad as bad:
             raise Found(f"a record isn't as the documents say: {bad}") from None
         if violations := found(system):
             raise Found("; ".join(violations))
         values = dict(zip(self.cluster.parts, map(json.loads, lines)))
+        goals = {it["name"]: it["goal"] for it in values[ORCHESTRATOR]["volumes"] if it["goal"]}
+        if goals != self.cluster.wanted():
+            raise Found(f"by its record the orchestrator wants {goals}, and by its answers {self.cluster.wanted()}")
         for name, value in values.items():
             self.advance(name, value, values[ORCHESTRATOR]["session"])
         self.ids(values[CONTROLLER])
@@ -74,6 +95,9 @@ class Watch:
             raise Found(f"{name} had session {before} and has {now}, where the orchestrator has {session}")
         self.sessions[name] = now
         if name == ORCHESTRATOR:
+            names, self.rows = self.rows, {it["name"] for it in record["volumes"]}
+            if now == before and not names <= self.rows:
+                raise Found(f"the orchestrator has no rows of {names - self.rows} any more, and no session began")
             return
         rows = {it["id"]: (it["last"]["session"], it["last"]["call"]) for it in record["volumes"]}
         if gone := now == before and [volume for plugin, volume in self.last if plugin == name and volume not in rows]:
@@ -99,10 +123,11 @@ class Watch:
     # ---- frames that are repeated
 
     def repeat(self, name, part, before):
-        """Calls that a plugin got come again: the row's last one gets the same bytes, one with a lower number 10 `stale`. They change no record."""
+        """Calls that a plugin got come again: the row's last one gets the same bytes, one with a lower number 10 `stale`, and so does one that a lost node
+        of its id got. They change no record."""
         history, record, content = self.cluster.history, json.loads(before), part.content()
-        calls = list(history.delivered.get(name, ()))
-        chosen = set(self.drawn.sample(calls, min(REPEATED, len(calls)))) | set(calls[-2:])
+        calls, former = list(history.delivered.get(name, ())), history.former.get(name, [])
+        chosen = set(self.drawn.sample(calls, min(REPEATED, len(calls)))) | set(calls[-2:]) | set(self.drawn.sample(former, min(FORMER, len(former))))
         for number in sorted(chosen):
             right = self.right_of(name, number, record)
             if right is None:
@@ -132,7 +157,7 @@ class Watch:
 
     def settle(self):
         """Each volume of which something is wanted comes to rest: by one timeout, and at most twelve deliveries of what is sent from there on."""
-        for name in sorted(name for name, goal in self.cluster.goals.items() if goal):
+        for name in sorted(self.cluster.wanted()):
             self.settle_one(name)
             self.settled += 1
 

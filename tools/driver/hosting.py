@@ -34,12 +34,12 @@ def commands(first, count):
 class Host:
     """A host that runs, and the goals of its volumes, as its answers told them last."""
 
-    def __init__(self, box, over, deadline=10.0):
+    def __init__(self, box, over, deadline=10.0, nodes=("n1",)):
         self.config = {
             "store": box.at("orchestrator.db"),
             "config": box.at("config"),
             "controller": f"unix://{box.at('controller.d/csi.sock')}",
-            "nodes": {"n1": f"unix://{box.at('n1.d/csi.sock')}"},
+            "nodes": {node: f"unix://{box.at(f'{node}.d/csi.sock')}" for node in nodes},
             "staging": box.at("staging"),
             "deadline_seconds": deadline,
             "retry_seconds": 0.05,
@@ -61,23 +61,28 @@ class Host:
                     self.goals[told["name"]] = told["goal"]
                 self.changed.notify_all()
 
-    def ask(self, name, command):
-        """Gives a command, and waits until nothing is wanted of its volume any more."""
-        self.goals[name] = command
-        self.process.stdin.write(json.dumps(command).encode() + b"\n")
-        self.process.stdin.flush()
-        with self.changed:
-            if not self.changed.wait_for(lambda: self.goals[name] is None, LIMIT):
-                raise Wrong(f"{command} doesn't end: {self.lines[-3:]}")
-
-    def say(self, line):
-        """Gives a line that is no command, and waits for an answer."""
-        count = len(self.lines)
+    def send(self, line):
         self.process.stdin.write(line + b"\n")
         self.process.stdin.flush()
+
+    def comes(self, what, true, within=LIMIT):
+        """Waits until something is true of its answers."""
         with self.changed:
-            if not self.changed.wait_for(lambda: len(self.lines) > count, LIMIT):
-                raise Wrong(f"{line} has no answer")
+            if not self.changed.wait_for(true, within):
+                raise Wrong(f"{what}: it doesn't come to that: {self.lines[-3:]}")
+
+    def ask(self, name, command, within=LIMIT):
+        """Gives a command, and waits until nothing is wanted of its volume any more."""
+        self.goals[name] = command
+        self.send(json.dumps(command).encode())
+        self.comes(command, lambda: self.goals[name] is None, within)
+
+    def say(self, line):
+        """Gives a line, and waits for its answer, which is given; nothing else is under way."""
+        count = len(self.lines)
+        self.send(line)
+        self.comes(line, lambda: len(self.lines) > count)
+        return self.lines[count]
 
     def kill(self):
         """Kills it; its orchestrator, which has its standard error, ends then with its input."""
@@ -87,16 +92,16 @@ class Host:
         self.process.stderr.read()
         self.process.stdin.close()
 
-    def end(self):
+    def end(self, right=(0, b"")):
         self.process.stdin.close()
         status = self.process.wait(LIMIT)
         self.reading.join()
-        wanted("the host's end", (status, self.process.stderr.read()), (0, b""))
+        wanted("the host's end", (status, self.process.stderr.read()), right)
 
 
-def audited(box):
+def audited(box, nodes=("n1",)):
     lines = []
-    for store in ("orchestrator.db", "controller.db", "n1.db"):
+    for store in ("orchestrator.db", "controller.db", *(f"{node}.db" for node in nodes)):
         status, out, error = box.replay("record", box.at(store))
         wanted(f"record of {store}", (status, error), (0, b""))
         lines.append(out)
@@ -133,7 +138,7 @@ def whole(over):
 
 
 def alike(box):
-    """Over both ways all lines are the same, and the stores of all three, in two sessions; some lines are no commands, or are refused."""
+    """Over both ways all lines are the same, and the stores of all three, in two runs; some lines are no commands, are refused, or lose a node that is none."""
     came = []
     for at, over in enumerate((LIBRARY, PROGRAM)):
         os.mkdir(box.at(str(at)))
@@ -141,12 +146,12 @@ def alike(box):
         apart.drivers = box.drivers
         plugins(apart)
         out = []
-        for session in range(2):
+        for turn in range(2):
             host = Host(apart, over)
-            for name, command in commands(9 * session, 9):
+            for name, command in commands(9 * turn, 9):
                 host.ask(name, command)
                 host.say(json.dumps(command).encode())
-            for line in (b"", b"{}", b'{"reply":"00"}', b'{"timeout":"v0"}', b'{"timeout":"w"}', b'{"delete":"v0"}'):
+            for line in (b"", b"{}", b'{"reply":"00"}', b'{"timeout":"v0"}', b'{"timeout":"w"}', b'{"delete":"v0"}', b'{"lose":""}', b'{"lose":"n9"}'):
                 host.say(line)
             host.end()
             out += host.out

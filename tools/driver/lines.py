@@ -4,9 +4,8 @@ import random
 import re
 
 import embed
-from program import orchestrators, stores
-from program.configs import NODE, with_nodes
-from program.running import Box, Running, ended, wanted
+from program import changes, orchestrators, stores
+from program.running import Box, Running, wanted
 
 
 class OverLibrary(Box):
@@ -44,21 +43,23 @@ def damaged(drawn, line):
     return line
 
 
-# Another CONFIG: the library doesn't tell a record of other nodes from what is no record.
-OTHERS = [(name, config, ended(1, "record fault at 0") if right.status else right) for name, config, right in orchestrators.OTHERS]
-
-
 def alike(sessions, requests, seed):
-    """Lines that are drawn, some of them no requests, to both: each gets the same answer, and then their stores are the same. Some sessions are killed."""
+    """Lines that are drawn, some of them no requests, to both: each gets the same answer, and then their stores are the same. Nodes are other ones at each
+    start, and lost between; some starts are refused, since a node is used that they leave out, and some runs are killed."""
 
     def body(box):
-        draws, drawn, answers = embed.Draws(seed), random.Random(seed), 0
-        box.put("config", with_nodes(NODE % (b"n1", 4), NODE % (b"n01", 2)).decode())
+        draws, drawn, answers, refused = embed.Draws(seed), random.Random(seed), 0, 0
         both = [[box.program, "orchestrator", "theirs.db", "config"], [f"{box.built}/csi-orchestrator", "ours.db", "config"]]
         for _ in range(sessions):
+            box.put("config", json.dumps(draws.config()))
             theirs, ours = (Running(words, box.folder) for words in both)
             first = theirs.process.stdout.readline()
             wanted("the first line", ours.process.stdout.readline(), first)
+            if not first:
+                ends = [(it.status, it.out, told(it.error)) for it in (theirs.end(), ours.end())]
+                wanted("how both end", ends, [(1, b"", b"csi-replay: node in use\n")] * 2)
+                refused += 1
+                continue
             wants = [{"timeout": name} for name in json.loads(first)["wanted"]]
             for _ in range(requests):
                 given = json.dumps(wants.pop() if wants else draws.request(), separators=drawn.choice([(",", ":"), (" , ", " : ")])).encode()
@@ -71,18 +72,18 @@ def alike(sessions, requests, seed):
                 answers += 1
                 if b"outcome" in answer:
                     draws.hears(answer)
+                    draws.losses += b'"lost"' in answer
             kills = drawn.random() < 0.3
             ends = [it.kill() if kills else it.end() for it in (theirs, ours)]
             wanted("how it ends", (ends[1].status, ends[1].out), (ends[0].status, ends[0].out))
         wanted("the store", stores.parts_of(box.at("ours.db")), stores.parts_of(box.at("theirs.db")))
-        return f"{answers} lines in {sessions} sessions"
+        wanted("some nodes are lost", draws.losses > 0, True)
+        return f"{answers} lines in {sessions} starts, {refused} of them refused; {draws.losses} losses"
 
     return body
 
 
 def cases(drawn, seed):
-    for name, body, *rest in orchestrators.ROWS:
+    for name, body, *rest in (*orchestrators.ROWS, *changes.ROWS):
         yield f"lines: {name}", lambda box, body=body, rest=rest: body(OverLibrary(box), *rest)
-    for name, *rest in OTHERS:
-        yield f"lines: CONFIG: {name}", lambda box, rest=rest: orchestrators.other_nodes(OverLibrary(box), *rest)
-    yield "lines: drawn", alike(10, drawn // 10, seed)
+    yield "lines: drawn", alike(16, drawn // 10, seed)

@@ -7,7 +7,7 @@ import subprocess
 from program import stores
 from program.frames import block
 from program.running import LIMIT, LeftOut, wanted
-from program.talks import life
+from program.talks import life, line
 
 from .requests import attach, create, delete, detach, publish, stage, unpublish, unstage
 from .starting import older
@@ -90,9 +90,11 @@ def each(of_node, step):
     return body
 
 
-# An orchestrator's store in session 1, of which a volume is deleted, and what it is asked in the next one.
+# An orchestrator's store in session 1, of which a volume is deleted, and what it is asked in the next one, which forgets that name: a life, and two losses.
 DELETED = [stores.orchestrator_head(1), stores.known(1, "w", volume=9, exists="no")]
 TALK = life(2)
+TALK.says(line({"lose": "n1"}), line({"node": "n1", "outcome": "lost", "session": 3}))
+TALK.says(line({"lose": "n2"}), line({"node": "n2", "outcome": "lost", "session": 4}))
 
 
 def answered(box, which, lines):

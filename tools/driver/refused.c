@@ -59,3 +59,4 @@ WRAP(tufayon_stop,
 WRAP(tufayon_delete, (tufayon_plugin *made, const uint8_t *name, size_t size, ROOM), made, name, size, frame, room, written, fault)
 WRAP(tufayon_timeout, (tufayon_plugin *made, const uint8_t *name, size_t size, ROOM), made, name, size, frame, room, written, fault)
 WRAP(tufayon_deliver, (tufayon_plugin *made, const uint8_t *came, size_t size, size_t *used, ROOM), made, came, size, used, frame, room, written, fault)
+WRAP(tufayon_orchestrator_lose, (tufayon_plugin *made, const uint8_t *node, size_t size, uint32_t *fault), made, node, size, fault)

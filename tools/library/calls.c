@@ -1,24 +1,10 @@
 /* Calls of the library, and what is expected of them. */
-#include "library.h"
+#include "calls.h"
 
 unsigned long stride = 1;
 unsigned long cases, refusals;
 
 enum { GUARD = 16 }; /* bytes behind a room, to which no call writes */
-
-/* What a call is given, and what it says. */
-typedef struct call {
-    enum { MAKE, ANSWER, CHANGED, RECORD, ASK, VOLUME } what;
-    tested *of;
-    asked how;
-    request asks;
-    bytes given;
-    size_t place, room;
-    uint8_t *to;
-    size_t used, written;
-    uint64_t key;
-    uint32_t number; /* a refusal's, or of what is known */
-} call;
 
 static size_t open; /* handles that have a plugin */
 
@@ -65,6 +51,7 @@ static uint32_t request_it(call *it) {
     case ASK_DELETE: return tufayon_delete(of, GIVEN(name), to, room, written, number);
     case ASK_TIMEOUT: return tufayon_timeout(of, GIVEN(name), to, room, written, number);
     case ASK_DELIVER: return tufayon_deliver(of, GIVEN(came), &it->used, to, room, written, number);
+    case ASK_LOSE: return tufayon_orchestrator_lose(of, GIVEN(node), number);
     case ASK_EXISTS: return tufayon_exists(of, GIVEN(name), number);
     case ASK_ATTACHED: return tufayon_attached(of, GIVEN(name), GIVEN(node), number);
     case ASK_STAGED: return tufayon_staged(of, GIVEN(name), GIVEN(node), number);
@@ -84,7 +71,7 @@ static uint32_t call_it(call *it) {
 }
 
 /* Makes the call, in whose room nothing was written before, and sees that nothing is written behind it. */
-static uint32_t attempt(call *it) {
+uint32_t attempt(call *it) {
     it->to = grow(NULL, it->room + GUARD);
     memset(it->to, 0xa5, it->room + GUARD);
     it->used = it->written = SIZE_MAX;
@@ -96,13 +83,13 @@ static uint32_t attempt(call *it) {
     return ending;
 }
 
-static void leave(call *it) {
+void leave(call *it) {
     give_back(it->to);
     it->to = NULL;
 }
 
 /* The ending of a call, of which nothing else is looked at. */
-static uint32_t ending_of(call it) {
+uint32_t ending_of(call it) {
     uint32_t ending = attempt(&it);
     leave(&it);
     return ending;
@@ -154,7 +141,7 @@ static size_t largest(const tested *of) {
 
 /* The changes that it tells come, in order, to those that are expected. They are asked for from the last one, so that the order of asking says
  * nothing. */
-static void tells(tested *of, bool in_full) {
+void tells(tested *of, bool in_full) {
     bool *seen = grow(NULL, of->told.count + 1);
     memset(seen, 0, of->told.count + 1);
     size_t room = largest(of);
@@ -177,7 +164,7 @@ static void has_record(tested *of, uint32_t ending, const call *it) {
 }
 
 /* All is as it was. */
-static void is_as_it_was(tested *of) {
+void is_as_it_was(tested *of) {
     if (!of->has) {
         must(ending_of((call){.what = RECORD, .of = of, .room = 64}) == TUFAYON_EMPTY, "a handle without a plugin has a record");
         must(ending_of((call){.what = CHANGED, .of = of, .room = 64}) == TUFAYON_EMPTY, "a handle without a plugin has changes");
@@ -190,7 +177,7 @@ static void is_as_it_was(tested *of) {
 }
 
 /* Makes a call again and again, each time with another allocation refused, until none is. Each refusal leaves all as it was. */
-static uint32_t each_refused(call *it) {
+uint32_t each_refused(call *it) {
     for (unsigned long at = 1;; at += stride) {
         long before = held;
         refuse(stride > 0 ? at : 0);
@@ -215,7 +202,7 @@ static void has_changes(tested *of) {
     tells(of, true);
 }
 
-static void compare(tested *of) {
+void compare(tested *of) {
     of->record = record_of(&of->store, 3);
     has_changes(of);
     for (size_t less = 1; less <= of->record.size; less += 1 + 2 * less) {
@@ -232,9 +219,8 @@ void compares(tested *of, asked how) {
     tested again = {0};
     compare(of);
     if (how.kind == AS_ORCHESTRATOR) {
-        parts next = next_session(&of->store), head = {0};
-        add(&head, next.at[0]);
-        makes(&again, of_record(how, of->record), TUFAYON_DONE, &next, &head);
+        parts next = next_session(&of->store, how.nodes), told = told_at(&of->store, &next);
+        makes(&again, of_record(how, of->record), TUFAYON_DONE, &next, &told);
     } else {
         makes(&again, of_record(how, of->record), TUFAYON_DONE, &of->store, &(parts){0});
     }
@@ -251,7 +237,12 @@ static asked asked_for(enum asked_kind kind, const char *name) {
 
 asked controller_of(const char *config) { return asked_for(AS_CONTROLLER, config); }
 asked node_of(const char *id) { return asked_for(AS_NODE, id); }
-asked orchestrator_of(const char *config) { return asked_for(AS_ORCHESTRATOR, config); }
+
+asked orchestrator_of(const char *config) {
+    asked it = asked_for(AS_ORCHESTRATOR, config);
+    it.nodes = nodes_of(config);
+    return it;
+}
 
 asked joined_node(const char *id, uint64_t session) {
     asked it = node_of(id);
@@ -266,7 +257,7 @@ asked of_record(asked it, bytes record) {
     return it;
 }
 
-static parts copy_of(const parts *from) {
+parts copy_of(const parts *from) {
     parts it = {0};
     for (size_t at = 0; at < from->count; at++) add(&it, from->at[at]);
     return it;
@@ -340,88 +331,4 @@ void frees(tested *of) {
     must(ending_of((call){.what = ANSWER, .of = of, .given = frame_of("1.1 controller DeleteVolume 1"), .room = TUFAYON_REPLY_ROOM}) == TUFAYON_EMPTY,
          "a handle without a plugin answers");
     must(open > 0 || held == 0, "plugins that were freed leave blocks");
-}
-
-/* ---- an orchestrator */
-
-parts next_session(const parts *store) {
-    parts next = copy_of(store);
-    bytes head = {0};
-    put(&head, store->at[0].value.at, store->at[0].value.size);
-    for (size_t at = 9; ++head.at[at] == 0; at--) {} /* the session, behind two bytes */
-    next.at[0].value = head;
-    return next;
-}
-
-/* The beginning of a frame is none that came; and a frame to be sent has too little room. */
-static void is_asked_in_vain(tested *of, request ask) {
-    static const size_t rooms[] = {0, 32, TUFAYON_FRAME_ROOM - 1};
-    for (size_t size = 0; ask.kind == ASK_DELIVER && size < ask.came.size; size++) {
-        call it = {.what = ASK, .of = of, .asks = ask, .room = TUFAYON_FRAME_ROOM};
-        it.asks.came.size = size;
-        must(attempt(&it) == TUFAYON_SHORT, "the beginning of a frame came");
-        leave(&it);
-    }
-    for (size_t at = 0; at < 3; at++)
-        must(ending_of((call){.what = ASK, .of = of, .asks = ask, .room = rooms[at]}) == TUFAYON_NO_ROOM, "a frame to be sent has too little room");
-    is_as_it_was(of);
-}
-
-void asks(tested *of, const char *line, uint32_t ending, bytes frame, uint32_t fault, const parts *changes) {
-    call it = {.what = ASK, .of = of, .asks = request_of(line), .room = TUFAYON_FRAME_ROOM};
-    bool is_done = ending == TUFAYON_DONE || ending == TUFAYON_MET || ending == TUFAYON_IGNORED;
-    size_t size = it.asks.came.size;
-    snprintf(doing, sizeof doing, "%.4000s", line);
-    if (of->has && stride == 1 && (is_done || ending == TUFAYON_REFUSED)) is_asked_in_vain(of, it.asks);
-    for (size_t more = 0; it.asks.kind == ASK_DELIVER && is_done && more < 2 * TUFAYON_FRAME_ROOM; more++) put_number(&it.asks.came, more % 256, 1);
-    must(each_refused(&it) == ending, "a request has another ending");
-    must(ending != TUFAYON_REFUSED || it.number == fault, "a refusal has another number");
-    must(ending == TUFAYON_REFUSED || it.number == UINT32_MAX, "a refusal's number is told where nothing is refused");
-    must(!is_done || same(frame, (bytes){.at = it.to, .size = it.written}), "another frame is to be sent");
-    must(it.asks.kind != ASK_DELIVER || !is_done || it.used == size, "a frame that came took other bytes");
-    leave(&it);
-    if (is_done) {
-        of->told = copy_of(changes);
-        for (size_t at = 0; at < changes->count; at++) change(&of->store, changes->at[at]);
-        if (stride == 1) compare(of);
-        else tells(of, false);
-    } else if (stride == 1) {
-        is_as_it_was(of);
-    }
-}
-
-void knows(tested *of, const char *line, uint32_t ending, uint32_t known) {
-    call it = {.what = ASK, .of = of, .asks = request_of(line)};
-    snprintf(doing, sizeof doing, "%.4000s", line);
-    must(each_refused(&it) == ending, "what is known has another ending");
-    must(it.number == (ending == TUFAYON_DONE ? known : UINT32_MAX), "something else is known");
-    leave(&it);
-    is_as_it_was(of);
-}
-
-void wants(tested *of, const char *line, uint32_t ending, bytes goal) {
-    call it = {.what = ASK, .of = of, .asks = request_of(line), .room = TUFAYON_GOAL_ROOM};
-    snprintf(doing, sizeof doing, "%.4000s", line);
-    must(each_refused(&it) == ending, "what is wanted has another ending");
-    must(ending != TUFAYON_DONE || same(goal, (bytes){.at = it.to, .size = it.written}), "something else is wanted");
-    leave(&it);
-    for (size_t room = 0; ending == TUFAYON_DONE && room < goal.size; room++) {
-        it.room = room;
-        must(attempt(&it) == TUFAYON_NO_ROOM && it.written == goal.size, "what is wanted has too little room, and it isn't said how much it wants");
-        leave(&it);
-    }
-    is_as_it_was(of);
-}
-
-void names(tested *of, size_t place, uint32_t ending, bytes name) {
-    call it = {.what = VOLUME, .of = of, .place = place, .room = TUFAYON_NAME_ROOM};
-    must(each_refused(&it) == ending, "the volume at a place has another ending");
-    must(ending != TUFAYON_DONE || same(name, (bytes){.at = it.to, .size = it.written}), "the volume at a place has another name");
-    leave(&it);
-    for (size_t room = 0; ending == TUFAYON_DONE && room < name.size; room++) {
-        it.room = room;
-        must(attempt(&it) == TUFAYON_NO_ROOM && it.written == name.size, "a name has too little room, and it isn't said how much it wants");
-        leave(&it);
-    }
-    if (stride == 1) is_as_it_was(of);
 }

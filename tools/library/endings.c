@@ -20,13 +20,14 @@ static const struct {
     {"tufayon_changed", IS(DONE) | IS(NO_MEMORY) | IS(EMPTY) | IS(NO_ROOM) | IS(TAKE_OUT) | IS(NO_MORE)},
     {"tufayon_record", IS(DONE) | IS(NO_MEMORY) | IS(EMPTY) | IS(NO_ROOM)},
     {"tufayon_orchestrator_new", OF_NEW},
-    {"tufayon_orchestrator_from_record", OF_NEW | IS(BAD_RECORD) | IS(REFUSED)},
+    {"tufayon_orchestrator_from_record", OF_NEW | IS(BAD_RECORD) | IS(REFUSED) | IS(NODE_IN_USE)},
     {"tufayon_create", OF_COMMAND},
     {"tufayon_use", OF_COMMAND | IS(MET)},
     {"tufayon_stop", OF_COMMAND},
     {"tufayon_delete", OF_COMMAND | IS(MET)},
     {"tufayon_timeout", OF_COMMAND},
     {"tufayon_deliver", OF_REQUEST | IS(SHORT) | IS(BAD_FRAME) | IS(NO_ROOM) | IS(IGNORED)}, /* and REFUSED, after 2^64 - 1 calls */
+    {"tufayon_orchestrator_lose", OF_REQUEST | IS(BAD_NAME) | IS(REFUSED)},
     {"tufayon_exists", OF_REQUEST | IS(BAD_NAME)},
     {"tufayon_attached", OF_REQUEST | IS(BAD_NAME)},
     {"tufayon_staged", OF_REQUEST | IS(BAD_NAME)},
@@ -39,7 +40,7 @@ static const struct {
 static unsigned seen_of[sizeof CALLS / sizeof *CALLS]; /* the endings that each of them had so far */
 
 void see(size_t place, uint32_t ending) {
-    must(ending <= TUFAYON_EARLIER_SESSION, "a call has an ending that the header doesn't have");
+    must(ending <= TUFAYON_NODE_IN_USE, "a call has an ending that the header doesn't have");
     seen_of[place] |= 1u << ending;
 }
 

@@ -65,7 +65,8 @@ bytes goal_of(const char *line);
 /* What an orchestrator is asked, or told. */
 typedef struct request {
     enum request_kind {
-        ASK_CREATE, ASK_USE, ASK_STOP, ASK_DELETE, ASK_TIMEOUT, ASK_DELIVER, ASK_EXISTS, ASK_ATTACHED, ASK_STAGED, ASK_PUBLISHED, ASK_GOAL
+        ASK_CREATE, ASK_USE, ASK_STOP, ASK_DELETE, ASK_TIMEOUT, ASK_DELIVER, ASK_LOSE, ASK_EXISTS, ASK_ATTACHED, ASK_STAGED, ASK_PUBLISHED,
+        ASK_GOAL
     } kind;
     bytes name, node, target, capabilities, came; /* of texts, the bytes alone */
     uint64_t required, limit;
@@ -74,15 +75,27 @@ typedef struct request {
 
 /* The request of a line:
  *   create "v" 10 0 block/1 block/5      use "v" "n1" "/a" block/1 rw         stop "v" "n1" "/a"      delete "v"      timeout "v"
- *   deliver FRAME                        exists "v"       attached "v" "n1"   staged "v" "n1"         published "v" "n1" "/a"     goal "v" */
+ *   deliver FRAME        lose "n1"       exists "v"       attached "v" "n1"   staged "v" "n1"         published "v" "n1" "/a"     goal "v" */
 request request_of(const char *line);
 
 /* ---- stores (stores.c) */
 
 /* Puts a part into a store, or takes it out. */
 void change(parts *store, part it);
-/* The bytes of a whole record. */
+/* The bytes of a whole record; and the parts of one. */
 bytes record_of(const parts *store, int version);
+parts parts_in(bytes record);
+
+/* ---- sessions of an orchestrator (sessions.c) */
+
+/* The nodes of a configuration, as its head has them: how many, and their ids. */
+bytes nodes_of(const char *config);
+/* An orchestrator's parts in the next session, with these nodes: without the names that are forgotten. */
+parts next_session(const parts *store, bytes nodes);
+/* What the store has to be given then: the head, or the whole record where names were forgotten. */
+parts told_at(const parts *before, const parts *after);
+/* The whole record: all its parts, and those that are behind them taken out. */
+parts whole_of(const parts *before, const parts *after);
 
 /* ---- calls (calls.c) */
 
@@ -99,7 +112,7 @@ typedef struct tested {
  * configuration's nodes; and a record or none. */
 typedef struct asked {
     enum asked_kind { AS_CONTROLLER, AS_NODE, AS_ORCHESTRATOR } kind;
-    bytes name, record;
+    bytes name, record, nodes; /* nodes: of an orchestrator, as in its head */
     bool from_record, joined;
     uint64_t session;
 } asked;
@@ -122,11 +135,11 @@ void answers(tested *of, bytes frame, bytes reply, const parts *changes);
 void refuses(tested *of, bytes frame, uint32_t ending);
 /* The plugin has the store and tells the changes that are expected, and so has one of its record: of an orchestrator, in the next session. */
 void compares(tested *of, asked how);
-/* An orchestrator's parts in the next session. */
-parts next_session(const parts *store);
 /* Asks an orchestrator, or hands it a frame, which ends so: with this frame to be sent (of no bytes: none), this refusal, and these changes. It is
  * given with too little room, a frame is cut at each byte, and each allocation is refused once. */
 void asks(tested *of, const char *line, uint32_t ending, bytes frame, uint32_t fault, const parts *changes);
+/* Tells an orchestrator that a node is lost, which ends so: with this refusal; or with this store, and the whole record told. */
+void loses(tested *of, const char *line, uint32_t ending, uint32_t fault, const parts *after);
 /* It knows so much of a thing, and wants this of a volume; and the volume at a place has this name. All stays. */
 void knows(tested *of, const char *line, uint32_t ending, uint32_t known);
 void wants(tested *of, const char *line, uint32_t ending, bytes goal);
@@ -135,7 +148,7 @@ void frees(tested *of);
 
 /* ---- endings (endings.c) */
 
-enum { ROW_ANSWER = 4, ROW_ORCHESTRATORS = 7, ROW_REQUESTS = 9, ROW_VOLUME = 20, ROW_JOINED = 21 }; /* where calls stand in the table */
+enum { ROW_ANSWER = 4, ROW_ORCHESTRATORS = 7, ROW_REQUESTS = 9, ROW_VOLUME = 21, ROW_JOINED = 22 }; /* where calls stand in the table */
 void see(size_t row, uint32_t ending); /* the call of this row ended so */
 
 /* ---- cases */
@@ -151,6 +164,7 @@ void test_damaged(void);
 void test_full(void);
 void test_orchestrator(void);
 void test_orchestrator_records(void);
+void test_losing(void);
 void test_many(void);
 void test_endings(void); /* after the others: each call has had each of its endings */
 

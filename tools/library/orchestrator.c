@@ -6,20 +6,6 @@
 #define W "2 volume \"w\" 7 9 mount:\"ext4\"/7 block/4 ; "
 #define AT(known) "\"n1\" block/1 rw " known " , "
 
-/* A request; the frame that is to be sent, or none; how it ends, with a refusal's number; and what it changes, as `part_of` reads it. */
-typedef struct asking {
-    const char *request, *frame;
-    uint32_t ending, fault;
-    const char *changes[4];
-} asking;
-
-static void play_asked(tested *of, const asking *steps) {
-    for (; steps->request != NULL; steps++) {
-        parts changed = parts_of(3, steps->changes);
-        asks(of, steps->request, steps->ending, steps->frame ? frame_of(steps->frame) : (bytes){0}, steps->fault, &changed);
-    }
-}
-
 static const asking MADE[] = {
     {"create \"v\" 10 0 block/1 block/5", "1.1 controller CreateVolume \"v\" 10 0 block/1 block/5", 0, 0, {V "- maybe create 1 ;"}},
     {"create \"v\" 10 0 block/1", NULL, TUFAYON_REFUSED, 1, {0}},                   /* NameUsed */
@@ -99,8 +85,10 @@ static void bad_names(tested *of) {
     };
     static const char *const KNOWN[] = {"exists \"\"", "attached \"\" \"n1\"", "attached \"v\" \"\"", "staged \"v\"*129 \"n1\"", "staged \"v\" \"n\"*256",
                                         "published \"\" \"n1\" \"/a\"", "published \"v\" \"\" \"/a\"", "published \"v\" \"n1\" \"\""};
+    static const char *const LOST[] = {"lose \"\"", "lose \"n\"*256", "lose \"\\xff\"", "lose \"n\\xc3\""};
     for (size_t at = 0; at < sizeof LINES / sizeof *LINES; at++) asks(of, LINES[at], TUFAYON_BAD_NAME, (bytes){0}, 0, NULL);
     for (size_t at = 0; at < sizeof KNOWN / sizeof *KNOWN; at++) knows(of, KNOWN[at], TUFAYON_BAD_NAME, 0);
+    for (size_t at = 0; at < sizeof LOST / sizeof *LOST; at++) loses(of, LOST[at], TUFAYON_BAD_NAME, 0, NULL);
     wants(of, "goal \"\"", TUFAYON_BAD_NAME, (bytes){0});
     wants(of, "goal \"\\xff\"", TUFAYON_BAD_NAME, (bytes){0});
 }
@@ -136,6 +124,7 @@ static void other_kinds(tested *of, uint32_t ending) {
     static const char *const LINES[] = {"create \"v\" 1 0 block/1", "use \"v\" \"n1\" \"/a\" block/1 rw", "stop \"v\" \"n1\" \"/a\"", "delete \"v\"",
                                         "timeout \"v\"", "deliver 1.1 controller CreateVolume reply 0 1 \"\""};
     for (size_t at = 0; at < sizeof LINES / sizeof *LINES; at++) asks(of, LINES[at], ending, (bytes){0}, 0, NULL);
+    loses(of, "lose \"n1\"", ending, 0, NULL);
     knows(of, "exists \"v\"", ending, 0);
     knows(of, "attached \"v\" \"n1\"", ending, 0);
     knows(of, "staged \"v\" \"n1\"", ending, 0);
@@ -211,179 +200,5 @@ void test_orchestrator(void) {
     makes(&plugin, node_of("n1"), TUFAYON_DONE, &node_head, &node_head);
     other_kinds(&plugin, TUFAYON_OTHER_KIND);
     frees(&plugin);
-    frees(&of);
-}
-
-/* ---- records */
-
-static const char *const WHOLE[] = {
-    "nodes 3 \"n1\" \"n2\"",
-    "1 volume \"v\" 10 0 block/1 ; 1 yes use \"n1\" \"/a\" block/1 rw 1 ; \"n1\" block/1 rw maybe no \"/a\" no ,",
-    "2 volume \"gone\" 0 7 block/1 ; 3 no none 0 ;",
-    "3 volume \"new\" 0 7 ; - maybe create 3 ;",
-    "4 volume \"both\" 5 0 block/5 mount:\"\"/4 ; 9 yes stop \"n2\" \"/b\" 2 ; \"n1\" block/5 rw yes yes \"/a\" yes \"/b\" yes , "
-    "\"n2\" block/5 ro yes yes \"/b\" maybe \"/c\" yes ,",
-    "5 volume \"last\" 5 0 block/1 ; 18446744073709551615 maybe delete 1 ;",
-    "6 volume \"refused\" 5 0 block/1 ; - maybe none 0 ;",
-    NULL,
-};
-
-static const char *const NO_RECORD[][4] = {
-    {"head \"n1\" 1"}, {"head 3 1"},                                                       /* a plugin's */
-    {"nodes 1 \"n1\""}, {"nodes 1 \"n2\" \"n1\""}, {"nodes 1 \"n1\" \"n2\" \"n3\""}, {"nodes 1"}, /* other nodes */
-    {"nodes 1 \"n1\" \"n1\""}, {"nodes 1 \"n1\" \"\""},
-    {"1 volume \"v\" 1 0 ; - maybe none 0 ;"},                                             /* no head */
-    {"nodes 1 \"n1\" \"n2\"", "2 volume \"v\" 1 0 ; - maybe none 0 ;"},                    /* another key */
-    {"nodes 1 \"n1\" \"n2\"", "1 volume \"v\" 1 0 ; - maybe none 0 ;", "1 volume \"w\" 1 0 ; - maybe none 0 ;"},
-    {"nodes 1 \"n1\" \"n2\"", "1 volume \"v\" 1 0 ; - maybe none 0 ;", "2 volume \"v\" 1 0 ; - maybe none 0 ;"}, /* a name twice */
-    {"nodes 1 \"n1\" \"n2\"", "1 volume \"\" 1 0 ; - maybe none 0 ;"},
-    {"nodes 1 \"n1\" \"n2\"", "1 volume \"v\" 1 0 ; - maybe none 1 ;"},                    /* tries without a goal */
-    {"nodes 1 \"n1\" \"n2\"", "1 volume \"v\" 1 0 ; - maybe create 0 ;"},
-    {"nodes 1 \"n1\" \"n2\"", "1 volume \"v\" 1 0 ; - maybe create 4 ;"},
-    {"nodes 1 \"n1\" \"n2\"", "1 volume \"v\" 1 0 ; - yes none 0 ;"},
-    {"nodes 1 \"n1\" \"n2\"", "1 volume \"v\" 1 0 ; 1 maybe none 0 ;"},
-    {"nodes 1 \"n1\" \"n2\"", "1 volume \"v\" 1 0 ; 0 yes none 0 ;"},
-    {"nodes 1 \"n1\" \"n2\"", "1 volume \"v\" 1 0 ; 1 yes delete 1 ;"},
-    {"nodes 1 \"n1\" \"n2\"", "1 volume \"v\" 1 0 block/1 ; 1 yes use \"n1\" \"/a\" block/1 rw 1 ;"}, /* no entry */
-    {"nodes 1 \"n1\" \"n2\"", "1 volume \"v\" 1 0 block/1 ; 1 yes none 0 ; \"n1\" block/1 rw yes yes ,"},
-    {"nodes 1 \"n1\" \"n2\"", "1 volume \"v\" 1 0 block/1 ; 1 yes none 0 ; \"n1\" block/1 rw yes yes \"/a\" maybe ,"},
-    {"nodes 1 \"n1\" \"n2\"", "1 volume \"v\" 1 0 block/1 ; 1 yes none 0 ; \"n3\" block/1 rw yes yes \"/a\" yes ,"},
-    {"nodes 1 \"n1\" \"n2\"", "1 volume \"v\" 1 0 block/2 ; 1 yes none 0 ; \"n1\" block/1 rw yes yes \"/a\" yes ,"},
-    {"nodes 1 \"n1\" \"n2\"", "1 volume \"v\" 1 0 block/1 ; 1 yes none 0 ; \"n1\" block/1 rw yes yes \"/a\" yes \"/b\" yes ,"},
-    {"nodes 1 \"n1\" \"n2\"", "1 volume \"v\" 1 0 block/1 ; 1 yes none 0 ; \"n1\" block/1 rw yes yes \"/a\" yes , \"n2\" block/1 rw yes yes \"/a\" yes ,"},
-    {"nodes 1 \"n1\" \"n2\"", "1 volume \"v\" 1 0 block/1 ; 1 yes use \"n1\" \"/a\" block/1 ro 1 ; \"n1\" block/1 rw maybe no \"/a\" no ,"},
-    {"nodes 1 \"n1\" \"n2\"", "1 live \"v\" 10 block/1 ; ; 1.1 CreateVolume 0 1 \"\""},    /* a controller's row */
-};
-
-/* A record, opened in the next session, and in the one after that. */
-static void opens(asked how, const char *const *lines) {
-    tested of = {0};
-    parts given = parts_of(3, lines), next = next_session(&given), head = {0};
-    add(&head, next.at[0]);
-    snprintf(doing, sizeof doing, "an orchestrator's record, %s ..", lines[1] ? lines[1] : lines[0]);
-    makes(&of, of_record(how, record_of(&given, 3)), TUFAYON_DONE, &next, &head);
-    asks(&of, "delete \"x\"", TUFAYON_REFUSED, (bytes){0}, 2, NULL); /* and the session is still to be committed */
-    compares(&of, how);
-    frees(&of);
-}
-
-/* What is wanted when it is opened is sent again, and numbered anew. */
-static void goes_on(asked how) {
-    tested of = {0};
-    parts given = parts_of(3, WHOLE), next = next_session(&given), head = {0};
-    static const asking STEPS[] = {
-        {"deliver 3.1 controller CreateVolume reply 0 4 \"\"", NULL, TUFAYON_IGNORED, 0, {0}}, /* of the session before */
-        {"timeout \"v\"", "4.1 controller ControllerPublishVolume 1 \"n1\" block/1 rw", 0, 0,
-         {"1 volume \"v\" 10 0 block/1 ; 1 yes use \"n1\" \"/a\" block/1 rw 2 ; \"n1\" block/1 rw maybe no \"/a\" no ,"}},
-        {"timeout \"gone\"", NULL, TUFAYON_REFUSED, 13, {0}},
-        {"timeout \"new\"", "4.2 controller CreateVolume \"new\" 0 7", 0, 0, {"3 volume \"new\" 0 7 ; - maybe create 3 ;"}},
-        {"timeout \"both\"", "4.3 node:\"n2\" NodeUnpublishVolume 9 \"/b\"", 0, 0,
-         {"4 volume \"both\" 5 0 block/5 mount:\"\"/4 ; 9 yes stop \"n2\" \"/b\" 3 ; \"n1\" block/5 rw yes yes \"/a\" yes \"/b\" yes , "
-          "\"n2\" block/5 ro yes yes \"/b\" maybe \"/c\" yes ,"}},
-        {"deliver 4.3 node:\"n2\" NodeUnpublishVolume reply 0 0 \"\"", NULL, 0, 0, /* another target is left */
-         {"4 volume \"both\" 5 0 block/5 mount:\"\"/4 ; 9 yes none 0 ; \"n1\" block/5 rw yes yes \"/a\" yes \"/b\" yes , "
-          "\"n2\" block/5 ro yes yes \"/c\" yes ,"}},
-        {"use \"both\" \"n1\" \"/c\" block/5 rw", "4.4 node:\"n1\" NodePublishVolume 9 \"/c\" block/5 rw", 0, 0,
-         {"4 volume \"both\" 5 0 block/5 mount:\"\"/4 ; 9 yes use \"n1\" \"/c\" block/5 rw 1 ; \"n1\" block/5 rw yes yes \"/a\" yes \"/b\" yes \"/c\" maybe , "
-          "\"n2\" block/5 ro yes yes \"/c\" yes ,"}},
-        {"timeout \"last\"", "4.5 controller DeleteVolume 18446744073709551615", 0, 0,
-         {"5 volume \"last\" 5 0 block/1 ; 18446744073709551615 maybe delete 2 ;"}},
-        {0},
-    };
-    add(&head, next.at[0]);
-    makes(&of, of_record(how, record_of(&given, 3)), TUFAYON_DONE, &next, &head);
-    wants(&of, "goal \"new\"", 0, goal_of("create"));
-    wants(&of, "goal \"last\"", 0, goal_of("delete"));
-    wants(&of, "goal \"both\"", 0, goal_of("stop \"n2\" \"/b\""));
-    names(&of, 4, 0, (bytes){.at = (uint8_t *)"last", .size = 4});
-    play_asked(&of, STEPS);
-    compares(&of, how);
-    frees(&of);
-}
-
-/* A record of which a byte is another one, or that ends too early or too late. */
-static void is_damaged(asked how) {
-    tested of = {0};
-    parts given = parts_of(3, WHOLE);
-    bytes record = record_of(&given, 3), longer = record_of(&given, 3);
-    for (size_t size = 0; size < record.size; size++) {
-        snprintf(doing, sizeof doing, "%zu bytes of an orchestrator's record", size);
-        makes(&of, of_record(how, (bytes){.at = record.at, .size = size}), TUFAYON_BAD_RECORD, NULL, NULL);
-    }
-    put_number(&longer, 0, 1);
-    makes(&of, of_record(how, longer), TUFAYON_BAD_RECORD, NULL, NULL);
-    for (size_t place = 0; place < record.size; place++)
-        for (unsigned byte = 0; byte < 256; byte++) {
-            uint8_t was = record.at[place], to[1 << 10];
-            size_t written, session = 19 + 7; /* its last byte */
-            snprintf(doing, sizeof doing, "an orchestrator's record with %u at %zu", byte, place);
-            record.at[place] = (uint8_t)byte;
-            uint32_t ending = tufayon_orchestrator_from_record(how.name.at, how.name.size, record.at, record.size, &of.plugin);
-            cases++;
-            must(ending == TUFAYON_BAD_RECORD || ending == TUFAYON_DONE, "a damaged record has another ending");
-            if (ending == TUFAYON_DONE) {
-                must(tufayon_record(&of.plugin, to, sizeof to, &written) == TUFAYON_DONE && written == record.size, "a changed record has another size");
-                for (size_t at = session; ++record.at[at] == 0; at--) {}
-                must(memcmp(record.at, to, written) == 0, "the orchestrator of a changed record has another one");
-                for (size_t at = session; record.at[at]-- == 0; at--) {}
-                tufayon_free(&of.plugin);
-            }
-            record.at[place] = was;
-        }
-}
-
-void test_orchestrator_records(void) {
-    tested of = {0};
-    asked how = orchestrator_of(CONFIG);
-    static const char *const SPENT[] = {"nodes 18446744073709551615 \"n1\" \"n2\"", "1 volume \"v\" 1 0 ; - maybe none 0 ;", NULL};
-    opens(how, (const char *[]){"nodes 0 \"n1\" \"n2\"", NULL});
-    opens(how, (const char *[]){"nodes 18446744073709551613 \"n1\" \"n2\"", NULL});
-    opens(how, WHOLE);
-    goes_on(how);
-    parts spent = parts_of(3, SPENT), none = {0};
-    snprintf(doing, sizeof doing, "no session is left");
-    makes(&of, of_record(how, record_of(&spent, 3)), TUFAYON_REFUSED, NULL, NULL);
-    makes(&of, of_record(orchestrator_of("{}"), record_of(&spent, 3)), TUFAYON_BAD_NAME, NULL, NULL);
-    for (size_t at = 0; at < sizeof NO_RECORD / sizeof *NO_RECORD; at++) {
-        parts given = parts_of(3, NO_RECORD[at]);
-        snprintf(doing, sizeof doing, "no orchestrator's record: %s, %s ..", NO_RECORD[at][0], NO_RECORD[at][1] ? NO_RECORD[at][1] : "");
-        makes(&of, of_record(how, record_of(&given, 3)), TUFAYON_BAD_RECORD, NULL, NULL);
-    }
-    for (int version = 0; version <= 4; version++) {
-        parts older = parts_of(version, WHOLE);
-        snprintf(doing, sizeof doing, "an orchestrator's record of version %d", version);
-        if (version != 3) makes(&of, of_record(how, record_of(&older, version)), TUFAYON_BAD_RECORD, NULL, NULL);
-        makes(&of, of_record(how, record_of(&none, version)), TUFAYON_BAD_RECORD, NULL, NULL);
-    }
-    is_damaged(how);
-}
-
-/* ---- the most volumes */
-
-void test_many(void) {
-    enum { VOLUMES = 4096 };
-    static char request[64], frame[128], row[128];
-    tested of = {0};
-    asked how = orchestrator_of(CONFIG);
-    parts head = parts_of(3, (const char *[]){"nodes 1 \"n1\" \"n2\"", NULL});
-    makes(&of, how, TUFAYON_DONE, &head, &head);
-    stride = 0;
-    for (int place = 1; place <= VOLUMES; place++) {
-        snprintf(request, sizeof request, "create \"v%d\" 10 0 block/5", place);
-        snprintf(frame, sizeof frame, "1.%d controller CreateVolume \"v%d\" 10 0 block/5", place, place);
-        snprintf(row, sizeof row, "%d volume \"v%d\" 10 0 block/5 ; - maybe create 1 ;", place, place);
-        parts changed = parts_of(3, (const char *[]){row, NULL});
-        asks(&of, request, TUFAYON_DONE, frame_of(frame), 0, &changed);
-    }
-    asks(&of, "create \"w\" 10 0 block/5", TUFAYON_REFUSED, (bytes){0}, 15, NULL); /* Full */
-    names(&of, VOLUMES - 1, 0, (bytes){.at = (uint8_t *)"v4096", .size = 5});
-    names(&of, VOLUMES, TUFAYON_NO_MORE, (bytes){0});
-    stride = 997;
-    compares(&of, how);
-    parts next = next_session(&of.store);
-    add(&next, part_of("4097 volume \"w\" 10 0 block/5 ; - maybe create 1 ;", 3));
-    tested other = {0};
-    makes(&other, of_record(how, record_of(&next, 3)), TUFAYON_BAD_RECORD, NULL, NULL);
-    stride = 1;
     frees(&of);
 }

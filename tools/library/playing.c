@@ -27,3 +27,10 @@ void play(tested *of, asked how, const step *steps) {
     for (; steps->call != NULL; steps++) play_one(of, steps->call, steps->reply, steps->changes);
     compares(of, how);
 }
+
+void play_asked(tested *of, const asking *steps) {
+    for (; steps->request != NULL; steps++) {
+        parts changed = parts_of(3, steps->changes);
+        asks(of, steps->request, steps->ending, steps->frame ? frame_of(steps->frame) : (bytes){0}, steps->fault, &changed);
+    }
+}

@@ -294,7 +294,7 @@ bytes goal_of(const char *line) {
 /* ---- requests */
 
 request request_of(const char *line) {
-    static const char *const REQUESTS[] = {"create", "use", "stop", "delete", "timeout", "deliver", "exists", "attached", "staged", "published", "goal"};
+    static const char *const REQUESTS[] = {"create", "use", "stop", "delete", "timeout", "deliver", "lose", "exists", "attached", "staged", "published", "goal"};
     request it = {0};
     bytes byte = {0};
     int kind = 0;
@@ -303,6 +303,7 @@ request request_of(const char *line) {
     must(kind <= ASK_GOAL, "a line of the test is no request");
     it.kind = (enum request_kind)kind;
     if (kind == ASK_DELIVER) return it.came = frame_of(at), it;
+    if (kind == ASK_LOSE) return raw_text(&it.node), it;
     raw_text(&it.name);
     if (kind == ASK_CREATE) {
         it.required = number();

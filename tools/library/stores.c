@@ -33,3 +33,24 @@ bytes record_of(const parts *store, int version) {
     }
     return record;
 }
+
+static uint64_t number_at(const uint8_t *at, int size) {
+    uint64_t it = 0;
+    while (size-- > 0) it = it << 8 | *at++;
+    return it;
+}
+
+parts parts_in(bytes record) {
+    parts all = {0};
+    uint64_t count = number_at(record.at + 1, 4);
+    size_t place = 5;
+    while (count-- > 0) {
+        part it = {.key = number_at(record.at + place, 8)};
+        size_t size = (size_t)number_at(record.at + place + 8, 4);
+        put(&it.value, record.at + place + 12, size);
+        add(&all, it);
+        place += 12 + size;
+    }
+    must(place == record.size, "the test reads a record otherwise");
+    return all;
+}

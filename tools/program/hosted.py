@@ -12,7 +12,6 @@ from .running import LIMIT, of_rows, wanted
 
 TOP = os.path.dirname(os.path.dirname(os.path.dirname(os.path.realpath(__file__))))
 PARTS = ("orchestrator", "controller", "n1", "n2", "n3")
-PUT_UP = "an orchestrator, a controller, and the nodes n1, n2, n3\n"
 
 
 class Hosted:
@@ -30,8 +29,8 @@ class Hosted:
         for pid in self.processes():
             os.kill(pid, signal.SIGKILL)
 
-    def start(self):
-        wanted("what start says", self.script("start", "-p", self.box.program).stdout, PUT_UP)
+    def start(self, nodes="n1, n2, n3"):
+        wanted("what start says", self.script("start", "-p", self.box.program).stdout, f"an orchestrator, a controller, and the nodes {nodes}\n")
 
     def script(self, name, *words):
         words = [sys.executable, f"{TOP}/examples/cluster/{name}", *words]
@@ -61,9 +60,9 @@ class Hosted:
         for pid in list(self.processes(f"{part}.db")):
             os.kill(pid, which)
 
-    def audited(self):
+    def audited(self, parts=PARTS):
         """The records, after the end: an audit finds nothing. The orchestrator's comes first."""
-        lines = [self.box.run("record", f"{self.folder}/{part}.db").out for part in PARTS]
+        lines = [self.box.run("record", f"{self.folder}/{part}.db").out for part in parts]
         ran = subprocess.run([sys.executable, f"{TOP}/tools/audit"], input=b"".join(lines), capture_output=True, timeout=LIMIT, check=False)
         wanted("the audit", (ran.returncode, ran.stdout), (0, b"nothing found\n"))
         return [json.loads(line) for line in lines]
@@ -75,9 +74,9 @@ class Hosted:
         return json.loads(self.box.run("run", f"{self.folder}/schedule.json").out), ran.stderr
 
 
-def use_of(name, calls):
+def use_of(name, calls, node="n1"):
     kinds = ["ControllerPublishVolume", "NodeStageVolume", "NodePublishVolume"]
-    return [f"{name}: {kind} {call} to {to}: OK" for kind, call, to in zip(kinds, calls, ("controller", "n1", "n1"))] + [f"{name}: at rest"]
+    return [f"{name}: {kind} {call} to {to}: OK" for kind, call, to in zip(kinds, calls, ("controller", node, node))] + [f"{name}: at rest"]
 
 
 def whole(box):
@@ -137,6 +136,46 @@ def parts(box):
         wanted("what the orchestrator knows", [it["exists"] for it in cluster.audited()[0]["volumes"]], ["no"])
 
 
+def lost(box):
+    """A node is lost with a volume in use, which is detached and used elsewhere; one of its name joins, and a new one; a name is free again."""
+    with Hosted(box) as cluster:
+        cluster.asks("create", "v")
+        cluster.asks("use", "v", "n1", "/a")
+        cluster.says(["n1: down", "n1: lost, session 2"], "lose", "n1")
+        wanted("the store of the lost node", [it for it in os.listdir(cluster.folder) if it.startswith("n1.")], [])
+        cluster.says(["v; volume 1; attached to n1, which was lost"], "list")
+        cluster.says(["v: refused 7 HeldElsewhere"], "use", "v", "n2", "/a", status=1)
+        cluster.says(["v: ControllerUnpublishVolume 2.1 to controller: OK", "v: at rest"], "stop", "v", "n1", "/a")
+        cluster.says(use_of("v", ["2.2", "2.3", "2.4"], "n2"), "use", "v", "n2", "/a")
+        cluster.says(["v: refused 5 NoSuchNode"], "use", "v", "n1", "/a", status=1)
+        cluster.says(["n1: joined, session 2"], "join", "n1")
+        cluster.says(["n4: joined, session 3"], "join", "n4")
+        cluster.says(["there is a node n4"], "join", "n4", status=1)
+        cluster.says(["no node's name: ../n5"], "join", "../n5", status=1)
+        cluster.says(["there is no node n9: n2, n3, n1, n4"], "lose", "n9", status=1)
+        cluster.asks("down", "n2")
+        cluster.asks("create", "w")
+        cluster.says(use_of("w", ["4.2", "4.3", "4.4"], "n4"), "use", "w", "n4", "/a")
+        cluster.says(["n2: lost, session 5"], "lose", "n2")
+        cluster.asks("stop", "v", "n2", "/b")
+        cluster.asks("delete", "v")
+        cluster.says(["v: refused 1 NameUsed"], "create", "v", status=1)
+        cluster.asks("down", "orchestrator")
+        time.sleep(0.5)
+        cluster.says(["the orchestrator is down"], "lose", "n3", status=1)
+        cluster.asks("up", "orchestrator")
+        cluster.says(["v: CreateVolume 6.1 to controller: OK", "v: at rest"], "create", "v")
+        report, said = cluster.drawn()
+        cluster.asks("end")
+        at_n4 = {"id": 2, "mode": 1, "node": "n4", "readonly": False}
+        wanted("what the report has", (report["session"], report["safe"], report["attached"], said), (6, True, [at_n4], ""))
+        wanted("its volumes", [(it["id"], it["name"]) for it in report["volumes"]], [(2, "w"), (3, "v")])
+        records = cluster.audited(("orchestrator", "controller", "n3", "n1", "n4"))
+        wanted("the nodes", (records[0]["nodes"], records[3]["session"]), (["n3", "n1", "n4"], 2))
+        cluster.start("n3, n1, n4")
+        cluster.says(["v; volume 3", "w; volume 2; at n4 /a"], "list")
+
+
 def not_started(box):
     """What can't be started is told in a line, and nothing is made."""
     box.put("text", b"no program\n")
@@ -157,5 +196,13 @@ def not_started(box):
     wanted("the folder", os.listdir(box.folder), ["text"])
 
 
+ROWS = [
+    ("each command", whole),
+    ("parts that end, are stopped and killed", parts),
+    ("nodes that are lost and join", lost),
+    ("not started", not_started),
+]
+
+
 def cases():
-    yield from of_rows("examples/cluster", [("each command", whole), ("parts that end, are stopped and killed", parts), ("not started", not_started)])
+    yield from of_rows("examples/cluster", ROWS)

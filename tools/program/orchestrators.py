@@ -3,7 +3,7 @@ import json
 
 from . import stores
 from .configs import NODE as SLOTS
-from .configs import NO_CONFIG, with_nodes
+from .configs import with_nodes
 from .frames import create, number, reply
 from .plugins import NOT_OPENED, alone
 from .running import ended, of_rows, wanted
@@ -26,8 +26,8 @@ def volume_line(**keys):
     return {"at": [], "capabilities": [BLOCK], "exists": "yes", "goal": None, "id": 1, "limit": 0, "name": "v", "required": 10, "tries": 0, **keys}
 
 
-def record_line(session, *volumes):
-    return line({"nodes": ["n1", "n2"], "plugin": "orchestrator", "session": session, "volumes": list(volumes)})
+def record_line(session, *volumes, nodes=("n1", "n2")):
+    return line({"nodes": nodes, "plugin": "orchestrator", "session": session, "volumes": list(volumes)})
 
 
 def at_node(attached, staged, published):
@@ -45,13 +45,13 @@ def held(box, talk, path="db", told=None, config="config"):
 
 
 def whole_life(box):
-    """Each command and each reply, to the end; then the file alone has what is known, and the next session begins with nothing wanted."""
+    """Each command and each reply, to the end; then the file alone has what is known, and the next session begins with nothing."""
     box.put("config", CONFIG)
     held(box, life(1))
     told = volume_line(exists="no")
     box.wants(ended(0, out=record_line(1, told)), "record", alone(box, "db"))
     held(box, Talk(2), told="the second session")
-    box.wants(ended(0, out=record_line(2, told)), "record", "db")
+    box.wants(ended(0, out=record_line(2)), "record", "db")
 
 
 def at_once(box):
@@ -191,12 +191,14 @@ def last_session(box):
 
 
 def found(box):
-    """A store that SQLite made is opened, with each kind of row; only its session is another one."""
+    """A store that SQLite made is opened, with each kind of row; its session is another one, and the deleted volume's row is gone, whose key the next one
+    has."""
     box.put("config", CONFIG)
     stores.make(box.at("db"), stores.ORCHESTRATOR)
     box.wants(ended(0, out=stores.ORCHESTRATOR_LINE), "record", "db")
-    box.wants(ended(0, out=first(8, "b", "v")), "orchestrator", "db", "config")
-    wanted("the parts", stores.parts_of(box.at("db")), [stores.orchestrator_head(8), *stores.ORCHESTRATOR[1:]])
+    box.wants(ended(0, out=first(8, "b", "v", "w")), "orchestrator", "db", "config")
+    rows = [*stores.ORCHESTRATOR[1:3], (number(3), stores.ORCHESTRATOR[4][1])]
+    wanted("the parts", stores.parts_of(box.at("db")), [stores.orchestrator_head(8), *rows])
 
 
 def parts_as_told(box):
@@ -252,6 +254,13 @@ NO_REQUESTS = [  # a line without its newline, and its fault
     (b'{"deliver":1}', "BadLine"),
     (b'{"restart":"orchestrator"}', "BadLine"),
     (b'{"restart_node":"n1"}', "BadLine"),
+    (b'{"restart_orchestrator":["n1"]}', "BadLine"),
+    (b'{"join":"n1"}', "BadLine"),
+    (b'{"lose":""}', "BadLine"),
+    (b'{"lose":"%s"}' % (b"n" * 256), "BadLine"),
+    (b'{"lose":1}', "BadLine"),
+    (b'{"lose":["n1"]}', "BadLine"),
+    (b'{"lose":"n1","timeout":"v"}', "BadLine"),
     (b'{"reply":""}', "BadFrame"),
     (b'{"reply":1}', "BadFrame"),
     (b'{"reply":"%s"}' % FRAME.hex().encode()[:-1], "BadFrame"),
@@ -307,27 +316,23 @@ def long_lines(box):
     box.wants(ended(0, out=talk.right()), "orchestrator", "db", "config", given=given)
     rows = [
         (1, b"x" * (MOST + 1), b""),
-        (2, line({"timeout": "v"}) + padded(b"{}\n", MOST + 1), about("v", None, "refused 13 Idle")),
+        (2, line({"timeout": "v"}) + padded(b"{}\n", MOST + 1), about("v", None, "refused 2 NoSuchVolume")),
         (3, b"\n\n" + b" " * 10**6, fault("NotJson") * 2),
     ]
     for session, (at, given, right) in enumerate(rows, 2):
         box.wants(ended(1, f"line fault at {at}", first(session) + right), "orchestrator", "db", "config", given=given)
-    box.wants(ended(0, out=record_line(4, volume_line(exists="no"))), "record", "db")
+    box.wants(ended(0, out=record_line(4)), "record", "db")
 
 
-# ---- CONFIG, and stores of others
+# ---- other slots, and stores of others
 
 
-def other_nodes(box, config, right):
-    """Another CONFIG over its store: refused, so that nothing is changed; or taken."""
+def other_slots(box):
+    """Another CONFIG over its store, with other slots and another greatest capacity, is the same to it."""
     box.put("config", CONFIG)
     held(box, life(1))
-    box.put("other", config)
-    parts = stores.parts_of(box.at("db"))
-    box.wants(right, "orchestrator", "db", "other")
-    if right.status:
-        wanted("the parts", stores.parts_of(box.at("db")), parts)
-        held(box, Talk(2))
+    box.put("other", b'{"greatest":1,"nodes":[{"id":"n1","slots":0},{"id":"n2","slots":9}]}')
+    held(box, Talk(2), config="other")
 
 
 def of_others(box):
@@ -360,13 +365,6 @@ def in_use(box):
     wanted("the controller", running.end(), ended(0))
 
 
-OTHERS = [
-    ("other slots, another greatest", b'{"greatest":1,"nodes":[{"id":"n1","slots":0},{"id":"n2","slots":9}]}', ended(0, out=Talk(2).right())),
-    ("another node", with_nodes(SLOTS % (b"n1", 4), SLOTS % (b"n3", 4)), NO_CONFIG),
-    ("a node more", with_nodes(SLOTS % (b"n1", 4), SLOTS % (b"n2", 4), SLOTS % (b"n3", 4)), NO_CONFIG),
-    ("a node less", with_nodes(SLOTS % (b"n1", 4)), NO_CONFIG),
-    ("another order", with_nodes(SLOTS % (b"n2", 4), SLOTS % (b"n1", 4)), NO_CONFIG),
-]
 ROWS = [
     ("a whole life", whole_life),
     ("each answer at once", at_once),
@@ -384,6 +382,7 @@ ROWS = [
     ("lines that are no request", no_requests),
     ("frames that are ignored", ignored),
     ("long lines", long_lines),
+    ("other slots, another greatest", other_slots),
     ("stores of others", of_others),
     ("a store in use", in_use),
 ]
@@ -391,4 +390,3 @@ ROWS = [
 
 def cases():
     yield from of_rows("orchestrator", ROWS)
-    yield from of_rows("orchestrator: CONFIG", [(name, other_nodes, *rest) for name, *rest in OTHERS])

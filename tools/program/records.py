@@ -63,41 +63,6 @@ STAGED = stores.kept("NodeStageVolume", (1, 1))
 TWO = [("n1", block(5), False), ("n1", block(5), False)]
 APART = [("n1", block(1), False), ("n2", block(1), False)]
 ASKING = stores.orchestrator_head(1)
-MADE = {"volume": 1, "exists": "yes"}
-HERE = {"goal": stores.use("n1", "/a", block(1)), "tries": 1, **MADE}
-
-
-def at_n1(*known, capability=block(1), targets=("/a",)):
-    """What is known at the node n1, attached, staged and published."""
-    return stores.at_node("n1", capability, known[0], known[1], [(target, known[2]) for target in targets])
-
-
-BAD_ROWS = {  # of an orchestrator: what is wrong, and the row
-    "tries without a goal": {**MADE, "tries": 1},
-    "a goal without tries": {"goal": stores.CREATE},
-    "four tries": {"goal": stores.CREATE, "tries": 4},
-    "a goal of 5": {"goal": b"\5", "tries": 1},
-    "to be created, with an id": {"goal": stores.CREATE, "tries": 1, **MADE},
-    "to be deleted, without an id": {"goal": stores.DELETE, "tries": 1},
-    "there without an id": {"exists": "yes"},
-    "an id, but not known": {"volume": 1},
-    "an id of 0": {"volume": 0, "exists": "yes"},
-    "deleted, with a goal": {"volume": 1, "exists": "no", "goal": stores.DELETE, "tries": 1},
-    "to be used, without an entry": HERE,
-    "used at an unlisted node": {**MADE, "at": [stores.at_node("n3", block(1), "yes", "yes", [("/a", "yes")])]},
-    "used in a capability that it lacks": {**MADE, "at": [at_n1("yes", "yes", "yes", capability=block(2))]},
-    "used at a node twice": {**MADE, "capabilities": [block(5)], "at": [at_n1("yes", "yes", "yes", capability=block(5))] * 2},
-    "used at two nodes in a mode for one": {**MADE, "at": [at_n1("yes", "yes", "yes"), stores.at_node("n2", block(1), "yes", "yes", [("/a", "yes")])]},
-    "two targets in a mode for one": {**MADE, "at": [at_n1("yes", "yes", "yes", targets=("/a", "/b"))]},
-    "a target twice": {**MADE, "capabilities": [block(5)], "at": [at_n1("yes", "yes", "yes", capability=block(5), targets=("/a", "/a"))]},
-    "no target": {**MADE, "at": [at_n1("yes", "yes", "yes", targets=())]},
-    "not settled, without a goal": {**MADE, "at": [at_n1("yes", "maybe", "no")]},
-    "all known, with a goal": {**HERE, "at": [at_n1("yes", "yes", "yes")]},
-    "staged, but not attached": {**HERE, "at": [at_n1("no", "maybe", "no")]},
-    "another target than the goal's": {**HERE, "at": [at_n1("maybe", "no", "no", targets=("/b",))]},
-    "another flag than the goal's": {**HERE, "at": [stores.at_node("n1", block(1), "maybe", "no", [("/a", "no")], True)]},
-    "deleted and used": {"volume": 1, "exists": "no", "at": [at_n1("yes", "yes", "yes")]},
-}
 BAD_PARTS = [  # by the rules of a record: what is wrong, where, and the parts
     ("no parts", 0, []),
     ("no head", 0, [stores.volume(1, "v", LAST)]),
@@ -135,7 +100,6 @@ BAD_PARTS = [  # by the rules of a record: what is wrong, where, and the parts
     ("an orchestrator's head in version 2", 0, [stores.orchestrator_head(1, version=2)]),
     ("an orchestrator's first row at 2", 1, [ASKING, stores.known(2, "v", stores.CREATE, 1)]),
     ("an orchestrator's name twice", 2, [ASKING, stores.known(1, "v", stores.CREATE, 1), stores.known(2, "v", stores.CREATE, 1)]),
-    *((f"an orchestrator's row, {name}", 1, [ASKING, stores.known(1, "v", **keys)]) for name, keys in BAD_ROWS.items()),
     ("4,097 rows", 4097, [stores.node_head("n1", 1), *(stores.staged(at, block(1), STAGED) for at in range(1, 4098))]),
 ]
 

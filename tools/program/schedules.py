@@ -1,4 +1,5 @@
 """`run`, `frames` and `draw` on schedules, and `answer` on frames: the examples, and what is refused."""
+import json
 import os
 
 from .frames import attach, create, delete, detach, publish, reply, stage
@@ -69,6 +70,13 @@ REFUSED = [
     ("no name", *bad_event(CREATE % (b"1", b"0", b""))),
     ("a name of 129 bytes", *bad_event(CREATE % (b"1", b"0", b"v" * 129))),
     ("a restart of nothing", *bad_event(b'{"restart":"node"}')),
+    ("a restart with a list that is none", *bad_event(b'{"restart_orchestrator":"n1"}')),
+    ("a list with an empty id", *bad_event(EVENT, b'{"restart_orchestrator":["n1",""]}')),
+    ("a restart with a bad configuration", *bad_event(b'{"restart_controller":{"greatest":0,"nodes":[]}}')),
+    ("an empty id that joins", *bad_event(b'{"join":""}')),
+    ("a loss of 256 bytes", *bad_event(b'{"lose":"%s"}' % (b"n" * 256))),
+    ("an empty name that is to settle", *bad_event(EVENT, b'{"settle":""}')),
+    ("a name of 129 bytes that is to settle", *bad_event(b'{"settle":"%s"}' % (b"v" * 129))),
     ("nine capabilities", *bad_event((CREATE % (b"1", b"0", b"v")).replace(b"}]", b'}' + b',{"access":"block","mode":1}' * 8 + b"]"))),
     ("a bad event at the end of 100,000", *bad_event(*[EVENT] * 99_999, b"{}")),
     ("no UTF-8", "not UTF-8", b"\xff"),
@@ -80,6 +88,28 @@ SENT = b'{"create":{"capabilities":[{"access":"block","mode":1}],"limit":0,"name
 REPORTED = [
     ("no events", NO_FRAME % b"", schedule()),
     ("a frame that there isn't", NO_FRAME % b'"no such frame"', schedule(b'{"deliver":99}')),
+    (
+        "nodes that come and go",
+        (NO_FRAME % b'"no such node","joined","node there","restarted","lost","no such node","restarted","lost","restarted"').replace(b'"session":1', b'"session":4'),
+        schedule(
+            b'{"lose":"n1"},{"join":"n1"},{"join":"n1"},{"restart_node":"n1"},{"lose":"n1"},{"lose":"n1"},{"restart_orchestrator":["n1"]},'
+            b'{"lose":"n1"},{"restart_controller":{"greatest":1,"nodes":[{"id":"n1","slots":1}]}}'
+        ),
+    ),
+    (
+        "volumes that settle, and one that no node answers",
+        (
+            b'{"attached":[],"events":["settled 0","restarted","restarted","sent 1","settled 3","settled 0","sent 4","not settled 4","lost","settled 3"]'
+            b',"frames":9,"known":[{"known":"yes","name":"v","thing":"exists"}],"published":[],"safe":true,"session":3,"staged":[],"volumes":'
+            b'[{"capacity":10,"id":1,"name":"v"}]}\n'
+        ),
+        schedule(
+            b'{"settle":"v"},{"restart_controller":{"greatest":1000,"nodes":[{"id":"n1","slots":1}]}},{"restart_orchestrator":["n1"]},'
+            + SENT
+            + b',{"settle":"v"},{"settle":"v"},{"use":{"capability":{"access":"block","mode":1},"name":"v","node":"n1","readonly":false,"target":"/a"}},'
+            b'{"settle":"v"},{"lose":"n1"},{"settle":"v"}'
+        ),
+    ),
     ("100,000 events", NO_FRAME % b",".join([b'"no such frame"'] * 100_000), schedule(b",".join([EVENT] * 100_000))),
     ("other keys' order, blanks, a repeated key", NO_FRAME % b"", b' { "events" : [ ] , "config" : [ ] , "config" : {"nodes":[],"greatest":1} } \n'),
     (
@@ -89,6 +119,86 @@ REPORTED = [
         schedule(SENT.replace(b'"v"', b'"\\u0000\\b\\t\\n\\f\\r\\u001f\\"\\\\\\/\x7f\\u00e9"')),
     ),
 ]
+
+
+# ---- nodes, lists and configurations that change: events with their outcomes, and keys of the report
+
+
+def config(*nodes):
+    return {"greatest": 1000, "nodes": [{"id": node, "slots": 1} for node in nodes]}
+
+
+def delivered(first, last, sent=()):
+    """From this frame on to that one, of which the replies are taken, and those here have a call sent: the calls are even or odd, as the first is."""
+    for at in range(first, last + 1):
+        is_call = (at - first) % 2 == 0
+        yield {"deliver": at}, f"answered {at + 1}" if is_call else f"taken, sent {at + 1}" if at in sent else "taken"
+
+
+MAKES_V = {"create": {"capabilities": [{"access": "block", "mode": 1}], "limit": 0, "name": "v", "required": 10}}
+
+
+def use(node, target="/a"):
+    return {"use": {"capability": {"access": "block", "mode": 1}, "name": "v", "node": node, "readonly": False, "target": target}}
+
+
+def stop(node, target="/a"):
+    return {"stop": {"name": "v", "node": node, "target": target}}
+
+
+MADE = [(MAKES_V, "sent 1"), *delivered(1, 2)]
+USED = [*MADE, (use("n1"), "sent 3"), *delivered(3, 8, (4, 6))]
+AT_N1 = {"id": 1, "mode": 1, "node": "n1", "readonly": False}
+CHANGED = [
+    ("a list without a used node", [
+        *USED, ({"restart_orchestrator": ["n2"]}, "refused 17 NodeInUse"), ({"restart_orchestrator": []}, "refused 17 NodeInUse"),
+        ({"restart_orchestrator": ["n3", "n1"]}, "restarted"), (use("n2"), "refused 5 NoSuchNode"),
+    ], {"session": 2, "attached": [AT_N1]}),
+    ("a configuration without a used node", [
+        *USED, ({"restart_controller": config("n2")}, "restarted"), (stop("n1"), "sent 9"), *delivered(9, 14, (10, 12)),
+        (use("n1"), "sent 15"), *delivered(15, 18, (16,)), (use("n2"), "sent 19"), *delivered(19, 20, (20,)),
+    ], {"session": 1, "attached": [{**AT_N1, "node": "n2"}]}),
+    ("a configuration that keeps what is attached", [*USED, ({"restart_controller": config()}, "restarted")], {"session": 1, "attached": [AT_N1]}),
+    ("a lost node, and one of its id that joins", [
+        *USED, ({"lose": "n1"}, "lost"), ({"deliver": 7}, "no such node"), (use("n1"), "refused 5 NoSuchNode"), (use("n2"), "refused 7 HeldElsewhere"),
+        ({"delete": "v"}, "refused 12 InUse"), ({"restart_node": "n1"}, "no such node"), ({"join": "n1"}, "joined"), ({"join": "n2"}, "node there"),
+        ({"deliver": 5}, "answered 9"), ({"deliver": 9}, "ignored"), (stop("n1", "/any"), "sent 10"), *delivered(10, 11),
+    ], {"session": 2, "attached": [], "staged": [], "published": [], "known": [{"known": "yes", "name": "v", "thing": "exists"}]}),
+    ("a lost node, of which the attachment is left", [*USED, ({"lose": "n1"}, "lost")], {
+        "session": 2, "attached": [AT_N1], "staged": [], "published": [],
+        "known": [{"known": "yes", "name": "v", "thing": "exists"}, {"known": "yes", "name": "v", "node": "n1", "thing": "attached"}],
+    }),
+    ("a node that is lost in a use", [
+        *MADE, (use("n1"), "sent 3"), ({"deliver": 3}, "answered 4"), ({"lose": "n1"}, "lost"), ({"deliver": 4}, "ignored"),
+        (stop("n1"), "refused 4 Busy"), ({"timeout": "v"}, "sent 5"), *delivered(5, 6),
+    ], {"session": 2, "attached": [], "known": [{"known": "yes", "name": "v", "thing": "exists"}]}),
+    ("a node that is listed, and isn't there", [
+        *MADE, ({"restart_controller": config("n9")}, "restarted"), ({"restart_orchestrator": ["n9"]}, "restarted"), (use("n9"), "sent 3"),
+        *delivered(3, 4, (4,)), ({"deliver": 5}, "no such node"), ({"lose": "n9"}, "lost"), ({"lose": "n9"}, "no such node"),
+        ({"timeout": "v"}, "sent 6"), *delivered(6, 7),
+    ], {"session": 3, "attached": []}),
+    ("a node that is there, and isn't listed", [
+        ({"restart_orchestrator": ["n2"]}, "restarted"), ({"restart_node": "n1"}, "restarted"), ({"lose": "n1"}, "lost"), ({"lose": "n1"}, "no such node"),
+    ], {"session": 3}),
+    ("a name that is free again", [
+        *MADE, ({"delete": "v"}, "sent 3"), *delivered(3, 4), (MAKES_V, "refused 1 NameUsed"), ({"restart": "orchestrator"}, "restarted"),
+        ({"delete": "v"}, "refused 2 NoSuchVolume"), (MAKES_V, "sent 5"), ({"deliver": 1}, "answered 6"), ({"deliver": 6}, "ignored"),
+        ({"deliver": 5}, "answered 7"), ({"deliver": 7}, "taken"), ({"deliver": 3}, "answered 8"),
+    ], {"session": 2, "volumes": [{"capacity": 10, "id": 2, "name": "v"}]}),
+    ("a name that is free again after a loss", [
+        *MADE, ({"delete": "v"}, "sent 3"), *delivered(3, 4), ({"lose": "n2"}, "lost"), (MAKES_V, "sent 5"), *delivered(5, 6),
+    ], {"session": 2, "volumes": [{"capacity": 10, "id": 2, "name": "v"}]}),
+]
+
+
+def changed(box, events, keys):
+    """A schedule over the nodes n1 and n2: the outcome of each event, and what the report has at the end."""
+    box.put("f", json.dumps({"config": config("n1", "n2"), "events": [event for event, _ in events]}).encode())
+    ran = box.run("run", "f")
+    wanted("how it ends", (ran.status, ran.error), (0, b""))
+    report = json.loads(ran.out)
+    wanted("the outcomes", report["events"], [outcome for _, outcome in events])
+    wanted("the report", {"safe": True, **{key: report[key] for key in keys}}, {"safe": report["safe"], **keys})
 
 
 def frames_of(box):
@@ -107,15 +217,16 @@ def frames_of(box):
 
 
 def examples(box):
-    """Each schedule of examples/ has the report beside it, and the picture of the README is drawn."""
+    """Each schedule of examples/ has the report beside it, and the pictures of the README are drawn."""
     folder = f"{TOP}/examples"
     names = sorted(name for name in os.listdir(folder) if name.endswith(".json"))
-    wanted("how many schedules examples/ has", len(names) > 6, True)
+    wanted("how many schedules examples/ has", len(names) > 7, True)
     for name in names:
         with open(f"{folder}/{name[:-5]}.report", "rb") as file:
             box.wants(ended(0, out=file.read()), "run", f"{folder}/{name}")
-    with open(f"{TOP}/docs/late_detach.svg", "rb") as file:
-        box.wants(ended(0, out=file.read()), "draw", f"{folder}/late_detach.json")
+    for name in ("late_detach", "lost_node", "settled"):
+        with open(f"{TOP}/docs/{name}.svg", "rb") as file:
+            box.wants(ended(0, out=file.read()), "draw", f"{folder}/{name}.json")
 
 
 def answered(box):
@@ -151,6 +262,7 @@ def nothing(box):
 def cases():
     rows = [(f"refused: {name}", refused, *rest) for name, *rest in REFUSED]
     rows += [(f"reported: {name}", reported, *rest) for name, *rest in REPORTED]
+    rows += [(f"changes: {name}", changed, *rest) for name, *rest in CHANGED]
     yield from of_rows("schedules", rows)
     yield Case("schedules: the frames of one", frames_of)
     yield Case("schedules: the examples", examples)

@@ -133,7 +133,8 @@ NODE_LINE = (
 )
 NEW_CONTROLLER_LINE = b'{"next_id":1,"plugin":"controller","session":0,"volumes":[]}\n'
 NEW_NODE_LINE = b'{"node":"n1","plugin":"node","session":0,"volumes":[]}\n'
-# An orchestrator's, of three volumes: one that is used at a node and is to be used at another, one to be created, and one that was deleted.
+# An orchestrator's, of four volumes: one that is used at a node and is to be used at another, one to be created, one that was deleted, and one that was used
+# at a node that was lost, which is to be detached.
 WAYS = [block(5), mount('"\\\n\u00e9', 3)]
 SETTLED = at_node("n2", block(5), "yes", "yes", [("/b", "yes"), ("/a\t", "yes")], True)
 ORCHESTRATOR = [
@@ -141,6 +142,7 @@ ORCHESTRATOR = [
     known(1, "v", use("n1", "/c", block(5)), 2, 1, 20, WAYS, 1, "yes", [SETTLED, at_node("n1", block(5), "yes", "maybe", [("/c", "no")])]),
     known(2, "b", CREATE, 3, 2**64 - 1, 0, []),
     known(3, "a", volume=2**33, exists="no"),
+    known(4, "w", stop("n3", "/any"), volume=3, exists="yes", at=[at_node("n3", block(1), "maybe", "no", [], True)]),
 ]
 ORCHESTRATOR_LINE = (
     b'{"nodes":["n1","n2"],"plugin":"orchestrator","session":7,"volumes":['
@@ -153,5 +155,8 @@ ORCHESTRATOR_LINE = (
     b'"published":[{"known":"no","target":"/c"}],"readonly":false,"staged":"maybe"}],'
     b'"capabilities":[{"access":"block","mode":5},{"access":"mount","fs":"\\"\\\\\\n\xc3\xa9","mode":3}],"exists":"yes",'
     b'"goal":{"use":{"capability":{"access":"block","mode":5},"name":"v","node":"n1","readonly":false,"target":"/c"}},'
-    b'"id":1,"limit":20,"name":"v","required":1,"tries":2}]}\n'
+    b'"id":1,"limit":20,"name":"v","required":1,"tries":2},'
+    b'{"at":[{"attached":"maybe","capability":{"access":"block","mode":1},"node":"n3","published":[],"readonly":true,"staged":"no"}],'
+    b'"capabilities":[{"access":"block","mode":1}],"exists":"yes","goal":{"stop":{"name":"w","node":"n3","target":"/any"}},'
+    b'"id":3,"limit":0,"name":"w","required":10,"tries":0}]}\n'
 )

@@ -31,29 +31,34 @@ def fault(name):
 
 
 class Talk:
-    """A talk about one volume, to be used at one target of one node. Each line with its answer; what is due after it, the goal and the kind of the
-    call; and how it is said in another talk."""
+    """A talk about one volume, to be used at one target of one node at a time. Each line with its answer; what is due after it, the goal and the kind of
+    the call; and how it is said in another talk."""
 
     def __init__(self, session, name="v", volume=1, wanted=()):
         self.session, self.name, self.volume = session, name, volume
         self.calls, self.kind = 0, None
         self.pairs, self.due, self.steps = [(b"", first(session, *wanted))], [(None, None)], [None]
         self.create = {"create": {"capabilities": [BLOCK], "limit": 0, "name": name, "required": 10}}
-        self.use = {"use": {"capability": BLOCK, "name": name, "node": NODE, "readonly": False, "target": TARGET}}
-        self.stop = {"stop": {"name": name, "node": NODE, "target": TARGET}}
         self.delete, self.timeout = {"delete": name}, {"timeout": name}
+        self.turns_to(NODE)
+
+    def turns_to(self, node, target=TARGET):
+        """From here on it is about another node or target."""
+        self.node, self.target = node, target
+        self.use = {"use": {"capability": BLOCK, "name": self.name, "node": node, "readonly": False, "target": target}}
+        self.stop = {"stop": {"name": self.name, "node": node, "target": target}}
 
     def frame(self, kind, at):
         """The call of this kind and number."""
         return {
             "CreateVolume": lambda: create(at, self.name),
             "DeleteVolume": lambda: delete(at, self.volume),
-            "ControllerPublishVolume": lambda: attach(at, self.volume, NODE),
-            "ControllerUnpublishVolume": lambda: detach(at, self.volume, NODE),
-            "NodeStageVolume": lambda: stage(at, self.volume, node=NODE),
-            "NodeUnstageVolume": lambda: unstage(at, self.volume, NODE),
-            "NodePublishVolume": lambda: publish(at, self.volume, TARGET, node=NODE),
-            "NodeUnpublishVolume": lambda: unpublish(at, self.volume, TARGET, NODE),
+            "ControllerPublishVolume": lambda: attach(at, self.volume, self.node),
+            "ControllerUnpublishVolume": lambda: detach(at, self.volume, self.node),
+            "NodeStageVolume": lambda: stage(at, self.volume, node=self.node),
+            "NodeUnstageVolume": lambda: unstage(at, self.volume, self.node),
+            "NodePublishVolume": lambda: publish(at, self.volume, self.target, node=self.node),
+            "NodeUnpublishVolume": lambda: unpublish(at, self.volume, self.target, self.node),
         }[kind]()
 
     def says(self, given, right):
@@ -67,7 +72,7 @@ class Talk:
         send = None
         if kind:
             self.calls, self.kind = self.calls + 1, kind
-            plugin = "controller" if kind in CONTROLLERS else f"node:{NODE}"
+            plugin = "controller" if kind in CONTROLLERS else f"node:{self.node}"
             frame = self.frame(kind, (self.session, self.calls))
             send = {"call": self.calls, "frame": frame.hex(), "kind": kind, "plugin": plugin, "session": self.session}
         self.pairs.append((line(given), about(self.name, goal, outcome, send)))
@@ -81,7 +86,7 @@ class Talk:
     def hears(self, goal, kind=None, status=0, detail=""):
         """A reply to the last call, after which this is wanted, and sent."""
         volume = self.volume if self.kind == "CreateVolume" and status == 0 else 0
-        came = reply(self.kind, (self.session, self.calls), status, volume, detail, NODE)
+        came = reply(self.kind, (self.session, self.calls), status, volume, detail, self.node)
         self.answered({"reply": came.hex()}, goal, "taken", kind)
         self.steps.append(lambda talk: talk.hears(goal, kind, status, detail))
 
@@ -104,6 +109,11 @@ class Talk:
     def deletes(self):
         self.asks(self.delete, self.delete, "DeleteVolume")
         self.hears(None)
+
+    def loses(self, node):
+        """A node is lost: a session begins."""
+        self.session, self.calls = self.session + 1, 0
+        self.says(line({"lose": node}), line({"node": node, "outcome": "lost", "session": self.session}))
 
     def given(self, at=0):
         return b"".join(given for given, _ in self.pairs[at:])

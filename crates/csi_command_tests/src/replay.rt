@@ -18,6 +18,7 @@ mod running;
 mod runs;
 mod schedules;
 mod scripts;
+mod settled;
 mod shown;
 
 use csi_endings::Ending;

@@ -7,6 +7,6 @@ use Rattle.csi_endings.specs.declared.command.ScheduleCommand.{ScheduleCommand}
 use Rattle.csi_commands.specs.Public.Running.{Drawing, IsGivenOf, IsGiven}
 
 -- what is given of a world that shows the schedule's run is given of the schedule
-pub given_is : {T E : Type 0} → (bytes : T → List ℕ) (draws : Drawing) (command : ScheduleCommand) (schedule : Schedule) (world : WorldParts) (result : Result T E) → world.config ≡ schedule.config → ShowsRun world (after schedule.config schedule.events) → IfOk result (λ given. IsGivenOf draws command schedule.events world (bytes given)) → IfOk result (λ given. IsGiven draws command schedule (bytes given))
-given_is bytes draws command schedule world (Ok given) config shows of = record { world = world; config = config; shows = shows; given = of }
-given_is bytes draws command schedule world (Err fault) config shows of = tt
+pub given_is : {T E : Type 0} → (bytes : T → List ℕ) (draws : Drawing) (command : ScheduleCommand) (schedule : Schedule) (world : WorldParts) (result : Result T E) → ShowsRun world (after schedule.config schedule.events) → IfOk result (λ given. IsGivenOf draws command schedule world (bytes given)) → IfOk result (λ given. IsGiven draws command schedule (bytes given))
+given_is bytes draws command schedule world (Ok given) shows of = record { world = world; shows = shows; given = of }
+given_is bytes draws command schedule world (Err fault) shows of = tt

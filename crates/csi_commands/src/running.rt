@@ -4,7 +4,7 @@ ghost use Rattle.std.specs.List.{flat_map};
 ghost use Rattle.std.specs.Str.{IsUtf8};
 ghost use Rattle.csi_frames.specs.Public.Spelling.{spelling};
 ghost use Rattle.csi_json.specs.Public.Schedule.{text_schedule};
-ghost use Rattle.csi_commands.specs.Public.Running.{IsReportLine, IsGivenOf, IsGiven, Plays, IsScheduleRefused};
+ghost use Rattle.csi_commands.specs.Public.Running.{IsReportLine, IsGivenOf, IsGiven, events_of as events_by, Plays, IsScheduleRefused};
 ghost use Rattle.csi_commands.specs.Private.Running.{refusal_of as refusal};
 
 use crate::drawing::Draws;
@@ -13,7 +13,7 @@ use csi_frames::encode;
 use csi_json::{ScheduleFault, read_schedule};
 use csi_reports::report;
 use csi_types::{Config, NoMemory};
-use csi_world::{Event, World, simulate};
+use csi_world::{Event, World, simulate, told_one_by_one};
 use std::alloc::Global;
 
 // The ending where a text is no schedule.
@@ -62,19 +62,20 @@ fn frames_of(alloc: Global, world: &World) -> Result<Vec<u8>, NoMemory>
     Ok(bytes)
 }
 
-// What the command gives of a world, to which these events led.
+// What the command gives of a world, to which these events led from the configuration.
 fn given_of<D: Draws>(
     alloc: Global,
     command: ScheduleCommand,
+    config: &Config,
     events: &[Event],
     world: &World,
 ) -> Result<Vec<u8>, NoMemory>
-    ensures { IfOk result (λ given. IsGivenOf D.draws command events.now world.now given.items) }
+    ensures { IfOk result (λ given. IsGivenOf D.draws command (record { config = config.now; events = events.now }) world.now given.items) }
 {
     match command {
         ScheduleCommand::Run => line_of(alloc, world),
         ScheduleCommand::Frames => frames_of(alloc, world),
-        ScheduleCommand::Draw => D::draw(alloc, world, events),
+        ScheduleCommand::Draw => D::draw(alloc, config, world, events),
     }
 }
 
@@ -88,12 +89,28 @@ fn given<D: Draws>(
     ensures { IfOk result (λ given. IsGiven D.draws command (record { config = config.now; events = events.now }) given.items) }
 {
     let world = simulate(alloc, config, events)?;
-    given_of::<D>(alloc, command, events, &world)
+    given_of::<D>(alloc, command, config, events, &world)
+}
+
+// The events of a schedule that the command runs: those that it has; and to be drawn, those that what settles a volume stands for.
+fn events_of(
+    alloc: Global,
+    command: ScheduleCommand,
+    config: &Config,
+    events: Vec<Event>,
+) -> Result<Vec<Event>, NoMemory>
+    ensures { IfOk result (λ run. run.items ≡ events_by command (record { config = config.now; events = events.items })) }
+{
+    match command {
+        ScheduleCommand::Run | ScheduleCommand::Frames => Ok(events),
+        ScheduleCommand::Draw => told_one_by_one(alloc, config, &events),
+    }
 }
 
 /// Reads `input` as a schedule, lets its events happen one after another to an empty world, and appends to `out` what the
 /// command gives of the world: its report and a newline, the spellings of all frames that were sent, in order,
-/// or its picture. An `Err` appends nothing: `NotUtf8` and `ScheduleFault` say what is wrong with the input, in this order, and `Memory` that
+/// or its picture. To be drawn, what settles a volume happens as its timeout and its deliveries, each an event of its own, to the same
+/// world. An `Err` appends nothing: `NotUtf8` and `ScheduleFault` say what is wrong with the input, in this order, and `Memory` that
 /// an allocation was refused. The report is this profile's own.
 pub fn play<D: Draws>(
     alloc: Global,
@@ -106,6 +123,7 @@ pub fn play<D: Draws>(
     ensures err { OnErr result (out.new.items ≡ out.old.items) }
 {
     let (config, events) = schedule_in(alloc, input)?;
+    let events = events_of(alloc, command, &config, events)?;
     let given = given::<D>(alloc, command, &config, &events)?;
     out.extend_from_slice(&given)?;
     Ok(())

@@ -25,6 +25,7 @@ pub mod TableOutcomes
 pub mod SameText
 pub mod Forgotten
 pub mod OrderlyStates
+pub mod StaysEnded
 pub mod NamesLaw
 pub mod ThingOutcomes
 pub mod LastCalls

@@ -18,11 +18,12 @@ use Rattle.csi_controller.specs.Model.State.{Volume, ControllerState, empty_cont
 use Rattle.csi_controller.specs.Public.State.{volume_with_id}
 use Rattle.csi_controller.specs.Model.Table.{Outcome, Change, Stays, Makes, Ends, Attaches, Detaches, changed, ended_volume, controller_row}
 use Rattle.csi_controller.specs.Model.Fenced.{fenced, carried_out, kept_in, begun, controller_with}
-use Rattle.csi_controller.specs.Public.Fenced.{after_frames}
+use Rattle.csi_controller.specs.Public.Fenced.{ConfiguredFrame, after_configured}
 use Rattle.csi_controller.specs.Public.View.{AreNamed, live_named, HasVolume, WasMade, KeepsNames}
 use Rattle.csi_controller.proofs.Forgotten.{find-kept, found_live, live_named-begun}
 use Rattle.csi_controller.proofs.TableOutcomes.{IsOutcome, was_refused, was_found, was_made, was_ended, was_ended_before, was_attached, was_attached_before, was_detached, was_detached_before, is_outcome}
-use Rattle.csi_controller.proofs.OrderlyStates.{IsOrderly, begun_orderly, reached_orderly, named_by_id, with_id_by_name, is_named, is_with_id, LeavesNames, kept_same, keep_leaves, end_leaves}
+use Rattle.csi_controller.proofs.OrderlyStates.{IsOrderly, begun_orderly, came_orderly, named_by_id, with_id_by_name, is_named, is_with_id, live_with_id, LeavesNames, kept_same, keep_leaves, end_leaves}
+use Rattle.csi_controller.proofs.StaysEnded.{carried_ended, begun_ended}
 use Rattle.csi_controller.proofs.ThingOutcomes.{none_named}
 
 -- in an orderly state names and ids belong together
@@ -32,13 +33,14 @@ are_named state orderly = record {
   by_name = λ id volume is. with_id_by_name state id volume orderly is;
   live = λ name volume is. is_named state name volume orderly (among-find (λ (v : Volume). same_text v.name name && v.is_live) state.volumes volume is)
       (and_parts (same_text volume.name name) volume.is_live (find-passes (λ (v : Volume). same_text v.name name && v.is_live) state.volumes volume is)).0;
+  live_id = λ id volume is. live_with_id state id volume orderly is;
   given = λ id volume is. subst (λ n. n < state.next_id) (eqb-true volume.id id (find-passes (λ (v : Volume). v.id == id) state.volumes volume is))
       (orderly volume (among-find (λ (v : Volume). v.id == id) state.volumes volume is)).given;
 }
 
 -- so they do in every state that frames lead to
-pub reached_named : (config : Config) (frames : List Frame) → AreNamed (after_frames config empty_controller frames)
-reached_named config frames = are_named (after_frames config empty_controller frames) (reached_orderly config frames)
+pub reached_named : (came : List ConfiguredFrame) → AreNamed (after_configured empty_controller came)
+reached_named came = are_named (after_configured empty_controller came) (came_orderly came)
 
 -- a volume of a state was there, or was made
 abbrev Comes : ControllerState → Volume → Type 0
@@ -151,11 +153,12 @@ carried_names config state number call =
           (changed_comes config state call (controller_row config state call) _ (is_outcome config state call));
       stays = λ id volume is live. mapped_stays (changed state _ (controller_row config state call).change) (kept_in call _) (keep_leaves call _) volume
           (changed_stays state _ (controller_row config state call).change volume (was_there state id volume is));
+      stays_ended = carried_ended call _ state (controller_row config state call).change;
     }
 
 -- nothing changes
 same_names : (state : ControllerState) → KeepsNames state state
-same_names state = record { grows = omega arith; comes = λ id w is. inl (was_there state id w is); stays = λ id w is live. was_there state id w is }
+same_names state = record { grows = omega arith; comes = λ id w is. inl (was_there state id w is); stays = λ id w is live. was_there state id w is; stays_ended = λ id given none. none }
 
 -- a volume that is there once a session has begun was there
 was_there_before : (session : ℕ) (state : ControllerState) (volume : Volume) → IsOrderly state → HasVolume (begun session state) volume → HasVolume state volume
@@ -176,6 +179,7 @@ begun_names session state after orderly keeps =
       grows = keeps.grows;
       comes = λ id volume is. comes_before session state volume orderly (keeps.comes id volume is);
       stays = λ id volume is live. keeps.stays id volume (find-kept (λ (v : Volume). v.id == id) (λ (v : Volume). v.is_live) state.volumes volume is live) live;
+      stays_ended = begun_ended session state after keeps.stays_ended;
     }
 
 -- names and ids of an orderly state stay as they are

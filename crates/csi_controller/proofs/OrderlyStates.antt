@@ -12,15 +12,15 @@ use Rattle.csi_types.specs.declared.number.Number.{Number}
 use Rattle.csi_types.specs.declared.call.Call.{Call}
 use Rattle.csi_types.specs.declared.call.Call.TheVariants as calls
 use Rattle.csi_types.specs.Model.Config.{Config}
-use Rattle.csi_fence.proofs.FramesKeep.{IsKept, frames_keep}
+use Rattle.csi_fence.proofs.FramesKeep.{IsKept, frame_keeps, frames_keep}
 use Rattle.csi_fence.specs.Model.Fence.{Kept}
 use Rattle.csi_types.specs.Model.Frame.{Frame}
 use Rattle.csi_types.specs.Model.Same.{same_text}
 use Rattle.csi_controller.specs.Model.State.{Volume, ControllerState, empty_controller, volume_named, live_volume, is_row_for, row_for}
 use Rattle.csi_controller.specs.Public.State.{volume_with_id}
 use Rattle.csi_controller.specs.Model.Table.{Outcome, ended_volume, changed, controller_row}
-use Rattle.csi_controller.specs.Model.Fenced.{kept_in, carried_out, begun, controller_with}
-use Rattle.csi_controller.specs.Public.Fenced.{after_frames}
+use Rattle.csi_controller.specs.Model.Fenced.{kept_in, carried_out, begun, controller_with, fenced}
+use Rattle.csi_controller.specs.Public.Fenced.{after_frames, ConfiguredFrame, after_configured}
 use Rattle.csi_controller.specs.Public.Laws.{keeping}
 use Rattle.csi_controller.proofs.Forgotten.{find-kept}
 use Rattle.csi_controller.proofs.TableOutcomes.{IsOutcome, was_refused, was_found, was_made, was_ended, was_ended_before, was_attached, was_attached_before, was_detached, was_detached_before, is_outcome}
@@ -195,3 +195,13 @@ orderly_kept config =
 -- every state that frames lead to is orderly
 pub reached_orderly : (config : Config) (frames : List Frame) → IsOrderly (after_frames config empty_controller frames)
 reached_orderly config frames = frames_keep (controller_with config) IsOrderly (orderly_kept config) empty_controller frames (λ v among. absurd among)
+
+-- what each frame keeps, whatever the configuration, is so after all frames, each under its own
+pub configured_keep : (P : ControllerState → Type 0) → ((config : Config) → IsKept (controller_with config) P) → (state : ControllerState) (came : List ConfiguredFrame) → P state → P (after_configured state came)
+configured_keep P keeps state [] so = so
+configured_keep P keeps state (one ∷ others) so =
+    configured_keep P keeps (fenced one.config state one.frame).state others (frame_keeps (controller_with one.config) P (keeps one.config) state one.frame so)
+
+-- so is each state to which frames lead, under whatever configuration each comes
+pub came_orderly : (came : List ConfiguredFrame) → IsOrderly (after_configured empty_controller came)
+came_orderly came = configured_keep IsOrderly orderly_kept empty_controller came (λ v among. absurd among)

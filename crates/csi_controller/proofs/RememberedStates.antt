@@ -12,14 +12,14 @@ use Rattle.csi_types.specs.declared.call.Call.TheVariants as calls
 use Rattle.csi_types.specs.Model.Call.{kind_of}
 use Rattle.csi_types.specs.Model.Capacity.{capacity_wanted}
 use Rattle.csi_types.specs.Model.Config.{Config}
-use Rattle.csi_types.specs.Model.Frame.{Frame}
-use Rattle.csi_fence.proofs.FramesKeep.{IsKept, frames_keep}
+use Rattle.csi_fence.proofs.FramesKeep.{IsKept}
 use Rattle.csi_fence.specs.Model.Fence.{Kept}
 use Rattle.csi_controller.specs.Model.State.{Volume, ControllerState, empty_controller, is_row_for}
 use Rattle.csi_controller.specs.Model.Table.{Outcome, Change, Stays, Makes, Ends, Attaches, Detaches, changed, ended_volume, controller_row}
 use Rattle.csi_controller.specs.Model.Fenced.{kept_in, carried_out, begun, controller_with}
-use Rattle.csi_controller.specs.Public.Fenced.{after_frames}
+use Rattle.csi_controller.specs.Public.Fenced.{ConfiguredFrame, after_configured}
 use Rattle.csi_controller.specs.Public.Safe.{Remembers}
+use Rattle.csi_controller.proofs.OrderlyStates.{configured_keep}
 use Rattle.csi_controller.proofs.TableOutcomes.{IsOutcome, was_refused, was_found, was_made, was_ended, was_ended_before, was_attached, was_attached_before, was_detached, was_detached_before, is_outcome}
 
 -- the volume is live, or its last call is of this session; and that is of no later one
@@ -111,8 +111,8 @@ recent_kept config =
     }
 
 -- every state that frames lead to is so
-pub reached_recent : (config : Config) (frames : List Frame) → AreRecent (after_frames config empty_controller frames)
-reached_recent config frames = frames_keep (controller_with config) AreRecent (recent_kept config) empty_controller frames (λ v among. absurd among)
+pub came_recent : (came : List ConfiguredFrame) → AreRecent (after_configured empty_controller came)
+came_recent came = configured_keep AreRecent recent_kept empty_controller came (λ v among. absurd among)
 
 -- so it remembers no more than what is live and what had its last call in the greatest session
 pub remembers : (state : ControllerState) → AreRecent state → Remembers state

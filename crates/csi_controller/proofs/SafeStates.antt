@@ -13,16 +13,15 @@ use Rattle.csi_types.specs.declared.number.Number.{Number}
 use Rattle.csi_types.specs.declared.call.Call.{Call}
 use Rattle.csi_types.specs.Model.Capacity.{capacity_wanted}
 use Rattle.csi_types.specs.Model.Config.{Config}
-use Rattle.csi_fence.proofs.FramesKeep as each
 use Rattle.csi_fence.proofs.FramesKeep.{IsKept}
 use Rattle.csi_fence.specs.Model.Fence.{Kept}
-use Rattle.csi_types.specs.Model.Frame.{Frame}
 use Rattle.csi_types.specs.Model.Holding.{is_compatible}
 use Rattle.csi_types.specs.Model.Same.{same_text}
 use Rattle.csi_controller.specs.Model.State.{Volume, ControllerState, empty_controller, live_volume, holdings_of, is_held_at, holding_at, is_row_for}
 use Rattle.csi_controller.specs.Model.Table.{Outcome, Change, Stays, Makes, Ends, Attaches, Detaches, controller_row, ended_volume, changed}
 use Rattle.csi_controller.specs.Model.Fenced.{kept_in, keep, carried_out, begun, controller_with}
-use Rattle.csi_controller.specs.Public.Fenced.{after_frames}
+use Rattle.csi_controller.specs.Public.Fenced.{ConfiguredFrame, after_configured}
+use Rattle.csi_controller.proofs.OrderlyStates.{configured_keep}
 use Rattle.csi_controller.specs.Model.Safe.{AreExclusive}
 use Rattle.csi_controller.specs.Public.Safe.{IsExclusiveState}
 use Rattle.csi_controller.proofs.Forgotten.{live_volume-begun}
@@ -151,7 +150,7 @@ begun_keeps session state safe = record {
   attached_while_live = λ h among. ap is_some (live_volume-begun session state h.volume) ∙ safe.attached_while_live h among;
 }
 
--- so each frame does, and any list of frames
+-- so each frame does
 pub exclusive_kept : (config : Config) → IsKept (controller_with config) IsExclusiveState
 exclusive_kept config =
     record {
@@ -160,10 +159,10 @@ exclusive_kept config =
       carries = λ state number call goes. carried_keeps config state number call;
     }
 
--- so does any list of frames
-pub frames_keep : (config : Config) (state : ControllerState) (frames : List Frame) → IsExclusiveState state → IsExclusiveState (after_frames config state frames)
-frames_keep config state frames safe = each.frames_keep (controller_with config) IsExclusiveState (exclusive_kept config) state frames safe
-
 -- it is so of a controller that has answered nothing
 pub empty_exclusive : IsExclusiveState empty_controller
 empty_exclusive = record { exclusive = tt; attached_while_live = λ h among. absurd among }
+
+-- so it is in each state to which frames lead, under whatever configuration each comes
+pub came_exclusive : (came : List ConfiguredFrame) → IsExclusiveState (after_configured empty_controller came)
+came_exclusive came = configured_keep IsExclusiveState exclusive_kept empty_controller came empty_exclusive

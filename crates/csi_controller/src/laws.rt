@@ -17,8 +17,8 @@ pub fn table_law()
     ensures { ControllerTableLaw }
 {}
 
-/// A law, and nothing that runs: in every state that frames lead to, whichever they are, two holdings of one
-/// volume are at different nodes, neither of them in a mode for one node, and no two write where one of their
+/// A law, and nothing that runs: in every state that frames lead to, whichever they are and whatever the controller's configuration is
+/// when each comes, two holdings of one volume are at different nodes, neither of them in a mode for one node, and no two write where one of their
 /// modes has a single writer; and what is attached wasn't deleted (CSI's spec.md, "CreateVolume",
 /// `AccessMode`, and "Volume Lifecycle").
 pub fn safety_law()
@@ -44,8 +44,8 @@ pub fn sessions_law()
 
 /// A law, and nothing that runs: in every state that frames lead to, a volume that is found by its name is found
 /// by its id, and the other way round; and whatever frame comes, each volume that is there then was there under its
-/// id and name, or was made under the next id, for a name that no live volume had, and a live volume keeps both
-/// (this profile's own).
+/// id and name, or was made under the next id, for a name that no live volume had, a live volume keeps both, and
+/// an id that was given never has a live volume again once it has none (this profile's own).
 pub fn names_law()
     ensures { ControllerNamesLaw }
 {}

@@ -5,3 +5,4 @@ pub mod MadePlugins
 pub mod SpelledCapabilities
 pub mod Asked
 pub mod MadeOrchestrators
+pub mod LostNodes

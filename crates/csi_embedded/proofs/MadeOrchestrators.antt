@@ -1,10 +1,11 @@
 -- Why no orchestrator is made.
-use Rattle.std.proofs.Common.{ℕ, List, inl}
+use Rattle.std.proofs.Common.{◌≡◌, ◌∙◌, ℕ, List, Result, Ok, Err, ap, sym, subst}
+use Rattle.csi_types.specs.Model.Config.{Config}
 use Rattle.csi_embedded.specs.declared.ending.Ending.{Ending}
-use Rattle.csi_embedded.specs.declared.ending.Ending.TheVariants.{NoMemory, BadName, BadRecord, Refused}
-use Rattle.csi_orchestrator.specs.Public.Record.{RecordParts}
+use Rattle.csi_embedded.specs.declared.ending.Ending.TheVariants.{NoMemory, BadName, BadRecord, Refused, NodeInUse}
+use Rattle.csi_orchestrator.specs.Public.Record.{RecordParts, AreNodesFit}
 use Rattle.csi_embedded.specs.Public.Making.{IsNoConfig}
-use Rattle.csi_embedded.specs.Public.OrchestratorMaking.{IsOrchestratorRecord, IsNoNodes, IsNoOrchestrator, IsNoReadOrchestrator}
+use Rattle.csi_embedded.specs.Public.OrchestratorMaking.{node_ids, AreNodesOf, IsOrchestratorRecord, IsNoNodes, IsNoOrchestrator, IsNoReadOrchestrator}
 use Rattle.csi_embedded.specs.Private.OrchestratorMaking.{IsNoRecord, IsNotReopened}
 
 -- where no configuration is said, no nodes are
@@ -22,17 +23,31 @@ no-orchestrator text _ none = none
 -- nor is one of a record
 pub no-nodes-read : (text bytes : List ℕ) (ending : Ending) → IsNoNodes text ending → IsNoReadOrchestrator text bytes ending
 no-nodes-read text bytes NoMemory none = tt
-no-nodes-read text bytes BadName none = none
+no-nodes-read text bytes BadName none = λ utf8 nodes said fit. none utf8 nodes said
 no-nodes-read text bytes _ none = absurd none
 
 -- nor where the bytes are none
 pub no-record-read : (text bytes : List ℕ) (ending : Ending) → IsNoRecord bytes ending → IsNoReadOrchestrator text bytes ending
 no-record-read text bytes NoMemory none = tt
-no-record-read text bytes BadRecord none = inl none
+no-record-read text bytes BadRecord none = none
 no-record-read text bytes _ none = absurd none
 
--- nor where no session is left
-pub none-reopened : (text bytes : List ℕ) (kept : RecordParts) (ending : Ending) → IsOrchestratorRecord bytes kept → IsNotReopened kept ending → IsNoReadOrchestrator text bytes ending
-none-reopened text bytes kept NoMemory read none = tt
-none-reopened text bytes kept Refused read none = record { kept = kept; read = read; spent = none }
-none-reopened text bytes kept _ read none = absurd none
+-- the configuration that was read
+abbrev config_in : {E : Type 0} → Config → Result Config E → Config
+config_in default (Ok config) = config
+config_in default (Err fault) = default
+
+-- a text says one list of nodes
+same-nodes : (text : List ℕ) (one other : List (List ℕ)) → AreNodesOf text one → AreNodesOf text other → one ≡ other
+same-nodes text one other said also =
+    let config : said.0 ≡ also.0 = ap (config_in said.0) (sym said.1 ∙ also.1) in
+    said.2 ∙ ap (λ (c : Config). node_ids c.nodes) config ∙ sym also.2
+
+-- nor where no session begins with these nodes
+pub none-reopened : (text bytes : List ℕ) (nodes : List (List ℕ)) (kept : RecordParts) (ending : Ending) → AreNodesOf text nodes → IsOrchestratorRecord bytes kept → IsNotReopened kept nodes ending
+    → IsNoReadOrchestrator text bytes ending
+none-reopened text bytes nodes kept NoMemory said read none = tt
+none-reopened text bytes nodes kept BadName said read none = λ utf8 others also fit. none (subst AreNodesFit (same-nodes text others nodes also said) fit)
+none-reopened text bytes nodes kept Refused said read none = record { nodes = nodes; said = said; kept = kept; read = read; refused = none }
+none-reopened text bytes nodes kept NodeInUse said read none = record { nodes = nodes; said = said; kept = kept; read = read; refused = none }
+none-reopened text bytes nodes kept _ said read none = absurd none

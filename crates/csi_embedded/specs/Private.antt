@@ -4,3 +4,4 @@ pub mod OrchestratorMaking
 pub mod Holding
 pub mod Asking
 pub mod Knowing
+pub mod Losing

@@ -5,3 +5,4 @@ pub mod Making
 pub mod OrchestratorMaking
 pub mod Asking
 pub mod Knowing
+pub mod Losing

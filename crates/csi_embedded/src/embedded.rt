@@ -9,7 +9,7 @@ use crate::splitting::{answer_next, fed, used_again};
 use csi_frames::Splitter;
 use csi_orchestrator::{Heard, OrchFault, Orchestrator};
 use csi_service::Part;
-use csi_types::{Frame, NoMemory};
+use csi_types::{Frame, NoMemory, NodeId};
 use std::alloc::Global;
 
 /// A plugin or an orchestrator, the buffers that a plugin's calls use again and again, and what the store has to be given, once that was
@@ -32,6 +32,7 @@ impl Embedded {
     ghost use Rattle.csi_stores.specs.Public.Part.{part_change};
     ghost use Rattle.csi_embedded.specs.Private.Calls.{changes_in};
     ghost use Rattle.csi_embedded.specs.Public.Asking.{command_input, Carries};
+    ghost use Rattle.csi_embedded.specs.Public.Losing.{LosesNode};
     ghost use Rattle.csi_embedded.specs.Public.Calls.{frame_front, told_changes, AnswersFrame, IsNoAnswer, Remains};
     ghost use Rattle.csi_embedded.specs.Public.Plugins.{is_orchestrator as is_one, orchestrator_of};
 
@@ -148,6 +149,25 @@ impl Embedded {
                 Ok(heard) => {
                     let _told = self.changed.take();
                     Ok(heard)
+                }
+                Err(why) => Err(why),
+            },
+            Plugin::Controller(_) => unreachable!(),
+            Plugin::Node(_) => unreachable!(),
+        }
+    }
+
+    /// Takes a node as lost, as `ask` asks the orchestrator.
+    pub fn lose(&mut self, node: &NodeId) -> Result<(), OrchFault>
+        requires kind { is_one self.old.plugin ≡ true }
+        requires told { is_some self.old.changed ≡ true }
+        ensures { LosesNode node.now self.old result self.new }
+    {
+        match &mut self.plugin {
+            Plugin::Orchestrator(service) => match service.lose(node) {
+                Ok(()) => {
+                    let _told = self.changed.take();
+                    Ok(())
                 }
                 Err(why) => Err(why),
             },

@@ -41,6 +41,8 @@ pub enum Ending {
     Ignored = 15,
     /// The record is of an earlier session than that of the node's joining.
     EarlierSession = 16,
+    /// A volume may be attached at a node of the record that the configuration leaves out.
+    NodeInUse = 17,
 }
 
 impl Ending {

@@ -2,6 +2,7 @@
 ghost use Rattle.std.specs.Prelude.{◌≡◌, ◌++◌, [], length, take, option_and_then, slice_get, IfOk};
 ghost use Rattle.csi_records.specs.Public.OrchestratorSpelling.{known_byte, goal_bytes as spelled_goal};
 ghost use Rattle.csi_embedded.specs.Public.Asking.{HasNone};
+ghost use Rattle.csi_embedded.specs.Private.Knowing.{TellsRead};
 ghost use Rattle.csi_embedded.specs.Public.Knowing.{TellsThing, TellsGoal, TellsVolume, Fills, goal_named};
 
 use crate::copying::copy;
@@ -43,6 +44,20 @@ fn fill(bytes: &[u8], room: &mut [u8], written: &mut usize) -> Ending
     match copy(bytes, room, written) {
         Ok(()) => Ending::Done,
         Err(ending) => ending,
+    }
+}
+
+/// What the orchestrator knows of the thing that was read, if one was.
+pub(crate) fn know_read(
+    embedded: &Embedded,
+    thing: &Result<Thing, Ending>,
+    known: &mut u32,
+) -> Ending
+    ensures { TellsRead thing.now embedded.now known.new result }
+{
+    match thing {
+        Ok(thing) => know(embedded, thing, known),
+        Err(ending) => *ending,
     }
 }
 

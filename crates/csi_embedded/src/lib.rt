@@ -18,6 +18,7 @@ mod held;
 mod joined_exports;
 mod knowing;
 mod limits;
+mod losing;
 mod making;
 mod opened;
 mod orchestrator_exports;

@@ -3,10 +3,12 @@
 //! were. `TUFAYON_FRAME_ROOM` bytes of room are asked for before anything else is done.
 ghost use Rattle.std.specs.Prelude.{◌≡◌, None, length, take};
 ghost use Rattle.csi_embedded.specs.Public.Asking.{AsksCreate, AsksUse, AsksStop, AsksDelete, AsksTimeout, HasAsked, HasHeard};
+ghost use Rattle.csi_embedded.specs.Public.Losing.{HasLost};
 ghost use Rattle.csi_embedded.specs.Public.Knowing.{AsksExists, AsksAttached, AsksStaged, AsksPublished, HasKnown, HasGoal, HasVolume};
 ghost use Rattle.csi_embedded.specs.Public.Making.{Makes, EndsDone};
 ghost use Rattle.csi_embedded.specs.Public.OrchestratorMaking.{IsNewOrchestrator, IsReadOrchestrator, IsNoOrchestrator, IsNoReadOrchestrator};
 ghost use Rattle.csi_embedded.specs.Private.Asking.{GivesAsked};
+ghost use Rattle.csi_embedded.specs.Private.Losing.{GivesLost};
 ghost use Rattle.csi_embedded.specs.Private.Knowing.{GivesKnown};
 
 use crate::asking::{ask_read, hear};
@@ -15,11 +17,13 @@ use crate::commands::{create_of, delete_of, stop_of, timeout_of, use_of};
 use crate::ending::Ending;
 use crate::exports::put;
 use crate::handle::Handle;
-use crate::knowing::{goal, know, volume};
+use crate::knowing::{goal, know_read, volume};
+use crate::losing::lose_read;
 use crate::orchestrator_making::{new_orchestrator, read_orchestrator};
-use crate::texts::name_of;
+use crate::texts::{id_of, name_of};
 use crate::things::{attached_of, exists_of, published_of, staged_of};
 use csi_orchestrator::Thing;
+use csi_types::NodeId;
 use std::alloc::Global;
 
 /// A new orchestrator of the nodes of the configuration that these bytes say, in session 1. The handle has to be empty. What the store has to
@@ -39,9 +43,10 @@ pub extern "C" fn tufayon_orchestrator_new(
     put(alloc, orchestrator, new_orchestrator(alloc, config))
 }
 
-/// The orchestrator of a whole record, whose nodes are those of the configuration that these bytes say, in the same order. The handle has to be
-/// empty. It is in the session after the record's, and has no open call: what the store has to be given is that session, before any frame is
-/// sent. `Refused` where the record's session is the last one.
+/// The orchestrator of a whole record, after a restart with the nodes of the configuration that these bytes say. The handle has to be empty. It is
+/// in the session after the record's, and has no open call, and names are forgotten: what the store has to be given is what that changed, before any
+/// frame is sent. `Refused` where the record's session is the last one, and `NodeInUse` where a volume may be attached at a node of the
+/// record that isn't one of these.
 #[unsafe(no_mangle)]
 pub extern "C" fn tufayon_orchestrator_from_record(
     alloc: Global,
@@ -205,6 +210,40 @@ pub extern "C" fn tufayon_deliver(
     }
 }
 
+// Takes a node as lost, if what C handed over is one.
+fn lose_handle(
+    alloc: Global,
+    orchestrator: &mut Handle,
+    node: Result<NodeId, Ending>,
+    fault: &mut u32,
+) -> u32
+    ensures { GivesLost node orchestrator.old.held.embedded orchestrator.new.held.embedded fault.new result }
+{
+    match orchestrator.take(alloc) {
+        Some(mut embedded) => {
+            let ending = lose_read(&mut embedded, node, fault);
+            *orchestrator = Handle::of(embedded);
+            ending.number()
+        }
+        None => Ending::Empty.number(),
+    }
+}
+
+/// The node of this id is lost: its machine is off for good, and its store never comes back. A session begins without it. What is to be
+/// sent is asked for by `tufayon_timeout` and `tufayon_stop`. `Refused` in the last session.
+#[unsafe(no_mangle)]
+pub extern "C" fn tufayon_orchestrator_lose(
+    alloc: Global,
+    orchestrator: &mut Handle,
+    node: &[u8],
+    fault: &mut u32,
+) -> u32
+    ensures { HasLost node.now orchestrator.old.held.embedded orchestrator.new.held.embedded fault.new result }
+{
+    let lost = id_of(alloc, node);
+    lose_handle(alloc, orchestrator, lost, fault)
+}
+
 // What the orchestrator of a handle knows of a thing, if what C handed over is one.
 fn know_handle(
     alloc: Global,
@@ -217,10 +256,7 @@ fn know_handle(
 {
     match orchestrator.take(alloc) {
         Some(embedded) => {
-            let ending = match &thing {
-                Ok(thing) => know(&embedded, thing, known),
-                Err(ending) => *ending,
-            };
+            let ending = know_read(&embedded, &thing, known);
             *orchestrator = Handle::of(embedded);
             ending.number()
         }

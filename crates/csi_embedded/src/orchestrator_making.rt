@@ -1,5 +1,5 @@
 //! Orchestrators that are made: a new one, and that of a record.
-ghost use Rattle.std.specs.Prelude.{◌≡◌, ◌↔◌, IsTrue, map, IfOk, IfErr};
+ghost use Rattle.std.specs.Prelude.{◌≡◌, IfOk, IfErr};
 ghost use Rattle.csi_service.specs.Public.OrchestratorServices.{orchestrator_service_changes};
 ghost use Rattle.csi_embedded.specs.Public.Calls.{told_changes};
 ghost use Rattle.csi_embedded.specs.Public.Making.{EndsDone};
@@ -13,7 +13,7 @@ use crate::making::{config_of, ending_of};
 use crate::plugin::Plugin;
 use csi_orchestrator::{OrchRecordFault, OrchestratorRecord};
 use csi_records::{Stored, read_record};
-use csi_service::OrchestratorService;
+use csi_service::{OrchestratorService, OrchestratorUnopened};
 use csi_types::{NoMemory, NodeId, NodeSlots};
 use std::alloc::Global;
 
@@ -42,13 +42,6 @@ fn nodes_of(alloc: Global, config: &[u8]) -> Result<Vec<NodeId>, Ending>
         Ok(ids) => Ok(ids),
         Err(_) => Err(Ending::NoMemory),
     }
-}
-
-// Whether these are the same nodes in the same order.
-fn same_nodes(one: &[NodeId], other: &[NodeId]) -> bool
-    ensures { IsTrue result ↔ (one.now ≡ other.now) }
-{
-    one == other
 }
 
 // The orchestrator, of which the store has to be given what its opening changed.
@@ -91,13 +84,15 @@ fn record_of(alloc: Global, bytes: &[u8]) -> Result<OrchestratorRecord, Ending>
     }
 }
 
-// The orchestrator of a record, in the next session.
-fn reopened(alloc: Global, kept: OrchestratorRecord) -> Result<Embedded, Ending>
-    ensures made { IfOk result (IsReopened kept) }
-    ensures refused { IfErr result (IsNotReopened kept) }
+// The orchestrator of a record, after a restart with these nodes.
+fn reopened(alloc: Global, kept: OrchestratorRecord, nodes: Vec<NodeId>) -> Result<Embedded, Ending>
+    ensures made { IfOk result (IsReopened kept nodes.items) }
+    ensures refused { IfErr result (IsNotReopened kept nodes.items) }
 {
-    let service = match OrchestratorService::from_record(alloc, kept) {
+    let service = match OrchestratorService::from_record(alloc, kept, nodes) {
         Ok(service) => service,
+        Err(OrchestratorUnopened::BadNodes) => return Err(Ending::BadName),
+        Err(OrchestratorUnopened::NodeInUse) => return Err(Ending::NodeInUse),
         Err(_) => return Err(Ending::Refused),
     };
     match embedded(alloc, service) {
@@ -106,8 +101,8 @@ fn reopened(alloc: Global, kept: OrchestratorRecord) -> Result<Embedded, Ending>
     }
 }
 
-/// The orchestrator of a record's bytes, in the next session. The nodes have to be those of the configuration, in the same order. The store has
-/// to be given its head, which has that session.
+/// The orchestrator of a record's bytes, after a restart with the configuration's nodes: in the next session, without the names that are
+/// forgotten. The store has to be given what that changed.
 pub(crate) fn read_orchestrator(
     alloc: Global,
     config: &[u8],
@@ -118,10 +113,7 @@ pub(crate) fn read_orchestrator(
 {
     let nodes = nodes_of(alloc, config)?;
     let kept = record_of(alloc, bytes)?;
-    if !same_nodes(kept.nodes(), &nodes) {
-        return Err(Ending::BadRecord);
-    }
-    match reopened(alloc, kept) {
+    match reopened(alloc, kept, nodes) {
         Ok(made) => Ok((made, Ending::Done)),
         Err(ending) => Err(ending),
     }

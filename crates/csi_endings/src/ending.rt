@@ -32,6 +32,8 @@ pub enum Ending {
     LineFault(u64),
     /// No session is left for an orchestrator that begins another.
     NumbersSpent,
+    /// A volume may be attached at a node of an orchestrator's record that the configuration leaves out.
+    NodeInUse,
     /// The words on the command line are no command.
     Usage,
     /// A file, a stream or the store failed, or the store is full.
@@ -54,7 +56,7 @@ impl Ending {
             Ending::Done => 0,
             Ending::FrameFault(..) | Ending::ScheduleFault(_) | Ending::NotUtf8 => 1,
             Ending::ConfigRefused | Ending::RecordFault(_) | Ending::EarlierSession => 1,
-            Ending::LineFault(_) | Ending::NumbersSpent => 1,
+            Ending::LineFault(_) | Ending::NumbersSpent | Ending::NodeInUse => 1,
             Ending::Usage => 2,
             Ending::Device | Ending::StoreNotOpened | Ending::Endless | Ending::Memory => 3,
         }
@@ -137,6 +139,7 @@ impl fmt::Display for Ending {
             Ending::EarlierSession => write!(f, "csi-replay: store of an earlier session"),
             Ending::LineFault(number) => write!(f, "csi-replay: line fault at {number}"),
             Ending::NumbersSpent => write!(f, "csi-replay: numbers spent"),
+            Ending::NodeInUse => write!(f, "csi-replay: node in use"),
             Ending::Usage => write!(f, "csi-replay: usage"),
             Ending::Device => write!(f, "csi-replay: device"),
             Ending::StoreNotOpened => write!(f, "csi-replay: store not opened"),

@@ -1,7 +1,7 @@
--- A line that asks for an event asks for a command or a timeout.
+-- A line that asks for an event asks for a command, a timeout or a loss.
 use Rattle.std.proofs.Common.{◌≡◌, refl, subst, List, ℕ, Bool, true, false, cond}
 use Rattle.std.specs.Prelude.{◌||◌, Option, Some, None, Result, Ok, Err, IfOk, codes, bytes_eq, option_and_then}
-use Rattle.std.proofs.lemmas.Bool.{false≢true}
+use Rattle.std.proofs.lemmas.Slice.Eq.{bytes_eq-Decides}
 use Rattle.std.proofs.lemmas.Option.{none-some, same_Some}
 use Rattle.serde_json.specs.Data.{Data}
 use Rattle.serde_json.specs.Find.{get, as_bool}
@@ -13,15 +13,15 @@ use Rattle.csi_json.specs.declared.request_fault.RequestFault.{RequestFault}
 use Rattle.csi_json.specs.declared.request_fault.RequestFault.TheVariants.{BadLine}
 use Rattle.csi_json.specs.Public.Json.{◌>>=◌, number_of, name_of, node_id_of, target_of, sized_object, only_member}
 use Rattle.csi_json.specs.Public.Capabilities.{capability_of, capabilities_of}
-use Rattle.csi_json.specs.Public.Events.{create_of, use_of, stop_of, delete_of, timeout_of, deliver_of, restart_of, restart_node_of, event_at}
-use Rattle.csi_json.specs.Public.Requests.{RequestShown, Command, Reply, request_shown, is_command_key, IsCommand, IsAsked, command_or_fault, reply_or_fault, bytes_of, request_at, request_of, request_read}
+use Rattle.csi_json.specs.Public.Events.{create_of, use_of, stop_of, delete_of, timeout_of, deliver_of, restart_of, restart_node_of, restart_controller_of, restart_orchestrator_of, join_of, lose_of, settle_of, event_at}
+use Rattle.csi_json.specs.Public.Requests.{RequestShown, request_shown, is_command_key, IsCommand, IsAsked, command_or_fault, reply_or_fault, bytes_of, request_at, request_of, request_read}
 
 -- what is read of what was found was found
 read-some : {A B : Type 0} (o : Option A) (f : A → Option B) (y : B) → option_and_then f o ≡ Some y → (a : A) × (f a ≡ Some y)
 read-some None f y e = absurd (none-some y e)
 read-some (Some a) f y e = (a, e)
 
--- what is read at each key is a command, or a timeout: this and the next four
+-- what is read at each key is a command, a timeout or a loss: this and the next five
 created : (d : Data) (event : Event) → create_of d ≡ Some event → IsCommand event
 unfolding create_of
 created d event e =
@@ -60,25 +60,41 @@ timed-out : (d : Data) (event : Event) → timeout_of d ≡ Some event → IsCom
 unfolding timeout_of
 timed-out d event e = let name = read-some (name_of d) _ event e in subst IsCommand (same_Some (events.Timeout name.0) event name.1) tt
 
+given-up : (d : Data) (event : Event) → lose_of d ≡ Some event → IsCommand event
+unfolding lose_of
+given-up d event e = let node = read-some (node_id_of d) _ event e in subst IsCommand (same_Some (events.Lose node.0) event node.1) tt
+
+-- at a loss's key
+at-loss : (key : List ℕ) (d : Data) (event : Event) → bytes_eq key (codes "lose") ≡ true → event_at key d ≡ Some event → IsCommand event
+unfolding event_at
+at-loss key d event t e =
+    let named : key ≡ codes "lose" = (bytes_eq-Decides key (codes "lose")).0 t in
+    given-up d event (subst (λ (k : List ℕ). event_at k d ≡ Some event) named e)
+
 -- at a command's key
 commanded : (key : List ℕ) (d : Data) (event : Event) → is_command_key key ≡ true → event_at key d ≡ Some event → IsCommand event
 unfolding event_at
 commanded key d event t e =
-    by (bytes_eq key (codes "create")) (bytes_eq key (codes "use")) (bytes_eq key (codes "stop")) (bytes_eq key (codes "delete")) (bytes_eq key (codes "timeout")) t e
+    by (bytes_eq key (codes "create")) (bytes_eq key (codes "use")) (bytes_eq key (codes "stop")) (bytes_eq key (codes "delete")) (bytes_eq key (codes "timeout")) (bytes_eq key (codes "lose")) (λ l. at-loss key d event l e) t e
   where
     rest : Option Event
     rest =
         cond (bytes_eq key (codes "deliver")) (deliver_of d)
-        (cond (bytes_eq key (codes "restart")) (restart_of d) (cond (bytes_eq key (codes "restart_node")) (restart_node_of d) None))
+        (cond (bytes_eq key (codes "restart")) (restart_of d)
+        (cond (bytes_eq key (codes "restart_node")) (restart_node_of d)
+        (cond (bytes_eq key (codes "restart_controller")) (restart_controller_of d)
+        (cond (bytes_eq key (codes "restart_orchestrator")) (restart_orchestrator_of d)
+        (cond (bytes_eq key (codes "join")) (join_of d)
+        (cond (bytes_eq key (codes "lose")) (lose_of d) (cond (bytes_eq key (codes "settle")) (settle_of d) None)))))))
 
-    by : (a b c f g : Bool) → (a || b || c || f || g) ≡ true
+    by : (a b c f g h : Bool) → (h ≡ true → IsCommand event) → (a || b || c || f || g || h) ≡ true
         → cond a (create_of d) (cond b (use_of d) (cond c (stop_of d) (cond f (delete_of d) (cond g (timeout_of d) rest)))) ≡ Some event → IsCommand event
-    by true b c f g one is = created d event is
-    by false true c f g one is = used d event is
-    by false false true f g one is = stopped d event is
-    by false false false true g one is = deleted d event is
-    by false false false false true one is = timed-out d event is
-    by false false false false false one is = absurd (false≢true one)
+    by true b c f g h lost one is = created d event is
+    by false true c f g h lost one is = used d event is
+    by false false true f g h lost one is = stopped d event is
+    by false false false true g h lost one is = deleted d event is
+    by false false false false true h lost one is = timed-out d event is
+    by false false false false false h lost one is = lost one
 
 -- what is read at a key
 read-at : (key : List ℕ) (d : Data) → IfOk (request_at key d) IsAsked

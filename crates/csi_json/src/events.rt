@@ -2,13 +2,18 @@
 ghost use Rattle.std.specs.Prelude.{◌≡◌};
 ghost use Rattle.serde_json.specs.View.{view};
 ghost use Rattle.csi_json.specs.Private.Json.{Reads};
+ghost use Rattle.csi_json.specs.Public.Json.{node_id_of, all_of};
 ghost use Rattle.csi_json.specs.Public.Events.{create_of, use_of, stop_of, delete_of, timeout_of, deliver_of, restart_of, restart_node_of};
-ghost use Rattle.csi_json.specs.Public.Events.{event_at as at_key, event_of};
+ghost use Rattle.csi_json.specs.Public.Events.{restart_controller_of, restart_orchestrator_of, join_of, lose_of, settle_of, event_at as at_key, event_of};
 
 use crate::access::{capabilities_at, capability};
+use crate::configs::config;
+use crate::lists::read_ids;
 use crate::texts::{name, name_at, node_id, node_id_at, target_at};
-use crate::values::{Flaw, flag_at, member, number, number_at, only_member, sized_object, text};
-use csi_types::Event;
+use crate::values::{
+    Flaw, flag_at, list, member, number, number_at, only_member, sized_object, text,
+};
+use csi_types::{Event, NodeId, NodeList};
 use serde_json::Value;
 use std::alloc::Global;
 
@@ -102,6 +107,55 @@ fn restart_node_event(alloc: Global, value: &Value) -> Result<Event, Flaw>
     Ok(Event::RestartNode(id))
 }
 
+#[tactic(auto, unfolding(crate::specs::Public::Events::restart_controller_of))]
+fn restart_controller_event(alloc: Global, value: &Value) -> Result<Event, Flaw>
+    ensures { Reads (λ event. event) result (restart_controller_of (view value.now)) }
+{
+    let config = config(alloc, value)?;
+    Ok(Event::RestartControllerWith(config))
+}
+
+// The ids of nodes that an array has.
+#[tactic(auto, unfolding(crate::specs::Public::Json::all_of))]
+fn ids(alloc: Global, value: &Value) -> Result<Vec<NodeId>, Flaw>
+    ensures { Reads (λ ids. ids.items) result (all_of node_id_of (view value.now)) }
+{
+    let items = list(value)?;
+    read_ids(alloc, items)
+}
+
+#[tactic(auto, unfolding(crate::specs::Public::Events::restart_orchestrator_of))]
+fn restart_orchestrator_event(alloc: Global, value: &Value) -> Result<Event, Flaw>
+    ensures { Reads (λ event. event) result (restart_orchestrator_of (view value.now)) }
+{
+    let ids = ids(alloc, value)?;
+    Ok(Event::RestartOrchestratorWith(NodeList::of(ids)))
+}
+
+#[tactic(auto, unfolding(crate::specs::Public::Events::join_of))]
+fn join_event(alloc: Global, value: &Value) -> Result<Event, Flaw>
+    ensures { Reads (λ event. event) result (join_of (view value.now)) }
+{
+    let id = node_id(alloc, value)?;
+    Ok(Event::Join(id))
+}
+
+#[tactic(auto, unfolding(crate::specs::Public::Events::lose_of))]
+fn lose_event(alloc: Global, value: &Value) -> Result<Event, Flaw>
+    ensures { Reads (λ event. event) result (lose_of (view value.now)) }
+{
+    let id = node_id(alloc, value)?;
+    Ok(Event::Lose(id))
+}
+
+#[tactic(auto, unfolding(crate::specs::Public::Events::settle_of))]
+fn settle_event(alloc: Global, value: &Value) -> Result<Event, Flaw>
+    ensures { Reads (λ event. event) result (settle_of (view value.now)) }
+{
+    let name = name(alloc, value)?;
+    Ok(Event::Settle(name))
+}
+
 /// The event at this key of an object.
 #[tactic(auto, unfolding(crate::specs::Public::Events::event_at))]
 pub fn event_at(alloc: Global, key: &str, value: &Value) -> Result<Event, Flaw>
@@ -116,6 +170,11 @@ pub fn event_at(alloc: Global, key: &str, value: &Value) -> Result<Event, Flaw>
         "deliver" => deliver_event(value),
         "restart" => restart_event(value),
         "restart_node" => restart_node_event(alloc, value),
+        "restart_controller" => restart_controller_event(alloc, value),
+        "restart_orchestrator" => restart_orchestrator_event(alloc, value),
+        "join" => join_event(alloc, value),
+        "lose" => lose_event(alloc, value),
+        "settle" => settle_event(alloc, value),
         _ => Err(Flaw::Bad),
     }
 }

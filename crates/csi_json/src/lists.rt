@@ -2,7 +2,7 @@
 ghost use Rattle.std.specs.Prelude.{◌≡◌, ◌∷◌, [], ◌++◌, option_map, map, IfOk, IfErr};
 ghost use Rattle.serde_json.specs.View.{view};
 ghost use Rattle.csi_json.specs.Private.Json.{Reads, WantsOnly, HasItems};
-ghost use Rattle.csi_json.specs.Public.Json.{read_all, unless_bad};
+ghost use Rattle.csi_json.specs.Public.Json.{read_all, unless_bad, node_id_of};
 ghost use Rattle.csi_json.specs.Public.Capabilities.{capability_of};
 ghost use Rattle.csi_json.specs.Public.Configs.{node_of};
 ghost use Rattle.csi_json.specs.Public.Events.{event_of};
@@ -13,8 +13,9 @@ use crate::access::capability;
 use crate::configs::node;
 use crate::events::event;
 use crate::fault::ScheduleFault;
+use crate::texts::node_id;
 use crate::values::Flaw;
-use csi_types::{Capability, Event, NodeSlots};
+use csi_types::{Capability, Event, NodeId, NodeSlots};
 use serde_json::Value;
 use std::alloc::Global;
 
@@ -55,6 +56,26 @@ pub fn read_nodes(alloc: Global, items: &[Value]) -> Result<Vec<NodeSlots>, Flaw
     let mut list = Vec::new(alloc);
     for item in items {
         push_node(alloc, item, &mut list)?;
+    }
+    Ok(list)
+}
+
+// Reads a node's id, and appends it. An `Err` appends nothing.
+fn push_id(alloc: Global, value: &Value, list: &mut Vec<NodeId>) -> Result<(), Flaw>
+    ensures { Reads (λ _. list.new.items) result (option_map (λ read. list.old.items ++ read ∷ []) (node_id_of (view value.now))) }
+{
+    let id = node_id(alloc, value)?;
+    list.push(id)?;
+    Ok(())
+}
+
+/// The ids of nodes that the items are read as, where each is.
+pub fn read_ids(alloc: Global, items: &[Value]) -> Result<Vec<NodeId>, Flaw>
+    ensures { Reads (λ list. list.items) result (unless_bad (read_all node_id_of 1 (map view items.now))) }
+{
+    let mut list = Vec::new(alloc);
+    for item in items {
+        push_id(alloc, item, &mut list)?;
     }
     Ok(list)
 }

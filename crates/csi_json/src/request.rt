@@ -1,4 +1,4 @@
-//! A line by which an orchestrator is asked: a command, a timeout, or a frame that came. It is read from JSON. This profile's own.
+//! A line by which an orchestrator is asked: a command, a timeout, the loss of a node, or a frame that came. It is read from JSON. This profile's own.
 ghost use Rattle.std.specs.Prelude.{◌≡◌, Ok, IfOk, IfErr};
 ghost use Rattle.serde_json.specs.Read.{read};
 ghost use Rattle.serde_json.specs.View.{view};
@@ -18,17 +18,20 @@ use std::alloc::Global;
 /// What a line asks.
 #[derive(Drop)]
 pub enum Request {
-    /// A command or a timeout: `Create`, `Use`, `Stop`, `Delete` or `Timeout`.
+    /// A command, a timeout or a loss: `Create`, `Use`, `Stop`, `Delete`, `Timeout` or `Lose`.
     Command(Event),
     /// To take these bytes, a frame that came. Whether they are a frame isn't judged yet.
     Reply(Vec<u8>),
 }
 
-// Whether this is the key of a command or a timeout.
+// Whether this is the key of a command, a timeout or a loss.
 fn is_command(key: &str) -> bool
     ensures { result ≡ is_command_key key.now }
 {
-    matches!(key, "create" | "use" | "stop" | "delete" | "timeout")
+    matches!(
+        key,
+        "create" | "use" | "stop" | "delete" | "timeout" | "lose"
+    )
 }
 
 // The bytes that a value says.
@@ -86,7 +89,7 @@ fn text_request(alloc: Global, text: &str) -> Result<Request, RequestFault>
 }
 
 /// The request that a line says, without its newline: one object of JSON with one key. That is a schedule's `create`, `use`, `stop`,
-/// `delete` or `timeout`, or `reply` with the bytes of a frame in hexadecimal. `NotJson` where the line isn't JSON in UTF-8,
+/// `delete`, `timeout` or `lose`, or `reply` with the bytes of a frame in hexadecimal. `NotJson` where the line isn't JSON in UTF-8,
 /// `BadFrame` where a reply isn't hexadecimal, and else `BadLine`. `NoMemory` can come at any step.
 pub fn read_request(alloc: Global, line: &[u8]) -> Result<Request, RequestFault>
     ensures read { IfOk result (λ request. line_request line.now ≡ Ok (request_shown request)) }

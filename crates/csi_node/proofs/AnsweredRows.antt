@@ -17,7 +17,8 @@ use Rattle.csi_fence.specs.Model.Fenced.{Fenced, answered_only, judged}
 use Rattle.csi_types.specs.Model.Frame.{Frame}
 use Rattle.csi_types.specs.Model.Replies.{reply_frame, plain_reply, stale_reply}
 use Rattle.csi_lists.proofs.Searches.{find-passes}
-use Rattle.csi_node.specs.Model.State.{NodeState, StagedVolume, empty_node, volume_of}
+use Rattle.csi_node.specs.Model.State.{NodeState, StagedVolume, volume_of}
+use Rattle.csi_node.specs.Public.View.{empty_node}
 use Rattle.csi_node.specs.Model.Table.{Outcome, lifecycle_row, node_row, has_no_room, changed}
 use Rattle.csi_node.specs.Public.Fenced.{answer_frame}
 use Rattle.csi_node.specs.Model.Fenced.{keep, carried_out, kept_for, begun, node_at}

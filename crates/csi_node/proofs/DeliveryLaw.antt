@@ -24,11 +24,11 @@ use Rattle.csi_fence.proofs.Delivered.{IsKeptFor, answered-delivered}
 use Rattle.csi_fence.proofs.FramesKeep.{own_session}
 use Rattle.csi_fence.proofs.Spent.{not_over-own}
 use Rattle.csi_fence.proofs.Views.{IsLater, carried-acts, closed-view, empty-view}
-use Rattle.csi_node.specs.Model.State.{NodeState, AnsweredVolume, empty_node, row_of_volume}
+use Rattle.csi_node.specs.Model.State.{NodeState, AnsweredVolume, row_of_volume}
 use Rattle.csi_node.specs.Model.Table.{Outcome, lifecycle_row, node_row, changed}
 use Rattle.csi_node.specs.Private.Fenced.{answered_in, in_session}
 use Rattle.csi_node.specs.Model.Fenced.{begun, carried_out, keep, kept_for, node_at}
-use Rattle.csi_node.specs.Public.View.{held_on, kept_on, view_of, thing_of, IsDeliveredTo}
+use Rattle.csi_node.specs.Public.View.{held_on, kept_on, view_of, thing_of, IsDeliveredTo, empty_node}
 use Rattle.csi_node.proofs.BegunSessions.{begun-held, begun-kept}
 use Rattle.csi_node.proofs.CarriedOut.{Carried, no_room, has_room, was_carried, kept_of, state_then}
 use Rattle.csi_node.proofs.LastCalls.{keep-own, keep-session, changed-rows, changed-session}

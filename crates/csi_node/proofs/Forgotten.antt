@@ -14,7 +14,8 @@ use Rattle.csi_lists.proofs.Members.{each_of}
 use Rattle.csi_lists.proofs.Pairs.{two-filter}
 use Rattle.csi_lists.proofs.PassingByKey.{find-passing, length-by_key, once-rising, passing, passing-by_key}
 use Rattle.csi_node.specs.declared.row.NodeRow.{NodeRow}
-use Rattle.csi_node.specs.Model.State.{NodeState, AnsweredVolume, StagedVolume, empty_node, staged_of}
+use Rattle.csi_node.specs.Model.State.{NodeState, AnsweredVolume, StagedVolume, staged_of}
+use Rattle.csi_node.specs.Public.View.{empty_node}
 use Rattle.csi_node.specs.Model.Fenced.{begun}
 use Rattle.csi_node.specs.Public.Changes.{put_row}
 use Rattle.csi_node.specs.Model.OneRow.{NodeRowShown, node_row_shown}

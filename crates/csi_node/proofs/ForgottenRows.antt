@@ -10,7 +10,8 @@ use Rattle.csi_fence.specs.Public.Delivery.{last_of}
 use Rattle.csi_fence.specs.Model.Fence.{Kept, is_over, verdict_of}
 use Rattle.csi_fence.specs.Model.Fenced.{Fenced}
 use Rattle.csi_fence.proofs.LetThrough.{is_carried_out, over_call}
-use Rattle.csi_node.specs.Model.State.{NodeState, AnsweredVolume, empty_node, row_of_volume, row_for, volume_of}
+use Rattle.csi_node.specs.Model.State.{NodeState, AnsweredVolume, row_of_volume, row_for, volume_of}
+use Rattle.csi_node.specs.Public.View.{empty_node}
 use Rattle.csi_node.specs.Model.Table.{Change, changed, lifecycle_row, node_row}
 use Rattle.csi_node.specs.Public.Fenced.{after_frames}
 use Rattle.csi_node.specs.Model.Fenced.{carried_out, keep, kept_for, kept_rows, node_at}

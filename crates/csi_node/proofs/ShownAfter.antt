@@ -12,7 +12,8 @@ use Rattle.csi_lists.proofs.PassingByKey.{find-by_key}
 use Rattle.csi_lists.proofs.Searches.{find-of_map, find-passes}
 use Rattle.csi_lists.proofs.Filters.{filter-append_one, filter-append_passes, filter-filter, filter-map, filter-of_map}
 use Rattle.csi_node.specs.declared.row.NodeRow.{NodeRow}
-use Rattle.csi_node.specs.Model.State.{NodeState, AnsweredVolume, StagedVolume, PublishedVolume, empty_node, row_with_id, published_of, volume_of, row_of_volume, row_for}
+use Rattle.csi_node.specs.Model.State.{NodeState, AnsweredVolume, StagedVolume, PublishedVolume, row_with_id, published_of, volume_of, row_of_volume, row_for}
+use Rattle.csi_node.specs.Public.View.{empty_node}
 use Rattle.csi_node.specs.Model.Table.{Change, Outcome, lifecycle_row, has_no_room, changed}
 use Rattle.csi_node.specs.Model.Fenced.{kept_in, kept_rows, keep, kept_for}
 use Rattle.csi_node.specs.Public.Laws.{is_another}

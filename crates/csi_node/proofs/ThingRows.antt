@@ -10,9 +10,9 @@ use Rattle.csi_types.specs.Public.Call.{is_party_of}
 use Rattle.csi_fence.specs.Model.Fence.{Kept}
 use Rattle.csi_types.specs.Public.PluginThing.{PluginThing, Exists, Attached, Staged, Published}
 use Rattle.csi_types.specs.Model.Same.{same_text}
-use Rattle.csi_node.specs.Model.State.{NodeState, empty_node, volume_of}
+use Rattle.csi_node.specs.Model.State.{NodeState, volume_of}
 use Rattle.csi_node.specs.Model.Fenced.{keep}
-use Rattle.csi_node.specs.Public.View.{held_on, kept_in_row, kept_on, thing_of}
+use Rattle.csi_node.specs.Public.View.{held_on, kept_in_row, kept_on, thing_of, empty_node}
 use Rattle.csi_node.proofs.LastCalls.{keep-either}
 
 -- a node is itself

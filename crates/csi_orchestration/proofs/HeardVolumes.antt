@@ -28,7 +28,7 @@ use Rattle.csi_orchestrator.specs.declared.fault.Heard.TheVariants as heards
 use Rattle.csi_orchestrator.specs.declared.fault.OrchFault.{OrchFault}
 use Rattle.csi_orchestrator.specs.declared.row.OpenCall.{OpenCall}
 use Rattle.csi_orchestrator.specs.Model.Due.{Due, due_call, call_for}
-use Rattle.csi_orchestrator.specs.Model.History.{History, with_items, Item, Started, Sent, Accepted, Closed, Noted}
+use Rattle.csi_orchestrator.specs.Model.History.{History, with_items, Item, Started, Lost, Forgotten, Sent, Accepted, Closed, Noted}
 use Rattle.csi_orchestrator.specs.Model.Moves.{Comes, Answer, Hears, Restarted, Moved, sent_as, send_due, undoing_goal, is_number_open, call_replied, hears, heard_refusal, heard, deliver, moves}
 use Rattle.csi_orchestrator.specs.Model.Commands.{next_number}
 use Rattle.csi_orchestrator.specs.Model.Readings.{issued_in, goal_of, open_in, open_call, last_number}
@@ -113,7 +113,9 @@ reply-adds history reply issued moved e = by (is_ok_status reply.status) e
 -- a call that was sent before stays among those that were sent
 among-later : (front older : List Item) (item : Item) (issued : Issued) → IsAmong issued (issued_in older) → IsAmong issued (issued_in (item ∷ older)) → IsAmong issued (issued_in (front ++ item ∷ older))
 among-later [] older item issued among first = first
-among-later (Started session ∷ front) older item issued among first = among-later front older item issued among first
+among-later (Started session nodes ∷ front) older item issued among first = among-later front older item issued among first
+among-later (Lost node ∷ front) older item issued among first = among-later front older item issued among first
+among-later (Forgotten name ∷ front) older item issued among first = among-later front older item issued among first
 among-later (Sent other ∷ front) older item issued among first = inr (among-later front older item issued among first)
 among-later (Accepted number status id ∷ front) older item issued among first = among-later front older item issued among first
 among-later (Closed number ∷ front) older item issued among first = among-later front older item issued among first
@@ -123,7 +125,9 @@ among-later (Noted name goal ∷ front) older item issued among first = among-la
 not-open : (began : Number) (front older : List Item) (name : List ℕ) (issued : Issued) (status : Status) (id : Option ℕ) → AreWellFormed began (front ++ Accepted issued.number status id ∷ older) → open_in name older ≡ Some issued
     → open_in name (front ++ Accepted issued.number status id ∷ older) ≡ Some issued → ⊥
 not-open began [] older name issued status id form was is = false≢true (sym (unless-some issued.number (open_in name older) issued is).1 ∙ number-same issued.number)
-not-open began (Started session ∷ front) older name issued status id form was is = none-some issued is
+not-open began (Started session nodes ∷ front) older name issued status id form was is = none-some issued is
+not-open began (Lost node ∷ front) older name issued status id form was is = not-open began front older name issued status id form.1 was is
+not-open began (Forgotten other ∷ front) older name issued status id form was is = not-open began front older name issued status id form.1 was is
 not-open began (Sent other ∷ front) older name issued status id form was is = by (same_text other.name name) is (not-open began front older name issued status id form.1 was)
   where
     later : List Item
@@ -258,13 +262,13 @@ replied-open history number party kind issued form e =
 
 -- ---- what is told
 
-module _ (nodes : List (List ℕ)) (history : History) (form : IsWellFormed history) (old : OrchestratorParts) (shown : Shows old history) (frame : Frame) where
+module _ (history : History) (form : IsWellFormed history) (old : OrchestratorParts) (shown : Shows old history) (frame : Frame) where
   -- a reply that was taken is one to an open call
   pub record IsTaken (moved : Moved) : Type 0 where
     pub reply : IsReply history frame
     pub adds : AddsReply reply.issued.number moved.items
 
-  taken-reply : (sent : Option Frame) (moved : Moved) → moves nodes history (Comes frame) ≡ Ok moved → moved.answer ≡ Hears (heards.Taken sent) → IsTaken moved
+  taken-reply : (sent : Option Frame) (moved : Moved) → moves history (Comes frame) ≡ Ok moved → moved.answer ≡ Hears (heards.Taken sent) → IsTaken moved
   taken-reply sent moved e answers = by_body frame.body refl e
     where
       by_call : (kind : Kind) (reply : Reply) → frame.body ≡ bodies.Reply kind reply → (o : Option Issued) → call_replied history frame.number frame.party kind ≡ o → heard history reply o ≡ Ok moved → IsTaken moved
@@ -286,7 +290,7 @@ module _ (nodes : List (List ℕ)) (history : History) (form : IsWellFormed hist
       by_body (bodies.Reply kind reply) is f = by_call kind reply is (call_replied history frame.number frame.party kind) refl f
 
   -- so is one that was refused
-  refused-reply : (fault : OrchFault) → moves nodes history (Comes frame) ≡ Err fault → IsReply history frame
+  refused-reply : (fault : OrchFault) → moves history (Comes frame) ≡ Err fault → IsReply history frame
   refused-reply fault e = by_body frame.body refl e
     where
       quiet : Moved
@@ -308,7 +312,7 @@ module _ (nodes : List (List ℕ)) (history : History) (form : IsWellFormed hist
       by_body (bodies.Reply kind reply) is f = by_call kind reply is (call_replied history frame.number frame.party kind) refl f
 
   -- where it was refused, some row has the call
-  pub told-refused : (fault : OrchFault) → moves nodes history (Comes frame) ≡ Err fault → AreNamedApart old.rows → TellsRow old.rows (row_at old.rows (place_by_call frame.number old.rows)) history
+  pub told-refused : (fault : OrchFault) → moves history (Comes frame) ≡ Err fault → AreNamedApart old.rows → TellsRow old.rows (row_at old.rows (place_by_call frame.number old.rows)) history
   told-refused fault e names =
       let reply = refused-reply fault e in
       let own = open-row old history reply.issued shown reply.is_open in
@@ -323,7 +327,7 @@ module _ (nodes : List (List ℕ)) (history : History) (form : IsWellFormed hist
     pub told : TellsRow new.rows (row_at new.rows (place_by_call frame.number old.rows)) next
     pub own : told.row.name ≡ reply.issued.name
 
-  module _ (new : OrchestratorParts) (sent : Option Frame) (moved : Moved) (is : moves nodes history (Comes frame) ≡ Ok moved) (answers : moved.answer ≡ Hears (heards.Taken sent)) (grown : IsWellFormed (with_items history moved.items))
+  module _ (new : OrchestratorParts) (sent : Option Frame) (moved : Moved) (is : moves history (Comes frame) ≡ Ok moved) (answers : moved.answer ≡ Hears (heards.Taken sent)) (grown : IsWellFormed (with_items history moved.items))
       (after : Shows new (with_items history moved.items)) (names : AreNamedApart new.rows) (changed : ChangesRowAt (place_by_call frame.number old.rows) old new) where
     -- the row of the call isn't there any more as it was
     row-changed : (reply : IsReply history frame) → AddsReply reply.issued.number moved.items → (row : RowShown) → row.name ≡ reply.issued.name → open_in_row row ≡ Some reply.issued → IsAmong row new.rows → ⊥

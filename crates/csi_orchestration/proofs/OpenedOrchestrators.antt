@@ -1,7 +1,7 @@
 -- An orchestrator that was opened, and what it did then.
-use Rattle.std.proofs.Common.{◌≡◌, inl, inr, sym, subst, refl, ℕ, List}
+use Rattle.std.proofs.Common.{◌≡◌, inl, inr, sym, subst, ℕ, List}
 use Rattle.csi_stores.specs.declared.counted.Counted.{Counted}
-use Rattle.csi_stores.specs.Public.Part.{StoredPart}
+use Rattle.csi_orchestrator.specs.Public.Laws.{RestartsAreTold}
 use Rattle.csi_records.specs.Public.OrchestratorRecords.{IsOrchestratorOf}
 use Rattle.csi_records.specs.Public.Spelling.{present}
 use Rattle.csi_service.specs.Public.OrchestratorOpening.{HasOrchestrator, IsOrchestratorOpened, orchestrator_rules}
@@ -17,13 +17,14 @@ use Rattle.std.specs.Prelude.{Option}
 
 -- what opening gave is a responder's
 pub opened-with : {K R W : Type 0} (setting : RunSetting OrchestratorResponder K R W) (nodes : List (List ℕ)) (before opened : K) (service : ServedOrchestrator) (responder : OrchestratorResponder) → responder.service ≡ service
-    → HasOrchestrator nodes (setting.seen before) (setting.seen opened) service → service.orchestrator.nodes ≡ nodes → AreFitOrchestratorRows service.orchestrator.rows → IsOrchestratorOf present (orchestrator_service_parts service) (kept_of service.orchestrator)
+    → HasOrchestrator nodes (setting.seen before) (setting.seen opened) service → service.orchestrator.nodes ≡ nodes → AreFitOrchestratorRows service.orchestrator.rows → IsOrchestratorOf present (orchestrator_service_parts service) (kept_of service.orchestrator) → RestartsAreTold service.orchestrator
     → ((setting.seen opened).honest → (setting.seen before).honest) → LeavesOpening (orchestrator_rules nodes) (setting.seen before) (setting.seen opened) → IsOpened setting nodes before opened responder
-opened-with setting nodes before opened service responder same found asked fit its honest left = record {
+opened-with setting nodes before opened service responder same found asked fit its restarts honest left = record {
   found = subst (HasOrchestrator nodes (setting.seen before) (setting.seen opened)) (sym same) found;
   asked = subst (λ (s : ServedOrchestrator). s.orchestrator.nodes ≡ nodes) (sym same) asked;
   fit = subst (λ (s : ServedOrchestrator). AreFitOrchestratorRows s.orchestrator.rows) (sym same) fit;
   its = subst (λ (s : ServedOrchestrator). IsOrchestratorOf present (orchestrator_service_parts s) (kept_of s.orchestrator)) (sym same) its;
+  restarts = subst (λ (s : ServedOrchestrator). RestartsAreTold s.orchestrator) (sym same) restarts;
   honest = honest;
   left = left;
 }
@@ -54,6 +55,7 @@ run seen remaining contents nodes before opened after reader read writer written
                 opened = subst (λ (asked : List (List ℕ)). IsOrchestratorOpened asked content responder.service.orchestrator) (sym is.asked) found.0;
                 fit = is.fit;
                 its = is.its;
+                restarts = is.restarts;
               },
               found.2,
             );

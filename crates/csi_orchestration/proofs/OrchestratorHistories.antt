@@ -1,7 +1,8 @@
 -- Lines that are answered go on from each history that is shown.
-use Rattle.std.proofs.Common.{◌≡◌, ◌∙◌, inl, inr, sym, ap, subst, refl, ℕ, ◌+◌, ◌<◌, ◌^◌, List, [], ◌∷◌, map, cond, false, true, arith}
-use Rattle.std.specs.Prelude.{Option, Some, None, Result, Ok, Err, option_map, option_and_then, nat_lt, Bool, IfOk}
-use Rattle.std.proofs.lemmas.Bool.Decides.{nat_tests}
+use Rattle.std.proofs.Common.{◌≡◌, ◌∙◌, inl, inr, sym, ap, subst, refl, ℕ, ◌+◌, List, [], ◌∷◌, map, cond, false}
+use Rattle.std.specs.Prelude.{Option, Some, None, is_none, Result, Ok, Err, option_map, option_and_then, not, ◌&&◌, ◌||◌, Bool, IfOk}
+use Rattle.std.specs.List.{list_any, AllByRecursion}
+use Rattle.csi_lists.proofs.Filters.{filter-of_map}
 use Rattle.csi_lists.specs.Model.Members.{EachTwo}
 use Rattle.csi_types.specs.declared.number.Number.{Number}
 use Rattle.csi_types.specs.declared.event.Event.{Event}
@@ -12,76 +13,79 @@ use Rattle.csi_orchestrator.specs.declared.fault.Heard.{Heard}
 use Rattle.csi_orchestrator.specs.declared.fault.Heard.TheVariants as heards
 use Rattle.csi_orchestrator.specs.declared.fault.OrchFault.{OrchFault}
 use Rattle.csi_orchestrator.specs.declared.fault.OrchFault.TheVariants as faults
-use Rattle.csi_orchestrator.specs.Model.History.{History, with_items, Started, Goal}
-use Rattle.csi_orchestrator.specs.Model.Moves.{Input, Comes, Restarts, Answer, Sends, Hears, Restarted, Moved, restart, moves}
+use Rattle.csi_orchestrator.specs.Model.History.{History, with_items, Goal}
+use Rattle.csi_orchestrator.specs.Model.Moves.{Input, Comes, Restarts, Loses, Answer, Sends, Hears, Restarted, GivenUp, Moved, moves}
 use Rattle.csi_orchestrator.specs.Model.Readings.{goal_of}
-use Rattle.csi_orchestrator.specs.Model.Shown.{RowShown, OrchestratorParts, Shows, goal_in, orchestrator_view}
+use Rattle.csi_orchestrator.specs.Model.Shown.{RowShown, OrchestratorParts, Shows, goal_in, mark_of}
 use Rattle.csi_orchestrator.specs.Model.WellFormed.{IsWellFormed}
+use Rattle.csi_orchestrator.specs.declared.thing.Thing.TheVariants.{Attached}
+use Rattle.csi_orchestrator.specs.Model.Commands.{next_session}
+use Rattle.csi_orchestrator.specs.Model.Thing.{is_no}
+use Rattle.csi_orchestrator.specs.Public.Beginning.{is_row_forgotten, is_used_in, restart_refusal, restarted_parts}
 use Rattle.csi_orchestrator.specs.Public.Changed.{place_by_name, place_by_call, ChangesAsHeard}
-use Rattle.csi_orchestrator.specs.Public.Laws.{MovesKeepForm, opened_parts}
+use Rattle.csi_orchestrator.specs.Public.Laws.{MovesKeepForm, RestartsAreTold, opened_parts}
 use Rattle.csi_orchestrator.specs.Public.Moves.{moved_to}
 use Rattle.csi_orchestrator.specs.Public.Promises.{FollowsUnrefused}
 use Rattle.csi_orchestrator.specs.Public.RowMoves.{IsRefusal}
 use Rattle.csi_orchestrator.specs.Public.Shown.{closed}
-use Rattle.csi_orchestrator.proofs.RestartAgrees.{session-agrees}
-use Rattle.csi_orchestrator.proofs.RowsOfRecord.{each-unmapped}
-use Rattle.csi_orchestrator.proofs.ViewsFollow.{started-follows}
 use Rattle.csi_records.proofs.KeyedRows.{keyed-same}
 use Rattle.csi_json.specs.declared.request_fault.RequestFault.{RequestFault}
 use Rattle.csi_json.specs.declared.request_fault.RequestFault.TheVariants as no_requests
 use Rattle.csi_json.specs.Public.Requests.{RequestShown, Command, Reply, line_request}
 use Rattle.csi_reports.specs.declared.responses.RequestOutcome.TheVariants as outcomes
 use Rattle.csi_reports.specs.Public.Responses.{answer_entry, ignored_entry}
-use Rattle.csi_service.specs.Public.OrchestratorServices.{ServedOrchestrator, kept_of, OrchestratorAnswers}
+use Rattle.csi_service.specs.Public.OrchestratorServices.{ServedOrchestrator, kept_of, OrchestratorAnswers, OrchestratorLoses}
+use Rattle.csi_service.specs.Public.OrchestratorOpening.{opening_refusal}
 use Rattle.serde_json.specs.Written.{compact_text}
 use Rattle.csi_orchestration.specs.declared.orchestrator_responder.OrchestratorResponder.{OrchestratorResponder}
 use Rattle.csi_orchestration.specs.Public.LinesAnswering.{AnswersInRecord}
 use Rattle.csi_orchestration.specs.Public.OrchestratorResponding.{SpellsOrchestrator, HasItsRecord, responder_parts, IsFitResponder, ResponderAnswers}
 use Rattle.csi_orchestration.specs.Public.LinesServing.{AnswersEach}
-use Rattle.csi_orchestration.specs.Public.OrchestratorLines.{row_at, with_bytes, command_entry, heard_entry, AnswersCommand, AnswersFrame, AnswersFault, served_lines, EventBy, ReplyBy, RequestBy}
-use Rattle.csi_orchestration.specs.Public.OrchestratorHistories.{IsMoved, TellsHeard, MovesCommand, MovesFrame, MovesNothing, moved_lines, MovesLine}
+use Rattle.csi_orchestration.specs.Public.OrchestratorLines.{row_at, with_bytes, command_entry, heard_entry, lost_entry, AnswersCommand, AnswersFrame, AnswersLoss, AnswersFault, served_lines, EventBy, ReplyBy, RequestBy}
+use Rattle.csi_orchestration.specs.Public.OrchestratorHistories.{IsMoved, TellsHeard, MovesCommand, MovesFrame, MovesLoss, MovesNothing, moved_lines, MovesLine}
 use Rattle.csi_orchestration.proofs.HeardVolumes.{found-there, AreNamedApart, told-refused, told-taken}
 
 -- ---- a line
 
--- the history goes on to one that is shown, of the same nodes
-pub record GoesOn (nodes : List (List ℕ)) (new : ServedOrchestrator) (J : History → Type 0) : Type 0 where
+-- the history goes on to one that is shown
+pub record GoesOn (new : ServedOrchestrator) (J : History → Type 0) : Type 0 where
   pub next : History
   pub form : IsWellFormed next
   pub shown : Shows new.orchestrator next
-  pub nodes_stay : new.orchestrator.nodes ≡ nodes
   pub is : J next
+
+-- that numbers are spent isn't that memory was refused
+not-memory : faults.NumbersSpent ≡ faults.NoMemory → ⊥
+not-memory e = absurd (cc)
 
 module _ (keeps : MovesKeepForm) (history : History) (form : IsWellFormed history) (old new : ServedOrchestrator) (shown : Shows old.orchestrator history) (names : AreNamedApart new.orchestrator.rows) where
   -- what `moves` says, unless memory was refused
   moved : {A : Type 0} (told : A → Answer) (input : Input) (result : Result A OrchFault) → OrchestratorAnswers told old input result new → (result ≡ Err faults.NoMemory → ⊥)
-      → GoesOn old.orchestrator.nodes new (IsMoved told old.orchestrator.nodes history input result)
-  moved {A} told input (Ok answer) answers memory = by (moves old.orchestrator.nodes history input) refl (answers.follows history form shown)
+      → GoesOn new (IsMoved told history input result)
+  moved {A} told input (Ok answer) answers memory = by (moves history input) refl (answers.follows history form shown)
     where
-      by : (m : Result Moved OrchFault) → moves old.orchestrator.nodes history input ≡ m → FollowsUnrefused history m (told answer) new.orchestrator
-          → GoesOn old.orchestrator.nodes new (IsMoved told old.orchestrator.nodes history input (Ok answer))
+      by : (m : Result Moved OrchFault) → moves history input ≡ m → FollowsUnrefused history m (told answer) new.orchestrator
+          → GoesOn new (IsMoved told history input (Ok answer))
       by (Ok m) e follows = record {
         next = with_items history m.items;
-        form = subst (λ (r : Result Moved OrchFault). IsWellFormed (moved_to history r)) e (keeps.then old.orchestrator.nodes history input form);
+        form = subst (λ (r : Result Moved OrchFault). IsWellFormed (moved_to history r)) e (keeps.then history input form);
         shown = follows.agrees;
-        nodes_stay = answers.nodes;
         is = (m, e, follows.answered, refl);
       }
       by (Err fault) e follows = absurd follows
-  moved {A} told input (Err fault) answers memory = by (moves old.orchestrator.nodes history input) refl (answers.follows history form shown)
+  moved {A} told input (Err fault) answers memory = by (moves history input) refl (answers.follows history form shown)
     where
-      by : (m : Result Moved OrchFault) → moves old.orchestrator.nodes history input ≡ m → IsRefusal m fault → GoesOn old.orchestrator.nodes new (IsMoved told old.orchestrator.nodes history input (Err fault))
+      by : (m : Result Moved OrchFault) → moves history input ≡ m → IsRefusal m fault → GoesOn new (IsMoved told history input (Err fault))
       by (Ok m) e wanted = absurd (memory (ap (λ (f : OrchFault). Err f) wanted))
       by (Err other) e same = record {
         next = history;
         form = form;
         shown = subst (λ (o : OrchestratorParts). Shows o history) (sym answers.stays) shown;
-        nodes_stay = answers.nodes;
         is = (e ∙ ap (λ (f : OrchFault). Err f) (sym same), refl);
       }
 
   -- a command or a timeout
-  command-goes : (input : Input) (name answer : List ℕ) → AnswersCommand input name old answer new → GoesOn old.orchestrator.nodes new (MovesCommand old.orchestrator.nodes input name history answer)
+  command-goes : (input : Input) (name answer : List ℕ) → AnswersCommand input name old answer new → GoesOn new (MovesCommand input name history answer)
   command-goes input name answer a =
       let g = moved Sends input a.told a.answered a.memory in
       let rows = new.orchestrator.rows in
@@ -91,7 +95,6 @@ module _ (keeps : MovesKeepForm) (history : History) (form : IsWellFormed histor
         next = g.next;
         form = g.form;
         shown = g.shown;
-        nodes_stay = g.nodes_stay;
         is = record { told = a.told; moved = g.is; line = subst (λ (wanted : Option Goal). answer ≡ compact_text (command_entry name wanted a.told)) goal a.line };
       }
 
@@ -103,13 +106,13 @@ module _ (keeps : MovesKeepForm) (history : History) (form : IsWellFormed histor
   -- what is told of it
   heard-told : (frame : Frame) (heard : Result Heard OrchFault) (answer : List ℕ) → OrchestratorAnswers Hears old (Comes frame) heard new → IfOk heard (λ what. ChangesAsHeard frame.number what old.orchestrator new.orchestrator)
       → answer ≡ compact_text (heard_entry (row_at new.orchestrator.rows (place_by_call frame.number old.orchestrator.rows)) heard)
-      → (g : GoesOn old.orchestrator.nodes new (IsMoved Hears old.orchestrator.nodes history (Comes frame) heard)) → TellsHeard history frame heard answer g.next
+      → (g : GoesOn new (IsMoved Hears history (Comes frame) heard)) → TellsHeard history frame heard answer g.next
   heard-told frame (Ok heards.Ignored) answer answered row line g = line ∙ ap compact_text (ignored (row_at new.orchestrator.rows (place_by_call frame.number old.orchestrator.rows)))
   heard-told frame (Ok (heards.Taken sent)) answer answered row line g =
       let moved = g.is.0 in
       let goes : g.next ≡ with_items history moved.items = g.is.3 in
       let of =
-      told-taken old.orchestrator.nodes history form old.orchestrator shown frame new.orchestrator sent moved g.is.1 g.is.2 (subst IsWellFormed goes g.form) (subst (Shows new.orchestrator) goes g.shown) names row in
+      told-taken history form old.orchestrator shown frame new.orchestrator sent moved g.is.1 g.is.2 (subst IsWellFormed goes g.form) (subst (Shows new.orchestrator) goes g.shown) names row in
       let goal : goal_in of.told.row ≡ goal_of g.next of.reply.issued.name = of.told.goal ∙ ap (goal_of (with_items history moved.items)) of.own ∙ ap (λ (h : History). goal_of h of.reply.issued.name) (sym goes) in (
         of.reply.issued,
         of.reply.is,
@@ -119,7 +122,7 @@ module _ (keeps : MovesKeepForm) (history : History) (form : IsWellFormed histor
       )
   heard-told frame (Err fault) answer answered row line g =
       let same : new.orchestrator ≡ old.orchestrator = answered.stays in
-      let of = told-refused old.orchestrator.nodes history form old.orchestrator shown frame fault g.is.0 (subst (λ (o : OrchestratorParts). AreNamedApart o.rows) same names) in (
+      let of = told-refused history form old.orchestrator shown frame fault g.is.0 (subst (λ (o : OrchestratorParts). AreNamedApart o.rows) same names) in (
         of.row.name,
         line ∙ ap (λ (o : OrchestratorParts). compact_text (heard_entry (row_at o.rows (place_by_call frame.number old.orchestrator.rows)) (Err fault))) same
             ∙ ap (λ (o : Option RowShown). compact_text (heard_entry o (Err fault))) of.is
@@ -127,14 +130,13 @@ module _ (keeps : MovesKeepForm) (history : History) (form : IsWellFormed histor
       )
 
   -- a frame that came
-  frame-goes : (frame : Frame) (answer : List ℕ) → AnswersFrame frame old answer new → GoesOn old.orchestrator.nodes new (MovesFrame old.orchestrator.nodes frame history answer)
+  frame-goes : (frame : Frame) (answer : List ℕ) → AnswersFrame frame old answer new → GoesOn new (MovesFrame frame history answer)
   frame-goes frame answer a =
       let g = moved Hears (Comes frame) a.heard a.answered a.memory in
       record {
         next = g.next;
         form = g.form;
         shown = g.shown;
-        nodes_stay = g.nodes_stay;
         is = record {
           heard = a.heard;
           moved = g.is;
@@ -142,18 +144,51 @@ module _ (keeps : MovesKeepForm) (history : History) (form : IsWellFormed histor
         };
       }
 
+  -- a node that is lost: what `moves` says, which is never that memory was refused
+  lost : (node : List ℕ) (told : Result (Unit {0}) OrchFault) → OrchestratorLoses old node told new → GoesOn new (IsMoved {A = Unit {0}} (λ done. GivenUp) history (Loses node) told)
+  lost node (Ok done) loses = by (moves history (Loses node)) refl (loses.follows history form shown)
+    where
+      by : (m : Result Moved OrchFault) → moves history (Loses node) ≡ m → FollowsUnrefused history m GivenUp new.orchestrator → GoesOn new (IsMoved {A = Unit {0}} (λ done. GivenUp) history (Loses node) (Ok done))
+      by (Ok m) e follows = record {
+        next = with_items history m.items;
+        form = subst (λ (r : Result Moved OrchFault). IsWellFormed (moved_to history r)) e (keeps.then history (Loses node) form);
+        shown = follows.agrees;
+        is = (m, e, follows.answered, refl);
+      }
+      by (Err fault) e follows = absurd follows
+  lost node (Err fault) loses = by (moves history (Loses node)) refl (loses.follows history form shown)
+    where
+      by : (m : Result Moved OrchFault) → moves history (Loses node) ≡ m → IsRefusal m fault → GoesOn new (IsMoved {A = Unit {0}} (λ done. GivenUp) history (Loses node) (Err fault))
+      by (Ok m) e wanted = absurd (not-memory (sym loses.spent.0 ∙ wanted))
+      by (Err other) e same = record {
+        next = history;
+        form = form;
+        shown = subst (λ (o : OrchestratorParts). Shows o history) (sym loses.stays) shown;
+        is = (e ∙ ap (λ (f : OrchFault). Err f) (sym same), refl);
+      }
+
+  -- and what is told of it
+  loss-goes : (node answer : List ℕ) → AnswersLoss node old answer new → GoesOn new (MovesLoss node history answer)
+  loss-goes node answer a =
+      let g = lost node a.told a.answered in
+      record {
+        next = g.next;
+        form = g.form;
+        shown = g.shown;
+        is = record { told = a.told; moved = g.is; line = subst (λ (last : Number). answer ≡ compact_text (lost_entry node a.told last.session)) g.shown.same_last a.line };
+      }
+
   -- what is no request
-  fault-goes : (fault : RequestFault) (answer : List ℕ) → AnswersFault fault old answer new → GoesOn old.orchestrator.nodes new (MovesNothing fault history answer)
+  fault-goes : (fault : RequestFault) (answer : List ℕ) → AnswersFault fault old answer new → GoesOn new (MovesNothing fault history answer)
   fault-goes fault answer a = record {
     next = history;
     form = form;
     shown = subst (λ (s : ServedOrchestrator). Shows s.orchestrator history) (sym a.stays) shown;
-    nodes_stay = ap (λ (s : ServedOrchestrator). s.orchestrator.nodes) a.stays;
     is = record { stays = refl; line = a.line };
   }
 
   -- by what happens
-  event-goes : (event : Event) (answer : List ℕ) → EventBy served_lines event old answer new → GoesOn old.orchestrator.nodes new (EventBy (moved_lines old.orchestrator.nodes) event history answer)
+  event-goes : (event : Event) (answer : List ℕ) → EventBy served_lines event old answer new → GoesOn new (EventBy moved_lines event history answer)
   event-goes (events.Create name required limit capabilities) answer a = command-goes _ name answer a
   event-goes (events.Use name node target capability readonly) answer a = command-goes _ name answer a
   event-goes (events.Stop name node target) answer a = command-goes _ name answer a
@@ -161,28 +196,38 @@ module _ (keeps : MovesKeepForm) (history : History) (form : IsWellFormed histor
   event-goes (events.Timeout name) answer a = command-goes _ name answer a
   event-goes (events.Deliver number) answer a = fault-goes no_requests.BadLine answer a
   event-goes events.RestartOrchestrator answer a = fault-goes no_requests.BadLine answer a
+  event-goes (events.RestartOrchestratorWith nodes) answer a = fault-goes no_requests.BadLine answer a
   event-goes events.RestartController answer a = fault-goes no_requests.BadLine answer a
+  event-goes (events.RestartControllerWith config) answer a = fault-goes no_requests.BadLine answer a
   event-goes (events.RestartNode node) answer a = fault-goes no_requests.BadLine answer a
+  event-goes (events.Join node) answer a = fault-goes no_requests.BadLine answer a
+  event-goes (events.Lose node) answer a = loss-goes node answer a
+  event-goes (events.Settle name) answer a = fault-goes no_requests.BadLine answer a
 
   -- bytes that came
-  reply-goes : (bytes answer : List ℕ) → ReplyBy served_lines bytes old answer new → GoesOn old.orchestrator.nodes new (ReplyBy (moved_lines old.orchestrator.nodes) bytes history answer)
+  reply-goes : (bytes answer : List ℕ) → ReplyBy served_lines bytes old answer new → GoesOn new (ReplyBy moved_lines bytes history answer)
   reply-goes bytes answer (inl a) =
       let g = frame-goes a.0 answer a.2 in
-      record { next = g.next; form = g.form; shown = g.shown; nodes_stay = g.nodes_stay; is = inl (a.0, a.1, g.is) }
+      record { next = g.next; form = g.form; shown = g.shown; is = inl (a.0, a.1, g.is) }
   reply-goes bytes answer (inr a) =
       let g = fault-goes no_requests.BadFrame answer a.1 in
-      record { next = g.next; form = g.form; shown = g.shown; nodes_stay = g.nodes_stay; is = inr (a.0, g.is) }
+      record { next = g.next; form = g.form; shown = g.shown; is = inr (a.0, g.is) }
 
   -- by what is asked
   pub request-goes : (request : Result RequestShown RequestFault) (answer : List ℕ) → RequestBy served_lines request old answer new
-      → GoesOn old.orchestrator.nodes new (RequestBy (moved_lines old.orchestrator.nodes) request history answer)
+      → GoesOn new (RequestBy moved_lines request history answer)
   request-goes (Ok (Command event)) answer a = event-goes event answer a
   request-goes (Ok (Reply bytes)) answer a = reply-goes bytes answer a
   request-goes (Err fault) answer a = fault-goes fault answer a
 
 -- ---- lines
 
--- what is so of two as they are seen is so of them
+-- what is so of all as they are seen is so of them
+each-unmapped : {X Y : Type 0} (f : X → Y) (P : Y → Type 0) (xs : List X) → AllByRecursion P (map f xs) → AllByRecursion (λ x. P (f x)) xs
+each-unmapped f P [] all = tt
+each-unmapped f P (x ∷ xs) all = (all.0, each-unmapped f P xs all.1)
+
+-- so it is of any two
 two-unmapped : {X Y : Type 0} (R : Y → Y → Type 0) (f : X → Y) (xs : List X) → EachTwo R (map f xs) → EachTwo (λ a b. R (f a) (f b)) xs
 two-unmapped R f [] two = tt
 two-unmapped R f (x ∷ xs) two = (each-unmapped f (R (f x)) xs two.0, two-unmapped R f xs two.1)
@@ -194,55 +239,77 @@ names-differ responder its =
     let same : kept.rows ≡ its.rules.rows = keyed-same 1 kept.rows its.rules.rows its.rules.places in
     two-unmapped (λ (a b : RowShown). same_text a.name b.name ≡ false) closed responder.service.orchestrator.rows (subst AreNamedApart (sym same) its.rules.rules.names)
 
--- they lead to a history that is shown, and what answers them has its record then, within its limits
-pub record AllGoOn (nodes : List (List ℕ)) (history : History) (lines given : List (List ℕ)) (now : OrchestratorResponder) : Type 0 where
+-- they lead to a history that is shown, and what answers them has its record then, within its limits, and a restart is told
+pub record AllGoOn (history : History) (lines given : List (List ℕ)) (now : OrchestratorResponder) : Type 0 where
   pub next : History
   pub form : IsWellFormed next
   pub shown : Shows now.service.orchestrator next
-  pub nodes_stay : now.service.orchestrator.nodes ≡ nodes
   pub fit : IsFitResponder now
   pub its : HasItsRecord now
-  pub are : AnswersEach (MovesLine nodes) history lines given next
+  pub restarts : RestartsAreTold now.service.orchestrator
+  pub are : AnswersEach MovesLine history lines given next
 
 -- from each history that is shown
-pub each-goes : MovesKeepForm → (nodes : List (List ℕ)) (responder : OrchestratorResponder) (lines given : List (List ℕ)) (now : OrchestratorResponder) (history : History)
+pub each-goes : MovesKeepForm → (responder : OrchestratorResponder) (lines given : List (List ℕ)) (now : OrchestratorResponder) (history : History)
     → AnswersEach (AnswersInRecord IsFitResponder SpellsOrchestrator responder_parts ResponderAnswers) responder lines given now
-    → IsFitResponder responder → HasItsRecord responder → IsWellFormed history → Shows responder.service.orchestrator history → responder.service.orchestrator.nodes ≡ nodes
-    → AllGoOn nodes history lines given now
-each-goes keeps nodes responder [] [] now history each fit its form shown same =
-    subst (AllGoOn nodes history [] []) (sym each) (record { next = history; form = form; shown = shown; nodes_stay = same; fit = fit; its = its; are = refl })
-each-goes keeps nodes responder [] (answer ∷ given) now history each fit its form shown same = absurd each
-each-goes keeps nodes responder (line ∷ lines) [] now history each fit its form shown same = absurd each
-each-goes keeps nodes responder (line ∷ lines) (answer ∷ given) now history each fit its form shown same =
+    → IsFitResponder responder → HasItsRecord responder → RestartsAreTold responder.service.orchestrator → IsWellFormed history → Shows responder.service.orchestrator history
+    → AllGoOn history lines given now
+each-goes keeps responder [] [] now history each fit its restarts form shown =
+    subst (AllGoOn history [] []) (sym each) (record { next = history; form = form; shown = shown; fit = fit; its = its; restarts = restarts; are = refl })
+each-goes keeps responder [] (answer ∷ given) now history each fit its restarts form shown = absurd each
+each-goes keeps responder (line ∷ lines) [] now history each fit its restarts form shown = absurd each
+each-goes keeps responder (line ∷ lines) (answer ∷ given) now history each fit its restarts form shown =
     let after = each.0 in
     let fits = (each.1.1 fit).0 in
     let its_own = each.1.0.1 fits in
     let step = request-goes keeps history form responder.service after.service shown (names-differ after its_own) (line_request line) answer each.1.0.0 in
-    let all = each-goes keeps nodes after lines given now step.next each.2 fits its_own step.form step.shown (step.nodes_stay ∙ same) in
+    let all = each-goes keeps after lines given now step.next each.2 fits its_own each.1.0.2 step.form step.shown in
     record {
       next = all.next;
       form = all.form;
       shown = all.shown;
-      nodes_stay = all.nodes_stay;
       fit = all.fit;
       its = all.its;
-      are = (step.next, subst (λ (ns : List (List ℕ)). MovesLine ns history line answer step.next) same step.is, all.are);
+      restarts = all.restarts;
+      are = (step.next, step.is, all.are);
     }
 
 -- ---- a restart
 
--- what is opened from its record shows the history that goes on by a restart
-pub restart-goes : MovesKeepForm → (parts : OrchestratorParts) (history : History) → IsWellFormed history → Shows parts history → parts.last.session + 1 < 2 ^ 64
-    → let next : History = with_items history (Started (parts.last.session + 1) ∷ []) in
-    IsMoved {A = Unit {0}} (λ done. Restarted) parts.nodes history Restarts (Ok tt) next × IsWellFormed next × Shows (opened_parts (kept_of parts)) next
-restart-goes keeps parts history form shown left =
-    let session = parts.last.session + 1 in
-    let next : History = with_items history (Started session ∷ []) in
-    let began : Moved = record { answer = Restarted; items = Started session ∷ [] } in
-    let below : nat_lt session (2 ^ 64) ≡ true = grind (arith, nat_tests) in
-    let by_last : restart parts.last ≡ Ok began = ap (λ (b : Bool). cond b (Ok began) (Err faults.NumbersSpent)) below in
-    let is : moves parts.nodes history Restarts ≡ Ok began = subst (λ (l : Number). restart l ≡ Ok began) shown.same_last by_last in (
-      (began, is, refl, refl),
-      subst (λ (m : Result Moved OrchFault). IsWellFormed (moved_to history m)) is (keeps.then parts.nodes history Restarts form),
-      session-agrees parts next session (started-follows (orchestrator_view parts) history session shown),
-    )
+-- an open call that is given up uses no node
+used-closed : (rows : List RowShown) (node : List ℕ) → is_used_in (map closed rows) node ≡ is_used_in rows node
+used-closed [] node = refl
+used-closed (row ∷ rows) node = ap (λ (b : Bool). not (is_no (mark_of (Attached row.name node) row)) || b) (used-closed rows node)
+
+-- and so refuses no restart
+refusal-closed : (parts : OrchestratorParts) (nodes : List (List ℕ)) → opening_refusal (kept_of parts) nodes ≡ restart_refusal parts.last.session parts.nodes nodes parts.rows
+refusal-closed parts nodes = λ i.
+    cond (is_none (next_session parts.last.session)) (Some faults.NumbersSpent)
+    (cond (list_any (λ node. not (list_any (same_text node) nodes) && used-closed parts.rows node i) parts.nodes) (Some faults.NodeInUse) None)
+
+-- what a restart makes is what is opened from the record
+restarted-opened : (parts : OrchestratorParts) (nodes : List (List ℕ)) → restarted_parts nodes parts ≡ opened_parts (kept_of parts) nodes
+restarted-opened parts nodes =
+    let rows = filter-of_map (λ (row : RowShown). not (is_row_forgotten row)) closed parts.rows in
+    λ i. record { nodes = nodes; last = record { session = parts.last.session + 1; call = 0 }; rows = sym rows i }
+
+-- a history goes on by a restart to one that what is opened shows
+pub record RestartsOn (parts : OrchestratorParts) (history : History) (nodes : List (List ℕ)) : Type 0 where
+  pub next : History
+  pub is : IsMoved {A = Unit {0}} (λ done. Restarted) history (Restarts nodes) (Ok tt) next
+  pub form : IsWellFormed next
+  pub shown : Shows (opened_parts (kept_of parts) nodes) next
+
+-- so it is where a restart is told
+pub restart-goes : MovesKeepForm → (parts : OrchestratorParts) (history : History) (nodes : List (List ℕ)) → IsWellFormed history → Shows parts history → RestartsAreTold parts
+    → opening_refusal (kept_of parts) nodes ≡ None → RestartsOn parts history nodes
+restart-goes keeps parts history nodes form shown told unrefused = by (moves history (Restarts nodes)) refl (told history nodes form shown (sym (refusal-closed parts nodes) ∙ unrefused))
+  where
+    by : (m : Result Moved OrchFault) → moves history (Restarts nodes) ≡ m → FollowsUnrefused history m Restarted (restarted_parts nodes parts) → RestartsOn parts history nodes
+    by (Ok m) e follows = record {
+      next = with_items history m.items;
+      is = (m, e, follows.answered, refl);
+      form = subst (λ (r : Result Moved OrchFault). IsWellFormed (moved_to history r)) e (keeps.then history (Restarts nodes) form);
+      shown = subst (λ (o : OrchestratorParts). Shows o (with_items history m.items)) (restarted-opened parts nodes) follows.agrees;
+    }
+    by (Err fault) e follows = absurd follows

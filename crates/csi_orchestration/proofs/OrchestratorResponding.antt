@@ -1,6 +1,5 @@
 -- What an orchestrator answers to a line, by what the line is.
-use Rattle.std.proofs.Common.{◌≡◌, inl, inr, sym, ap, subst, refl, ℕ, ◌<◌, ◌≤◌, List, length, take, IfOk, Result, Ok, Err, arith}
-use Rattle.std.specs.Prelude.{◌⊎◌}
+use Rattle.std.proofs.Common.{◌≡◌, inl, inr, sym, ap, subst, refl, ℕ, ◌<◌, List, length, IfOk, Result, Ok, Err, arith}
 use Rattle.std.proofs.lemmas.List.{take_all}
 use Rattle.csi_types.specs.Model.Frame.{Frame}
 use Rattle.csi_frames.specs.declared.fault.FaultKind.TheVariants as frame_faults

@@ -1,8 +1,7 @@
 -- Two runs of an orchestrator are one run of the stated machine, with a restart between.
-use Rattle.std.proofs.Common.{◌≡◌, ◌∙◌, sym, ap, subst, inl, inr, refl, ℕ, ◌+◌, ◌<◌, ◌^◌, List, [], ◌∷◌, arith}
-use Rattle.std.specs.Prelude.{Option, Ok}
-use Rattle.csi_orchestrator.specs.Model.History.{History, new_history, with_items, Started}
-use Rattle.csi_orchestrator.specs.Model.Moves.{Restarts, Restarted}
+use Rattle.std.proofs.Common.{◌≡◌, ◌∙◌, sym, ap, subst, inl, inr, refl, ℕ, List, [], ◌∷◌, arith}
+use Rattle.std.specs.Prelude.{Option, None}
+use Rattle.csi_orchestrator.specs.Model.History.{new_history}
 use Rattle.csi_orchestrator.specs.Model.Shown.{OrchestratorParts, Shows}
 use Rattle.csi_orchestrator.specs.Public.Laws.{MovesKeepForm, RecordsLaw, opened_parts}
 use Rattle.csi_orchestrator.specs.Public.Record.{RecordParts}
@@ -15,11 +14,11 @@ use Rattle.csi_records.specs.Public.Spelling.{present}
 use Rattle.csi_records.proofs.KeyedRows.{keyed-same}
 use Rattle.csi_records.proofs.Layouts.{parts-same}
 use Rattle.csi_records.proofs.OrchestratorLayouts.{orchestrator_one}
-use Rattle.csi_service.specs.Public.OrchestratorOpening.{new_record, IsOpenedFrom}
+use Rattle.csi_service.specs.Public.OrchestratorOpening.{new_record, opening_refusal, IsOpenedFrom}
 use Rattle.csi_service.specs.Public.OrchestratorServices.{kept_of}
 use Rattle.csi_orchestration.specs.declared.orchestrator_responder.OrchestratorResponder.{OrchestratorResponder}
 use Rattle.csi_orchestration.specs.Public.LinesRuns.{LinesRunsLaw}
-use Rattle.csi_orchestration.specs.Public.OrchestratorHistories.{IsMoved, OrchestratorRunsLaw}
+use Rattle.csi_orchestration.specs.Public.OrchestratorHistories.{OrchestratorRunsLaw}
 use Rattle.csi_orchestration.specs.Public.OrchestratorResponding.{HasItsRecord, OpensResponder, responder_parts}
 use Rattle.csi_orchestration.specs.Public.Running.{orchestrator_setting}
 use Rattle.csi_orchestration.proofs.OrchestratorHistories.{each-goes, restart-goes}
@@ -35,36 +34,43 @@ one-record parts one other spelled also =
 not-empty : (head : StoredPart) (rest : List StoredPart) → head ∷ rest ≡ [] → ⊥
 not-empty head rest e = absurd (cc)
 
--- what is opened from the parts of one is the one that its record is opened as
+-- what is opened from the parts of one is the one that its record is opened as, with nodes with which that isn't refused
 reopened : (left again : OrchestratorResponder) → HasItsRecord left → OpensResponder (responder_parts left) again
-    → (again.service.orchestrator ≡ opened_parts (kept_of left.service.orchestrator)) × (left.service.orchestrator.last.session + 1 < 2 ^ 64)
+    → (again.service.orchestrator ≡ opened_parts (kept_of left.service.orchestrator) again.service.orchestrator.nodes)
+    × (opening_refusal (kept_of left.service.orchestrator) again.service.orchestrator.nodes ≡ None)
 reopened left again its opens = by opens.opened.from
   where
     kept : RecordParts
     kept = opens.opened.kept
 
-    by : (IsOpenedFrom again.service.orchestrator.nodes (responder_parts left) kept) → (again.service.orchestrator ≡ opened_parts (kept_of left.service.orchestrator)) × (left.service.orchestrator.last.session + 1 < 2 ^ 64)
+    by : IsOpenedFrom (responder_parts left) kept → (again.service.orchestrator ≡ opened_parts (kept_of left.service.orchestrator) again.service.orchestrator.nodes)
+        × (opening_refusal (kept_of left.service.orchestrator) again.service.orchestrator.nodes ≡ None)
     by (inl new) = absurd (not-empty _ _ new.0)
     by (inr read) =
-        let same = one-record (responder_parts left) kept (kept_of left.service.orchestrator) read.0 its in
-        (opens.opened.is ∙ ap opened_parts same, subst (λ (r : RecordParts). r.session + 1 < 2 ^ 64) same opens.opened.left)
+        let same = one-record (responder_parts left) kept (kept_of left.service.orchestrator) read its in (
+          opens.opened.is ∙ ap (λ (r : RecordParts). opened_parts r again.service.orchestrator.nodes) same,
+          subst (λ (r : RecordParts). opening_refusal r again.service.orchestrator.nodes ≡ None) same opens.opened.unrefused,
+        )
 
 -- what was opened came to a history
 has-history : RecordsLaw → (content : List StoredPart) (responder : OrchestratorResponder) → OpensResponder content responder → HasHistory responder.service.orchestrator
-has-history reached content responder opens = subst HasHistory (sym opens.opened.is) ((reached kept (rules opens.opened.from)).opened opens.opened.left)
+has-history reached content responder opens =
+    subst HasHistory (sym opens.opened.is) ((reached kept (rules opens.opened.from)).opened responder.service.orchestrator.nodes opens.opened.unrefused)
   where
     kept : RecordParts
     kept = opens.opened.kept
 
-    rules : IsOpenedFrom responder.service.orchestrator.nodes content kept → AreRestorable kept.nodes kept.rows
-    rules (inl new) =
-        let none : AreRestorable responder.service.orchestrator.nodes [] = record { few_nodes = opens.its.rules.rules.few_nodes; few = omega arith; names = tt; each = tt } in
-        subst (λ (r : RecordParts). AreRestorable r.nodes r.rows) (sym new.1) none
-    rules (inr read) = subst (AreRestorable kept.nodes) (sym (keyed-same 1 kept.rows read.0.rules.rows read.0.rules.places)) read.0.rules.rules
+    none : AreRestorable [] []
+    none = record { few = omega arith; names = tt; each = tt }
+
+    rules : IsOpenedFrom content kept → AreRestorable kept.nodes kept.rows
+    rules (inl new) = subst (λ (r : RecordParts). AreRestorable r.nodes r.rows) (sym new.1) none
+    rules (inr read) = subst (AreRestorable kept.nodes) (sym (keyed-same 1 kept.rows read.rules.rows read.rules.places)) read.rules.rules
 
 -- a new orchestrator shows a new history
-new-shown : (nodes : List (List ℕ)) → Shows (opened_parts (new_record nodes)) new_history
+new-shown : (nodes : List (List ℕ)) → Shows (opened_parts new_record nodes) (new_history nodes)
 new-shown nodes = record {
+  same_nodes = refl;
   same_last = refl;
   same_rows = λ name. refl;
   same_marks = λ thing. refl;
@@ -77,15 +83,19 @@ new-shown nodes = record {
 }
 
 -- what is opened of an empty store is a new one
-shows-new : (content : List StoredPart) (responder : OrchestratorResponder) → OpensResponder content responder → content ≡ [] → Shows responder.service.orchestrator new_history
+shows-new : (content : List StoredPart) (responder : OrchestratorResponder) → OpensResponder content responder → content ≡ []
+    → Shows responder.service.orchestrator (new_history responder.service.orchestrator.nodes)
 shows-new content responder opens none = by opens.opened.from
   where
     kept : RecordParts
     kept = opens.opened.kept
 
-    by : IsOpenedFrom responder.service.orchestrator.nodes content kept → Shows responder.service.orchestrator new_history
-    by (inl new) = subst (λ (o : OrchestratorParts). Shows o new_history) (sym (opens.opened.is ∙ ap opened_parts new.1)) (new-shown responder.service.orchestrator.nodes)
-    by (inr read) = absurd (not-empty _ _ (sym read.0.are ∙ none))
+    nodes : List (List ℕ)
+    nodes = responder.service.orchestrator.nodes
+
+    by : IsOpenedFrom content kept → Shows responder.service.orchestrator (new_history nodes)
+    by (inl new) = subst (λ (o : OrchestratorParts). Shows o (new_history nodes)) (sym (opens.opened.is ∙ ap (λ (r : RecordParts). opened_parts r nodes) new.1)) (new-shown nodes)
+    by (inr read) = absurd (not-empty _ _ (sym read.are ∙ none))
 
 -- by the law of two runs
 pub one-history : {K R W : Type 0} (seen : K → Store) (remaining : R → Option (List ℕ)) (contents : W → Option (List ℕ)) → MovesKeepForm → RecordsLaw → LinesRunsLaw (orchestrator_setting seen remaining contents)
@@ -96,20 +106,18 @@ one-history seen remaining contents keeps reached law before between again after
       has-history reached content one.responder run.opened,
       shows-new content one.responder run.opened,
       λ history form shown.
-          let nodes = one.responder.service.orchestrator.nodes in
-          let first = each-goes keeps nodes one.responder _ _ run.left history run.runs run.opened.fit run.opened.its form shown refl in
+          let first = each-goes keeps one.responder _ _ run.left history run.runs run.opened.fit run.opened.its run.opened.restarts form shown in
           let left = run.left.service.orchestrator in
+          let nodes = two.responder.service.orchestrator.nodes in
           let opened = reopened run.left two.responder first.its run.reopened in
-          let restarts = restart-goes keeps left first.next first.form first.shown opened.1 in
-          let begun : History = with_items first.next (Started (left.last.session + 1) ∷ []) in
-          let begun_shown = subst (λ (o : OrchestratorParts). Shows o begun) (sym opened.0) restarts.2 in
-          let second = each-goes keeps nodes two.responder _ _ two.served.serves.now begun run.goes_on run.reopened.fit run.reopened.its restarts.1 begun_shown
-          (ap (λ (o : OrchestratorParts). o.nodes) opened.0 ∙ first.nodes_stay) in
+          let on = restart-goes keeps left first.next nodes first.form first.shown first.restarts opened.1 in
+          let begun_shown = subst (λ (o : OrchestratorParts). Shows o on.next) (sym opened.0) on.shown in
+          let second = each-goes keeps two.responder _ _ two.served.serves.now on.next run.goes_on run.reopened.fit run.reopened.its run.reopened.restarts on.form begun_shown in
           record {
             came = first.next;
             first = first.are;
-            begun = begun;
-            restarts = subst (λ (ns : List (List ℕ)). IsMoved {A = Unit {0}} (λ done. Restarted) ns first.next Restarts (Ok tt) begun) first.nodes_stay restarts.0;
+            begun = on.next;
+            restarts = on.is;
             last = second.next;
             second = second.are;
             shown = second.shown;

@@ -1,5 +1,5 @@
 -- A world's orchestrator goes on as the lines that come to it lead its history.
-use Rattle.std.proofs.Common.{◌≡◌, ◌∙◌, inl, inr, sym, ap, subst, refl, ℕ, List, [], ◌∷◌, ◌++◌, length, map, Bool, true, false, cond}
+use Rattle.std.proofs.Common.{◌≡◌, ◌∙◌, inl, inr, sym, ap, subst, refl, ℕ, List, [], ◌∷◌, ◌++◌, length, Bool, true, cond}
 use Rattle.std.specs.Prelude.{Option, Some, None, Result, Ok, Err}
 use Rattle.std.specs.List.{AllByRecursion}
 use Rattle.csi_types.specs.declared.call.Party.{Party}
@@ -8,7 +8,6 @@ use Rattle.csi_types.specs.declared.event.Event.{Event}
 use Rattle.csi_types.specs.declared.event.Event.TheVariants as events
 use Rattle.csi_types.specs.declared.frame.Body.{Body}
 use Rattle.csi_types.specs.declared.frame.Body.TheVariants as bodies
-use Rattle.csi_types.specs.Model.Config.{Config, has_node}
 use Rattle.csi_types.specs.Model.Frame.{Frame}
 use Rattle.csi_frames.specs.declared.fault.FrameFault.{FrameFault}
 use Rattle.csi_frames.specs.Public.Spelling.{Spells}
@@ -17,18 +16,17 @@ use Rattle.csi_orchestrator.specs.declared.fault.Heard.{Heard}
 use Rattle.csi_orchestrator.specs.declared.fault.Heard.TheVariants as heards
 use Rattle.csi_orchestrator.specs.declared.fault.OrchFault.{OrchFault}
 use Rattle.csi_orchestrator.specs.Model.History.{History, Item, with_items}
-use Rattle.csi_orchestrator.specs.Model.Moves.{Input, ToCreate, ToUse, ToStop, ToDelete, TimesOut, Comes, Restarts, Answer, Sends, Hears, Restarted, Moved, deliver, moves}
+use Rattle.csi_orchestrator.specs.Model.Moves.{Input, ToCreate, ToUse, ToStop, ToDelete, TimesOut, Comes, Restarts, Loses, Answer, Sends, Hears, Restarted, GivenUp, Moved, deliver, moves}
 use Rattle.csi_world.specs.declared.outcomes.Outcome.TheVariants as outcomes
-use Rattle.csi_world.specs.Model.World.{World, with_history}
-use Rattle.csi_world.specs.Model.After.{Occurred, next_frame, node_id, by_answer, by_result, orchestrated, called, delivered_body, delivered, frame_numbered, occurs, after_from}
-use Rattle.csi_world.specs.Model.Step.{answered_by_plugin}
+use Rattle.csi_world.specs.Model.World.{World, node_state, with_history}
+use Rattle.csi_world.specs.Model.After.{Occurred, by_answer, by_result, orchestrated, called_at, called, delivered_body, delivered, frame_numbered, restarted_at, joined_at, lost_by, is_node_of, occurs, after_from}
 use Rattle.csi_world.proofs.PluginsReached.{answered-history}
 use Rattle.csi_json.specs.declared.request_fault.RequestFault.{RequestFault}
 use Rattle.csi_json.specs.Public.Requests.{RequestShown, Command, Reply, IsCommand, line_request}
 use Rattle.csi_orchestration.specs.Public.LinesServing.{AnswersEach}
 use Rattle.csi_orchestration.specs.Public.OrchestratorLines.{EventBy, ReplyBy, RequestBy}
 use Rattle.csi_orchestration.specs.Public.OrchestratorHistories.{IsMoved, MovesFrame, moved_lines, MovesLine}
-use Rattle.csi_orchestration.specs.Public.OrchestratorWorlds.{IsCallBody, DeliversReply, ComesBy, AsksNothing, IsIdle, IsNoReply, IsElsewhere, Brings, WorldsLaw}
+use Rattle.csi_orchestration.specs.Public.OrchestratorWorlds.{IsCallBody, DeliversReply, IsOfNode, ComesBy, AsksNothing, IsIdle, IsNoReply, IsElsewhere, Brings, WorldsLaw}
 use Rattle.csi_orchestration.proofs.OrchestratorResponding.{whole}
 
 -- ---- the orchestrator's part
@@ -41,48 +39,55 @@ answer-history world (Hears heards.Ignored) = refl
 answer-history world (Hears (heards.Taken None)) = refl
 answer-history world (Hears (heards.Taken (Some frame))) = refl
 answer-history world Restarted = refl
+answer-history world GivenUp = refl
 
 -- an input that is answered, or refused, leads the world's history where it leads
-orchestrated-history : {A : Type 0} (told : A → Answer) (config : Config) (world : World) (input : Input) (result : Result A OrchFault) (next : History) → IsMoved told (map node_id config.nodes) world.history input result next
-    → (orchestrated config world input).world.history ≡ next
-orchestrated-history told config world input (Ok answer) next is =
+orchestrated-history : {A : Type 0} (told : A → Answer) (world : World) (input : Input) (result : Result A OrchFault) (next : History) → IsMoved told world.history input result next
+    → (orchestrated world input).world.history ≡ next
+orchestrated-history told world input (Ok answer) next is =
     ap (λ (r : Result Moved OrchFault). (by_result world r).world.history) is.1 ∙ answer-history (with_history is.0.items world) is.0.answer ∙ sym is.3
-orchestrated-history told config world input (Err fault) next is = ap (λ (r : Result Moved OrchFault). (by_result world r).world.history) is.0 ∙ sym is.1
+orchestrated-history told world input (Err fault) next is = ap (λ (r : Result Moved OrchFault). (by_result world r).world.history) is.0 ∙ sym is.1
 
 -- ---- elsewhere
 
 -- a call that is delivered leaves the orchestrator
-call-history : (config : Config) (world : World) (frame : Frame) (party : Party) → (called config world frame party).world.history ≡ world.history
-call-history config world frame parties.Controller = answered-history config world frame
-call-history config world frame (parties.Node id) = by (has_node id config.nodes)
-  where
-    at : Bool → Occurred
-    at b = cond b (record { world = answered_by_plugin config world frame; outcome = outcomes.Answered (next_frame world) }) (record { world = world; outcome = outcomes.NoSuchNode })
+call-history : (world : World) (frame : Frame) (party : Party) → (called world frame party).world.history ≡ world.history
+call-history world frame parties.Controller = answered-history world frame
+call-history world frame (parties.Node id) =
+    elim (node_state id world) as (λ o. (called_at world frame o).world.history ≡ world.history) [ None ↦ refl | Some state ↦ answered-history world frame ]
 
-    by : (b : Bool) → (at b).world.history ≡ world.history
-    by true = answered-history config world frame
-    by false = refl
+-- a node that restarts, or joins, does too
+restarted-history : (world : World) (id : List ℕ) → (restarted_at world (node_state id world)).world.history ≡ world.history
+restarted-history world id = elim (node_state id world) as (λ o. (restarted_at world o).world.history ≡ world.history) [ None ↦ refl | Some state ↦ refl ]
+
+joined-history : (world : World) (id : List ℕ) → (joined_at world id (node_state id world)).world.history ≡ world.history
+joined-history world id = elim (node_state id world) as (λ o. (joined_at world id o).world.history ≡ world.history) [ None ↦ refl | Some state ↦ refl ]
 
 -- what is no reply leaves it
-no_reply-history : (config : Config) (world : World) (o : Option Frame) → IsNoReply o → (delivered config world o).world.history ≡ world.history
-no_reply-history config world None is = refl
-no_reply-history config world (Some frame) is = by frame.body refl is
+no_reply-history : (world : World) (o : Option Frame) → IsNoReply o → (delivered world o).world.history ≡ world.history
+no_reply-history world None is = refl
+no_reply-history world (Some frame) is = by frame.body refl is
   where
-    by : (body : Body) → frame.body ≡ body → IsCallBody body → (delivered_body config world frame body).world.history ≡ world.history
-    by (bodies.Call call) e is_call = call-history config world frame frame.party
+    by : (body : Body) → frame.body ≡ body → IsCallBody body → (delivered_body world frame body).world.history ≡ world.history
+    by (bodies.Call call) e is_call = call-history world frame frame.party
     by (bodies.Reply kind reply) e is_call = absurd is_call
 
 -- an event of the plugins leaves it
-elsewhere-history : (config : Config) (world : World) (event : Event) → IsElsewhere world event → (occurs config world event).world.history ≡ world.history
-elsewhere-history config world (events.Create name required limit capabilities) is = absurd is
-elsewhere-history config world (events.Use name node target capability readonly) is = absurd is
-elsewhere-history config world (events.Stop name node target) is = absurd is
-elsewhere-history config world (events.Delete name) is = absurd is
-elsewhere-history config world (events.Timeout name) is = absurd is
-elsewhere-history config world (events.Deliver number) is = no_reply-history config world (frame_numbered world number) is
-elsewhere-history config world events.RestartOrchestrator is = absurd is
-elsewhere-history config world events.RestartController is = refl
-elsewhere-history config world (events.RestartNode node) is = refl
+elsewhere-history : (world : World) (event : Event) → IsElsewhere world event → (occurs world event).world.history ≡ world.history
+elsewhere-history world (events.Create name required limit capabilities) is = absurd is
+elsewhere-history world (events.Use name node target capability readonly) is = absurd is
+elsewhere-history world (events.Stop name node target) is = absurd is
+elsewhere-history world (events.Delete name) is = absurd is
+elsewhere-history world (events.Timeout name) is = absurd is
+elsewhere-history world (events.Deliver number) is = no_reply-history world (frame_numbered world number) is
+elsewhere-history world events.RestartOrchestrator is = absurd is
+elsewhere-history world (events.RestartOrchestratorWith nodes) is = absurd is
+elsewhere-history world events.RestartController is = refl
+elsewhere-history world (events.RestartControllerWith config) is = refl
+elsewhere-history world (events.RestartNode node) is = restarted-history world node
+elsewhere-history world (events.Join node) is = joined-history world node
+elsewhere-history world (events.Lose node) is = absurd is
+elsewhere-history world (events.Settle name) is = absurd is
 
 -- ---- a line that asks something
 
@@ -97,27 +102,46 @@ one-frame bytes one other spelled also =
     frame_in default (Ok read) = read.0
     frame_in default (Err fault) = default
 
--- what a command or a timeout does
-event-history : (config : Config) (world : World) (event : Event) (answer : List ℕ) (next : History) → IsCommand event → EventBy (moved_lines (map node_id config.nodes)) event world.history answer next
-    → (occurs config world event).world.history ≡ next
-event-history config world (events.Create name required limit capabilities) answer next is m =
-    orchestrated-history Sends config world (ToCreate name (record { required = required; limit = limit; capabilities = capabilities })) m.told next m.moved
-event-history config world (events.Use name node target capability readonly) answer next is m =
-    orchestrated-history Sends config world (ToUse name (record { node = node; target = target; capability = capability; readonly = readonly })) m.told next m.moved
-event-history config world (events.Stop name node target) answer next is m = orchestrated-history Sends config world (ToStop name node target) m.told next m.moved
-event-history config world (events.Delete name) answer next is m = orchestrated-history Sends config world (ToDelete name) m.told next m.moved
-event-history config world (events.Timeout name) answer next is m = orchestrated-history Sends config world (TimesOut name) m.told next m.moved
-event-history config world (events.Deliver number) answer next is m = absurd is
-event-history config world events.RestartOrchestrator answer next is m = absurd is
-event-history config world events.RestartController answer next is m = absurd is
-event-history config world (events.RestartNode node) answer next is m = absurd is
+-- what a loss does, of a node that is there or listed
+lost-history : (world : World) (node : List ℕ) → is_node_of world node ≡ true → (told : Result (Unit {0}) OrchFault) (next : History)
+    → IsMoved {A = Unit {0}} (λ done. GivenUp) world.history (Loses node) told next → (occurs world (events.Lose node)).world.history ≡ next
+lost-history world node known (Ok done) next is =
+    ap (λ (b : Bool). (lost_if b).world.history) known ∙ ap (λ (r : Result Moved OrchFault). (lost_by world node r).world.history) is.1 ∙ sym is.3
+  where
+    lost_if : Bool → Occurred
+    lost_if b = cond b (lost_by world node (moves world.history (Loses node))) (record { world = world; outcome = outcomes.NoSuchNode })
+lost-history world node known (Err fault) next is =
+    ap (λ (b : Bool). (lost_if b).world.history) known ∙ ap (λ (r : Result Moved OrchFault). (lost_by world node r).world.history) is.0 ∙ sym is.1
+  where
+    lost_if : Bool → Occurred
+    lost_if b = cond b (lost_by world node (moves world.history (Loses node))) (record { world = world; outcome = outcomes.NoSuchNode })
+
+-- what a command, a timeout or a loss does
+event-history : (world : World) (event : Event) (answer : List ℕ) (next : History) → IsCommand event → IsOfNode world event → EventBy moved_lines event world.history answer next
+    → (occurs world event).world.history ≡ next
+event-history world (events.Create name required limit capabilities) answer next is of m =
+    orchestrated-history Sends world (ToCreate name (record { required = required; limit = limit; capabilities = capabilities })) m.told next m.moved
+event-history world (events.Use name node target capability readonly) answer next is of m =
+    orchestrated-history Sends world (ToUse name (record { node = node; target = target; capability = capability; readonly = readonly })) m.told next m.moved
+event-history world (events.Stop name node target) answer next is of m = orchestrated-history Sends world (ToStop name node target) m.told next m.moved
+event-history world (events.Delete name) answer next is of m = orchestrated-history Sends world (ToDelete name) m.told next m.moved
+event-history world (events.Timeout name) answer next is of m = orchestrated-history Sends world (TimesOut name) m.told next m.moved
+event-history world (events.Deliver number) answer next is of m = absurd is
+event-history world events.RestartOrchestrator answer next is of m = absurd is
+event-history world (events.RestartOrchestratorWith nodes) answer next is of m = absurd is
+event-history world events.RestartController answer next is of m = absurd is
+event-history world (events.RestartControllerWith config) answer next is of m = absurd is
+event-history world (events.RestartNode node) answer next is of m = absurd is
+event-history world (events.Join node) answer next is of m = absurd is
+event-history world (events.Lose node) answer next is of m = lost-history world node of m.told next m.moved
+event-history world (events.Settle name) answer next is of m = absurd is
 
 -- what a reply does
-reply-history : (config : Config) (world : World) (bytes : List ℕ) (event : Event) (answer : List ℕ) (next : History) → DeliversReply world bytes event → ReplyBy (moved_lines (map node_id config.nodes)) bytes world.history answer next
-    → (occurs config world event).world.history ≡ next
-reply-history config world bytes event answer next d (inr m) = absurd (m.0 d.frame d.spelled)
-reply-history config world bytes event answer next d (inl m) =
-    ap (λ (e : Event). (occurs config world e).world.history) d.is ∙ ap (λ (o : Option Frame). (delivered config world o).world.history) d.sent ∙ by d.frame.body refl d.reply
+reply-history : (world : World) (bytes : List ℕ) (event : Event) (answer : List ℕ) (next : History) → DeliversReply world bytes event → ReplyBy moved_lines bytes world.history answer next
+    → (occurs world event).world.history ≡ next
+reply-history world bytes event answer next d (inr m) = absurd (m.0 d.frame d.spelled)
+reply-history world bytes event answer next d (inl m) =
+    ap (λ (e : Event). (occurs world e).world.history) d.is ∙ ap (λ (o : Option Frame). (delivered world o).world.history) d.sent ∙ by d.frame.body refl d.reply
   where
     frame : Frame
     frame = d.frame
@@ -125,25 +149,25 @@ reply-history config world bytes event answer next d (inl m) =
     same : m.0 ≡ frame
     same = one-frame bytes m.0 frame m.1 d.spelled
 
-    comes : MovesFrame (map node_id config.nodes) frame world.history answer next
-    comes = subst (λ (f : Frame). MovesFrame (map node_id config.nodes) f world.history answer next) same m.2
+    comes : MovesFrame frame world.history answer next
+    comes = subst (λ (f : Frame). MovesFrame f world.history answer next) same m.2
 
-    by : (body : Body) → frame.body ≡ body → (IsCallBody body → ⊥) → (delivered_body config world frame body).world.history ≡ next
+    by : (body : Body) → frame.body ≡ body → (IsCallBody body → ⊥) → (delivered_body world frame body).world.history ≡ next
     by (bodies.Call call) e not_call = absurd (not_call tt)
-    by (bodies.Reply kind reply) e not_call = orchestrated-history Hears config world (Comes frame) comes.heard next comes.moved
+    by (bodies.Reply kind reply) e not_call = orchestrated-history Hears world (Comes frame) comes.heard next comes.moved
 
 -- what is asked
-asked-history : (config : Config) (world : World) (request : Result RequestShown RequestFault) (event : Event) (answer : List ℕ) (next : History) → ComesBy world request event
-    → RequestBy (moved_lines (map node_id config.nodes)) request world.history answer next → (occurs config world event).world.history ≡ next
-asked-history config world (Ok (Command asked)) event answer next comes m = ap (λ (e : Event). (occurs config world e).world.history) comes.1 ∙ event-history config world asked answer next comes.0 m
-asked-history config world (Ok (Reply bytes)) event answer next comes m = reply-history config world bytes event answer next comes m
-asked-history config world (Err fault) event answer next comes m = absurd comes
+asked-history : (world : World) (request : Result RequestShown RequestFault) (event : Event) (answer : List ℕ) (next : History) → ComesBy world request event
+    → RequestBy moved_lines request world.history answer next → (occurs world event).world.history ≡ next
+asked-history world (Ok (Command asked)) event answer next comes m = ap (λ (e : Event). (occurs world e).world.history) comes.2 ∙ event-history world asked answer next comes.0 comes.1 m
+asked-history world (Ok (Reply bytes)) event answer next comes m = reply-history world bytes event answer next comes m
+asked-history world (Err fault) event answer next comes m = absurd comes
 
 -- ---- a line that asks nothing
 
 -- a call that came as a reply is ignored
-call-ignored : (nodes : List (List ℕ)) (frame : Frame) (history : History) (answer : List ℕ) (next : History) → IsCallBody frame.body → MovesFrame nodes frame history answer next → next ≡ history
-call-ignored nodes frame history answer next is m = by_body frame.body refl is
+call-ignored : (frame : Frame) (history : History) (answer : List ℕ) (next : History) → IsCallBody frame.body → MovesFrame frame history answer next → next ≡ history
+call-ignored frame history answer next is m = by_body frame.body refl is
   where
     quiet : Moved
     quiet = record { answer = Hears heards.Ignored; items = [] }
@@ -152,7 +176,7 @@ call-ignored nodes frame history answer next is m = by_body frame.body refl is
     items_in (Ok moved) = moved.items
     items_in (Err fault) = []
 
-    by_answer_of : (heard : Result Heard OrchFault) → IsMoved Hears nodes history (Comes frame) heard next → moves nodes history (Comes frame) ≡ Ok quiet → next ≡ history
+    by_answer_of : (heard : Result Heard OrchFault) → IsMoved Hears history (Comes frame) heard next → moves history (Comes frame) ≡ Ok quiet → next ≡ history
     by_answer_of (Ok what) is_moved e = is_moved.3 ∙ ap (with_items history) (ap items_in (sym is_moved.1 ∙ e))
     by_answer_of (Err fault) is_moved e = is_moved.1
 
@@ -160,68 +184,72 @@ call-ignored nodes frame history answer next is m = by_body frame.body refl is
     by_body (bodies.Call call) e is_call = by_answer_of m.heard m.moved (ap (deliver history frame.number frame.party) e)
     by_body (bodies.Reply kind reply) e is_call = absurd is_call
 
--- an event that is none of the five is told as a fault
-other-history : (nodes : List (List ℕ)) (event : Event) (history : History) (answer : List ℕ) (next : History) → (IsCommand event → ⊥) → EventBy (moved_lines nodes) event history answer next → next ≡ history
-other-history nodes (events.Create name required limit capabilities) history answer next other m = absurd (other tt)
-other-history nodes (events.Use name node target capability readonly) history answer next other m = absurd (other tt)
-other-history nodes (events.Stop name node target) history answer next other m = absurd (other tt)
-other-history nodes (events.Delete name) history answer next other m = absurd (other tt)
-other-history nodes (events.Timeout name) history answer next other m = absurd (other tt)
-other-history nodes (events.Deliver number) history answer next other m = m.stays
-other-history nodes events.RestartOrchestrator history answer next other m = m.stays
-other-history nodes events.RestartController history answer next other m = m.stays
-other-history nodes (events.RestartNode node) history answer next other m = m.stays
+-- an event that is none of the six is told as a fault
+other-history : (event : Event) (history : History) (answer : List ℕ) (next : History) → (IsCommand event → ⊥) → EventBy moved_lines event history answer next → next ≡ history
+other-history (events.Create name required limit capabilities) history answer next other m = absurd (other tt)
+other-history (events.Use name node target capability readonly) history answer next other m = absurd (other tt)
+other-history (events.Stop name node target) history answer next other m = absurd (other tt)
+other-history (events.Delete name) history answer next other m = absurd (other tt)
+other-history (events.Timeout name) history answer next other m = absurd (other tt)
+other-history (events.Deliver number) history answer next other m = m.stays
+other-history events.RestartOrchestrator history answer next other m = m.stays
+other-history (events.RestartOrchestratorWith nodes) history answer next other m = m.stays
+other-history events.RestartController history answer next other m = m.stays
+other-history (events.RestartControllerWith config) history answer next other m = m.stays
+other-history (events.RestartNode node) history answer next other m = m.stays
+other-history (events.Join node) history answer next other m = m.stays
+other-history (events.Lose node) history answer next other m = absurd (other tt)
+other-history (events.Settle name) history answer next other m = m.stays
 
 -- it leaves the history
-nothing-history : (nodes : List (List ℕ)) (request : Result RequestShown RequestFault) (history : History) (answer : List ℕ) (next : History) → AsksNothing request → RequestBy (moved_lines nodes) request history answer next → next ≡ history
-nothing-history nodes (Ok (Command asked)) history answer next quiet m = other-history nodes asked history answer next quiet m
-nothing-history nodes (Ok (Reply bytes)) history answer next quiet (inl m) = call-ignored nodes m.0 history answer next (quiet m.0 m.1) m.2
-nothing-history nodes (Ok (Reply bytes)) history answer next quiet (inr m) = m.1.stays
-nothing-history nodes (Err fault) history answer next quiet m = m.stays
+nothing-history : (request : Result RequestShown RequestFault) (history : History) (answer : List ℕ) (next : History) → AsksNothing request → RequestBy moved_lines request history answer next → next ≡ history
+nothing-history (Ok (Command asked)) history answer next quiet m = other-history asked history answer next quiet m
+nothing-history (Ok (Reply bytes)) history answer next quiet (inl m) = call-ignored m.0 history answer next (quiet m.0 m.1) m.2
+nothing-history (Ok (Reply bytes)) history answer next quiet (inr m) = m.1.stays
+nothing-history (Err fault) history answer next quiet m = m.stays
 
 -- such lines leave it
-idle-history : (nodes : List (List ℕ)) (history : History) (lines given : List (List ℕ)) (next : History) → AllByRecursion IsIdle lines → AnswersEach (MovesLine nodes) history lines given next → next ≡ history
-idle-history nodes history [] [] next quiet each = each
-idle-history nodes history [] (answer ∷ given) next quiet each = absurd each
-idle-history nodes history (line ∷ lines) [] next quiet each = absurd each
-idle-history nodes history (line ∷ lines) (answer ∷ given) next quiet each =
-    idle-history nodes each.0 lines given next quiet.1 each.2 ∙ nothing-history nodes (line_request line) history answer each.0 quiet.0 each.1
+idle-history : (history : History) (lines given : List (List ℕ)) (next : History) → AllByRecursion IsIdle lines → AnswersEach MovesLine history lines given next → next ≡ history
+idle-history history [] [] next quiet each = each
+idle-history history [] (answer ∷ given) next quiet each = absurd each
+idle-history history (line ∷ lines) [] next quiet each = absurd each
+idle-history history (line ∷ lines) (answer ∷ given) next quiet each =
+    idle-history each.0 lines given next quiet.1 each.2 ∙ nothing-history (line_request line) history answer each.0 quiet.0 each.1
 
 -- ---- a run
 
 -- the lines behind those that ask nothing
-pub record Behind (nodes : List (List ℕ)) (history : History) (line : List ℕ) (rest : List (List ℕ)) (next : History) : Type 0 where
+pub record Behind (history : History) (line : List ℕ) (rest : List (List ℕ)) (next : History) : Type 0 where
   pub answer : List ℕ
   pub after : History
-  pub moved : MovesLine nodes history line answer after
+  pub moved : MovesLine history line answer after
   pub given : List (List ℕ)
-  pub each : AnswersEach (MovesLine nodes) after rest given next
+  pub each : AnswersEach MovesLine after rest given next
 
-behind : (nodes : List (List ℕ)) (history : History) (idle : List (List ℕ)) (line : List ℕ) (rest given : List (List ℕ)) (next : History) → AllByRecursion IsIdle idle
-    → AnswersEach (MovesLine nodes) history (idle ++ line ∷ rest) given next → Behind nodes history line rest next
-behind nodes history [] line rest [] next quiet each = absurd each
-behind nodes history [] line rest (answer ∷ given) next quiet each = record { answer = answer; after = each.0; moved = each.1; given = given; each = each.2 }
-behind nodes history (first ∷ idle) line rest [] next quiet each = absurd each
-behind nodes history (first ∷ idle) line rest (answer ∷ given) next quiet each =
-    subst (λ (h : History). Behind nodes h line rest next) (nothing-history nodes (line_request first) history answer each.0 quiet.0 each.1) (behind nodes each.0 idle line rest given next quiet.1 each.2)
+behind : (history : History) (idle : List (List ℕ)) (line : List ℕ) (rest given : List (List ℕ)) (next : History) → AllByRecursion IsIdle idle
+    → AnswersEach MovesLine history (idle ++ line ∷ rest) given next → Behind history line rest next
+behind history [] line rest [] next quiet each = absurd each
+behind history [] line rest (answer ∷ given) next quiet each = record { answer = answer; after = each.0; moved = each.1; given = given; each = each.2 }
+behind history (first ∷ idle) line rest [] next quiet each = absurd each
+behind history (first ∷ idle) line rest (answer ∷ given) next quiet each =
+    subst (λ (h : History). Behind h line rest next) (nothing-history (line_request first) history answer each.0 quiet.0 each.1) (behind each.0 idle line rest given next quiet.1 each.2)
 
 -- event after event
-run-history : (config : Config) (world : World) (others : List Event) (lines given : List (List ℕ)) (next : History) → Brings config world others lines
-    → AnswersEach (MovesLine (map node_id config.nodes)) world.history lines given next → (after_from config world others).world.history ≡ next
-run-history config world [] lines given next brings each = sym (idle-history (map node_id config.nodes) world.history lines given next brings each)
-run-history config world (event ∷ others) lines given next (inl brings) each =
-    run-history config (occurs config world event).world others lines given next brings.1
-    (subst (λ (h : History). AnswersEach (MovesLine (map node_id config.nodes)) h lines given next) (sym (elsewhere-history config world event brings.0)) each)
-run-history config world (event ∷ others) lines given next (inr brings) each =
+run-history : (world : World) (others : List Event) (lines given : List (List ℕ)) (next : History) → Brings world others lines
+    → AnswersEach MovesLine world.history lines given next → (after_from world others).world.history ≡ next
+run-history world [] lines given next brings each = sym (idle-history world.history lines given next brings each)
+run-history world (event ∷ others) lines given next (inl brings) each =
+    run-history (occurs world event).world others lines given next brings.1
+    (subst (λ (h : History). AnswersEach MovesLine h lines given next) (sym (elsewhere-history world event brings.0)) each)
+run-history world (event ∷ others) lines given next (inr brings) each =
     let comes = brings.0 in
-    let nodes = map node_id config.nodes in
-    let on = behind nodes world.history comes.idle comes.line comes.rest given next comes.quiet (subst (λ (ls : List (List ℕ)). AnswersEach (MovesLine nodes) world.history ls given next) comes.are each) in
-    let moved = asked-history config world (line_request comes.line) event on.answer on.after comes.comes on.moved in
-    run-history config (occurs config world event).world others comes.rest on.given next brings.1 (subst (λ (h : History). AnswersEach (MovesLine nodes) h comes.rest on.given next) (sym moved) on.each)
+    let on = behind world.history comes.idle comes.line comes.rest given next comes.quiet (subst (λ (ls : List (List ℕ)). AnswersEach MovesLine world.history ls given next) comes.are each) in
+    let moved = asked-history world (line_request comes.line) event on.answer on.after comes.comes on.moved in
+    run-history (occurs world event).world others comes.rest on.given next brings.1 (subst (λ (h : History). AnswersEach MovesLine h comes.rest on.given next) (sym moved) on.each)
 
 -- and where it restarts
 pub world-goes : WorldsLaw
 world-goes = record {
   lines = run-history;
-  restart = λ config world next is. orchestrated-history {A = Unit {0}} (λ done. Restarted) config world Restarts (Ok tt) next is;
+  restart = λ world nodes next is. orchestrated-history {A = Unit {0}} (λ done. Restarted) world (Restarts nodes) (Ok tt) next is;
 }

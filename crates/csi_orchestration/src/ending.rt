@@ -25,8 +25,9 @@ pub(crate) fn ending_unopened(why: OrchestratorUnopened) -> Ending
 {
     match why {
         OrchestratorUnopened::Keep(fault) => ending_of_store(fault),
-        OrchestratorUnopened::BadNodes | OrchestratorUnopened::OtherNodes => Ending::ConfigRefused,
+        OrchestratorUnopened::BadNodes => Ending::ConfigRefused,
         OrchestratorUnopened::NumbersSpent => Ending::NumbersSpent,
+        OrchestratorUnopened::NodeInUse => Ending::NodeInUse,
     }
 }
 

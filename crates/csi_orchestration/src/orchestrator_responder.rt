@@ -1,12 +1,12 @@
-//! An orchestrator that answers lines: each is a command, a timeout, or a frame that came.
+//! An orchestrator that answers lines: each is a command, a timeout, a frame that came, or a node that is lost.
 ghost use Rattle.std.specs.Prelude.{◌≡◌, IfOk};
 
 use crate::lines_runs::StoredResponder;
 use crate::responder::Responder;
-use crate::telling::{command_line, heard_line};
+use crate::telling::{command_line, heard_line, loss_told};
 use csi_frames::{FaultKind, decode};
 use csi_json::{Request, RequestFault, read_request};
-use csi_orchestrator::OrchestratorRecord;
+use csi_orchestrator::{OrchestratorRecord, restart_law};
 use csi_reports::fault_line;
 use csi_service::OrchestratorService;
 use csi_stores::Part;
@@ -33,7 +33,7 @@ pub struct OrchestratorResponder {
 impl OrchestratorResponder {
     ghost use Rattle.std.specs.Prelude.{◌≡◌, IfOk, string_bytes, false};
     ghost use Rattle.csi_orchestrator.specs.Model.Moves.{ToCreate, ToUse, ToStop, ToDelete, TimesOut};
-    ghost use Rattle.csi_orchestration.specs.Public.OrchestratorLines.{AnswersCommand, AnswersFrame, AnswersFault, AnswersEvent, AnswersReply, AnswersLine};
+    ghost use Rattle.csi_orchestration.specs.Public.OrchestratorLines.{AnswersCommand, AnswersFrame, AnswersLoss, AnswersFault, AnswersEvent, AnswersReply, AnswersLine};
     ghost use Rattle.csi_orchestration.specs.Private.OrchestratorResponding.{IsTold};
 
     /// One that answered no line.
@@ -154,8 +154,13 @@ impl OrchestratorResponder {
             Event::Timeout(name) => self.timeout(&name),
             Event::Deliver(_) => self.refuse(RequestFault::BadLine),
             Event::RestartOrchestrator => self.refuse(RequestFault::BadLine),
+            Event::RestartOrchestratorWith(_) => self.refuse(RequestFault::BadLine),
             Event::RestartController => self.refuse(RequestFault::BadLine),
+            Event::RestartControllerWith(_) => self.refuse(RequestFault::BadLine),
             Event::RestartNode(_) => self.refuse(RequestFault::BadLine),
+            Event::Join(_) => self.refuse(RequestFault::BadLine),
+            Event::Settle(_) => self.refuse(RequestFault::BadLine),
+            Event::Lose(node) => self.lose(&node),
         }
     }
 
@@ -184,6 +189,15 @@ impl OrchestratorResponder {
                 _ => self.refuse(RequestFault::BadFrame),
             },
         }
+    }
+
+    fn lose(&mut self, node: &NodeId) -> Result<String, NoMemory>
+        ensures { IfOk result (λ text. IsTold (AnswersLoss node.now) self.old (string_bytes text) self.new) }
+    {
+        self.has_asked = true;
+        let told = self.service.lose(node);
+        let session = self.service.orchestrator().session();
+        loss_told(self.alloc, node, told, session)
     }
 
     // The answer to a line.
@@ -222,6 +236,7 @@ impl Responder for OrchestratorResponder {
     fn answer_into(&mut self, line: &[u8], out: &mut Vec<u8>) -> Result<(), NoMemory> {
         let mut text = self.answer(line)?;
         self.service.record_law();
+        restart_law(self.service.orchestrator());
         text.push_str("\n")?;
         out.extend_from_slice(text.as_bytes())?;
         Ok(())

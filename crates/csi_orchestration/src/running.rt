@@ -11,7 +11,7 @@ use crate::lines_runs::lines_runs_law;
 use crate::lines_serving::serve_lines;
 use crate::orchestrator_responder::OrchestratorResponder;
 use csi_endings::Ending;
-use csi_orchestrator::{Orchestrator, form_law, records_law};
+use csi_orchestrator::{Orchestrator, form_law, records_law, restart_law};
 use csi_reports::opened_line;
 use csi_service::OrchestratorService;
 use csi_stores::{Counted, Keep, write_out};
@@ -88,6 +88,7 @@ pub fn orchestrator<K: Keep, R: Read, W: Write>(
     match OrchestratorService::open(alloc, nodes, keep) {
         Ok(service) => {
             service.record_law();
+            restart_law(service.orchestrator());
             let responder = OrchestratorResponder::new(alloc, service);
             served(alloc, responder, keep, reader, writer)
         }

@@ -5,12 +5,12 @@ ghost use Rattle.csi_orchestrator.specs.Model.Shown.{goal_in};
 ghost use Rattle.csi_orchestrator.specs.Public.Changed.{place_by_name};
 ghost use Rattle.csi_orchestrator.specs.Public.Shown.{row_shown};
 ghost use Rattle.csi_reports.specs.Public.Responses.{goal_now, answer_entry};
-ghost use Rattle.csi_orchestration.specs.Public.OrchestratorLines.{row_at, with_bytes, command_entry, reply_entry, heard_entry};
+ghost use Rattle.csi_orchestration.specs.Public.OrchestratorLines.{row_at, with_bytes, command_entry, reply_entry, heard_entry, lost_entry};
 
 use csi_frames::encode;
 use csi_orchestrator::{Heard, OrchFault, Orchestrator, Row};
-use csi_reports::{RequestOutcome, Sending, answer_line, ignored_line};
-use csi_types::{Frame, Name, NoMemory};
+use csi_reports::{RequestOutcome, Sending, answer_line, ignored_line, loss_line};
+use csi_types::{Frame, Name, NoMemory, NodeId};
 use std::alloc::Global;
 
 // The line about the volume of a name, with a call that is to be sent.
@@ -133,5 +133,20 @@ pub(crate) fn heard_line(
             None => no_row_line(alloc, heard),
         },
         None => no_row_line(alloc, heard),
+    }
+}
+
+/// The line of a node that was to be taken as lost, in this session then. Want of memory has none, and is no answer to a loss.
+pub(crate) fn loss_told(
+    alloc: Global,
+    node: &NodeId,
+    told: Result<(), OrchFault>,
+    session: u64,
+) -> Result<String, NoMemory>
+    ensures { IfOk result (λ text. string_bytes text ≡ compact_text (lost_entry node.now told session)) }
+{
+    match told {
+        Ok(()) => Ok(loss_line(alloc, node, RequestOutcome::Lost, session)?),
+        Err(fault) => Ok(loss_line(alloc, node, RequestOutcome::Refused(fault), session)?),
     }
 }

@@ -1,8 +1,10 @@
--- What each input adds to a history: at most three items that leave it well-formed, each reply among them came, and the answer has
--- the frame of the call that is sent, if one is.
-use Rattle.std.proofs.Common.{◌≡◌, ◌+◌, ◌^◌, ◌≤◌, ℕ, List, [], ◌∷◌, length, map, Bool, true, false, cond, refl, sym, ◌∙◌, ap, subst, arith}
-use Rattle.std.specs.Prelude.{suc, Option, Some, None, nat_lt, is_none, ◌==◌, ◌&&◌, Result, Ok, Err, option_and_then}
-use Rattle.std.proofs.lemmas.Bool.{eq-eqb, lt-ltb, le-ltb}
+-- What each input adds to a history: few items that leave it well-formed, each reply among them came, and the answer has the
+-- frame of the call that is sent, if one is.
+use Rattle.std.proofs.Common.{◌≡◌, ◌+◌, ◌^◌, ◌≤◌, ℕ, List, [], ◌∷◌, ◌++◌, append_assoc, length, map, Bool, true, false, cond, refl, sym, ◌∙◌, ap, subst, arith}
+use Rattle.std.specs.List.{AllByRecursion, cons_option}
+use Rattle.std.specs.Prelude.{suc, Option, Some, None, filter, filter_map, nat_lt, is_none, ◌==◌, ◌&&◌, Result, Ok, Err, option_and_then}
+use Rattle.std.proofs.lemmas.Bool.{eq-eqb, lt-ltb, le-ltb, and_parts, false≢true}
+use Rattle.std.proofs.lemmas.List.{length-append}
 use Rattle.csi_types.specs.declared.call.Call.{Call}
 use Rattle.csi_types.specs.declared.call.Call.TheVariants as calls
 use Rattle.csi_types.specs.declared.call.Kind.{Kind}
@@ -16,22 +18,28 @@ use Rattle.csi_types.specs.Model.Frame.{Frame}
 use Rattle.csi_types.specs.Model.Number.{IsBefore}
 use Rattle.csi_types.specs.Model.Reply.{is_ok_status}
 use Rattle.csi_types.specs.Model.Replies.{reply_frame}
-use Rattle.csi_types.specs.Model.Same.{same_number, same_party, same_kind}
+use Rattle.csi_types.specs.Model.Same.{same_text, same_number, same_party, same_kind}
+use Rattle.csi_types.proofs.Equality.{same_text-tells}
+use Rattle.csi_lists.proofs.Filters.{each-passes}
 use Rattle.csi_lists.proofs.Members.{among-find}
 use Rattle.csi_lists.proofs.Searches.{find-passes}
 use Rattle.csi_orchestrator.specs.declared.fault.OrchFault.{OrchFault}
-use Rattle.csi_orchestrator.specs.declared.fault.OrchFault.TheVariants.{NumbersSpent}
+use Rattle.csi_orchestrator.specs.declared.thing.Known.{Known}
+use Rattle.csi_orchestrator.specs.declared.thing.Known.TheVariants.{Yes, No, Maybe}
+use Rattle.csi_orchestrator.specs.declared.thing.Thing.{Thing}
 use Rattle.csi_orchestrator.specs.declared.thing.Thing.TheVariants.{Exists}
 use Rattle.csi_orchestrator.specs.Model.Thing.{Issued, is_no}
-use Rattle.csi_orchestrator.specs.Model.History.{Usage, Goal, Create, Use, Stop, Delete, Item, Started, Sent, Accepted, Closed, Noted, History, with_items}
-use Rattle.csi_orchestrator.specs.Model.Readings.{known, id_of, goal_of, open_call, tries, last_number, issued_in}
-use Rattle.csi_orchestrator.specs.Model.WellFormed.{IsOfName, IsNextNumber, IsWellFormed}
-use Rattle.csi_orchestrator.specs.Model.Commands.{next_number, create_fault, use_fault, use_room_fault, stop_fault, delete_fault, delete_busy_fault, timeout_fault}
+use Rattle.csi_orchestrator.specs.Model.History.{Usage, Goal, Create, Use, Stop, Delete, Item, Started, Lost, Forgotten, Sent, Accepted, Closed, Noted, History, with_items}
+use Rattle.csi_orchestrator.specs.Model.Readings.{newest, noted_for, known, id_of, goal_of, open_call, names_of, tries, last_number, nodes_of, issued_in}
+use Rattle.csi_orchestrator.specs.Model.WellFormed.{IsOfName, IsNextNumber, IsUnused, AreWellFormed, IsWellFormed}
+use Rattle.csi_orchestrator.specs.Model.Commands.{next_number, create_fault, use_fault, use_room_fault, stop_fault, delete_fault, delete_busy_fault, timeout_fault, restart_fault, loss_fault}
 use Rattle.csi_orchestrator.specs.Model.Due.{Due, call_for, due_kind, due_for, due_call}
-use Rattle.csi_orchestrator.specs.Model.Moves.{Input, ToCreate, ToUse, ToStop, ToDelete, TimesOut, Comes, Restarts, Answer, Sends, Moved, met_already, sent_as, send_due, command, use_when, delete_when, undoing_goal, closing, is_forward_due, timeout, is_number_open, call_replied, hears, heard, heard_refusal, deliver, restart, moves}
+use Rattle.csi_orchestrator.specs.Model.Moves.{Input, ToCreate, ToUse, ToStop, ToDelete, TimesOut, Comes, Restarts, Loses, Answer, Restarted, GivenUp, Sends, Moved, met_already, sent_as, send_due, command, use_when, delete_when, undoing_goal, closing, is_forward_due, timeout, is_number_open, call_replied, hears, heard, heard_refusal, deliver, is_forgotten, forgetting, stopping, stopping_all, restart, without_node, lose, moves}
 use Rattle.csi_orchestrator.specs.Public.Moves.{moved_to}
-use Rattle.csi_orchestrator.specs.Public.Steps.{IsReplyTo, frame_of, frame_if_sent, frames_in}
+use Rattle.csi_orchestrator.specs.Public.Steps.{IsReplyTo, most_items, frame_of, frame_if_sent, frames_in}
+use Rattle.csi_orchestrator.proofs.BegunItems.{AreAside, forgetting-aside, stopping-aside, loss-aside, issued-aside, form-aside, few-forgotten, few-begun}
 use Rattle.csi_orchestrator.proofs.RepliedRows.{own-open}
+use Rattle.csi_orchestrator.proofs.ViewsFollow.{latest, known-quiet}
 
 -- what is so of both is so of either
 either : {X : Type 0} (P : X → Type 0) (b : Bool) (x y : X) → P x → P y → P (cond b x y)
@@ -84,16 +92,31 @@ is_next last = either (IsNextIfSome last) (nat_lt (last.call + 1) (2 ^ 64)) (Som
 abbrev pub TakesReplies : History → Input → List Item → Type 0
 TakesReplies history input [] = Unit {0}
 TakesReplies history input (Accepted number status id ∷ older) = IsReplyTo (with_items history older) input number status id × TakesReplies history input older
-TakesReplies history input (Started session ∷ older) = TakesReplies history input older
+TakesReplies history input (Started session nodes ∷ older) = TakesReplies history input older
+TakesReplies history input (Lost node ∷ older) = TakesReplies history input older
+TakesReplies history input (Forgotten name ∷ older) = TakesReplies history input older
 TakesReplies history input (Sent issued ∷ older) = TakesReplies history input older
 TakesReplies history input (Closed number ∷ older) = TakesReplies history input older
 TakesReplies history input (Noted name goal ∷ older) = TakesReplies history input older
+
+-- the name's volume isn't there, and nothing is wanted of it
+pub record IsGone (history : History) (name : List ℕ) : Type 0 where
+  pub gone : known history (Exists name) ≡ No
+  pub unwanted : goal_of history name ≡ None
+
+-- a node is lost where its loss came, and a name is forgotten whose volume isn't there and of which nothing is wanted
+abbrev pub ArePassing : History → Input → List Item → Type 0
+ArePassing history input [] = Unit {0}
+ArePassing history input (Lost node ∷ older) = (input ≡ Loses node) × ArePassing history input older
+ArePassing history input (Forgotten name ∷ older) = IsGone (with_items history older) name × ArePassing history input older
+ArePassing history input (item ∷ older) = ArePassing history input older
 
 -- what is so of the items of an answer, and of a result: a refusal adds nothing
 pub record Adds (history : History) (input : Input) (moved : Moved) : Type 0 where
   pub form : IsWellFormed (with_items history moved.items)
   pub replies : TakesReplies history input moved.items
-  pub few : length moved.items ≤ 3
+  pub passing : ArePassing history input moved.items
+  pub few : length moved.items ≤ most_items history input
   pub frames : map frame_of (issued_in moved.items) ≡ frames_in moved.answer
 
 -- so it is of a result, where a refusal adds nothing
@@ -105,24 +128,27 @@ AreAdded history input (Err fault) = Unit {0}
 record AreQuiet (history : History) (input : Input) (items : List Item) : Type 0 where
   form : IsWellFormed (with_items history items)
   replies : TakesReplies history input items
+  passing : ArePassing history input items
   few : length items ≤ 2
   silent : issued_in items ≡ []
   same_last : last_number (with_items history items) ≡ last_number history
+  plain : most_items history input ≡ 3
 
 -- none, and a goal that is noted after one
-no-items : (history : History) (input : Input) → IsWellFormed history → AreQuiet history input []
-no-items history input form = record { form = form; replies = tt; few = omega arith; silent = refl; same_last = refl }
+no-items : (history : History) (input : Input) → IsWellFormed history → most_items history input ≡ 3 → AreQuiet history input []
+no-items history input form plain = record { form = form; replies = tt; passing = tt; few = omega arith; silent = refl; same_last = refl; plain = plain }
 
 -- a goal may be noted after at most one such item
 noted-after : (history : History) (input : Input) (name : List ℕ) (goal : Option Goal) (items : List Item) → AreQuiet history input items → length items ≤ 1 → AreQuiet history input (Noted name goal ∷ items)
 noted-after history input name goal items quiet short =
-    record { form = (tt, quiet.form); replies = quiet.replies; few = omega (arith, short); silent = quiet.silent; same_last = quiet.same_last }
+    record { form = (tt, quiet.form); replies = quiet.replies; passing = quiet.passing; few = omega (arith, short); silent = quiet.silent; same_last = quiet.same_last; plain = quiet.plain }
 
 -- nothing is sent after them
 rests : (history : History) (input : Input) (answer : Answer) (items : List Item) → frames_in answer ≡ [] → AreQuiet history input items → AreAdded history input (Ok (record { answer = answer; items = items }))
 rests history input answer items says quiet =
     let few = quiet.few in
-    record { form = quiet.form; replies = quiet.replies; few = omega (arith, few); frames = ap (map frame_of) quiet.silent ∙ sym says }
+    let plain = quiet.plain in
+    record { form = quiet.form; replies = quiet.replies; passing = quiet.passing; few = omega (arith, few, plain); frames = ap (map frame_of) quiet.silent ∙ sym says }
 
 -- the due call is sent, or the goal dropped
 sends-due : (history : History) (input : Input) (name : List ℕ) (answer : Option Frame → Answer) (items : List Item) → ((o : Option Frame) → frames_in (answer o) ≡ frame_if_sent o) → AreQuiet history input items
@@ -131,63 +157,64 @@ sends-due history input name answer items says quiet =
     by (due_call (with_items history items) name) (next_number (last_number history)) (named_for (with_items history items) name (goal_of (with_items history items) name))
     (subst (λ last. IsNextIfSome last (next_number (last_number history))) (sym quiet.same_last) (is_next (last_number history)))
   where
-    longer : (n : ℕ) → n ≤ 2 → suc n ≤ 3
-    longer n h = omega arith
+    longer : (n most : ℕ) → n ≤ 2 → most ≡ 3 → suc n ≤ most
+    longer n most h plain = omega arith
 
     by : (d : Option Due) (n : Option Number) → IsNamed name d → IsNextIfSome (last_number (with_items history items)) n → AreAdded history input (sent_as name answer items d n)
     by None n named next =
-        record { form = (tt, quiet.form); replies = quiet.replies; few = longer (length items) quiet.few; frames = ap (map frame_of) quiet.silent ∙ sym (says None) }
+        record { form = (tt, quiet.form); replies = quiet.replies; passing = quiet.passing; few = longer (length items) (most_items history input) quiet.few quiet.plain; frames = ap (map frame_of) quiet.silent ∙ sym (says None) }
     by (Some due) None named next = tt
     by (Some due) (Some number) named next =
         record {
           form = ((next, named), quiet.form);
           replies = quiet.replies;
-          few = longer (length items) quiet.few;
+          passing = quiet.passing;
+          few = longer (length items) (most_items history input) quiet.few quiet.plain;
           frames = ap (λ rest. frame_of (let i : Issued = record { name = name; number = number; party = due.party; call = due.call } in i) ∷ map frame_of rest) quiet.silent ∙ sym (says (Some _));
         }
 
 -- a command in general, a use and a delete
-commanded : (history : History) (input : Input) (name : List ℕ) (goal : Goal) (fault : Option OrchFault) → IsWellFormed history → AreAdded history input (command history name goal fault)
-commanded history input name goal (Some fault) form = tt
-commanded history input name goal None form = sends-due history input name Sends _ (λ o. refl) (noted-after history input name (Some goal) [] (no-items history input form) (omega arith))
+commanded : (history : History) (input : Input) (name : List ℕ) (goal : Goal) (fault : Option OrchFault) → IsWellFormed history → most_items history input ≡ 3 → AreAdded history input (command history name goal fault)
+commanded history input name goal (Some fault) form plain = tt
+commanded history input name goal None form plain = sends-due history input name Sends _ (λ o. refl) (noted-after history input name (Some goal) [] (no-items history input form plain) (omega arith))
 
 -- what a use adds is as it has to be
-used : (history : History) (input : Input) (name : List ℕ) (usage : Usage) (fault : Option OrchFault) → IsWellFormed history → AreAdded history input (use_when history name usage fault)
-used history input name usage (Some fault) form = tt
-used history input name usage None form =
-    either (AreAdded history input) (is_none (due_for history name (Some (Use usage)))) (Ok met_already) _ (rests history input _ [] refl (no-items history input form)) (commanded history input name (Use usage) (use_room_fault history name usage) form)
+used : (history : History) (input : Input) (name : List ℕ) (usage : Usage) (fault : Option OrchFault) → IsWellFormed history → most_items history input ≡ 3 → AreAdded history input (use_when history name usage fault)
+used history input name usage (Some fault) form plain = tt
+used history input name usage None form plain =
+    either (AreAdded history input) (is_none (due_for history name (Some (Use usage)))) (Ok met_already) _ (rests history input _ [] refl (no-items history input form plain)) (commanded history input name (Use usage) (use_room_fault history name usage) form plain)
 
 -- what a delete adds is as it has to be
-deleted : (history : History) (input : Input) (name : List ℕ) (fault : Option OrchFault) → IsWellFormed history → AreAdded history input (delete_when history name fault)
-deleted history input name (Some fault) form = tt
-deleted history input name None form =
-    either (AreAdded history input) (is_no (known history (Exists name))) (Ok met_already) _ (rests history input _ [] refl (no-items history input form)) (commanded history input name Delete (delete_busy_fault history name) form)
+deleted : (history : History) (input : Input) (name : List ℕ) (fault : Option OrchFault) → IsWellFormed history → most_items history input ≡ 3 → AreAdded history input (delete_when history name fault)
+deleted history input name (Some fault) form plain = tt
+deleted history input name None form plain =
+    either (AreAdded history input) (is_no (known history (Exists name))) (Ok met_already) _ (rests history input _ [] refl (no-items history input form plain)) (commanded history input name Delete (delete_busy_fault history name) form plain)
 
 -- the open call, if there is one, is given up
-given-up : (history : History) (input : Input) (name : List ℕ) (o : Option Issued) → open_call history name ≡ o → IsWellFormed history → AreQuiet history input (closing o) × (length (closing o) ≤ 1)
-given-up history input name None is form = (no-items history input form, omega arith)
-given-up history input name (Some issued) is form =
-    (record { form = (record { name = name; issued = issued; is_open = is; has_number = refl }, form); replies = tt; few = omega arith; silent = refl; same_last = refl }, omega arith)
+given-up : (history : History) (input : Input) (name : List ℕ) (o : Option Issued) → open_call history name ≡ o → IsWellFormed history → most_items history input ≡ 3 → AreQuiet history input (closing o) × (length (closing o) ≤ 1)
+given-up history input name None is form plain = (no-items history input form plain, omega arith)
+given-up history input name (Some issued) is form plain =
+    (record { form = (record { name = name; issued = issued; is_open = is; has_number = refl }, form); replies = tt; passing = tt; few = omega arith; silent = refl; same_last = refl; plain = plain }, omega arith)
 
 -- a timeout
-timed-out : (history : History) (input : Input) (name : List ℕ) (fault : Option OrchFault) → IsWellFormed history → AreAdded history input (timeout history name fault)
-timed-out history input name (Some fault) form = tt
-timed-out history input name None form =
-    let closed = given-up history input name (open_call history name) refl form in
+timed-out : (history : History) (input : Input) (name : List ℕ) (fault : Option OrchFault) → IsWellFormed history → most_items history input ≡ 3 → AreAdded history input (timeout history name fault)
+timed-out history input name (Some fault) form plain = tt
+timed-out history input name None form plain =
+    let closed = given-up history input name (open_call history name) refl form plain in
     either (AreAdded history input) (is_forward_due (due_call history name) && (tries history name == 3)) _ _ (sends-due history input name Sends _ (λ o. refl) (noted-after history input name (undoing_goal (goal_of history name)) _ closed.0 closed.1))
     (sends-due history input name Sends _ (λ o. refl) closed.0)
 
 -- a reply that is taken
 taken : (history : History) (input : Input) (reply : Reply) (issued : Issued) → IsWellFormed history → open_call history issued.name ≡ Some issued → IsReplyTo history input issued.number reply.status reply.id
-    → AreAdded history input (heard history reply (Some issued))
-taken history input reply issued form now is =
+    → most_items history input ≡ 3 → AreAdded history input (heard history reply (Some issued))
+taken history input reply issued form now is plain =
     either (AreAdded history input) (is_ok_status reply.status) _ _ (sends-due history input issued.name hears (item ∷ []) (λ o. refl) quiet) (refused issued.call)
   where
     item : Item
     item = Accepted issued.number reply.status reply.id
 
     quiet : AreQuiet history input (Accepted issued.number reply.status reply.id ∷ [])
-    quiet = record { form = (record { name = issued.name; issued = issued; is_open = now; has_number = refl }, form); replies = (is, tt); few = omega arith; silent = refl; same_last = refl }
+    quiet = record { form = (record { name = issued.name; issued = issued; is_open = now; has_number = refl }, form); replies = (is, tt); passing = tt; few = omega arith; silent = refl; same_last = refl; plain = plain }
 
     noted : (goal : Option Goal) → AreQuiet history input (Noted issued.name goal ∷ Accepted issued.number reply.status reply.id ∷ [])
     noted goal = noted-after history input issued.name goal _ quiet (omega arith)
@@ -207,7 +234,7 @@ frame-is frame issued kind reply number party same body = λ i. record { number 
 -- a reply, whether it is to an open call or not
 replied : (history : History) (frame : Frame) (kind : Kind) (reply : Reply) → IsWellFormed history → frame.body ≡ bodies.Reply kind reply → (found : Option Issued)
     → call_replied history frame.number frame.party kind ≡ found → AreAdded history (Comes frame) (heard history reply found)
-replied history frame kind reply form body None e = rests history (Comes frame) _ [] refl (no-items history (Comes frame) form)
+replied history frame kind reply form body None e = rests history (Comes frame) _ [] refl (no-items history (Comes frame) form refl)
 replied history frame kind reply form body (Some issued) e =
     let own = own-open history frame.number frame.party kind issued form (among-find test (issued_in history.items) issued e) (find-passes test (issued_in history.items) issued e) in
     let such = own.1 in
@@ -219,30 +246,174 @@ replied history frame kind reply form body (Some issued) e =
       same_status = refl;
       same_id = refl;
       came = ap Comes (frame-is frame issued kind reply (sym such.has_number) (sym such.has_party) (sym such.has_kind) body);
-    })
+    }) refl
   where
     test : Issued → Bool
     test i = same_number i.number frame.number && same_party i.party frame.party && same_kind (kind_of i.call) kind && is_number_open frame.number (open_call history i.name)
 
 -- a frame that comes
 delivered : (history : History) (frame : Frame) → IsWellFormed history → (body : Body) → frame.body ≡ body → AreAdded history (Comes frame) (deliver history frame.number frame.party body)
-delivered history frame form (bodies.Call call) e = rests history (Comes frame) _ [] refl (no-items history (Comes frame) form)
+delivered history frame form (bodies.Call call) e = rests history (Comes frame) _ [] refl (no-items history (Comes frame) form refl)
 delivered history frame form (bodies.Reply kind reply) e = replied history frame kind reply form e (call_replied history frame.number frame.party kind) refl
 
+-- no reply is among them
+replies-aside : (history : History) (input : Input) (later older : List Item) → AreAside later → TakesReplies history input older → TakesReplies history input (later ++ older)
+replies-aside history input [] older aside replies = replies
+replies-aside history input (Noted name goal ∷ later) older aside replies = replies-aside history input later older aside.1 replies
+replies-aside history input (Forgotten name ∷ later) older aside replies = replies-aside history input later older aside.1 replies
+replies-aside history input (item ∷ later) older aside replies = absurd aside.0
+
+-- names that are forgotten, where their volumes aren't there and nothing is wanted of them still
+forgets-pass : (history : History) (input : Input) (first : List Item) → ((name : List ℕ) → IsGone history name → IsGone (with_items history first) name) → ArePassing history input first
+    → (names : List (List ℕ)) → AllByRecursion (λ name. is_forgotten history name ≡ true) names → ArePassing history input (map Forgotten names ++ first)
+forgets-pass history input first stays passing [] all = passing
+forgets-pass history input first stays passing (name ∷ names) all = (after names (stays name (is-gone all.0)), forgets-pass history input first stays passing names all.1)
+  where
+    is-gone : is_forgotten history name ≡ true → IsGone history name
+    is-gone e =
+        let both = and_parts (is_no (known history (Exists name))) (is_none (goal_of history name)) e in
+        record { gone = no-is (known history (Exists name)) both.0; unwanted = none-is (goal_of history name) both.1 }
+      where
+        no-is : (k : Known) → is_no k ≡ true → k ≡ No
+        no-is No h = refl
+        no-is Yes h = absurd (false≢true h)
+        no-is Maybe h = absurd (false≢true h)
+
+        none-is : (g : Option Goal) → is_none g ≡ true → g ≡ None
+        none-is None h = refl
+        none-is (Some goal) h = absurd (false≢true h)
+
+    after : (names : List (List ℕ)) → IsGone (with_items history first) name → IsGone (with_items history (map Forgotten names ++ first)) name
+    after [] gone = gone
+    after (other ∷ others) gone =
+        let rest = after others gone in
+        let before = with_items history (map Forgotten others ++ first) in
+        record { gone = known-quiet (Forgotten other) before.items (Exists name) (latest before (Exists name)) (λ number. refl) ∙ rest.gone; unwanted = rest.unwanted }
+
+-- uses that are stopped
+passing-aside : (history : History) (input : Input) (goals : List ℕ → Option Goal) (node : List ℕ) (first : List Item) → ArePassing history input first → (names : List (List ℕ))
+    → ArePassing history input (filter_map (λ name. stopping node name (goals name)) names ++ first)
+passing-aside history input goals node first passing [] = passing
+passing-aside history input goals node first passing (name ∷ names) = by (goals name) (passing-aside history input goals node first passing names)
+  where
+    by : (goal : Option Goal) → ArePassing history input (filter_map (λ n. stopping node n (goals n)) names ++ first)
+        → ArePassing history input (cons_option (stopping node name goal) (filter_map (λ n. stopping node n (goals n)) names) ++ first)
+    by None rest = rest
+    by (Some (Create arguments)) rest = rest
+    by (Some (Use usage)) rest = at (same_text usage.node node)
+      where
+        at : (b : Bool) → ArePassing history input (cons_option (cond b (Some (Noted name (Some (Stop usage.node usage.target)))) None) (filter_map (λ n. stopping node n (goals n)) names) ++ first)
+        at true = rest
+        at false = rest
+    by (Some (Stop there target)) rest = rest
+    by (Some Delete) rest = rest
+
+-- of a name of which nothing is wanted they note nothing
+stops-silent : (node name : List ℕ) (goals : List ℕ → Option Goal) → goals name ≡ None → (names : List (List ℕ)) (rest : List Item)
+    → filter_map (noted_for name) (filter_map (λ n. stopping node n (goals n)) names ++ rest) ≡ filter_map (noted_for name) rest
+stops-silent node name goals idle [] rest = refl
+stops-silent node name goals idle (other ∷ others) rest = by (same_text other name) refl (goals other) refl (stops-silent node name goals idle others rest)
+  where
+    more : List Item
+    more = filter_map (λ n. stopping node n (goals n)) others ++ rest
+
+    by : (b : Bool) → same_text other name ≡ b → (goal : Option Goal) → goals other ≡ goal
+        → filter_map (noted_for name) (filter_map (λ n. stopping node n (goals n)) others ++ rest) ≡ filter_map (noted_for name) rest
+        → filter_map (noted_for name) (cons_option (stopping node other goal) (filter_map (λ n. stopping node n (goals n)) others) ++ rest) ≡ filter_map (noted_for name) rest
+    by b e None f then = then
+    by true e (Some goal) f then = absurd (clash goal (sym (ap goals ((same_text-tells other name).0 e) ∙ idle) ∙ f))
+      where
+        clash : (goal : Goal) → None ≡ Some goal → ⊥
+        clash goal h = cc
+    by false e (Some (Create arguments)) f then = then
+    by false e (Some (Use usage)) f then = at (same_text usage.node node)
+      where
+        at : (t : Bool) → filter_map (noted_for name) (cons_option (cond t (Some (Noted other (Some (Stop usage.node usage.target)))) None) (filter_map (λ n. stopping node n (goals n)) others) ++ rest) ≡ filter_map (noted_for name) rest
+        at true = ap (λ b. cons_option (cond b (Some (Some (Stop usage.node usage.target))) None) (filter_map (noted_for name) (filter_map (λ n. stopping node n (goals n)) others ++ rest))) e ∙ then
+        at false = then
+    by false e (Some (Stop there target)) f then = then
+    by false e (Some Delete) f then = then
+
+-- what is known stays where names are forgotten and something is noted, and where a session starts
+known-aside : (history : History) (thing : Thing) (later : List Item) → AreAside later → known (with_items history later) thing ≡ known history thing
+known-aside history thing [] aside = refl
+known-aside history thing (Noted name goal ∷ later) aside =
+    let before = with_items history later in
+    known-quiet (Noted name goal) before.items thing (latest before thing) (λ number. refl) ∙ known-aside history thing later aside.1
+known-aside history thing (Forgotten name ∷ later) aside =
+    let before = with_items history later in
+    known-quiet (Forgotten name) before.items thing (latest before thing) (λ number. refl) ∙ known-aside history thing later aside.1
+known-aside history thing (item ∷ later) aside = absurd aside.0
+
+-- where a session starts
+quiet-started : (history : History) (session : ℕ) (nodes : List (List ℕ)) (thing : Thing) → known (with_items history (Started session nodes ∷ [])) thing ≡ known history thing
+quiet-started history session nodes thing = known-quiet (Started session nodes) history.items thing (latest history thing) (λ number. refl)
+
+-- that a volume is there isn't known otherwise where a node is lost
+quiet-lost : (history : History) (node name : List ℕ) → known (with_items history (Lost node ∷ [])) (Exists name) ≡ known history (Exists name)
+quiet-lost history node name = known-quiet (Lost node) history.items (Exists name) (latest history (Exists name)) (λ number. refl)
+
+-- where a session begins so, and names are forgotten and uses stopped
+begins : (history : History) (input : Input) (answer : Answer) (later first : List Item) → AreAside later → TakesReplies history input first → ArePassing history input (later ++ first) → issued_in first ≡ [] → frames_in answer ≡ []
+    → IsWellFormed (with_items history first) → IsUnused (last_number (with_items history first)) → length later + length first ≤ most_items history input
+    → AreAdded history input (Ok (record { answer = answer; items = later ++ first }))
+begins history input answer later first aside replies passing silent says form unused few =
+    let long = length-append later first in
+    record {
+      form = subst (AreWellFormed history.began) (sym (append_assoc later first history.items)) (form-aside history.began later (first ++ history.items) aside form unused);
+      replies = replies-aside history input later first aside replies;
+      passing = passing;
+      few = omega (arith, few, long);
+      frames = ap (map frame_of) (issued-aside later first aside ∙ silent) ∙ sym says;
+    }
+
 -- a restart
-restarted : (history : History) → IsWellFormed history → AreAdded history Restarts (restart (last_number history))
-restarted history form =
-    either (AreAdded history Restarts) (nat_lt ((last_number history).session + 1) (2 ^ 64)) _ (Err NumbersSpent) (record { form = (omega arith, form); replies = tt; few = omega arith; frames = refl }) tt
+restarted : (history : History) (nodes : List (List ℕ)) (fault : Option OrchFault) → IsWellFormed history → AreAdded history (Restarts nodes) (restart history nodes fault)
+restarted history nodes (Some fault) form = tt
+restarted history nodes None form =
+    let few = few-forgotten history in
+    begins history (Restarts nodes) Restarted (forgetting history) (Started ((last_number history).session + 1) nodes ∷ []) (forgetting-aside history) tt
+    (forgets-pass history (Restarts nodes) (Started ((last_number history).session + 1) nodes ∷ []) (λ name gone. record { gone = quiet-started history ((last_number history).session + 1) nodes (Exists name) ∙ gone.gone; unwanted = gone.unwanted }) tt (filter (is_forgotten history) (names_of history))
+    (each-passes (is_forgotten history) (names_of history)))
+    refl refl (omega arith, form) refl (omega (arith, few))
+
+-- a loss
+lost : (history : History) (node : List ℕ) (fault : Option OrchFault) → IsWellFormed history → AreAdded history (Loses node) (lose history node fault)
+lost history node (Some fault) form = tt
+lost history node None form =
+    let few = few-begun history node in
+    let both = length-append (forgetting history) (stopping_all history node) in
+    let first : List Item = Lost node ∷ Started ((last_number history).session + 1) (without_node node (nodes_of history)) ∷ [] in
+    begins history (Loses node) GivenUp (forgetting history ++ stopping_all history node) first (loss-aside history node) tt
+    (subst (ArePassing history (Loses node)) (sym (append_assoc (forgetting history) (stopping_all history node) first))
+    (forgets-pass history (Loses node) (stopping_all history node ++ first) (λ name gone. gone-then name gone)
+    (passing-aside history (Loses node) (goal_of history) node first (refl, tt) (names_of history)) (filter (is_forgotten history) (names_of history)) (each-passes (is_forgotten history) (names_of history))))
+    refl refl (refl, (omega arith, form)) refl (omega (arith, few, both))
+  where
+    started : List Item
+    started = Started ((last_number history).session + 1) (without_node node (nodes_of history)) ∷ []
+
+    gone-then : (name : List ℕ) → IsGone history name → IsGone (with_items history (stopping_all history node ++ Lost node ∷ Started ((last_number history).session + 1) (without_node node (nodes_of history)) ∷ [])) name
+    gone-then name gone =
+        let first : List Item = Lost node ∷ Started ((last_number history).session + 1) (without_node node (nodes_of history)) ∷ [] in
+        subst (λ items. IsGone (record history { items = items }) name) (sym (append_assoc (stopping_all history node) first history.items))
+        (record {
+          gone =
+              known-aside (with_items history first) (Exists name) (stopping_all history node) (stopping-aside history node) ∙ quiet-lost (with_items history started) node name
+              ∙ quiet-started history ((last_number history).session + 1) (without_node node (nodes_of history)) (Exists name) ∙ gone.gone;
+          unwanted = ap (λ xs. option_and_then (λ (g : Option Goal). g) (newest xs)) (stops-silent node name (goal_of history) gone.unwanted (names_of history) (first ++ history.items)) ∙ gone.unwanted;
+        })
 
 -- whatever comes
-pub moves-add : (nodes : List (List ℕ)) (history : History) (input : Input) → IsWellFormed history → AreAdded history input (moves nodes history input)
-moves-add nodes history (ToCreate name arguments) form = commanded history (ToCreate name arguments) name (Create arguments) (create_fault history name) form
-moves-add nodes history (ToUse name usage) form = used history (ToUse name usage) name usage (use_fault nodes history name usage) form
-moves-add nodes history (ToStop name node target) form = commanded history (ToStop name node target) name (Stop node target) (stop_fault nodes history name node target) form
-moves-add nodes history (ToDelete name) form = deleted history (ToDelete name) name (delete_fault history name) form
-moves-add nodes history (TimesOut name) form = timed-out history (TimesOut name) name (timeout_fault history name) form
-moves-add nodes history (Comes frame) form = delivered history frame form frame.body refl
-moves-add nodes history Restarts form = restarted history form
+pub moves-add : (history : History) (input : Input) → IsWellFormed history → AreAdded history input (moves history input)
+moves-add history (ToCreate name arguments) form = commanded history (ToCreate name arguments) name (Create arguments) (create_fault history name) form refl
+moves-add history (ToUse name usage) form = used history (ToUse name usage) name usage (use_fault history name usage) form refl
+moves-add history (ToStop name node target) form = commanded history (ToStop name node target) name (Stop node target) (stop_fault history name node target) form refl
+moves-add history (ToDelete name) form = deleted history (ToDelete name) name (delete_fault history name) form refl
+moves-add history (TimesOut name) form = timed-out history (TimesOut name) name (timeout_fault history name) form refl
+moves-add history (Comes frame) form = delivered history frame form frame.body refl
+moves-add history (Restarts nodes) form = restarted history nodes (restart_fault history nodes) form
+moves-add history (Loses node) form = lost history node (loss_fault history) form
 
 -- so the history stays well-formed
 pub stays-formed : (history : History) (input : Input) (result : Result Moved OrchFault) → IsWellFormed history → AreAdded history input result → IsWellFormed (moved_to history result)

@@ -20,7 +20,7 @@ use Rattle.csi_orchestrator.specs.declared.state.OrchestratorCore.{OrchestratorC
 use Rattle.csi_orchestrator.specs.declared.step.Step.{Step}
 use Rattle.csi_orchestrator.specs.declared.step.Step.TheVariants as steps
 use Rattle.csi_orchestrator.specs.Model.History.{Arguments}
-use Rattle.csi_orchestrator.specs.Model.Moves.{Input, ToCreate, ToUse, ToStop, ToDelete, TimesOut, Comes, Restarts, Answer, Sends, Hears, hears}
+use Rattle.csi_orchestrator.specs.Model.Moves.{Input, ToCreate, ToUse, ToStop, ToDelete, TimesOut, Comes, Restarts, Loses, Answer, Sends, Hears, hears}
 use Rattle.csi_orchestrator.specs.Model.Shown.{RowShown, OrchestratorParts, row_of, open_in_row}
 use Rattle.csi_orchestrator.specs.Public.Catalog.{rows_of, IsIndexed}
 use Rattle.csi_orchestrator.specs.Public.Changed.{place_by_name, is_numbered, place_by_call, AreChangedAt, ChangesRowOf, ChangesAsHeard}
@@ -123,7 +123,8 @@ name_asked (ToStop name node target) = Some name
 name_asked (ToDelete name) = Some name
 name_asked (TimesOut name) = Some name
 name_asked (Comes frame) = None
-name_asked Restarts = None
+name_asked (Restarts nodes) = None
+name_asked (Loses node) = None
 
 -- a step that is asked of a name
 asked-so : (parts : OrchestratorParts) (step : Step) (other name : List ℕ) → Some other ≡ Some name → ChangesSo name parts (steps_at parts Sends step (row_of parts.rows other))
@@ -139,7 +140,8 @@ moves-change parts (ToStop other node target) name is = asked-so parts (steps.St
 moves-change parts (ToDelete other) name is = asked-so parts steps.Delete other name is
 moves-change parts (TimesOut other) name is = asked-so parts steps.TimeOut other name is
 moves-change parts (Comes frame) name is = absurd (none-some name is)
-moves-change parts Restarts name is = absurd (none-some name is)
+moves-change parts (Restarts nodes) name is = absurd (none-some name is)
+moves-change parts (Loses node) name is = absurd (none-some name is)
 
 -- so it is with what a call is told by
 pub changed-promised : {R : Type 0} {old now new : OrchestratorParts} {input : Input} {says : R → Answer} {result : Result R OrchFault} (name : List ℕ) → old ≡ now → name_asked input ≡ Some name → IsMoveOf old new input says result

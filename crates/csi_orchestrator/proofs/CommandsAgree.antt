@@ -25,6 +25,7 @@ use Rattle.csi_orchestrator.specs.Public.RowDue.{due_by}
 use Rattle.csi_orchestrator.specs.Private.RowSteps.{MovedRow, row_sends_due, row_rests, row_unless, row_takes}
 use Rattle.csi_orchestrator.specs.Private.RowMoves.{all_rows_moved, steps_at, creates}
 use Rattle.csi_orchestrator.specs.Public.Sound.{IsSoundRow, AreSoundRows}
+use Rattle.csi_orchestrator.specs.Public.Steady.{AreSteadyRowsIf}
 use Rattle.csi_orchestrator.proofs.ViewsFollow.{noted-follows}
 use Rattle.csi_orchestrator.proofs.SendingAgrees.{Tells, sends-due-tells}
 use Rattle.csi_orchestrator.proofs.StepsSound.{MaySendDue, first-held, use-free, changed-may, new-may}
@@ -37,6 +38,7 @@ use Rattle.csi_orchestrator.proofs.RowViews.{Reads, same-self, same-noted, put-a
 pub record AreRight (parts : OrchestratorParts) (history : History) : Type 0 where
   pub form : IsWellFormed history
   pub kept : AreSoundRows parts.rows
+  pub steady : AreSteadyRowsIf (Unit {0}) parts.rows
   pub agrees : Shows parts history
 
 -- the row of a name among them
@@ -62,7 +64,7 @@ either-tells parts history answer false x y m n f g = g refl
 met-tells : (parts : OrchestratorParts) (history : History) (name : List ℕ) (row : RowShown) → IsFound parts history name row → Tells history (all_rows_moved parts Sends (row_rests row)) (Ok met_already)
 met-tells parts history name row at =
     let agrees = (at.right).agrees in
-    ((refl, put-agrees parts parts.last name row (orchestrator_view parts) history (own-reads parts history name row at) (λ other differs. same-self (orchestrator_view parts) other) refl agrees), tt)
+    ((refl, put-agrees parts parts.last name row (orchestrator_view parts) history (own-reads parts history name row at) (λ other differs. same-self (orchestrator_view parts) other) refl refl agrees), tt)
 
 -- unless it is refused, something is noted, and the due call is sent
 command-tells : (parts : OrchestratorParts) (history : History) (name : List ℕ) (goal : Goal) (fault : Option OrchFault) (result : Result MovedRow OrchFault)
@@ -81,6 +83,7 @@ noted-tells parts history name goal row right quiet reads may_send =
       agrees = noted-follows (orchestrator_view parts) history name (Some goal) right.agrees;
       reads = reads;
       others = λ other differs. same-noted name (Some goal) (orchestrator_view parts) other differs;
+      same_nodes = refl;
       same_last = refl;
       old_last = sym (right.agrees).same_last;
       quiet = quiet;
@@ -131,7 +134,7 @@ use-when-tells parts history name usage row at None none =
 
 -- the same, whether the name has a row or not
 pub uses-tell : (parts : OrchestratorParts) (history : History) (name : List ℕ) (usage : Usage) → AreRight parts history → (o : Option RowShown) → row_of parts.rows name ≡ o
-    → Tells history (steps_at parts Sends (steps.Use usage) o) (use_when history name usage (use_fault parts.nodes history name usage))
+    → Tells history (steps_at parts Sends (steps.Use usage) o) (use_when history name usage (use_fault history name usage))
 uses-tell parts history name usage right None e =
     subst (λ f. Tells history (Err faults.NoSuchVolume) (use_when history name usage f)) (sym (use-unknown parts history name usage right.kept right.agrees e)) (refl, tt)
 uses-tell parts history name usage right (Some row) e =
@@ -140,7 +143,7 @@ uses-tell parts history name usage right (Some row) e =
 
 -- a stop
 pub stops-tell : (parts : OrchestratorParts) (history : History) (name node target : List ℕ) → AreRight parts history → (o : Option RowShown) → row_of parts.rows name ≡ o
-    → Tells history (steps_at parts Sends (steps.Stop node target) o) (command history name (wishes.Stop node target) (stop_fault parts.nodes history name node target))
+    → Tells history (steps_at parts Sends (steps.Stop node target) o) (command history name (wishes.Stop node target) (stop_fault history name node target))
 stops-tell parts history name node target right None e =
     subst (λ f. Tells history (Err faults.NoSuchVolume) (command history name (wishes.Stop node target) f)) (sym (stop-unknown parts history name node target right.kept right.agrees e)) (refl, tt)
 stops-tell parts history name node target right (Some row) e =

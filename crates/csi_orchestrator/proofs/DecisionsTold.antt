@@ -18,7 +18,7 @@ use Rattle.csi_orchestrator.specs.declared.step.Step.TheVariants as steps
 use Rattle.csi_orchestrator.specs.Model.Thing.{is_yes, is_no}
 use Rattle.csi_orchestrator.specs.Model.Commands.{is_for_one_node, uses_as_second_writer}
 use Rattle.csi_orchestrator.specs.Private.Decisions.{refused_or, decided_then, decided, is_used_at, decided_at}
-use Rattle.csi_orchestrator.specs.Private.RowRefusals.{is_last, is_entry_otherwise, others_count, use_refusal, is_attached_somewhere, step_refusal, late_refusal}
+use Rattle.csi_orchestrator.specs.Private.RowRefusals.{is_last, is_entry_otherwise, others_count, others_attached, use_refusal, is_attached_somewhere, step_refusal, late_refusal}
 use Rattle.csi_orchestrator.specs.Public.RowRefusals.{has_elsewhere}
 use Rattle.csi_orchestrator.specs.Private.RowSteps.{MovedRow, row_sends_due, row_rests, row_unless, is_step_met, waits, row_before_call, row_step}
 use Rattle.csi_orchestrator.specs.Model.Shown.{NodeEntryShown, RowShown, node_entry_of}
@@ -128,21 +128,40 @@ none-holds made busy known able elsewhere written rest a b c d e f = rw (a, b, c
 pub use-decided : (nodes : List (List ℕ)) (last : Number) (usage : Usage) (row : RowShown) (entry : Option NodeEntryShown)
     → is_yes row.exists ≡ true → is_some row.goal ≡ false → list_any (same_text usage.node) nodes ≡ true → has_capability row.arguments.capabilities usage.capability ≡ true
     → has_elsewhere (is_for_one_node usage) usage.node row ≡ false → has_elsewhere (uses_as_second_writer usage) usage.node row ≡ false → node_entry_of row usage.node ≡ entry
-    → decided_at last usage row.id entry ≡ refused_or (use_refusal nodes usage row) (decided_then last (steps.Use usage) row)
+    → decided_at last usage (others_attached usage.node row) row.id entry ≡ refused_or (use_refusal nodes usage row) (decided_then last (steps.Use usage) row)
 use-decided nodes last usage row entry made idle known able alone single is =
     let here = node_entry_of row usage.node in
-    ap (decided_at last usage row.id) (sym is)
+    ap (decided_at last usage (others_attached usage.node row) row.id) (sym is)
     ∙ ap
     (λ (taken : Bool).
-    tested (is_entry_otherwise usage here) (allows_one_target usage.capability.mode && taken) (is_none row.id || is_used_at usage.target here) (is_last last) (nat_le 16 (others_count usage.target here)))
+    tested (is_entry_otherwise usage here) (allows_one_target usage.capability.mode && taken) (is_none row.id || is_used_at usage.target here) (is_last last) (nat_le 16 (others_count usage.target here) || nat_le 64 (others_attached usage.node row)))
     (others-told usage.target here)
     ∙ ap
     (λ (met : Bool).
-    tested (is_entry_otherwise usage here) (allows_one_target usage.capability.mode && others_in usage.target here) met (is_last last) (nat_le 16 (others_count usage.target here)))
+    tested (is_entry_otherwise usage here) (allows_one_target usage.capability.mode && others_in usage.target here) met (is_last last) (nat_le 16 (others_count usage.target here) || nat_le 64 (others_attached usage.node row)))
     (sym (none-due usage (marks_at row usage.node usage.target) row.id))
-    ∙ tests-first (is_entry_otherwise usage here) (allows_one_target usage.capability.mode && others_in usage.target here) (is_step_met (steps.Use usage) row) (is_last last) (nat_le 16 (others_count usage.target here))
+    ∙ tests-first (is_entry_otherwise usage here) (allows_one_target usage.capability.mode && others_in usage.target here) (is_step_met (steps.Use usage) row) (is_last last) (nat_le 16 (others_count usage.target here) || nat_le 64 (others_attached usage.node row))
     ∙ ap (λ (fault : Option OrchFault). refused_or fault (decided_then last (steps.Use usage) row))
     (none-holds (is_yes row.exists) (is_some row.goal) (list_any (same_text usage.node) nodes) (has_capability row.arguments.capabilities usage.capability)
     (has_elsewhere (is_for_one_node usage) usage.node row) (has_elsewhere (uses_as_second_writer usage) usage.node row)
     (cond (is_entry_otherwise usage here) (Some faults.HeldOtherwise) (cond (allows_one_target usage.capability.mode && others_in usage.target here) (Some faults.TargetTaken) None))
     made idle known able alone single)
+
+-- what one comes to at a node that has no entry
+pub use-first : (nodes : List (List ℕ)) (last : Number) (usage : Usage) (row : RowShown)
+    → is_yes row.exists ≡ true → is_some row.goal ≡ false → list_any (same_text usage.node) nodes ≡ true → has_capability row.arguments.capabilities usage.capability ≡ true
+    → has_elsewhere (is_for_one_node usage) usage.node row ≡ false → has_elsewhere (uses_as_second_writer usage) usage.node row ≡ false → node_entry_of row usage.node ≡ None
+    → decided_at last usage (others_attached usage.node row) row.id None ≡ refused_or (use_refusal nodes usage row) (decided_then last (steps.Use usage) row)
+use-first nodes last usage row made idle known able alone single is = use-decided nodes last usage row None made idle known able alone single is
+
+-- there it has no other target
+pub first-decided : (last : Number) (usage : Usage) (others : ℕ) (id : Option ℕ)
+    → decided_at last usage others id None ≡ cond (is_none id) Met (cond (is_last last) (Refuse faults.NumbersSpent) (cond (nat_le 64 others) (Refuse faults.Full) Send))
+first-decided last usage others id = by (allows_one_target usage.capability.mode) (is_none id)
+  where
+    by : (one none : Bool) → cond (one && false) (Refuse faults.TargetTaken) (cond (none || false) Met (cond (is_last last) (Refuse faults.NumbersSpent) (cond (nat_le 64 others) (Refuse faults.Full) Send)))
+        ≡ cond none Met (cond (is_last last) (Refuse faults.NumbersSpent) (cond (nat_le 64 others) (Refuse faults.Full) Send))
+    by true true = refl
+    by true false = refl
+    by false true = refl
+    by false false = refl

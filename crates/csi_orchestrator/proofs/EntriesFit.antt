@@ -1,16 +1,12 @@
 -- What the rules of entries say of some of them, of one with other marks, and of a use at one.
-use Rattle.std.proofs.Common.{◌≡◌, ◌≤◌, ℕ, List, ◌∷◌, ◌++◌, Bool, true, false, not, length, map, refl, sym, ◌∙◌, ap, subst, arith}
-use Rattle.std.specs.Prelude.{None, find, ◌&&◌}
+use Rattle.std.proofs.Common.{◌≡◌, ◌≤◌, ◌+◌, ℕ, suc, List, [], ◌∷◌, ◌++◌, Bool, true, false, cond, not, length, refl, ◌∙◌, ap, arith}
+use Rattle.std.specs.Prelude.{None, find, count_by, ◌&&◌}
 use Rattle.std.specs.List.{list_any}
-use Rattle.std.proofs.lemmas.Bool.{false≢true}
-use Rattle.std.proofs.lemmas.List.{length-map}
-use Rattle.csi_lists.specs.Model.Members.{IsAmong}
-use Rattle.csi_lists.proofs.Each.{each-append, each-map, each-weaker}
-use Rattle.csi_lists.proofs.Members.{each_of}
-use Rattle.csi_lists.proofs.Pairs.{two-map, two-more}
-use Rattle.csi_lists.proofs.Tests.{any-then}
+use Rattle.std.proofs.lemmas.List.{length-append}
+use Rattle.std.proofs.lemmas.List.Sums.{count_by-le-length}
+use Rattle.csi_lists.proofs.Counts.{count-cons}
+use Rattle.csi_lists.proofs.Each.{each-append, each-weaker}
 use Rattle.csi_types.specs.Model.Same.{same_text}
-use Rattle.csi_types.proofs.Equality.{same_text-tells}
 use Rattle.csi_orchestrator.specs.declared.request.Arguments.{Arguments}
 use Rattle.csi_orchestrator.specs.declared.request.Usage.{Usage}
 use Rattle.csi_orchestrator.specs.declared.row.TargetEntry.{TargetEntry}
@@ -20,9 +16,9 @@ use Rattle.csi_orchestrator.specs.Model.History.{Held}
 use Rattle.csi_orchestrator.specs.Model.Commands.{is_for_one_node, uses_as_second_writer}
 use Rattle.csi_orchestrator.specs.Model.Shown.{NodeEntryShown, held_at}
 use Rattle.csi_orchestrator.specs.Public.RowRefusals.{is_so_elsewhere}
-use Rattle.csi_orchestrator.specs.Public.Restored.{IsHeldBeside, AreHeldTogether, IsEntryFit, AreEntriesFit}
+use Rattle.csi_orchestrator.specs.Private.Unlost.{IsHeldBeside, AreHeldTogether, IsEntryFit, AreEntriesFit}
 use Rattle.csi_orchestrator.proofs.RowRules.{here}
-use Rattle.csi_orchestrator.proofs.BoundsStay.{no-longer}
+use Rattle.csi_orchestrator.proofs.TextLists.{text-same}
 use Rattle.csi_orchestrator.proofs.SplitLists.{find-of_none, any-of_none, each-left, each-right, each-put_at, two-left, two-there, two-put_at}
 use Rattle.csi_orchestrator.proofs.StepsTaken.{and-false}
 use Rattle.csi_orchestrator.proofs.LastRow.{Spot}
@@ -36,6 +32,7 @@ fit-left nodes arguments xs ys fit =
       each = each-left (IsEntryFit nodes arguments) xs ys fit.each;
       apart = two-left (λ (a b : NodeEntryShown). same_text a.node b.node ≡ false) xs ys fit.apart;
       together = two-left AreHeldTogether xs ys fit.together;
+      few = let few = fit.few in let long : length (xs ++ ys) ≡ length xs + length ys = length-append xs ys in omega (arith, few, long);
     }
 
 -- one that is held so at the same node, with other marks and targets
@@ -47,6 +44,7 @@ fit-put nodes arguments front entry rear a st ts fit own =
       each = each-put_at (IsEntryFit nodes arguments) front entry new rear fit.each own;
       apart = two-put_at (λ (a b : NodeEntryShown). same_text a.node b.node ≡ false) front entry new rear fit.apart (λ z h. h) (λ z h. h);
       together = two-put_at AreHeldTogether front entry new rear fit.together behind ahead;
+      few = let few = fit.few in let long = length-append front (entry ∷ rear) in let same = length-append front (new ∷ rear) in omega (arith, few, long, same);
     }
   where
     new : NodeEntryShown
@@ -82,6 +80,27 @@ not-elsewhere so node entry fails = ap (λ b. not (same_text entry.node node) &&
 abbrev pub use_of : NodeEntryShown → List ℕ → Usage
 use_of entry target = record { node = entry.node; target = target; capability = entry.capability; readonly = entry.readonly }
 
+-- ---- how many other nodes it is attached at
+
+-- at the other nodes it may be attached
+abbrev elsewhere_attached : List ℕ → NodeEntryShown → Bool
+elsewhere_attached node entry = not (same_text entry.node node) && not (is_no entry.attached)
+
+-- the entry of the node itself isn't counted
+counts-others : (node : List ℕ) (front : List NodeEntryShown) (own : NodeEntryShown) (rear : List NodeEntryShown) → same_text own.node node ≡ true → count_by (elsewhere_attached node) (front ++ own ∷ rear) + 1 ≤ length (front ++ own ∷ rear)
+counts-others node [] own rear same =
+    let first = count-cons (elsewhere_attached node) own rear ∙ ap (λ b. cond (not b && not (is_no own.attached)) 1 0 + count_by (elsewhere_attached node) rear) same in
+    let least = count_by-le-length (elsewhere_attached node) rear in
+    omega (arith, first, least)
+counts-others node (e ∷ front) own rear same = by (elsewhere_attached node e) (count-cons (elsewhere_attached node) e (front ++ own ∷ rear)) (counts-others node front own rear same)
+  where
+    by : (b : Bool) → count_by (elsewhere_attached node) (e ∷ (front ++ own ∷ rear)) ≡ cond b 1 0 + count_by (elsewhere_attached node) (front ++ own ∷ rear)
+        → count_by (elsewhere_attached node) (front ++ own ∷ rear) + 1 ≤ length (front ++ own ∷ rear) → count_by (elsewhere_attached node) (e ∷ (front ++ own ∷ rear)) + 1 ≤ suc (length (front ++ own ∷ rear))
+    by true is rest = omega (arith, is, rest)
+    by false is rest = omega (arith, is, rest)
+
+-- ---- a use
+
 -- it isn't refused beside those in front
 pub may-use : (s : Spot) (front : List NodeEntryShown) (entry : NodeEntryShown) (rear : List NodeEntryShown) (target : List ℕ) → AreEntriesFit s.nodes s.arguments (front ++ entry ∷ rear) → MayUse s (use_of entry target) front
 may-use s front entry rear target fit =
@@ -92,6 +111,11 @@ may-use s front entry rear target fit =
       capable = own.capable;
       one_node = any-of_none (is_so_elsewhere (is_for_one_node usage) usage.node) front (each-weaker (λ z. AreHeldTogether z entry) (λ z. is_so_elsewhere (is_for_one_node usage) usage.node z ≡ false) front (λ z h. not-elsewhere (is_for_one_node usage) usage.node z (h.then).one_node) beside);
       one_writer = any-of_none (is_so_elsewhere (uses_as_second_writer usage) usage.node) front (each-weaker (λ z. AreHeldTogether z entry) (λ z. is_so_elsewhere (uses_as_second_writer usage) usage.node z ≡ false) front (λ z h. not-elsewhere (uses_as_second_writer usage) usage.node z (h.then).one_writer) beside);
+      room =
+          let least = count_by-le-length (elsewhere_attached usage.node) front in
+          let most = fit.few in
+          let long : length (front ++ entry ∷ rear) ≡ length front + length (entry ∷ rear) = length-append front (entry ∷ rear) in
+          omega (arith, least, most, long);
     }
   where
     usage : Usage
@@ -107,6 +131,12 @@ may-use-there s front entry rear target a st ts fit =
       capable = own.capable;
       one_node = elsewhere (is_for_one_node usage) (λ z h. (h.then).one_node) (λ z h. (h.before).one_node);
       one_writer = elsewhere (uses_as_second_writer usage) (λ z h. (h.then).one_writer) (λ z h. (h.before).one_writer);
+      room =
+          let counted = counts-others usage.node front there rear (text-same entry.node) in
+          let most = fit.few in
+          let long : length (front ++ entry ∷ rear) ≡ length front + length (entry ∷ rear) = length-append front (entry ∷ rear) in
+          let same : length (front ++ there ∷ rear) ≡ length front + length (there ∷ rear) = length-append front (there ∷ rear) in
+          omega (arith, counted, most, long, same);
     }
   where
     usage : Usage
@@ -128,17 +158,3 @@ may-use-there s front entry rear target a st ts fit =
 pub several : (b : Bool) (many : ℕ) → (b ≡ true → many ≤ 1) → 2 ≤ many → b ≡ false
 several true many one two = let least = one refl in absurd (omega (arith, least, two))
 several false many one two = refl
-
--- there are no more entries than nodes
-pub few-entries : (nodes : List (List ℕ)) (arguments : Arguments) (entries : List NodeEntryShown) → AreEntriesFit nodes arguments entries → length entries ≤ length nodes
-few-entries nodes arguments entries fit =
-    let texts = map (λ (entry : NodeEntryShown). entry.node) entries in
-    let long = length-map entries (λ (entry : NodeEntryShown). entry.node) in
-    let least = no-longer texts nodes
-    (two-map (λ (a b : List ℕ). a ≡ b → ⊥) (λ (entry : NodeEntryShown). entry.node) entries
-    (two-more (λ (a b : NodeEntryShown). same_text a.node b.node ≡ false) (λ (a b : NodeEntryShown). a.node ≡ b.node → ⊥) entries (λ a b e same. false≢true (sym e ∙ (same_text-tells a.node b.node).1 same)) fit.apart))
-    (λ text among. each_of (λ (t : List ℕ). IsAmong t nodes) texts text (each-map (IsEntryFit nodes arguments) (λ (t : List ℕ). IsAmong t nodes) (λ (entry : NodeEntryShown). entry.node) entries (λ entry own. known entry.node own.listed) fit.each) among) in
-    omega (arith, long, least)
-  where
-    known : (text : List ℕ) → list_any (same_text text) nodes ≡ true → IsAmong text nodes
-    known text e = let found = any-then (same_text text) nodes e in subst (λ t. IsAmong t nodes) (sym ((same_text-tells text found.0).0 found.2)) found.1

@@ -25,7 +25,6 @@ use Rattle.csi_orchestrator.proofs.SplitLists.{any-of_none, each-left, each-righ
 front-kept : (nodes : List (List ℕ)) (rows more : List RowShown) → AreRestorable nodes (rows ++ more) → AreRestorable nodes rows
 front-kept nodes rows more kept =
     record {
-      few_nodes = kept.few_nodes;
       few = let few = kept.few in let long : length (rows ++ more) ≡ length rows + length more = length-append rows more in omega (arith, few, long);
       names = two-left (λ (a b : RowShown). same_text a.name b.name ≡ false) rows more kept.names;
       each = each-left (IsRestorable nodes) rows more kept.each;
@@ -52,7 +51,6 @@ kept-more : (nodes : List (List ℕ)) (rows : List RowShown) (row : Row) → Are
 kept-more nodes rows row kept follows none =
     let parts = and_parts (nat_lt (length rows) 4096) (is_restorable nodes row) follows in
     record {
-      few_nodes = kept.few_nodes;
       few =
           let room : length rows < 4096 = ltb-true (length rows) 4096 parts.0 in
           let long : length (rows ++ row_shown row ∷ []) ≡ length rows + 1 = length_push rows (row_shown row) in omega (arith, room, long);
@@ -103,8 +101,8 @@ or-turned false true = refl
 or-turned false false = refl
 
 -- the walk begins so, before the first row and while no name is had
-pub begins : (nodes : List (List ℕ)) (rows : List Row) (has : List ℕ → Bool) → length nodes ≤ 64 → ((name : List ℕ) → has name ≡ false) → SoFar nodes rows 0 has
-begins nodes rows has few none = record { kept = record { few_nodes = few; few = omega arith; names = tt; each = tt }; names = none }
+pub begins : (nodes : List (List ℕ)) (rows : List Row) (has : List ℕ → Bool) → ((name : List ℕ) → has name ≡ false) → SoFar nodes rows 0 has
+begins nodes rows has none = record { kept = record { few = omega arith; names = tt; each = tt }; names = none }
 
 -- it goes on so after a row that may follow and has a new name, once that name is put in
 pub goes_on : (nodes : List (List ℕ)) (rows : List Row) (place : ℕ) (has now_has : List ℕ → Bool) (row : Row) → SoFar nodes rows place has → place < length rows → row ≡ get_or rows place row

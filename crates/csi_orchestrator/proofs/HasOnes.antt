@@ -1,9 +1,9 @@
 -- What holds of a list of which one is so, and each other one otherwise.
-use Rattle.std.proofs.Common.{◌≡◌, ℕ, List, [], ◌∷◌, ◌++◌, Bool, true, false, cond, refl, sym, ◌∙◌, ap, subst, inl, inr}
+use Rattle.std.proofs.Common.{◌≡◌, ℕ, List, [], ◌∷◌, ◌++◌, Bool, true, false, cond, map, refl, sym, ◌∙◌, ap, subst, inl, inr}
 use Rattle.std.specs.Prelude.{Some, None, find}
 use Rattle.std.specs.List.{AllByRecursion}
 use Rattle.std.proofs.lemmas.Option.{none-some, same_Some}
-use Rattle.csi_lists.proofs.Each.{each-weaker}
+use Rattle.csi_lists.proofs.Each.{each-weaker, each-map}
 use Rattle.csi_lists.proofs.Members.{all_of, each_of}
 use Rattle.csi_types.specs.Model.Same.{same_text}
 use Rattle.csi_types.proofs.Equality.{same_text-tells}
@@ -88,3 +88,14 @@ one-put key P Q x (y ∷ ys) apart all own = by (same_text (key y) (key x)) refl
     by : (b : Bool) → same_text (key y) (key x) ≡ b → HasOne key (key x) P Q (put_by key x ys) → HasOne key (key x) P Q (cond b (x ∷ ys) (y ∷ put_by key x ys))
     by true e rest = inl (text-same (key x), own, others-of key (key x) Q y ys e apart.0 all.1)
     by false e rest = inr (e, all.0, rest)
+
+-- each is changed so that its text stays
+pub one-map : {X : Type 0} (key : X → List ℕ) (text : List ℕ) (f : X → X) (P Q R : X → Type 0) (xs : List X) → ((x : X) → key (f x) ≡ key x) → ((x : X) → same_text (key x) text ≡ true → P x → R (f x))
+    → ((x : X) → Q x → Q (f x)) → HasOne key text P Q xs → HasOne key text R Q (map f xs)
+one-map key text f P Q R [] same turns stays one = absurd one
+one-map key text f P Q R (x ∷ xs) same turns stays (inl here) = inl (
+  ap (λ t. same_text t text) (same x) ∙ here.0,
+  turns x here.0 here.1,
+  each-map (λ y. (same_text (key y) text ≡ false) × Q y) (λ y. (same_text (key y) text ≡ false) × Q y) f xs (λ y own. (ap (λ t. same_text t text) (same y) ∙ own.0, stays y own.1)) here.2,
+)
+one-map key text f P Q R (x ∷ xs) same turns stays (inr later) = inr (ap (λ t. same_text t text) (same x) ∙ later.0, stays x later.1, one-map key text f P Q R xs same turns stays later.2)

@@ -1,6 +1,6 @@
 -- Where a history says that a volume may be in use, its row has an entry that says so.
 use Rattle.std.proofs.Common.{◌≡◌, ◌≢◌, ℕ, List, Bool, true, false, cond, not, length, refl, sym, ◌∙◌, ap, subst}
-use Rattle.std.specs.Prelude.{Option, Some, None, option_map, find, filter, filter_map, nat_lt, ◌&&◌}
+use Rattle.std.specs.Prelude.{Option, Some, None, option_map, filter, filter_map, nat_lt, ◌&&◌}
 use Rattle.std.specs.List.{AllByRecursion, list_any}
 use Rattle.std.proofs.lemmas.Bool.{false≢true, false_from_ne_true, and_parts, not-true}
 use Rattle.std.proofs.lemmas.List.Sums.{length-filter}
@@ -21,16 +21,17 @@ use Rattle.csi_orchestrator.specs.declared.thing.Thing.{Thing}
 use Rattle.csi_orchestrator.specs.declared.thing.Thing.TheVariants.{Attached, Published}
 use Rattle.csi_orchestrator.specs.Model.Thing.{Issued, name_in, thing_of, is_thing, touches, is_no}
 use Rattle.csi_orchestrator.specs.Model.History.{Usage, Held, History}
-use Rattle.csi_orchestrator.specs.Model.Readings.{known, known_by, held, issued_in, issued_of, distinct}
+use Rattle.csi_orchestrator.specs.Model.Readings.{since, ends, known, known_by, held, issued_in, issued_of, distinct}
 use Rattle.csi_orchestrator.specs.Model.Due.{attached_node, nodes_in_use, published_target, targets_in_use}
-use Rattle.csi_orchestrator.specs.Model.Commands.{held_elsewhere, is_otherwise, is_held_otherwise}
+use Rattle.csi_orchestrator.specs.Model.Commands.{other_nodes, held_elsewhere, is_otherwise, is_held_otherwise}
 use Rattle.csi_orchestrator.specs.Model.Shown.{NodeEntryShown, RowShown, node_entry_of, target_entry_of, mark_in, publication_known, held_at}
 use Rattle.csi_orchestrator.specs.Public.Shown.{AreTargetsApart}
 use Rattle.csi_orchestrator.specs.Public.RowDue.{others_in}
 use Rattle.csi_orchestrator.specs.Public.Sound.{AreNodesApart}
 use Rattle.csi_orchestrator.specs.Public.RowRefusals.{is_so_elsewhere, has_elsewhere}
-use Rattle.csi_orchestrator.specs.Private.RowRefusals.{is_entry_otherwise, others_count, is_attached_somewhere}
-use Rattle.csi_orchestrator.proofs.ViewsFollow.{touches-name}
+use Rattle.csi_orchestrator.specs.Private.RowRefusals.{is_entry_otherwise, others_count, others_attached, is_attached_somewhere}
+use Rattle.csi_orchestrator.proofs.SinceItems.{since-sent}
+use Rattle.csi_orchestrator.proofs.ViewsFollow.{touches-name, latest}
 use Rattle.csi_orchestrator.proofs.JoinedLists.{own-entry}
 use Rattle.csi_orchestrator.proofs.RowViews.{IsRowOf}
 use Rattle.csi_orchestrator.proofs.TextLists.{among-distinct, distinct-once, as-many-as}
@@ -40,15 +41,15 @@ used : (history : History) (name : List ℕ) (made : List ℕ → Thing) (pick :
     → ((thing : Option Thing) → is_thing (made text) thing ≡ true → pick thing ≡ Some text) → is_no (known history (made text)) ≡ false
     → IsAmong text (filter (λ t. not (is_no (known history (made t)))) (distinct (filter_map (λ (i : Issued). pick (thing_of i)) (issued_of history name))))
 used history name made pick text own picks maybe =
-    in_filter (λ (t : List ℕ). not (is_no (known history (made t)))) _ text (among-distinct _ text (by (find (touches (made text)) (issued_in history.items)) refl maybe)) (ap not maybe)
+    in_filter (λ (t : List ℕ). not (is_no (known history (made t)))) _ text (among-distinct _ text (by (latest history (made text)) refl maybe)) (ap not maybe)
   where
-    by : (o : Option Issued) → find (touches (made text)) (issued_in history.items) ≡ o → is_no (known_by history.items (made text) o) ≡ false
+    by : (o : Option Issued) → latest history (made text) ≡ o → is_no (known_by history.items (made text) o) ≡ false
         → IsAmong text (filter_map (λ (i : Issued). pick (thing_of i)) (issued_of history name))
     by None e f = absurd (false≢true (sym f))
     by (Some issued) e f =
-        let of = find-passes (touches (made text)) (issued_in history.items) issued e in
+        let of = find-passes (touches (made text)) (issued_in (since (ends (made text)) history.items)) issued e in
         let named = subst (λ n. same_text issued.name n ≡ true) own (touches-name (made text) issued of) in
-        let among = in_filter (λ (i : Issued). same_text i.name name) (issued_in history.items) issued (among-find (touches (made text)) (issued_in history.items) issued e) named in
+        let among = in_filter (λ (i : Issued). same_text i.name name) (issued_in history.items) issued (since-sent (ends (made text)) history.items issued (among-find (touches (made text)) (issued_in (since (ends (made text)) history.items)) issued e)) named in
         in-filter_map (λ (i : Issued). pick (thing_of i)) (issued_of history name) issued text among (picks (thing_of issued) of)
 
 -- a node at which the volume may be attached, and a target at which it may be published
@@ -207,6 +208,35 @@ others-alike row history name node target own apart = by (node_entry_of row node
             let mark : mark_in (publication_known target_entry.target) (node_entry_of row node) ≡ target_entry.published = ap (mark_in (publication_known target_entry.target)) e ∙ ap (mark_in (λ (a : TargetEntry). a.published)) (own-entry (λ (a : TargetEntry). a.target) node_entry.target_entries target_entry targets_apart kept.0) in
             in_filter (λ t. not (same_text t target)) (targets_in_use history name node) target_entry.target
             (target-in-use history name node target_entry.target (ap is_no (sym (own.marks (Published name node target_entry.target) refl) ∙ mark) ∙ not-true _ parts.1)) parts.0
+
+-- the other nodes in use are as many as the other entries that may be attached
+pub nodes-alike : (row : RowShown) (history : History) (name node : List ℕ) → IsRowOf row history name → AreNodesApart row.node_entries → length (other_nodes history name node) ≡ others_attached node row
+nodes-alike row history name node own apart =
+    as-many-as (other_nodes history name node) (λ (p : NodeEntryShown). p.node) (filter is_other row.node_entries)
+    (two-filter (λ (a b : List ℕ). same_text a b ≡ false) (λ other. not (same_text other node)) _
+    (two-filter (λ (a b : List ℕ). same_text a b ≡ false) (λ (n : List ℕ). not (is_no (known history (Attached name n)))) _
+    (distinct-once (filter_map (λ (i : Issued). attached_node (thing_of i)) (issued_of history name)))))
+    (two-filter (λ (a b : NodeEntryShown). same_text a.node b.node ≡ false) is_other row.node_entries apart) there back
+    ∙ length-filter is_other row.node_entries
+  where
+    is_other : NodeEntryShown → Bool
+    is_other p = not (same_text p.node node) && not (is_no p.attached)
+
+    there : (other : List ℕ) → IsAmong other (other_nodes history name node) → (p : NodeEntryShown) × IsAmong p (filter is_other row.node_entries) × (p.node ≡ other)
+    there other among =
+        let kept = among-kept (λ other. not (same_text other node)) (nodes_in_use history name) other among in
+        let entry = entry-of-node row history name other own kept.0 in
+        let differs : not (same_text entry.0.node node) ≡ true = ap (λ n. not (same_text n node)) entry.2 ∙ kept.1 in (
+          entry.0,
+          in_filter is_other row.node_entries entry.0 entry.1 (ap (λ b. b && not (is_no entry.0.attached)) differs ∙ ap not entry.3),
+          entry.2,
+        )
+
+    back : (p : NodeEntryShown) → IsAmong p (filter is_other row.node_entries) → IsAmong p.node (other_nodes history name node)
+    back p among =
+        let kept = among-kept is_other row.node_entries p among in
+        let parts = and_parts (not (same_text p.node node)) (not (is_no p.attached)) kept.1 in
+        in_filter (λ other. not (same_text other node)) (nodes_in_use history name) p.node (entry-in-use row history name p own apart kept.0 (not-true (is_no p.attached) parts.1)).0 parts.0
 
 -- some are where some are counted
 pub others-counted : (target : List ℕ) (node_entry : Option NodeEntryShown) → nat_lt 0 (others_count target node_entry) ≡ others_in target node_entry

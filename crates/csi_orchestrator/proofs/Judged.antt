@@ -1,23 +1,26 @@
 -- The tests of a row are passed exactly where it keeps the rules.
-use Rattle.std.proofs.Common.{◌≡◌, ℕ, length, map, Bool, true, false, not, List, [], ◌∷◌, refl, ap}
-use Rattle.std.specs.Prelude.{Option, Some, None, ◌&&◌, ◌||◌, nat_le}
+use Rattle.std.proofs.Common.{◌≡◌, ◌≢◌, ℕ, zero, suc, length, map, Bool, true, false, not, List, [], ◌∷◌, refl, sym, ◌∙◌, ap, inl, inr, arith}
+use Rattle.std.specs.Prelude.{◌⊎◌, ◌==◌, Option, Some, None, find, option_map, ◌&&◌, ◌||◌, nat_le}
 use Rattle.std.specs.List.{AllByRecursion, list_all, list_any}
 use Rattle.std.proofs.lemmas.Bool.{and_from, and_parts, or_from, or_parts, eq-eqb, eqb-true, false≢true, le-leb, leb-true, not-true, not_from_false}
+use Rattle.std.proofs.lemmas.Option.{none-some, same_Some}
 use Rattle.csi_lists.specs.Model.Members.{EachTwo}
+use Rattle.csi_lists.proofs.Searches.{find-of_map}
 use Rattle.csi_types.specs.Model.Same.{same_text, has_capability}
 use Rattle.csi_types.specs.Model.Sharing.{is_single_node, are_two_writers, allows_one_target}
 use Rattle.csi_orchestrator.specs.declared.row.Goal.{Goal}
+use Rattle.csi_orchestrator.specs.declared.row.Goal.TheVariants.{Create, Use, Stop, Delete}
 use Rattle.csi_orchestrator.specs.declared.row.TargetEntry.{TargetEntry}
 use Rattle.csi_orchestrator.specs.declared.row.NodeEntry.{NodeEntry}
 use Rattle.csi_orchestrator.specs.declared.request.Arguments.{Arguments}
 use Rattle.csi_orchestrator.specs.declared.thing.Known.{Known}
 use Rattle.csi_orchestrator.specs.declared.thing.Known.TheVariants.{Yes, No, Maybe}
 use Rattle.csi_orchestrator.specs.Model.Shown.{NodeEntryShown}
-use Rattle.csi_orchestrator.specs.Model.Thing.{is_yes}
+use Rattle.csi_orchestrator.specs.Model.Thing.{is_yes, is_no}
 use Rattle.csi_orchestrator.specs.Public.Shown.{node_entry_shown}
-use Rattle.csi_orchestrator.specs.Public.Restored.{AreHeldTogether, IsEntryFit, AreEntriesFit, IsPublished, IsSettled}
-use Rattle.csi_orchestrator.specs.Public.Steady.{HasTries}
-use Rattle.csi_orchestrator.specs.Private.Judging.{is_published, is_settled, is_other_target, are_targets_apart, is_entry_fit, are_beside, are_entries_fit, has_tries}
+use Rattle.csi_orchestrator.specs.Public.Restored.{AreHeldTogether, IsEntryFit, AreEntriesFit, IsPublished, IsSettled, IsResting}
+use Rattle.csi_orchestrator.specs.Public.Steady.{HasTries, IsUntried, IsLeft}
+use Rattle.csi_orchestrator.specs.Private.Judging.{is_published, is_settled, is_left, is_resting, is_other_target, are_targets_apart, is_entry_fit, are_beside, are_entries_fit, has_tries, is_untargeted, is_tried}
 
 -- ---- tests
 
@@ -84,7 +87,91 @@ from-settled entry settled =
     (and_from (nat_le 1 (length targets)) (list_all is_published targets) (le-leb 1 (length targets) settled.some)
     (from-all is_published IsPublished targets (λ target_entry e. ap is_yes e) settled.published)))
 
+-- ---- an entry of a node that was lost
+
+-- what isn't known as `No`
+not_no-from : (known : Known) → not (is_no known) ≡ true → known ≢ No
+not_no-from known h e = false≢true (sym (ap (λ k. not (is_no k)) e) ∙ h)
+
+-- and back
+from-not_no : (known : Known) → known ≢ No → not (is_no known) ≡ true
+from-not_no Yes other = refl
+from-not_no No other = absurd (other refl)
+from-not_no Maybe other = refl
+
+-- what is known as `No`
+no-from : (known : Known) → is_no known ≡ true → known ≡ No
+no-from Yes e = absurd (false≢true e)
+no-from No e = refl
+no-from Maybe e = absurd (false≢true e)
+
+-- a list of no length is empty
+pub empty-from : {X : Type 0} (xs : List X) → (length xs == 0) ≡ true → xs ≡ []
+empty-from [] h = refl
+empty-from (x ∷ xs) h = let long : length (x ∷ xs) ≡ 0 = eqb-true (length (x ∷ xs)) 0 h in absurd (omega arith)
+
+-- by the tests
+pub left-from : (entry : NodeEntry) → is_left entry ≡ true → IsLeft (node_entry_shown entry)
+left-from entry h =
+    let none = length entry.target_entries.items == 0 in
+    let first = and_parts (not (is_no entry.attached)) (is_no entry.staged && none) h in
+    let second = and_parts (is_no entry.staged) none first.1 in
+    record { attached = not_no-from entry.attached first.0; staged = no-from entry.staged second.0; targets = empty-from entry.target_entries.items second.1 }
+
+-- and back
+pub from-left : (entry : NodeEntry) → IsLeft (node_entry_shown entry) → is_left entry ≡ true
+from-left entry left =
+    let none = length entry.target_entries.items == 0 in
+    and_from (not (is_no entry.attached)) (is_no entry.staged && none) (from-not_no entry.attached left.attached)
+    (and_from (is_no entry.staged) none (ap is_no left.staged) (ap (λ (ts : List TargetEntry). length ts == 0) left.targets))
+
+-- one of two tests is passed
+pub either-from : (a b : Bool) → (a || b) ≡ true → (a ≡ true) ⊎ (b ≡ true)
+either-from true b h = inl refl
+either-from false b h = inr h
+
+-- the first of two is
+pub first-passes : (a b : Bool) → a ≡ true → (a || b) ≡ true
+first-passes a b e = ap (λ c. c || b) e
+
+-- or the second
+pub second-passes : (a b : Bool) → b ≡ true → (a || b) ≡ true
+second-passes true b e = refl
+second-passes false b e = e
+
+-- nothing is on the way
+pub resting-from : (entry : NodeEntry) → is_resting entry ≡ true → IsResting (node_entry_shown entry)
+resting-from entry h = by (either-from (is_settled entry) (is_left entry) h)
+  where
+    by : (is_settled entry ≡ true) ⊎ (is_left entry ≡ true) → IsResting (node_entry_shown entry)
+    by (inl settled) = inl (settled-from entry settled)
+    by (inr left) = inr (left-from entry left)
+
+-- and back
+pub from-resting : (entry : NodeEntry) → IsResting (node_entry_shown entry) → is_resting entry ≡ true
+from-resting entry (inl settled) = first-passes (is_settled entry) (is_left entry) (from-settled entry settled)
+from-resting entry (inr left) = second-passes (is_settled entry) (is_left entry) (from-left entry left)
+
 -- ---- an entry that is fit
+
+-- it is of a listed node, or has no targets
+among-from : (nodes : List (List ℕ)) (entry : NodeEntry) → (list_any (same_text entry.node) nodes || (length entry.target_entries.items == 0)) ≡ true → entry.target_entries.items ≢ [] → list_any (same_text entry.node) nodes ≡ true
+among-from nodes entry h some = by (either-from (list_any (same_text entry.node) nodes) (length entry.target_entries.items == 0) h)
+  where
+    by : (list_any (same_text entry.node) nodes ≡ true) ⊎ ((length entry.target_entries.items == 0) ≡ true) → list_any (same_text entry.node) nodes ≡ true
+    by (inl listed) = listed
+    by (inr none) = absurd (some (empty-from entry.target_entries.items none))
+
+-- and back
+from-among : (nodes : List (List ℕ)) (entry : NodeEntry) → (entry.target_entries.items ≢ [] → list_any (same_text entry.node) nodes ≡ true) → (list_any (same_text entry.node) nodes || (length entry.target_entries.items == 0)) ≡ true
+from-among nodes entry among = by entry.target_entries.items refl
+  where
+    no-targets : (t : TargetEntry) (ts : List TargetEntry) → t ∷ ts ≡ [] → ⊥
+    no-targets t ts e = absurd (omega (arith, ap length e))
+
+    by : (ts : List TargetEntry) → entry.target_entries.items ≡ ts → (list_any (same_text entry.node) nodes || (length ts == 0)) ≡ true
+    by [] e = second-passes (list_any (same_text entry.node) nodes) true refl
+    by (t ∷ ts) e = first-passes (list_any (same_text entry.node) nodes) (length (t ∷ ts) == 0) (among (λ none. no-targets t ts (sym e ∙ none)))
 
 -- targets that are apart
 targets-from : (targets : List TargetEntry) → are_targets_apart targets ≡ true → EachTwo (λ (a b : TargetEntry). same_text a.target b.target ≡ false) targets
@@ -104,14 +191,14 @@ fit-from : (nodes : List (List ℕ)) (arguments : Arguments) (entry : NodeEntry)
 fit-from nodes arguments entry h =
     let targets = entry.target_entries.items in
     let one = not (allows_one_target entry.capability.mode) || nat_le (length targets) 1 in
-    let listed = list_any (same_text entry.node) nodes in
+    let listed = list_any (same_text entry.node) nodes || (length entry.target_entries.items == 0) in
     let capable = has_capability arguments.capabilities entry.capability in
     let first = and_parts (nat_le (length targets) 16) (one && (listed && (capable && are_targets_apart targets))) h in
     let second = and_parts one (listed && (capable && are_targets_apart targets)) first.1 in
     let third = and_parts listed (capable && are_targets_apart targets) second.1 in
     let fourth = and_parts capable (are_targets_apart targets) third.1 in
     record {
-      listed = third.0;
+      among = among-from nodes entry third.0;
       capable = fourth.0;
       few = leb-true (length targets) 16 first.0;
       apart = targets-from targets fourth.1;
@@ -123,11 +210,11 @@ from-fit : (nodes : List (List ℕ)) (arguments : Arguments) (entry : NodeEntry)
 from-fit nodes arguments entry fit =
     let targets = entry.target_entries.items in
     let one = not (allows_one_target entry.capability.mode) || nat_le (length targets) 1 in
-    let listed = list_any (same_text entry.node) nodes in
+    let listed = list_any (same_text entry.node) nodes || (length entry.target_entries.items == 0) in
     let capable = has_capability arguments.capabilities entry.capability in
     and_from (nat_le (length targets) 16) (one && (listed && (capable && are_targets_apart targets))) (le-leb (length targets) 16 fit.few)
     (and_from one (listed && (capable && are_targets_apart targets)) (from-implied (allows_one_target entry.capability.mode) (nat_le (length targets) 1) (λ e. le-leb (length targets) 1 (fit.one e)))
-    (and_from listed (capable && are_targets_apart targets) fit.listed (and_from capable (are_targets_apart targets) fit.capable (from-targets targets fit.apart))))
+    (and_from listed (capable && are_targets_apart targets) (from-among nodes entry fit.among) (and_from capable (are_targets_apart targets) fit.capable (from-targets targets fit.apart))))
 
 -- ---- two entries
 
@@ -192,9 +279,49 @@ from-entries nodes arguments (entry ∷ later) fit =
 -- by the tests
 pub tries-from : (goal : Option Goal) (tries : ℕ) → has_tries goal tries ≡ true → HasTries goal tries
 tries-from None tries h = eqb-true tries 0 h
-tries-from (Some goal) tries h = let parts = and_parts (nat_le 1 tries) (nat_le tries 3) h in (leb-true 1 tries parts.0, leb-true tries 3 parts.1)
+tries-from (Some (Stop node target)) tries h = leb-true tries 3 h
+tries-from (Some Create) tries h = let parts = and_parts (nat_le 1 tries) (nat_le tries 3) h in (leb-true 1 tries parts.0, leb-true tries 3 parts.1)
+tries-from (Some (Use usage)) tries h = let parts = and_parts (nat_le 1 tries) (nat_le tries 3) h in (leb-true 1 tries parts.0, leb-true tries 3 parts.1)
+tries-from (Some Delete) tries h = let parts = and_parts (nat_le 1 tries) (nat_le tries 3) h in (leb-true 1 tries parts.0, leb-true tries 3 parts.1)
 
 -- and back
 pub from-tries : (goal : Option Goal) (tries : ℕ) → HasTries goal tries → has_tries goal tries ≡ true
 from-tries None tries h = eq-eqb tries 0 h
-from-tries (Some goal) tries h = and_from (nat_le 1 tries) (nat_le tries 3) (le-leb 1 tries h.0) (le-leb tries 3 h.1)
+from-tries (Some (Stop node target)) tries h = le-leb tries 3 h
+from-tries (Some Create) tries h = and_from (nat_le 1 tries) (nat_le tries 3) (le-leb 1 tries h.0) (le-leb tries 3 h.1)
+from-tries (Some (Use usage)) tries h = and_from (nat_le 1 tries) (nat_le tries 3) (le-leb 1 tries h.0) (le-leb tries 3 h.1)
+from-tries (Some Delete) tries h = and_from (nat_le 1 tries) (nat_le tries 3) (le-leb 1 tries h.0) (le-leb tries 3 h.1)
+
+-- ---- a stop that wasn't tried
+
+-- by the tests
+pub tried-from : (goal : Option Goal) (tries : ℕ) (entries : List NodeEntry) → is_tried goal tries entries ≡ true → tries ≡ 0 → IsUntried goal (map node_entry_shown entries)
+tried-from None tries entries h none = tt
+tried-from (Some Create) tries entries h none = tt
+tried-from (Some (Use usage)) tries entries h none = tt
+tried-from (Some Delete) tries entries h none = tt
+tried-from (Some (Stop node target)) tries entries h none = λ entry found.
+    by (find (λ (e : NodeEntry). same_text e.node node) entries) (untargeted (either-from (nat_le 1 tries) (is_untargeted (find (λ (e : NodeEntry). same_text e.node node) entries)) h)) entry
+    (sym (find-of_map (λ (e : NodeEntryShown). same_text e.node node) node_entry_shown entries) ∙ found)
+  where
+    untargeted : (nat_le 1 tries ≡ true) ⊎ (is_untargeted (find (λ (e : NodeEntry). same_text e.node node) entries) ≡ true) → is_untargeted (find (λ (e : NodeEntry). same_text e.node node) entries) ≡ true
+    untargeted (inl some) = let more = leb-true 1 tries some in absurd (omega (arith, more, none))
+    untargeted (inr e) = e
+
+    by : (o : Option NodeEntry) → is_untargeted o ≡ true → (entry : NodeEntryShown) → option_map node_entry_shown o ≡ Some entry → entry.target_entries ≡ []
+    by None e entry f = absurd (none-some entry f)
+    by (Some own) e entry f = sym (ap (λ (s : NodeEntryShown). s.target_entries) (same_Some (node_entry_shown own) entry f)) ∙ empty-from own.target_entries.items e
+
+-- and back
+pub from-tried : (goal : Option Goal) (tries : ℕ) (entries : List NodeEntry) → (tries ≡ 0 → IsUntried goal (map node_entry_shown entries)) → is_tried goal tries entries ≡ true
+from-tried None tries entries untried = refl
+from-tried (Some Create) tries entries untried = refl
+from-tried (Some (Use usage)) tries entries untried = refl
+from-tried (Some Delete) tries entries untried = refl
+from-tried (Some (Stop node target)) zero entries untried =
+    by (find (λ (e : NodeEntry). same_text e.node node) entries) (λ own e. untried refl (node_entry_shown own) (find-of_map (λ (s : NodeEntryShown). same_text s.node node) node_entry_shown entries ∙ ap (option_map node_entry_shown) e)) refl
+  where
+    by : (o : Option NodeEntry) → ((own : NodeEntry) → find (λ (e : NodeEntry). same_text e.node node) entries ≡ Some own → own.target_entries.items ≡ []) → find (λ (e : NodeEntry). same_text e.node node) entries ≡ o → is_untargeted o ≡ true
+    by None f e = refl
+    by (Some own) f e = ap (λ (ts : List TargetEntry). length ts == 0) (f own e)
+from-tried (Some (Stop node target)) (suc tries) entries untried = first-passes (nat_le 1 (suc tries)) (is_untargeted (find (λ (e : NodeEntry). same_text e.node node) entries)) (le-leb 1 (suc tries) (omega arith))

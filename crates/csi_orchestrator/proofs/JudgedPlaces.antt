@@ -1,8 +1,9 @@
 -- The tests of what is on the way are passed exactly where it is so.
-use Rattle.std.proofs.Common.{◌≡◌, ℕ, length, map, Bool, true, false, cond, not, List, [], ◌∷◌, ◌++◌, refl, sym, ◌∙◌, ap, arith}
-use Rattle.std.specs.Prelude.{Option, Some, None, is_some, is_none, ◌==◌, ◌&&◌, ◌||◌, nat_le}
+use Rattle.std.proofs.Common.{◌≡◌, ℕ, length, map, Bool, true, false, cond, not, List, [], ◌∷◌, ◌++◌, refl, sym, ap, inl, inr, arith}
+use Rattle.std.specs.Prelude.{◌⊎◌, Option, Some, None, is_some, is_none, ◌==◌, ◌&&◌, ◌||◌, nat_le}
 use Rattle.std.specs.List.{AllByRecursion, list_all}
-use Rattle.std.proofs.lemmas.Bool.{and_parts, eqb-true, false≢true}
+use Rattle.std.proofs.lemmas.Bool.{and_parts, false≢true, leb-true}
+use Rattle.std.proofs.lemmas.List.{length-map}
 use Rattle.csi_types.proofs.Equality.{same_text-tells, same_capability-tells}
 use Rattle.csi_types.specs.Model.Same.{same_text, same_flag, same_capability}
 use Rattle.csi_orchestrator.specs.declared.row.Goal.{Goal}
@@ -16,9 +17,9 @@ use Rattle.csi_orchestrator.specs.declared.thing.Known.TheVariants.{Yes, No, May
 use Rattle.csi_orchestrator.specs.Model.Shown.{NodeEntryShown}
 use Rattle.csi_orchestrator.specs.Model.Thing.{is_yes}
 use Rattle.csi_orchestrator.specs.Public.Shown.{node_entry_shown, row_shown}
-use Rattle.csi_orchestrator.specs.Private.Judging.{is_published, is_settled, is_way, is_at_target, stops_here, uses_here, is_stop_on_the_way, is_use_on_the_way, fits_life, has_tries, are_entries_fit, is_restorable}
-use Rattle.csi_orchestrator.specs.Public.Restored.{IsPublished, IsSettled, HasPlace, IsOnTheWay, IsStopOnTheWay, IsUseOnTheWay, FitsLife, IsRestorable}
-use Rattle.csi_orchestrator.proofs.Judged.{yes-from, all-from, all-shown, settled-from, entries-from, tries-from}
+use Rattle.csi_orchestrator.specs.Private.Judging.{is_published, is_left, is_resting, is_way, is_at_target, stops_here, uses_here, is_stop_on_the_way, is_use_on_the_way, fits_life, has_tries, is_tried, are_entries_fit, is_restorable}
+use Rattle.csi_orchestrator.specs.Public.Restored.{IsPublished, IsResting, HasPlace, IsOnTheWay, IsStopOnTheWay, IsStopOfLeft, IsUseOnTheWay, FitsLife, IsRestorable}
+use Rattle.csi_orchestrator.proofs.Judged.{yes-from, all-from, all-shown, resting-from, left-from, either-from, empty-from, entries-from, tries-from, tried-from}
 
 -- ---- the way
 
@@ -28,11 +29,6 @@ way-from first last alone Maybe No No h f = f h
 way-from first last alone Yes Maybe No h f = f h
 way-from first last alone Yes Yes Maybe h f = tt
 way-from first last alone attached staged published h f = absurd (false≢true h)
-
--- a list of no length
-empty-from : {X : Type 0} (xs : List X) → (length xs == 0) ≡ true → xs ≡ []
-empty-from [] h = refl
-empty-from (x ∷ xs) h = let long : length (x ∷ xs) ≡ 0 = eqb-true (length (x ∷ xs)) 0 h in absurd (omega arith)
 
 -- ---- a target
 
@@ -107,12 +103,12 @@ found-from must attached staged target first (t ∷ later) h = by (same_text t.t
 
 -- ---- an entry
 
--- all entries that pass are settled
-settled-all : (entries : List NodeEntry) → list_all is_settled entries ≡ true → AllByRecursion IsSettled (map node_entry_shown entries)
-settled-all entries h = all-shown node_entry_shown is_settled IsSettled entries settled-from h
+-- at all entries that pass nothing is on the way
+resting-all : (entries : List NodeEntry) → list_all is_resting entries ≡ true → AllByRecursion IsResting (map node_entry_shown entries)
+resting-all entries h = all-shown node_entry_shown is_resting IsResting entries resting-from h
 
 -- the place of a target at an entry among others
-abbrev place-from : (must : Bool) (entry : NodeEntry) (node target : List ℕ) (front rear entries : List NodeEntryShown) → entries ≡ front ++ node_entry_shown entry ∷ rear → AllByRecursion IsSettled front → AllByRecursion IsSettled rear
+abbrev place-from : (must : Bool) (entry : NodeEntry) (node target : List ℕ) (front rear entries : List NodeEntryShown) → entries ≡ front ++ node_entry_shown entry ∷ rear → AllByRecursion IsResting front → AllByRecursion IsResting rear
     → entry.node ≡ node → Found must entry.attached entry.staged target true entry.target_entries.items → HasPlace entries node target
 place-from must entry node target front rear entries is before after of_node f =
     record {
@@ -126,8 +122,8 @@ place-from must entry node target front rear entries is before after of_node f =
       targets_are = f.targets_are;
       of_node = of_node;
       of_target = f.of_target;
-      settled_front = before;
-      settled_rear = after;
+      resting_front = before;
+      resting_rear = after;
       published_first = f.before;
       published_last = f.after;
     }
@@ -139,12 +135,12 @@ record Standing (P : NodeEntry → List NodeEntry → Type 0) (node : List ℕ) 
   pub rear : List NodeEntry
   pub entries_are : map node_entry_shown entries ≡ front ++ node_entry_shown entry ∷ map node_entry_shown rear
   pub of_node : entry.node ≡ node
-  pub before : AllByRecursion IsSettled front
-  pub after : AllByRecursion IsSettled (map node_entry_shown rear)
+  pub before : AllByRecursion IsResting front
+  pub after : AllByRecursion IsResting (map node_entry_shown rear)
   pub own : P entry rear
 
 -- one more entry in front
-stands-behind : (P : NodeEntry → List NodeEntry → Type 0) (node : List ℕ) (x : NodeEntry) (later : List NodeEntry) → is_settled x ≡ true → Standing P node later → Standing P node (x ∷ later)
+stands-behind : (P : NodeEntry → List NodeEntry → Type 0) (node : List ℕ) (x : NodeEntry) (later : List NodeEntry) → is_resting x ≡ true → Standing P node later → Standing P node (x ∷ later)
 stands-behind P node x later settled s =
     record {
       front = node_entry_shown x ∷ s.front;
@@ -152,64 +148,67 @@ stands-behind P node x later settled s =
       rear = s.rear;
       entries_are = ap (λ (es : List NodeEntryShown). node_entry_shown x ∷ es) s.entries_are;
       of_node = s.of_node;
-      before = (settled-from x settled, s.before);
+      before = (resting-from x settled, s.before);
       after = s.after;
       own = s.own;
     }
 
 -- none in front
-stands-first : (P : NodeEntry → List NodeEntry → Type 0) (node : List ℕ) (x : NodeEntry) (later : List NodeEntry) → same_text x.node node ≡ true → list_all is_settled later ≡ true → P x later → Standing P node (x ∷ later)
+stands-first : (P : NodeEntry → List NodeEntry → Type 0) (node : List ℕ) (x : NodeEntry) (later : List NodeEntry) → same_text x.node node ≡ true → list_all is_resting later ≡ true → P x later → Standing P node (x ∷ later)
 stands-first P node x later same settled own =
-    record { front = []; entry = x; rear = later; entries_are = refl; of_node = (same_text-tells x.node node).0 same; before = tt; after = settled-all later settled; own = own }
+    record { front = []; entry = x; rear = later; entries_are = refl; of_node = (same_text-tells x.node node).0 same; before = tt; after = resting-all later settled; own = own }
 
 -- the walk of a stop
 stop-stands : (node target : List ℕ) (entries : List NodeEntry) → is_stop_on_the_way node target entries ≡ true → Standing (λ entry rear. stops_here target entry ≡ true) node entries
 stop-stands node target [] h = absurd (false≢true h)
 stop-stands node target (x ∷ later) h = by (same_text x.node node) refl h (λ e. stop-stands node target later e)
   where
-    by : (b : Bool) → same_text x.node node ≡ b → cond b (stops_here target x && list_all is_settled later) (is_settled x && is_stop_on_the_way node target later) ≡ true → (is_stop_on_the_way node target later ≡ true → Standing (λ entry rear. stops_here target entry ≡ true) node later)
+    by : (b : Bool) → same_text x.node node ≡ b → cond b (stops_here target x && list_all is_resting later) (is_resting x && is_stop_on_the_way node target later) ≡ true → (is_stop_on_the_way node target later ≡ true → Standing (λ entry rear. stops_here target entry ≡ true) node later)
         → Standing (λ entry rear. stops_here target entry ≡ true) node (x ∷ later)
     by true e k rest =
-        let parts = and_parts (stops_here target x) (list_all is_settled later) k in
+        let parts = and_parts (stops_here target x) (list_all is_resting later) k in
         stands-first (λ entry rear. stops_here target entry ≡ true) node x later e parts.1 parts.0
     by false e k rest =
-        let parts = and_parts (is_settled x) (is_stop_on_the_way node target later) k in
+        let parts = and_parts (is_resting x) (is_stop_on_the_way node target later) k in
         stands-behind (λ entry rear. stops_here target entry ≡ true) node x later parts.0 (rest parts.1)
 
 -- the walk of a use
-use-stands : (usage : Usage) (entries : List NodeEntry) → is_use_on_the_way usage entries ≡ true → Standing (λ entry rear. uses_here usage (length rear == 0) entry ≡ true) usage.node entries
+use-stands : (usage : Usage) (entries : List NodeEntry) → is_use_on_the_way usage entries ≡ true → Standing (λ entry rear. uses_here usage entry ≡ true) usage.node entries
 use-stands usage [] h = absurd (false≢true h)
 use-stands usage (x ∷ later) h = by (same_text x.node usage.node) refl h (λ e. use-stands usage later e)
   where
-    by : (b : Bool) → same_text x.node usage.node ≡ b → cond b (uses_here usage (length later == 0) x && list_all is_settled later) (is_settled x && is_use_on_the_way usage later) ≡ true → (is_use_on_the_way usage later ≡ true → Standing (λ entry rear. uses_here usage (length rear == 0) entry ≡ true) usage.node later)
-        → Standing (λ entry rear. uses_here usage (length rear == 0) entry ≡ true) usage.node (x ∷ later)
+    by : (b : Bool) → same_text x.node usage.node ≡ b → cond b (uses_here usage x && list_all is_resting later) (is_resting x && is_use_on_the_way usage later) ≡ true → (is_use_on_the_way usage later ≡ true → Standing (λ entry rear. uses_here usage entry ≡ true) usage.node later)
+        → Standing (λ entry rear. uses_here usage entry ≡ true) usage.node (x ∷ later)
     by true e k rest =
-        let parts = and_parts (uses_here usage (length later == 0) x) (list_all is_settled later) k in
-        stands-first (λ entry rear. uses_here usage (length rear == 0) entry ≡ true) usage.node x later e parts.1 parts.0
+        let parts = and_parts (uses_here usage x) (list_all is_resting later) k in
+        stands-first (λ entry rear. uses_here usage entry ≡ true) usage.node x later e parts.1 parts.0
     by false e k rest =
-        let parts = and_parts (is_settled x) (is_use_on_the_way usage later) k in
-        stands-behind (λ entry rear. uses_here usage (length rear == 0) entry ≡ true) usage.node x later parts.0 (rest parts.1)
+        let parts = and_parts (is_resting x) (is_use_on_the_way usage later) k in
+        stands-behind (λ entry rear. uses_here usage entry ≡ true) usage.node x later parts.0 (rest parts.1)
 
 -- a stop
-stop-from : (node target : List ℕ) (entries : List NodeEntry) → is_stop_on_the_way node target entries ≡ true → IsStopOnTheWay (map node_entry_shown entries) node target
-stop-from node target entries h =
-    let s = stop-stands node target entries h in
-    let f = found-from false (s.entry).attached (s.entry).staged target true (s.entry).target_entries.items s.own in
-    record {
-      place = place-from false s.entry node target s.front (map node_entry_shown s.rear) (map node_entry_shown entries) s.entries_are s.before s.after s.of_node f;
-      way = way-from f.front f.rear f.alone (s.entry).attached (s.entry).staged (f.target_entry).published f.way (λ e. ((f.is_alone e).1, (f.is_alone e).2));
-    }
+stop-from : (node target : List ℕ) (entries : List NodeEntry) → is_stop_on_the_way node target entries ≡ true → IsStopOnTheWay (map node_entry_shown entries) node target ⊎ IsStopOfLeft (map node_entry_shown entries) node
+stop-from node target entries h = by (either-from (is_left s.entry) (is_at_target false (s.entry).attached (s.entry).staged target true (s.entry).target_entries.items) s.own)
+  where
+    s : Standing (λ entry rear. stops_here target entry ≡ true) node entries
+    s = stop-stands node target entries h
+
+    by : (is_left s.entry ≡ true) ⊎ (is_at_target false (s.entry).attached (s.entry).staged target true (s.entry).target_entries.items ≡ true) → IsStopOnTheWay (map node_entry_shown entries) node target ⊎ IsStopOfLeft (map node_entry_shown entries) node
+    by (inl left) =
+        inr (record { front = s.front; entry = node_entry_shown s.entry; rear = map node_entry_shown s.rear; entries_are = s.entries_are; of_node = s.of_node; left = left-from s.entry left; resting_front = s.before; resting_rear = s.after })
+    by (inr at) =
+        let f = found-from false (s.entry).attached (s.entry).staged target true (s.entry).target_entries.items at in
+        inl
+        (record {
+          place = place-from false s.entry node target s.front (map node_entry_shown s.rear) (map node_entry_shown entries) s.entries_are s.before s.after s.of_node f;
+          way = way-from f.front f.rear f.alone (s.entry).attached (s.entry).staged (f.target_entry).published f.way (λ e. ((f.is_alone e).1, (f.is_alone e).2));
+        })
 
 -- the same flag
 flag-from : (a b : Bool) → same_flag a b ≡ true → a ≡ b
 flag-from true b h = sym h
 flag-from false true h = absurd (false≢true h)
 flag-from false false h = refl
-
--- the first of two, where the second fails
-or-first : (a b : Bool) → (a || b) ≡ true → b ≡ false → a ≡ true
-or-first true b h e = refl
-or-first false b h e = absurd (false≢true (sym e ∙ h))
 
 -- a use
 use-from : (usage : Usage) (entries : List NodeEntry) → is_use_on_the_way usage entries ≡ true → IsUseOnTheWay (map node_entry_shown entries) usage
@@ -219,9 +218,7 @@ use-from usage entries h =
     let at = is_at_target true (s.entry).attached (s.entry).staged usage.target true targets in
     let capable = same_capability (s.entry).capability usage.capability in
     let flagged = same_flag (s.entry).readonly usage.readonly in
-    let last = (length s.rear == 0) || nat_le 2 (length targets) in
-    let one = and_parts last (capable && (flagged && at)) s.own in
-    let two = and_parts capable (flagged && at) one.1 in
+    let two = and_parts capable (flagged && at) s.own in
     let three = and_parts flagged at two.1 in
     let f = found-from true (s.entry).attached (s.entry).staged usage.target true targets three.1 in
     record {
@@ -230,9 +227,6 @@ use-from usage entries h =
       as_capable = (same_capability-tells (s.entry).capability usage.capability).0 two.0;
       as_flagged = flag-from (s.entry).readonly usage.readonly three.0;
       last_target = f.is_last refl;
-      last_node = λ none.
-          let long : length targets ≡ 1 = ap length f.targets_are ∙ ap (λ (ts : List TargetEntry). length (ts ++ f.target_entry ∷ f.rear)) none ∙ ap (λ (ts : List TargetEntry). length (f.target_entry ∷ ts)) (f.is_last refl) in
-          ap (map node_entry_shown) (empty-from s.rear (or-first (length s.rear == 0) (nat_le 2 (length targets)) one.0 (ap (nat_le 2) long)));
     }
 
 -- ---- a row
@@ -246,7 +240,7 @@ life-from : (entries : List NodeEntry) (id : Option ℕ) (exists : Known) (goal 
 life-from entries None Yes None h = absurd (false≢true h)
 life-from entries None No None h = absurd (false≢true h)
 life-from entries None Maybe None h = empty-shown entries h
-life-from entries (Some id) Yes None h = settled-all entries h
+life-from entries (Some id) Yes None h = resting-all entries h
 life-from entries (Some id) No None h = empty-shown entries h
 life-from entries (Some id) Maybe None h = absurd (false≢true h)
 life-from entries None Yes (Some Create) h = absurd (false≢true h)
@@ -286,13 +280,17 @@ restorable-from nodes row h =
     let life = fits_life row.goal (is_some row.id) row.exists entries in
     let fit = are_entries_fit nodes row.arguments entries in
     let tried = has_tries row.goal row.tries in
-    let one = and_parts (nat_le (length entries) (length nodes)) (is_none row.open_call && (tried && (fit && life))) h in
-    let two = and_parts (is_none row.open_call) (tried && (fit && life)) one.1 in
-    let three = and_parts tried (fit && life) two.1 in
-    let four = and_parts fit life three.1 in
+    let left = is_tried row.goal row.tries entries in
+    let one = and_parts (nat_le (length entries) 64) (is_none row.open_call && (tried && (left && (fit && life)))) h in
+    let two = and_parts (is_none row.open_call) (tried && (left && (fit && life))) one.1 in
+    let three = and_parts tried (left && (fit && life)) two.1 in
+    let own = and_parts left (fit && life) three.1 in
+    let four = and_parts fit life own.1 in
     record {
       quiet = none-from row.open_call two.0;
       tries = tries-from row.goal row.tries three.0;
+      untried = tried-from row.goal row.tries entries own.0;
       life = life-from entries row.id row.exists row.goal four.1;
       entries = entries-from nodes row.arguments entries four.0;
+      few = let long = length-map entries node_entry_shown in let few = leb-true (length entries) 64 one.0 in omega (arith, long, few);
     }

@@ -1,9 +1,8 @@
 -- Why each entry of a row stays one that is allowed, and any two of them stay such that the volume may be held by both.
 use Rattle.std.proofs.Common.{◌≡◌, ◌≤◌, ℕ, List, [], ◌∷◌, ◌++◌, Bool, true, false, cond, not, length, map, refl, sym, ◌∙◌, ap, subst, inl, inr, arith}
-use Rattle.std.specs.Prelude.{Option, Some, None, find, is_some, ◌&&◌, ◌||◌}
-use Rattle.std.specs.List.{AllByRecursion, list_any}
-use Rattle.std.proofs.lemmas.Bool.{false≢true, or_parts}
-use Rattle.std.proofs.lemmas.Option.{none-some}
+use Rattle.std.specs.Prelude.{Option, Some, None, is_some, ◌&&◌, ◌||◌}
+use Rattle.std.specs.List.{AllByRecursion}
+use Rattle.std.proofs.lemmas.List.{length-append}
 use Rattle.csi_lists.specs.Model.Members.{IsAmong, EachTwo}
 use Rattle.csi_lists.proofs.Each.{each-filter, each-map, each-weaker}
 use Rattle.csi_lists.proofs.Filters.{filter-no_longer}
@@ -20,7 +19,6 @@ use Rattle.csi_orchestrator.specs.declared.row.Goal.TheVariants.{Use, Stop}
 use Rattle.csi_orchestrator.specs.declared.row.TargetEntry.{TargetEntry}
 use Rattle.csi_orchestrator.specs.declared.request.Usage.{Usage}
 use Rattle.csi_orchestrator.specs.declared.thing.Known.{Known}
-use Rattle.csi_orchestrator.specs.declared.thing.Known.TheVariants.{Yes}
 use Rattle.csi_orchestrator.specs.Model.Thing.{is_no}
 use Rattle.csi_orchestrator.specs.Model.Commands.{is_for_one_node, uses_as_second_writer}
 use Rattle.csi_orchestrator.specs.Model.History.{Held}
@@ -28,14 +26,15 @@ use Rattle.csi_orchestrator.specs.Model.Shown.{NodeEntryShown, RowShown, node_en
 use Rattle.csi_orchestrator.specs.Private.Keyed.{change_by, put_by}
 use Rattle.csi_orchestrator.specs.Private.RowChanges.{Aspect, Existence, Attachment, Staging, Publication, node_marked, marked_at, at_goal, nodes_marked, is_target_kept, with_kept_targets, is_node_kept, tidied_entries, new_target_entry, with_target, entry_for, with_entry}
 use Rattle.csi_orchestrator.specs.Private.RowRefusals.{is_entry_otherwise}
-use Rattle.csi_orchestrator.specs.Public.Steady.{IsInUse, IsAllowed, CanBeBeside}
+use Rattle.csi_orchestrator.specs.Public.Steady.{IsAtRest, IsAllowed, CanBeBeside}
 use Rattle.csi_orchestrator.specs.Public.RowDue.{others_in}
 use Rattle.csi_orchestrator.specs.Public.RowRefusals.{is_so_elsewhere, has_elsewhere}
 use Rattle.csi_orchestrator.specs.Public.Sound.{AreNodesApart}
-use Rattle.csi_orchestrator.proofs.BoundsStay.{change-long}
+use Rattle.csi_orchestrator.proofs.EntriesBounded.{change-long}
 use Rattle.csi_orchestrator.proofs.EntryRules.{each-change, each-put}
 use Rattle.csi_orchestrator.proofs.JoinedLists.{own-entry}
-use Rattle.csi_orchestrator.proofs.KeptUses.{held-as_is}
+use Rattle.csi_orchestrator.proofs.KeptInUse.{rest-attached}
+use Rattle.csi_orchestrator.proofs.KeptUses.{no-others, held-as_is}
 use Rattle.csi_orchestrator.proofs.UseRules.{held-for}
 
 -- ---- two entries
@@ -168,30 +167,24 @@ pub record IsAdmitted (usage : Usage) (row : RowShown) : Type 0 where
   pub alike : is_entry_otherwise usage (node_entry_of row usage.node) ≡ false
   pub target : allows_one_target usage.capability.mode ≡ true → others_in usage.target (node_entry_of row usage.node) ≡ false
 
--- an entry in use that isn't held otherwise has the capability and the flag of the use
-used-alike : (usage : Usage) (entry : NodeEntryShown) → IsInUse entry → is_entry_otherwise usage (Some entry) ≡ false → (entry.capability ≡ usage.capability) × (entry.readonly ≡ usage.readonly)
+-- an entry that may be attached and isn't held otherwise has the capability and the flag of the use
+used-alike : (usage : Usage) (entry : NodeEntryShown) → IsAtRest entry → is_entry_otherwise usage (Some entry) ≡ false → (entry.capability ≡ usage.capability) × (entry.readonly ≡ usage.readonly)
 used-alike usage entry used alike =
-    let same = held-as_is usage entry used.attached in
+    let same = held-as_is usage entry (rest-attached entry used) in
     let held = held-for usage entry alike in
     (sym (ap (λ (e : NodeEntryShown). e.capability) same) ∙ held.as_capable, sym (ap (λ (e : NodeEntryShown). e.readonly) same) ∙ held.as_flagged)
 
--- a list of targets that all are published, with none but this one, and without this one, is empty
-no-others : (target : List ℕ) (ts : List TargetEntry) → AllByRecursion (λ (t : TargetEntry). t.published ≡ Yes) ts → find (λ (t : TargetEntry). same_text t.target target) ts ≡ None
-    → list_any (λ (t : TargetEntry). not (same_text t.target target) && not (is_no t.published)) ts ≡ false → ts ≡ []
-no-others target [] all none others = refl
-no-others target (t ∷ ts) all none others = absurd (by (same_text t.target target) none (or_parts (not (same_text t.target target) && not (is_no t.published)) _ others).0)
-  where
-    by : (b : Bool) → cond b (Some t) (find (λ (t : TargetEntry). same_text t.target target) ts) ≡ None → (not b && not (is_no t.published)) ≡ false → ⊥
-    by true e f = none-some t (sym e)
-    by false e f = false≢true (sym f ∙ ap (λ k. not (is_no k)) all.0)
-
 -- where the mode allows one target, there is one once the use's own has its entry
-one-targeted : (target : List ℕ) (entry : NodeEntryShown) → IsInUse entry → length entry.target_entries ≤ 1 → others_in target (Some entry) ≡ false → length (with_target target entry.target_entries) ≤ 1
+one-targeted : (target : List ℕ) (entry : NodeEntryShown) → IsAtRest entry → length entry.target_entries ≤ 1 → others_in target (Some entry) ≡ false → length (with_target target entry.target_entries) ≤ 1
 one-targeted target entry used few others = by (target_entry_of entry target) refl
   where
     by : (o : Option TargetEntry) → target_entry_of entry target ≡ o → length (cond (is_some o) entry.target_entries (entry.target_entries ++ new_target_entry target ∷ [])) ≤ 1
     by (Some t) e = few
-    by None e = absurd (used.some (no-others target entry.target_entries used.published e others))
+    by None e = let long = length-append entry.target_entries (new_target_entry target ∷ []) in let none = ap length (empty used e) in omega (arith, long, none)
+      where
+        empty : IsAtRest entry → target_entry_of entry target ≡ None → entry.target_entries ≡ []
+        empty (inl own) f = no-others target entry.target_entries own.published f others
+        empty (inr left) f = left.targets
 
 -- the entry for a use is allowed, and held as the use asks
 record IsAdmittedEntry (usage : Usage) (capabilities : List Capability) (entry : NodeEntryShown) : Type 0 where
@@ -201,7 +194,7 @@ record IsAdmittedEntry (usage : Usage) (capabilities : List Capability) (entry :
   pub allowed : IsAllowed capabilities entry
 
 -- so is the one that a row has or gets
-admitted-entry : (usage : Usage) (row : RowShown) → IsAdmitted usage row → AllByRecursion IsInUse row.node_entries → AreFit row.arguments.capabilities row.node_entries
+admitted-entry : (usage : Usage) (row : RowShown) → IsAdmitted usage row → AllByRecursion IsAtRest row.node_entries → AreFit row.arguments.capabilities row.node_entries
     → IsAdmittedEntry usage row.arguments.capabilities (entry_for usage (node_entry_of row usage.node))
 admitted-entry usage row admitted all fit = by (node_entry_of row usage.node) refl admitted.alike admitted.target
   where
@@ -210,10 +203,10 @@ admitted-entry usage row admitted all fit = by (node_entry_of row usage.node) re
     by None e alike one = record { at_node = refl; as_capable = refl; as_flagged = refl; allowed = record { capable = admitted.capable; one_target = λ allows. omega arith } }
     by (Some entry) e alike one =
         let among = among-find (λ (p : NodeEntryShown). same_text p.node usage.node) row.node_entries entry e in
-        let used = each_of IsInUse row.node_entries entry all among in
+        let used = each_of IsAtRest row.node_entries entry all among in
         let own = each_of (IsAllowed row.arguments.capabilities) row.node_entries entry fit.allowed among in
         let same = used-alike usage entry used alike in
-        subst (λ (h : NodeEntryShown). IsAdmittedEntry usage row.arguments.capabilities (record h { target_entries = with_target usage.target entry.target_entries })) (sym (held-as_is usage entry used.attached))
+        subst (λ (h : NodeEntryShown). IsAdmittedEntry usage row.arguments.capabilities (record h { target_entries = with_target usage.target entry.target_entries })) (sym (held-as_is usage entry (rest-attached entry used)))
         (record {
           at_node = (same_text-tells entry.node usage.node).0 (find-passes (λ (p : NodeEntryShown). same_text p.node usage.node) row.node_entries entry e);
           as_capable = same.0;
@@ -226,13 +219,13 @@ admitted-entry usage row admitted all fit = by (node_entry_of row usage.node) re
         })
 
 -- a test that no entry of another node passes
-elsewhere-free : (so : Held → Bool) (node : List ℕ) (row : RowShown) (entry : NodeEntryShown) → has_elsewhere so node row ≡ false → IsAmong entry row.node_entries → same_text entry.node node ≡ false → IsInUse entry → so (held_at entry) ≡ false
+elsewhere-free : (so : Held → Bool) (node : List ℕ) (row : RowShown) (entry : NodeEntryShown) → has_elsewhere so node row ≡ false → IsAmong entry row.node_entries → same_text entry.node node ≡ false → IsAtRest entry → so (held_at entry) ≡ false
 elsewhere-free so node row entry none among apart used =
-    sym (ap (λ b. not b && not (is_no entry.attached) && so (held_at entry)) apart ∙ ap (λ k. not (is_no k) && so (held_at entry)) used.attached)
+    sym (ap (λ b. not b && not (is_no entry.attached) && so (held_at entry)) apart ∙ ap (λ b. not b && so (held_at entry)) (rest-attached entry used))
     ∙ none-among (is_so_elsewhere so node) row.node_entries entry none among
 
 -- entries stay fit with the one for a use that is admitted
-pub fit-use : (usage : Usage) (row : RowShown) → IsAdmitted usage row → AreNodesApart row.node_entries → AllByRecursion IsInUse row.node_entries → AreFit row.arguments.capabilities row.node_entries
+pub fit-use : (usage : Usage) (row : RowShown) → IsAdmitted usage row → AreNodesApart row.node_entries → AllByRecursion IsAtRest row.node_entries → AreFit row.arguments.capabilities row.node_entries
     → AreFit row.arguments.capabilities (with_entry usage row).node_entries
 fit-use usage row admitted apart all fit =
     record {
@@ -249,7 +242,7 @@ fit-use usage row admitted apart all fit =
     same : (old : NodeEntryShown) → IsAmong old row.node_entries → old.node ≡ entry.node → (beside : NodeEntryShown) → CanBeBeside old beside → CanBeBeside entry beside
     same old among node beside can =
         let found : node_entry_of row usage.node ≡ Some old = ap (node_entry_of row) (sym (node ∙ own.at_node)) ∙ own-entry (λ (e : NodeEntryShown). e.node) row.node_entries old apart among in
-        let alike = used-alike usage old (each_of IsInUse row.node_entries old all among) (ap (is_entry_otherwise usage) (sym found) ∙ admitted.alike) in
+        let alike = used-alike usage old (each_of IsAtRest row.node_entries old all among) (ap (is_entry_otherwise usage) (sym found) ∙ admitted.alike) in
         record {
           several = ap (λ (c : Capability). is_single_node c.mode || is_single_node beside.capability.mode) (own.as_capable ∙ sym alike.0) ∙ can.several;
           one_writer =
@@ -259,7 +252,7 @@ fit-use usage row admitted apart all fit =
 
     other : (old : NodeEntryShown) → IsAmong old row.node_entries → same_text old.node entry.node ≡ false → CanBeBeside old entry
     other old among differs =
-        let used = each_of IsInUse row.node_entries old all among in
+        let used = each_of IsAtRest row.node_entries old all among in
         let apart_from : same_text old.node usage.node ≡ false = ap (same_text old.node) (sym own.at_node) ∙ differs in
         record {
           several = ap (λ (c : Capability). is_single_node old.capability.mode || is_single_node c.mode) own.as_capable ∙ elsewhere-free (is_for_one_node usage) usage.node row old admitted.one_node among apart_from used;

@@ -11,7 +11,7 @@ use Rattle.csi_orchestrator.specs.Model.Thing.{is_yes, is_no}
 use Rattle.csi_orchestrator.specs.Model.Shown.{NodeEntryShown, mark_in, publication_known}
 use Rattle.csi_orchestrator.specs.Private.RowChanges.{Attachment, Staging, Publication, node_marked}
 use Rattle.csi_orchestrator.specs.Public.Steady.{HasOne, IsAtWork, HasMarks}
-use Rattle.csi_orchestrator.proofs.BoundsStay.{change-long}
+use Rattle.csi_orchestrator.proofs.EntriesBounded.{change-long}
 use Rattle.csi_orchestrator.proofs.HasOnes.{one-found, one-change}
 
 -- the marks on the way to a use, or back from it

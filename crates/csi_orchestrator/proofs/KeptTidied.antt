@@ -1,7 +1,7 @@
--- Why each entry that is kept once a goal is dropped is in use.
+-- Why no goal is at work at the entries that are kept once a goal is dropped.
 use Rattle.std.proofs.Common.{◌≡◌, ◌≢◌, ℕ, List, [], ◌∷◌, Bool, true, false, cond, not, length, map, filter, refl, sym, ◌∙◌, ap, subst, inl, inr, arith}
 use Rattle.std.specs.Prelude.{Some, find, ◌&&◌}
-use Rattle.std.specs.List.{AllByRecursion}
+use Rattle.std.specs.List.{AllByRecursion, list_any}
 use Rattle.std.proofs.lemmas.Bool.{false≢true, and_parts}
 use Rattle.csi_lists.proofs.Each.{each-map, each-weaker}
 use Rattle.csi_lists.proofs.Filters.{filter-each, filter-no_one}
@@ -14,7 +14,7 @@ use Rattle.csi_orchestrator.specs.declared.thing.Known.TheVariants.{Yes, No, May
 use Rattle.csi_orchestrator.specs.Model.Thing.{is_yes, is_no}
 use Rattle.csi_orchestrator.specs.Model.Shown.{NodeEntryShown, publication_known}
 use Rattle.csi_orchestrator.specs.Private.RowChanges.{is_target_kept, with_kept_targets, has_targets, is_node_kept, tidied_entries}
-use Rattle.csi_orchestrator.specs.Public.Steady.{HasOne, HasMarks, IsInUse}
+use Rattle.csi_orchestrator.specs.Public.Steady.{HasOne, HasMarks, IsInUse, IsLeftSo, IsAtRest}
 use Rattle.csi_orchestrator.specs.Public.RowDue.{others_in}
 use Rattle.csi_orchestrator.proofs.HasOnes.{one-each}
 use Rattle.csi_orchestrator.proofs.KeptMarks.{IsOnWay, then-alone, known-there}
@@ -34,9 +34,9 @@ each-if_kept P q (x ∷ xs) all = by (q x) refl (each-if_kept P q xs all.1)
     by true e rest = (all.0 e, rest)
     by false e rest = rest
 
--- it is in use once its targets are tidied, if it is kept
-abbrev IsInUseIfKept : NodeEntryShown → Type 0
-IsInUseIfKept entry = is_node_kept (with_kept_targets entry) ≡ true → IsInUse (with_kept_targets entry)
+-- no goal is at work at it once its targets are tidied, if it is kept
+abbrev pub IsAtRestIfKept : NodeEntryShown → Type 0
+IsAtRestIfKept entry = is_node_kept (with_kept_targets entry) ≡ true → IsAtRest (with_kept_targets entry)
 
 -- an entry in use stays so
 use-kept : (entry : NodeEntryShown) → IsInUse entry → IsInUse (with_kept_targets entry)
@@ -50,35 +50,40 @@ use-kept entry used =
       some = λ none. used.some (sym same ∙ none);
     }
 
--- entries that are in use if they are kept are in use once they are tidied
-tidied : (entries : List NodeEntryShown) → AllByRecursion IsInUseIfKept entries → AllByRecursion IsInUse (tidied_entries entries)
-tidied entries all =
-    each-if_kept IsInUse is_node_kept (map with_kept_targets entries)
-    (each-map IsInUseIfKept (λ (entry : NodeEntryShown). is_node_kept entry ≡ true → IsInUse entry) with_kept_targets entries (λ entry own. own) all)
+-- so does what is left of a node that was lost
+rest-kept : (entry : NodeEntryShown) → IsAtRest entry → IsAtRest (with_kept_targets entry)
+rest-kept entry (inl used) = inl (use-kept entry used)
+rest-kept entry (inr left) = inr (record { attached = left.attached; staged = left.staged; targets = ap (filter is_target_kept) left.targets })
 
--- so are those that all are in use
-pub used-tidied : (entries : List NodeEntryShown) → AllByRecursion IsInUse entries → AllByRecursion IsInUse (tidied_entries entries)
-used-tidied entries all = tidied entries (each-weaker IsInUse IsInUseIfKept entries (λ entry used kept. use-kept entry used) all)
+-- entries at which no goal is at work, if they are kept, once they are tidied
+tidied : (entries : List NodeEntryShown) → AllByRecursion IsAtRestIfKept entries → AllByRecursion IsAtRest (tidied_entries entries)
+tidied entries all =
+    each-if_kept IsAtRest is_node_kept (map with_kept_targets entries)
+    (each-map IsAtRestIfKept (λ (entry : NodeEntryShown). is_node_kept entry ≡ true → IsAtRest entry) with_kept_targets entries (λ entry own. own) all)
+
+-- so are those that all are so
+pub used-tidied : (entries : List NodeEntryShown) → AllByRecursion IsAtRest entries → AllByRecursion IsAtRest (tidied_entries entries)
+used-tidied entries all = tidied entries (each-weaker IsAtRest IsAtRestIfKept entries (λ entry own kept. rest-kept entry own) all)
 
 -- so are those of which one is if it is kept
-pub one-tidied : (node target : List ℕ) (entries : List NodeEntryShown)
-    → ((entry : NodeEntryShown) → find (λ (other : NodeEntryShown). same_text other.node node) entries ≡ Some entry → HasMarks IsOnWay target entry → IsInUseIfKept entry)
-    → HasOne (λ (entry : NodeEntryShown). entry.node) node (HasMarks IsOnWay target) IsInUse entries → AllByRecursion IsInUse (tidied_entries entries)
-one-tidied node target entries f one =
-    tidied entries (one-each (λ (entry : NodeEntryShown). entry.node) node (HasMarks IsOnWay target) IsInUse IsInUseIfKept entries f (λ entry used kept. use-kept entry used) one)
+pub one-tidied : (node : List ℕ) (P : NodeEntryShown → Type 0) (entries : List NodeEntryShown)
+    → ((entry : NodeEntryShown) → find (λ (other : NodeEntryShown). same_text other.node node) entries ≡ Some entry → P entry → IsAtRestIfKept entry)
+    → HasOne (λ (entry : NodeEntryShown). entry.node) node P IsAtRest entries → AllByRecursion IsAtRest (tidied_entries entries)
+one-tidied node P entries f one =
+    tidied entries (one-each (λ (entry : NodeEntryShown). entry.node) node P IsAtRest IsAtRestIfKept entries f (λ entry own kept. rest-kept entry own) one)
 
 -- an entry whose target is published, as wanted
-pub met-used : (target : List ℕ) (entry : NodeEntryShown) → HasMarks IsOnWay target entry → is_yes entry.attached ≡ true → is_yes entry.staged ≡ true → is_yes (publication_known target entry) ≡ true → IsInUseIfKept entry
+pub met-used : (target : List ℕ) (entry : NodeEntryShown) → HasMarks IsOnWay target entry → is_yes entry.attached ≡ true → is_yes entry.staged ≡ true → is_yes (publication_known target entry) ≡ true → IsAtRestIfKept entry
 met-used target entry has attached staged published kept =
     let own : has.published ≡ Yes = yes-is has.published (sym (ap is_yes (known-there IsOnWay target entry has)) ∙ published) in
-    use-kept entry (record {
+    inl (use-kept entry (record {
       attached = yes-is entry.attached attached;
       staged = yes-is entry.staged staged;
       published =
           one-each (λ (t : TargetEntry). t.target) target (λ (t : TargetEntry). t.published ≡ has.published) (λ (t : TargetEntry). t.published ≡ Yes) (λ (t : TargetEntry). t.published ≡ Yes) entry.target_entries
           (λ t found is. is ∙ own) (λ t is. is) has.targets;
       some = λ none. subst (HasOne (λ (t : TargetEntry). t.target) target (λ (t : TargetEntry). t.published ≡ has.published) (λ (t : TargetEntry). t.published ≡ Yes)) none has.targets;
-    })
+    }))
 
 -- what is staged is attached
 staged-attached : (a s p : Known) → s ≡ Yes → IsOnWay a s p → a ≡ Yes
@@ -87,10 +92,10 @@ staged-attached Maybe s p e w = absurd (subst (λ k. IsOnWay Maybe k p) e w)
 staged-attached No s p e w = absurd (subst (λ k. IsOnWay No k p) e w)
 
 -- an entry whose target isn't published any more, beside others
-pub left-used : (target : List ℕ) (entry : NodeEntryShown) → HasMarks IsOnWay target entry → is_no (publication_known target entry) ≡ true → others_in target (Some entry) ≡ true → IsInUseIfKept entry
+pub left-used : (target : List ℕ) (entry : NodeEntryShown) → HasMarks IsOnWay target entry → is_no (publication_known target entry) ≡ true → others_in target (Some entry) ≡ true → IsAtRestIfKept entry
 left-used target entry has unpublished others kept =
     let staged = by entry.staged refl in
-    record { attached = staged-attached entry.attached entry.staged has.published staged has.marks; staged = staged; published = published; some = some }
+    inl (record { attached = staged-attached entry.attached entry.staged has.published staged has.marks; staged = staged; published = published; some = some })
   where
     by : (k : Known) → entry.staged ≡ k → entry.staged ≡ Yes
     by Yes e = e
@@ -121,7 +126,7 @@ none-left target mark (t ∷ []) (inr later) unpublished long = absurd later.2
 none-left target mark (t ∷ u ∷ us) one unpublished long = absurd (omega (arith, long))
 
 -- an entry of which nothing is so any more isn't kept
-pub gone-used : (target : List ℕ) (entry : NodeEntryShown) → HasMarks IsOnWay target entry → is_no (publication_known target entry) ≡ true → is_no entry.staged ≡ true → is_no entry.attached ≡ true → IsInUseIfKept entry
+pub gone-used : (target : List ℕ) (entry : NodeEntryShown) → HasMarks IsOnWay target entry → is_no (publication_known target entry) ≡ true → is_no entry.staged ≡ true → is_no entry.attached ≡ true → IsAtRestIfKept entry
 gone-used target entry has unpublished unstaged detached kept = absurd (false≢true (sym gone ∙ kept))
   where
     none : filter is_target_kept entry.target_entries ≡ []
@@ -133,3 +138,13 @@ gone-used target entry has unpublished unstaged detached kept = absurd (false≢
     gone =
         ap (λ b. not (b && is_no entry.staged && not (has_targets (filter is_target_kept entry.target_entries)))) detached
         ∙ ap (λ b. not (b && not (has_targets (filter is_target_kept entry.target_entries)))) unstaged ∙ ap (λ ts. not (not (has_targets ts))) none
+
+-- what is left of a node that was lost has no other target
+pub left-alone : (target : List ℕ) (So : Known → Type 0) (entry : NodeEntryShown) → IsLeftSo So entry → others_in target (Some entry) ≡ false
+left-alone target So entry left = ap (list_any (λ (t : TargetEntry). not (same_text t.target target) && not (is_no t.published))) left.targets
+
+-- it isn't kept once it is detached
+pub left-gone : (So : Known → Type 0) (entry : NodeEntryShown) → IsLeftSo So entry → is_no entry.attached ≡ true → IsAtRestIfKept entry
+left-gone So entry left detached kept =
+    absurd (false≢true (sym (ap (λ b. not (b && is_no entry.staged && not (has_targets (filter is_target_kept entry.target_entries)))) detached
+    ∙ ap (λ k. not (is_no k && not (has_targets (filter is_target_kept entry.target_entries)))) left.staged ∙ ap (λ ts. not (not (has_targets (filter is_target_kept ts)))) left.targets) ∙ kept))

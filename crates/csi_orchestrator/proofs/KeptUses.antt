@@ -1,7 +1,9 @@
 -- Why the marks at a goal's node may be as they are: where a use or a stop begins, and once a mark is set by the due call.
-use Rattle.std.proofs.Common.{◌≡◌, ℕ, List, [], ◌∷◌, ◌++◌, Bool, true, false, cond, refl, sym, ◌∙◌, ap, subst, inl}
-use Rattle.std.specs.Prelude.{Option, Some, None, is_some}
-use Rattle.std.specs.List.{AllByRecursion}
+use Rattle.std.proofs.Common.{◌≡◌, ◌≢◌, ℕ, List, [], ◌∷◌, ◌++◌, Bool, true, false, cond, not, refl, sym, ◌∙◌, ap, subst, inl, inr}
+use Rattle.std.specs.Prelude.{◌⊎◌, ◌&&◌, Option, Some, None, is_some, find}
+use Rattle.std.specs.List.{AllByRecursion, list_any}
+use Rattle.std.proofs.lemmas.Bool.{false≢true, and_parts, or_parts, not-true}
+use Rattle.std.proofs.lemmas.Option.{none-some}
 use Rattle.csi_lists.proofs.Members.{each_of, among-find}
 use Rattle.csi_lists.proofs.Searches.{find-passes}
 use Rattle.csi_types.specs.declared.call.Kind.{Kind}
@@ -19,17 +21,23 @@ use Rattle.csi_orchestrator.specs.Model.Thing.{is_yes, is_no}
 use Rattle.csi_orchestrator.specs.Model.Due.{Due}
 use Rattle.csi_orchestrator.specs.Model.Shown.{NodeEntryShown, RowShown, node_entry_of, target_entry_of, mark_in, publication_known}
 use Rattle.csi_orchestrator.specs.Private.RowChanges.{Aspect, Attachment, Staging, Publication, aspect_of, node_marked, marked_at, at_goal, nodes_marked, known_by_success_of, new_target_entry, with_target, held_as, entry_for, with_entry}
-use Rattle.csi_orchestrator.specs.Public.Steady.{HasOne, IsAtWork, HasMarks, IsInUse, AreMarked}
+use Rattle.csi_orchestrator.specs.Public.Steady.{HasOne, IsAtWork, HasMarks, IsInUse, IsLeftSo, IsLeft, IsAtRest, AreMarked}
 use Rattle.csi_orchestrator.specs.Public.RowDue.{others_in}
+use Rattle.csi_orchestrator.specs.Private.RowRefusals.{is_left}
 use Rattle.csi_orchestrator.specs.Public.Shown.{AreTargetsApart}
 use Rattle.csi_orchestrator.specs.Public.Sound.{AreNodesApart}
-use Rattle.csi_orchestrator.proofs.BoundsStay.{held-node}
+use Rattle.csi_orchestrator.proofs.EntriesBounded.{held-node}
 use Rattle.csi_orchestrator.proofs.DueCases.{IsDueFor, ToMake, ToRemove, ToAttach, ToStage, ToPublish, ToUnpublish, ToUnstage, ToDetach}
 use Rattle.csi_orchestrator.proofs.HasOnes.{one-change, one-of, one-last, one-put, one-weaker}
 use Rattle.csi_orchestrator.proofs.KeptMarks.{IsOnWay, work-way, attach-sent, attach-done, stage-sent, stage-done, publish-sent, publish-done, unpublish-sent, unpublish-done, unstage-sent, unstage-done, detach-sent, detach-done, alone-then, known-there, attachment-marked, staging-marked, publication-marked}
+use Rattle.csi_orchestrator.proofs.KeptInUse.{rest-attached}
 use Rattle.csi_orchestrator.proofs.KnownTests.{not_yes}
 use Rattle.csi_orchestrator.proofs.RowMarks.{node-stays, has-node-entry, has-target-entry}
 use Rattle.csi_orchestrator.proofs.TextLists.{text-same}
+
+-- whatever the mark is
+abbrev pub AnyMark : Known → Type 0
+AnyMark mark = Unit {0}
 
 -- ---- where it begins
 
@@ -64,9 +72,20 @@ targeted target entry used apart = by (target_entry_of entry target) refl
           alone = λ unstaged. absurd (unstaged used.staged);
         }
 
--- an entry that is attached is held as it was
-pub held-as_is : (usage : Usage) (entry : NodeEntryShown) → entry.attached ≡ Yes → held_as usage entry ≡ entry
-held-as_is usage entry attached = ap (λ k. cond (is_no k) (let e : NodeEntryShown = record entry { capability = usage.capability; readonly = usage.readonly } in e) entry) attached
+-- what is left of a node that was lost is on the way, once the target has its entry
+left-targeted : (target : List ℕ) (entry : NodeEntryShown) → IsLeft entry → HasMarks IsOnWay target (record entry { target_entries = with_target target entry.target_entries })
+left-targeted target entry left =
+    subst (λ ts. HasMarks IsOnWay target (record entry { target_entries = with_target target ts })) (sym left.targets)
+    (record { published = No; marks = subst (λ s. IsOnWay entry.attached s No) (sym left.staged) (on entry.attached left.attached); targets = inl (text-same target, refl, tt); alone = λ unstaged. refl })
+  where
+    on : (a : Known) → a ≢ No → IsOnWay a No No
+    on Yes may = tt
+    on Maybe may = tt
+    on No may = tt
+
+-- an entry that may be attached is held as it was
+pub held-as_is : (usage : Usage) (entry : NodeEntryShown) → is_no entry.attached ≡ false → held_as usage entry ≡ entry
+held-as_is usage entry attached = ap (λ b. cond b (let e : NodeEntryShown = record entry { capability = usage.capability; readonly = usage.readonly } in e) entry) attached
 
 -- the entry for a use
 record Begins (usage : Usage) (entry : NodeEntryShown) : Type 0 where
@@ -74,50 +93,92 @@ record Begins (usage : Usage) (entry : NodeEntryShown) : Type 0 where
   pub marks : HasMarks IsOnWay usage.target entry
 
 -- a use begins
-pub use-begins : (usage : Usage) (row : RowShown) → AreNodesApart row.node_entries → AllByRecursion AreTargetsApart row.node_entries → AllByRecursion IsInUse row.node_entries
-    → AreMarked IsOnWay (Some (Use usage)) (with_entry usage row).node_entries
+pub use-begins : (usage : Usage) (row : RowShown) → AreNodesApart row.node_entries → AllByRecursion AreTargetsApart row.node_entries → AllByRecursion IsAtRest row.node_entries
+    → AreMarked IsOnWay AnyMark (Some (Use usage)) (with_entry usage row).node_entries
 use-begins usage row apart targets all =
-    subst (λ n. HasOne (λ (e : NodeEntryShown). e.node) n (HasMarks IsOnWay usage.target) IsInUse (with_entry usage row).node_entries) entry.at_node
-    (one-put (λ (e : NodeEntryShown). e.node) (HasMarks IsOnWay usage.target) IsInUse (entry_for usage (node_entry_of row usage.node)) row.node_entries apart all entry.marks)
+    subst (λ n. HasOne (λ (e : NodeEntryShown). e.node) n (HasMarks IsOnWay usage.target) IsAtRest (with_entry usage row).node_entries) entry.at_node
+    (one-put (λ (e : NodeEntryShown). e.node) (HasMarks IsOnWay usage.target) IsAtRest (entry_for usage (node_entry_of row usage.node)) row.node_entries apart all entry.marks)
   where
+    begun : (own : NodeEntryShown) → IsAtRest own → AreTargetsApart own → HasMarks IsOnWay usage.target (record own { target_entries = with_target usage.target own.target_entries })
+    begun own (inl used) apart = targeted usage.target own used apart
+    begun own (inr left) apart = left-targeted usage.target own left
+
     by : (o : Option NodeEntryShown) → node_entry_of row usage.node ≡ o → Begins usage (entry_for usage o)
     by None e = record { at_node = refl; marks = record { published = No; marks = tt; targets = inl (text-same usage.target, refl, tt); alone = λ unstaged. refl } }
     by (Some own) e =
         let among = among-find (λ (p : NodeEntryShown). same_text p.node usage.node) row.node_entries own e in
-        let used = each_of IsInUse row.node_entries own all among in
+        let rest = each_of IsAtRest row.node_entries own all among in
         record {
           at_node = held-node usage own ∙ (same_text-tells own.node usage.node).0 (find-passes (λ (p : NodeEntryShown). same_text p.node usage.node) row.node_entries own e);
           marks =
-              subst (λ (h : NodeEntryShown). HasMarks IsOnWay usage.target (record h { target_entries = with_target usage.target own.target_entries })) (sym (held-as_is usage own used.attached))
-              (targeted usage.target own used (each_of AreTargetsApart row.node_entries own targets among));
+              subst (λ (h : NodeEntryShown). HasMarks IsOnWay usage.target (record h { target_entries = with_target usage.target own.target_entries })) (sym (held-as_is usage own (rest-attached own rest)))
+              (begun own rest (each_of AreTargetsApart row.node_entries own targets among));
         }
 
     entry : Begins usage (entry_for usage (node_entry_of row usage.node))
     entry = by (node_entry_of row usage.node) refl
 
--- a stop begins
-pub stop-begins : (node target : List ℕ) (row : RowShown) → AreNodesApart row.node_entries → AllByRecursion AreTargetsApart row.node_entries → AllByRecursion IsInUse row.node_entries
-    → is_no (mark_in (publication_known target) (node_entry_of row node)) ≡ false → AreMarked IsOnWay (Some (Stop node target)) row.node_entries
-stop-begins node target row apart targets all maybe =
+-- a list of targets that all are published, with none but this one, and without this one, is empty
+pub no-others : (target : List ℕ) (ts : List TargetEntry) → AllByRecursion (λ (t : TargetEntry). t.published ≡ Yes) ts → find (λ (t : TargetEntry). same_text t.target target) ts ≡ None
+    → list_any (λ (t : TargetEntry). not (same_text t.target target) && not (is_no t.published)) ts ≡ false → ts ≡ []
+no-others target [] all none others = refl
+no-others target (t ∷ ts) all none others = absurd (by (same_text t.target target) none (or_parts (not (same_text t.target target) && not (is_no t.published)) _ others).0)
+  where
+    by : (b : Bool) → cond b (Some t) (find (λ (t : TargetEntry). same_text t.target target) ts) ≡ None → (not b && not (is_no t.published)) ≡ false → ⊥
+    by true e f = none-some t (sym e)
+    by false e f = false≢true (sym f ∙ ap (λ k. not (is_no k)) all.0)
+
+-- an entry in use is published at the target, or at another one
+used-published : (target : List ℕ) (entry : NodeEntryShown) → IsInUse entry → is_no (publication_known target entry) ≡ true → others_in target (Some entry) ≡ false → ⊥
+used-published target entry used unpublished others = by (target_entry_of entry target) refl
+  where
+    by : (o : Option TargetEntry) → target_entry_of entry target ≡ o → ⊥
+    by None e = used.some (no-others target entry.target_entries used.published e others)
+    by (Some t) e =
+        false≢true
+        (sym (ap is_no (each_of (λ (t : TargetEntry). t.published ≡ Yes) entry.target_entries t used.published (among-find (λ (t : TargetEntry). same_text t.target target) entry.target_entries t e)))
+        ∙ sym (ap (λ o. is_no (mark_in (λ (t : TargetEntry). t.published) o)) e) ∙ unpublished)
+
+-- a stop begins where the volume may be published at the target, or only its attachment is left at the node
+pub stop-begins : (node target : List ℕ) (row : RowShown) → AreNodesApart row.node_entries → AllByRecursion AreTargetsApart row.node_entries → AllByRecursion IsAtRest row.node_entries
+    → (is_no (mark_in (publication_known target) (node_entry_of row node)) ≡ false) ⊎ (is_left node target row ≡ true) → AreMarked IsOnWay AnyMark (Some (Stop node target)) row.node_entries
+stop-begins node target row apart targets all (inl maybe) =
     let entry = has-node-entry (publication_known target) (node_entry_of row node) maybe in
     let own = has-target-entry (target_entry_of entry.0 target) (ap is_no (sym (ap (mark_in (publication_known target)) entry.1)) ∙ maybe) in
     let among = among-find (λ (p : NodeEntryShown). same_text p.node node) row.node_entries entry.0 entry.1 in
-    one-of (λ (e : NodeEntryShown). e.node) node (HasMarks IsOnWay target) IsInUse entry.0 row.node_entries apart all entry.1
-    (used-marks target entry.0 own.0 (each_of IsInUse row.node_entries entry.0 all among) (each_of AreTargetsApart row.node_entries entry.0 targets among) own.1)
+    one-of (λ (e : NodeEntryShown). e.node) node (λ (e : NodeEntryShown). HasMarks IsOnWay target e ⊎ IsLeftSo AnyMark e) IsAtRest entry.0 row.node_entries apart all entry.1
+    (by (each_of IsAtRest row.node_entries entry.0 all among) (each_of AreTargetsApart row.node_entries entry.0 targets among) own.1)
+  where
+    by : {entry : NodeEntryShown} {t : TargetEntry} → IsAtRest entry → AreTargetsApart entry → target_entry_of entry target ≡ Some t → HasMarks IsOnWay target entry ⊎ IsLeftSo AnyMark entry
+    by {entry = entry} {t = t} (inl used) apart found = inl (used-marks target entry t used apart found)
+    by {entry = entry} {t = t} (inr left) apart found = absurd (none-some t (sym (ap (find (λ (x : TargetEntry). same_text x.target target)) left.targets) ∙ found))
+stop-begins node target row apart targets all (inr left) =
+    let both = and_parts (not (is_no (mark_in (λ (e : NodeEntryShown). e.attached) (node_entry_of row node)))) (is_no (mark_in (publication_known target) (node_entry_of row node)) && not (others_in target (node_entry_of row node))) left in
+    let rest = and_parts (is_no (mark_in (publication_known target) (node_entry_of row node))) (not (others_in target (node_entry_of row node))) both.1 in
+    let entry = has-node-entry (λ (e : NodeEntryShown). e.attached) (node_entry_of row node) (not-true (is_no (mark_in (λ (e : NodeEntryShown). e.attached) (node_entry_of row node))) both.0) in
+    let among = among-find (λ (p : NodeEntryShown). same_text p.node node) row.node_entries entry.0 entry.1 in
+    one-of (λ (e : NodeEntryShown). e.node) node (λ (e : NodeEntryShown). HasMarks IsOnWay target e ⊎ IsLeftSo AnyMark e) IsAtRest entry.0 row.node_entries apart all entry.1
+    (by (each_of IsAtRest row.node_entries entry.0 all among) (sym (ap (λ o. is_no (mark_in (publication_known target) o)) entry.1) ∙ rest.0)
+    (sym (ap (others_in target) entry.1) ∙ not-true (others_in target (node_entry_of row node)) rest.1))
+  where
+    by : {entry : NodeEntryShown} → IsAtRest entry → is_no (publication_known target entry) ≡ true → others_in target (Some entry) ≡ false → HasMarks IsOnWay target entry ⊎ IsLeftSo AnyMark entry
+    by {entry = entry} (inl used) unpublished others = absurd (used-published target entry used unpublished others)
+    by {entry = entry} (inr own) unpublished others = inr (record { attached = tt; staged = own.staged; targets = own.targets })
 
 -- ---- once a mark is set
 
 -- what is marked where a call is sent, or succeeded, leads to such marks
-pub record Leads (mark : Kind → Known) (Then : Known → Known → Known → Type 0) : Type 0 where
+pub record Leads (mark : Kind → Known) (Then : Known → Known → Known → Type 0) (So : Known → Type 0) : Type 0 where
   pub attaches : (a s p : Known) → is_yes a ≡ false → IsOnWay a s p → Then (mark kinds.ControllerPublishVolume) s p
   pub stages : (a s p : Known) → is_yes a ≡ true → is_yes s ≡ false → IsOnWay a s p → Then a (mark kinds.NodeStageVolume) p
   pub publishes : (a s p : Known) → is_yes a ≡ true → is_yes s ≡ true → Then a s (mark kinds.NodePublishVolume)
   pub unpublishes : (a s p : Known) → is_no p ≡ false → IsOnWay a s p → Then a s (mark kinds.NodeUnpublishVolume)
   pub unstages : (a s p : Known) → is_no p ≡ true → is_no s ≡ false → IsOnWay a s p → Then a (mark kinds.NodeUnstageVolume) p
   pub detaches : (s p : Known) → is_no p ≡ true → is_no s ≡ true → Then (mark kinds.ControllerUnpublishVolume) s p
+  pub leaves : So (mark kinds.ControllerUnpublishVolume)
 
 -- a call that is sent leads to marks at work
-pub sending-leads : Leads (λ kind. Maybe) IsAtWork
+pub sending-leads : Leads (λ kind. Maybe) IsAtWork (λ mark. mark ≢ No)
 sending-leads =
     record {
       attaches = attach-sent;
@@ -126,10 +187,11 @@ sending-leads =
       unpublishes = unpublish-sent;
       unstages = unstage-sent;
       detaches = detach-sent;
+      leaves = λ e. cc;
     }
 
 -- a call that succeeded leads to marks on the way
-pub success-leads : Leads known_by_success_of IsOnWay
+pub success-leads : Leads known_by_success_of IsOnWay AnyMark
 success-leads =
     record {
       attaches = attach-done;
@@ -138,6 +200,7 @@ success-leads =
       unpublishes = unpublish-done;
       unstages = unstage-done;
       detaches = detach-done;
+      leaves = tt;
     }
 
 -- a test of what is known at a node, by the entry that is found there
@@ -155,73 +218,99 @@ unpublished-at : (b : Bool) (target : List ℕ) (row : RowShown) (node : List �
 unpublished-at b target row node entry has found e = sym (ap is_no (known-there IsOnWay target entry has)) ∙ known-at (publication_known target) is_no b row node entry found e
 
 -- a mark is set in the entry of the goal's node
-marked-there : (Then : Known → Known → Known → Type 0) (mark : Known) (aspect : Aspect) (node target : List ℕ) (row : RowShown)
+marked-there : (P R : NodeEntryShown → Type 0) (mark : Known) (aspect : Aspect) (node target : List ℕ) (row : RowShown)
+    → ((entry : NodeEntryShown) → node_entry_of row node ≡ Some entry → P entry → R (node_marked mark aspect target entry))
+    → HasOne (λ (e : NodeEntryShown). e.node) node P IsAtRest row.node_entries → HasOne (λ (e : NodeEntryShown). e.node) node R IsAtRest (marked_at mark aspect node target row.node_entries)
+marked-there P R mark aspect node target row turns one =
+    one-change (λ (e : NodeEntryShown). e.node) node (node_marked mark aspect target) P IsAtRest R row.node_entries (node-stays mark aspect target) turns one
+
+-- the same of a stop, whose entry may be what is left of a node that was lost
+marked-left : (Then : Known → Known → Known → Type 0) (So : Known → Type 0) (mark : Known) (aspect : Aspect) (node target : List ℕ) (row : RowShown)
     → ((entry : NodeEntryShown) → node_entry_of row node ≡ Some entry → HasMarks IsOnWay target entry → HasMarks Then target (node_marked mark aspect target entry))
-    → HasOne (λ (e : NodeEntryShown). e.node) node (HasMarks IsOnWay target) IsInUse row.node_entries → HasOne (λ (e : NodeEntryShown). e.node) node (HasMarks Then target) IsInUse (marked_at mark aspect node target row.node_entries)
-marked-there Then mark aspect node target row turns one =
-    one-change (λ (e : NodeEntryShown). e.node) node (node_marked mark aspect target) (HasMarks IsOnWay target) IsInUse (HasMarks Then target) row.node_entries (node-stays mark aspect target) turns one
+    → ((entry : NodeEntryShown) → node_entry_of row node ≡ Some entry → IsLeftSo AnyMark entry → IsLeftSo So (node_marked mark aspect target entry))
+    → HasOne (λ (e : NodeEntryShown). e.node) node (λ (e : NodeEntryShown). HasMarks IsOnWay target e ⊎ IsLeftSo AnyMark e) IsAtRest row.node_entries
+    → HasOne (λ (e : NodeEntryShown). e.node) node (λ (e : NodeEntryShown). HasMarks Then target e ⊎ IsLeftSo So e) IsAtRest (marked_at mark aspect node target row.node_entries)
+marked-left Then So mark aspect node target row turns stays one =
+    marked-there (λ (e : NodeEntryShown). HasMarks IsOnWay target e ⊎ IsLeftSo AnyMark e) (λ (e : NodeEntryShown). HasMarks Then target e ⊎ IsLeftSo So e) mark aspect node target row either one
+  where
+    either : (entry : NodeEntryShown) → node_entry_of row node ≡ Some entry → HasMarks IsOnWay target entry ⊎ IsLeftSo AnyMark entry
+        → HasMarks Then target (node_marked mark aspect target entry) ⊎ IsLeftSo So (node_marked mark aspect target entry)
+    either entry found (inl has) = inl (turns entry found has)
+    either entry found (inr left) = inr (stays entry found left)
+
+-- what is left of a node isn't published there
+left-unpublished : (target : List ℕ) (row : RowShown) (node : List ℕ) (entry : NodeEntryShown) → node_entry_of row node ≡ Some entry → IsLeftSo AnyMark entry
+    → is_no (mark_in (publication_known target) (node_entry_of row node)) ≡ false → ⊥
+left-unpublished target row node entry found left e =
+    false≢true (sym (known-at (publication_known target) is_no false row node entry found e) ∙ ap (λ ts. is_no (mark_in (λ (t : TargetEntry). t.published) (find (λ (t : TargetEntry). same_text t.target target) ts))) left.targets)
 
 -- what a due call does or undoes is marked
-pub due-marked : (mark : Kind → Known) (Then : Known → Known → Known → Type 0) → Leads mark Then → (row : RowShown) (due : Due) → IsDueFor row due → AreMarked IsOnWay row.goal row.node_entries
-    → AreMarked Then row.goal (nodes_marked (mark (kind_of due.call)) (aspect_of (kind_of due.call)) row.goal row.node_entries)
-due-marked mark Then leads row _ (ToMake goal e) marked = subst (λ g. AreMarked IsOnWay g row.node_entries → AreMarked Then g row.node_entries) (sym goal) (λ all. all) marked
-due-marked mark Then leads row _ (ToRemove id goal own e) marked = subst (λ g. AreMarked IsOnWay g row.node_entries → AreMarked Then g row.node_entries) (sym goal) (λ all. all) marked
-due-marked mark Then leads row _ (ToAttach usage id goal own a) marked =
+pub due-marked : (mark : Kind → Known) (Then : Known → Known → Known → Type 0) (So : Known → Type 0) → Leads mark Then So → (row : RowShown) (due : Due) → IsDueFor row due → AreMarked IsOnWay AnyMark row.goal row.node_entries
+    → AreMarked Then So row.goal (nodes_marked (mark (kind_of due.call)) (aspect_of (kind_of due.call)) row.goal row.node_entries)
+due-marked mark Then So leads row _ (ToMake goal e) marked = subst (λ g. AreMarked IsOnWay AnyMark g row.node_entries → AreMarked Then So g row.node_entries) (sym goal) (λ all. all) marked
+due-marked mark Then So leads row _ (ToRemove id goal own e) marked = subst (λ g. AreMarked IsOnWay AnyMark g row.node_entries → AreMarked Then So g row.node_entries) (sym goal) (λ all. all) marked
+due-marked mark Then So leads row _ (ToAttach usage id goal own a) marked =
     let m = mark kinds.ControllerPublishVolume in
-    subst (λ g. AreMarked IsOnWay g row.node_entries → AreMarked Then g (at_goal (marked_at m Attachment) g row.node_entries)) (sym goal)
-    (marked-there Then m Attachment usage.node usage.target row (λ entry found has.
+    subst (λ g. AreMarked IsOnWay AnyMark g row.node_entries → AreMarked Then So g (at_goal (marked_at m Attachment) g row.node_entries)) (sym goal)
+    (marked-there (HasMarks IsOnWay usage.target) (HasMarks Then usage.target) m Attachment usage.node usage.target row (λ entry found has.
     attachment-marked IsOnWay Then usage.target m entry has
     (leads.attaches entry.attached entry.staged has.published (known-at (λ p. p.attached) is_yes false row usage.node entry found a) has.marks)))
     marked
-due-marked mark Then leads row _ (ToStage usage id goal own a s) marked =
+due-marked mark Then So leads row _ (ToStage usage id goal own a s) marked =
     let m = mark kinds.NodeStageVolume in
-    subst (λ g. AreMarked IsOnWay g row.node_entries → AreMarked Then g (at_goal (marked_at m Staging) g row.node_entries)) (sym goal)
-    (marked-there Then m Staging usage.node usage.target row (λ entry found has.
+    subst (λ g. AreMarked IsOnWay AnyMark g row.node_entries → AreMarked Then So g (at_goal (marked_at m Staging) g row.node_entries)) (sym goal)
+    (marked-there (HasMarks IsOnWay usage.target) (HasMarks Then usage.target) m Staging usage.node usage.target row (λ entry found has.
     let unstaged = known-at (λ p. p.staged) is_yes false row usage.node entry found s in
     staging-marked IsOnWay Then usage.target m entry has
     (leads.stages entry.attached entry.staged has.published (known-at (λ p. p.attached) is_yes true row usage.node entry found a) unstaged has.marks)
     (λ other. has.alone (not_yes entry.staged unstaged))))
     marked
-due-marked mark Then leads row _ (ToPublish usage id goal own a s p) marked =
+due-marked mark Then So leads row _ (ToPublish usage id goal own a s p) marked =
     let m = mark kinds.NodePublishVolume in
-    subst (λ g. AreMarked IsOnWay g row.node_entries → AreMarked Then g (at_goal (marked_at m Publication) g row.node_entries)) (sym goal)
-    (marked-there Then m Publication usage.node usage.target row (λ entry found has.
+    subst (λ g. AreMarked IsOnWay AnyMark g row.node_entries → AreMarked Then So g (at_goal (marked_at m Publication) g row.node_entries)) (sym goal)
+    (marked-there (HasMarks IsOnWay usage.target) (HasMarks Then usage.target) m Publication usage.node usage.target row (λ entry found has.
     publication-marked IsOnWay Then usage.target m entry has
     (leads.publishes entry.attached entry.staged has.published (known-at (λ p. p.attached) is_yes true row usage.node entry found a) (known-at (λ p. p.staged) is_yes true row usage.node entry found s))))
     marked
-due-marked mark Then leads row _ (ToUnpublish node target id goal own p) marked =
+due-marked mark Then So leads row _ (ToUnpublish node target id goal own p) marked =
     let m = mark kinds.NodeUnpublishVolume in
-    subst (λ g. AreMarked IsOnWay g row.node_entries → AreMarked Then g (at_goal (marked_at m Publication) g row.node_entries)) (sym goal)
-    (marked-there Then m Publication node target row (λ entry found has.
+    subst (λ g. AreMarked IsOnWay AnyMark g row.node_entries → AreMarked Then So g (at_goal (marked_at m Publication) g row.node_entries)) (sym goal)
+    (marked-left Then So m Publication node target row (λ entry found has.
     publication-marked IsOnWay Then target m entry has
-    (leads.unpublishes entry.attached entry.staged has.published (unpublished-at false target row node entry has found p) has.marks)))
+    (leads.unpublishes entry.attached entry.staged has.published (unpublished-at false target row node entry has found p) has.marks))
+    (λ entry found left. absurd (left-unpublished target row node entry found left p)))
     marked
-due-marked mark Then leads row _ (ToUnstage node target id goal own p o s) marked =
+due-marked mark Then So leads row _ (ToUnstage node target id goal own p o s) marked =
     let m = mark kinds.NodeUnstageVolume in
-    subst (λ g. AreMarked IsOnWay g row.node_entries → AreMarked Then g (at_goal (marked_at m Staging) g row.node_entries)) (sym goal)
-    (marked-there Then m Staging node target row (λ entry found has.
+    subst (λ g. AreMarked IsOnWay AnyMark g row.node_entries → AreMarked Then So g (at_goal (marked_at m Staging) g row.node_entries)) (sym goal)
+    (marked-left Then So m Staging node target row (λ entry found has.
     staging-marked IsOnWay Then target m entry has
     (leads.unstages entry.attached entry.staged has.published (unpublished-at true target row node entry has found p) (known-at (λ p. p.staged) is_no false row node entry found s) has.marks)
-    (λ other. alone-then target has.published entry.target_entries has.targets (others-at target false row node entry found o))))
+    (λ other. alone-then target has.published entry.target_entries has.targets (others-at target false row node entry found o)))
+    (λ entry found left. absurd (false≢true (sym (known-at (λ p. p.staged) is_no false row node entry found s) ∙ ap is_no left.staged))))
     marked
-due-marked mark Then leads row _ (ToDetach node target id goal own p o s a) marked =
+due-marked mark Then So leads row _ (ToDetach node target id goal own p o s a) marked =
     let m = mark kinds.ControllerUnpublishVolume in
-    subst (λ g. AreMarked IsOnWay g row.node_entries → AreMarked Then g (at_goal (marked_at m Attachment) g row.node_entries)) (sym goal)
-    (marked-there Then m Attachment node target row (λ entry found has.
+    subst (λ g. AreMarked IsOnWay AnyMark g row.node_entries → AreMarked Then So g (at_goal (marked_at m Attachment) g row.node_entries)) (sym goal)
+    (marked-left Then So m Attachment node target row (λ entry found has.
     attachment-marked IsOnWay Then target m entry has
-    (leads.detaches entry.staged has.published (unpublished-at true target row node entry has found p) (known-at (λ p. p.staged) is_no true row node entry found s))))
+    (leads.detaches entry.staged has.published (unpublished-at true target row node entry has found p) (known-at (λ p. p.staged) is_no true row node entry found s)))
+    (λ entry found left. record { attached = leads.leaves; staged = left.staged; targets = left.targets }))
     marked
 
 -- marks at work are on the way
-pub work-marked : (goal : Option Goal) (entries : List NodeEntryShown) → AreMarked IsAtWork goal entries → AreMarked IsOnWay goal entries
-work-marked (Some (Use usage)) entries one = one-weaker (λ (e : NodeEntryShown). e.node) usage.node (HasMarks IsAtWork usage.target) IsInUse (HasMarks IsOnWay usage.target) entries (work-on usage.target) one
+work-on : (target : List ℕ) (entry : NodeEntryShown) → HasMarks IsAtWork target entry → HasMarks IsOnWay target entry
+work-on target entry has = record { published = has.published; marks = work-way entry.attached entry.staged has.published has.marks; targets = has.targets; alone = has.alone }
+
+-- those of all entries are
+pub work-marked : (goal : Option Goal) (entries : List NodeEntryShown) → AreMarked IsAtWork (λ mark. mark ≢ No) goal entries → AreMarked IsOnWay AnyMark goal entries
+work-marked (Some (Use usage)) entries one = one-weaker (λ (e : NodeEntryShown). e.node) usage.node (HasMarks IsAtWork usage.target) IsAtRest (HasMarks IsOnWay usage.target) entries (work-on usage.target) one
+work-marked (Some (Stop node target)) entries one =
+    one-weaker (λ (e : NodeEntryShown). e.node) node (λ (e : NodeEntryShown). HasMarks IsAtWork target e ⊎ IsLeft e) IsAtRest (λ (e : NodeEntryShown). HasMarks IsOnWay target e ⊎ IsLeftSo AnyMark e) entries either one
   where
-    work-on : (target : List ℕ) (entry : NodeEntryShown) → HasMarks IsAtWork target entry → HasMarks IsOnWay target entry
-    work-on target entry has = record { published = has.published; marks = work-way entry.attached entry.staged has.published has.marks; targets = has.targets; alone = has.alone }
-work-marked (Some (Stop node target)) entries one = one-weaker (λ (e : NodeEntryShown). e.node) node (HasMarks IsAtWork target) IsInUse (HasMarks IsOnWay target) entries work-on one
-  where
-    work-on : (entry : NodeEntryShown) → HasMarks IsAtWork target entry → HasMarks IsOnWay target entry
-    work-on entry has = record { published = has.published; marks = work-way entry.attached entry.staged has.published has.marks; targets = has.targets; alone = has.alone }
+    either : (entry : NodeEntryShown) → HasMarks IsAtWork target entry ⊎ IsLeft entry → HasMarks IsOnWay target entry ⊎ IsLeftSo AnyMark entry
+    either entry (inl has) = inl (work-on target entry has)
+    either entry (inr left) = inr (record { attached = tt; staged = left.staged; targets = left.targets })
 work-marked None entries all = all
 work-marked (Some Create) entries all = all
 work-marked (Some Delete) entries all = all

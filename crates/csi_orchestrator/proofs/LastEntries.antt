@@ -1,9 +1,8 @@
--- Why the target and the node of a use that isn't published yet stay the last.
-use Rattle.std.proofs.Common.{◌≡◌, ◌≢◌, ℕ, List, [], ◌∷◌, ◌++◌, Bool, true, false, cond, length, refl, sym, ◌∙◌, ap, subst, arith}
+-- Why the target of a use that isn't published yet stays the last of its node.
+use Rattle.std.proofs.Common.{◌≡◌, ℕ, List, [], ◌∷◌, ◌++◌, Bool, true, false, cond, refl, sym, ◌∙◌, ap, subst, inl, inr}
 use Rattle.std.specs.Prelude.{Option, Some, None, is_some, find, option_map}
 use Rattle.std.specs.List.{AllByRecursion}
 use Rattle.std.proofs.lemmas.Bool.{false≢true}
-use Rattle.std.proofs.lemmas.List.{length-append}
 use Rattle.std.proofs.lemmas.Option.{none-some, same_Some}
 use Rattle.csi_lists.proofs.Members.{each_of, among-find}
 use Rattle.csi_lists.proofs.Searches.{find-passes}
@@ -20,15 +19,14 @@ use Rattle.csi_orchestrator.specs.declared.thing.Known.TheVariants.{Yes}
 use Rattle.csi_orchestrator.specs.Model.Due.{Due}
 use Rattle.csi_orchestrator.specs.Model.Shown.{NodeEntryShown, RowShown, node_entry_of, target_entry_of, mark_in, publication_known}
 use Rattle.csi_orchestrator.specs.Model.Thing.{is_yes}
-use Rattle.csi_orchestrator.specs.Private.Keyed.{change_by, put_by}
+use Rattle.csi_orchestrator.specs.Private.Keyed.{change_by}
 use Rattle.csi_orchestrator.specs.Private.RowChanges.{Aspect, Existence, Attachment, Staging, Publication, aspect_of, node_marked, marked_at, at_goal, nodes_marked, new_target_entry, with_target, held_as, entry_for, with_entry}
-use Rattle.csi_orchestrator.specs.Public.Steady.{IsInUse, IsLast, CameLast, HasLast}
-use Rattle.csi_orchestrator.proofs.BoundsStay.{change-long, held-node}
+use Rattle.csi_orchestrator.specs.Public.Steady.{IsAtRest, IsLast, CameLast, HasLast}
+use Rattle.csi_orchestrator.proofs.EntriesBounded.{held-node}
 use Rattle.csi_orchestrator.proofs.DueCases.{IsDueFor, ToMake, ToRemove, ToAttach, ToStage, ToPublish, ToUnpublish, ToUnstage, ToDetach}
 use Rattle.csi_orchestrator.proofs.KeptUses.{known-at}
 use Rattle.csi_orchestrator.proofs.KeyedSearches.{find-change, find-put}
 use Rattle.csi_orchestrator.proofs.RowMarks.{node-stays}
-use Rattle.csi_orchestrator.proofs.SplitLists.{put-last}
 use Rattle.csi_orchestrator.proofs.TextLists.{text-same}
 
 -- ---- lists
@@ -57,11 +55,6 @@ last-append : {X : Type 0} (key : X → List ℕ) (text : List ℕ) (x : X) (xs 
 last-append key text x [] e = e
 last-append key text x (y ∷ ys) e = last-behind key text y (ys ++ x ∷ []) (last-append key text x ys e)
 
--- there are several where one was put behind others
-not-one : {X : Type 0} (xs : List X) (x : X) → xs ≢ [] → length (xs ++ x ∷ []) ≡ 1 → ⊥
-not-one [] x some one = some refl
-not-one (y ∷ ys) x some one = let long = length-append ys (x ∷ []) in omega (arith, one, long)
-
 -- ---- a mark is set
 
 -- the targets of an entry in which it is set
@@ -71,13 +64,6 @@ targets-last mark Existence target entry last = last
 targets-last mark Attachment target entry last = last
 targets-last mark Staging target entry last = last
 targets-last mark Publication target entry last = last-change (λ (t : TargetEntry). t.target) target target (λ (t : TargetEntry). record t { published = mark }) entry.target_entries (λ t. refl) last
-
--- there are as many
-targets-long : (mark : Known) (aspect : Aspect) (target : List ℕ) (entry : NodeEntryShown) → length (node_marked mark aspect target entry).target_entries ≡ length entry.target_entries
-targets-long mark Existence target entry = refl
-targets-long mark Attachment target entry = refl
-targets-long mark Staging target entry = refl
-targets-long mark Publication target entry = change-long (λ (t : TargetEntry). t.target) target (λ (t : TargetEntry). record t { published = mark }) entry.target_entries
 
 -- in the entries of a use
 last-marked : (mark : Known) (aspect : Aspect) (usage : Usage) (entries : List NodeEntryShown)
@@ -92,17 +78,10 @@ last-marked mark aspect usage entries before last = λ entry found. by (find (λ
         ∙ ap (λ b. cond b (option_map (node_marked mark aspect usage.target) (find (λ (e : NodeEntryShown). same_text e.node usage.node) entries)) (find (λ (e : NodeEntryShown). same_text e.node usage.node) entries)) (text-same usage.node)
 
     by : (o : Option NodeEntryShown) → find (λ (e : NodeEntryShown). same_text e.node usage.node) entries ≡ o → (entry : NodeEntryShown) → option_map (node_marked mark aspect usage.target) o ≡ Some entry
-        → CameLast usage.node usage.target (marked_at mark aspect usage.node usage.target entries) entry
+        → CameLast usage.target entry
     by None e entry f = absurd (none-some entry f)
     by (Some own) e entry f =
-        subst (CameLast usage.node usage.target (marked_at mark aspect usage.node usage.target entries)) (same_Some (node_marked mark aspect usage.target own) entry f)
-        (record {
-          target_last = λ un. targets-last mark aspect usage.target own ((last own e).target_last (before own e un));
-          node_last =
-              λ un one.
-              last-change (λ (e : NodeEntryShown). e.node) usage.node usage.node (node_marked mark aspect usage.target) entries (node-stays mark aspect usage.target)
-              ((last own e).node_last (before own e un) (sym (targets-long mark aspect usage.target own) ∙ one));
-        })
+        subst (CameLast usage.target) (same_Some (node_marked mark aspect usage.target own) entry f) (λ un. targets-last mark aspect usage.target own (last own e (before own e un)))
 
 -- what a due call does or undoes is marked
 pub due-last : (mark : Kind → Known) (row : RowShown) (due : Due) → IsDueFor row due → HasLast row.goal row.node_entries
@@ -127,57 +106,38 @@ due-last mark row _ (ToDetach node target id goal own p o s a) last =
 
 -- ---- a use begins
 
--- the target comes behind those of an entry in use, or is published already
-targeted-last : (usage : Usage) (entries : List NodeEntryShown) (own : NodeEntryShown) → IsInUse own → CameLast usage.node usage.target entries (record (held_as usage own) { target_entries = with_target usage.target own.target_entries })
-targeted-last usage entries own used = by (target_entry_of own usage.target) refl
+-- the target comes behind those of an entry at which no goal is at work, or is published already
+targeted-last : (usage : Usage) (own : NodeEntryShown) → IsAtRest own → CameLast usage.target (record (held_as usage own) { target_entries = with_target usage.target own.target_entries })
+targeted-last usage own rest = by (target_entry_of own usage.target) refl rest
   where
-    entry : List TargetEntry → NodeEntryShown
-    entry ts = record (held_as usage own) { target_entries = ts }
-
-    by : (o : Option TargetEntry) → target_entry_of own usage.target ≡ o → CameLast usage.node usage.target entries (record (held_as usage own) { target_entries = cond (is_some o) own.target_entries (own.target_entries ++ new_target_entry usage.target ∷ []) })
-    by (Some t) e = record { target_last = λ un. absurd (already un); node_last = λ un one. absurd (already un) }
-      where
-        already : is_yes (mark_in (λ (t : TargetEntry). t.published) (target_entry_of own usage.target)) ≡ false → ⊥
-        already un =
-            false≢true
-            (sym un ∙ ap (λ (o : Option TargetEntry). is_yes (mark_in (λ (t : TargetEntry). t.published) o)) e
-            ∙ ap is_yes (each_of (λ (t : TargetEntry). t.published ≡ Yes) own.target_entries t used.published (among-find (λ (t : TargetEntry). same_text t.target usage.target) own.target_entries t e)))
-    by None e =
-        record {
-          target_last = λ un. last-append (λ (t : TargetEntry). t.target) usage.target (new_target_entry usage.target) own.target_entries (text-same usage.target);
-          node_last = λ un one. absurd (not-one own.target_entries (new_target_entry usage.target) used.some one);
-        }
+    by : (o : Option TargetEntry) → target_entry_of own usage.target ≡ o → IsAtRest own
+        → CameLast usage.target (record (held_as usage own) { target_entries = cond (is_some o) own.target_entries (own.target_entries ++ new_target_entry usage.target ∷ []) })
+    by (Some t) e (inl used) = λ un.
+        absurd (false≢true
+        (sym un ∙ ap (λ (o : Option TargetEntry). is_yes (mark_in (λ (t : TargetEntry). t.published) o)) e
+        ∙ ap is_yes (each_of (λ (t : TargetEntry). t.published ≡ Yes) own.target_entries t used.published (among-find (λ (t : TargetEntry). same_text t.target usage.target) own.target_entries t e))))
+    by (Some t) e (inr left) = absurd (none-some t (sym (ap (find (λ (x : TargetEntry). same_text x.target usage.target)) left.targets) ∙ e))
+    by None e rest = λ un. last-append (λ (t : TargetEntry). t.target) usage.target (new_target_entry usage.target) own.target_entries (text-same usage.target)
 
 -- the entry for a use
-record BeginsLast (usage : Usage) (entries : List NodeEntryShown) (entry : NodeEntryShown) : Type 0 where
+record BeginsLast (usage : Usage) (entry : NodeEntryShown) : Type 0 where
   pub at_node : entry.node ≡ usage.node
-  pub came : CameLast usage.node usage.target (put_by (λ (e : NodeEntryShown). e.node) entry entries) entry
+  pub came : CameLast usage.target entry
 
 -- a use begins
-pub use-last : (usage : Usage) (row : RowShown) → AllByRecursion IsInUse row.node_entries → HasLast (Some (Use usage)) (with_entry usage row).node_entries
-use-last usage row all = λ entry found. subst (CameLast usage.node usage.target (with_entry usage row).node_entries) (same_Some (entry_for usage (node_entry_of row usage.node)) entry (sym put ∙ found)) begins.came
+pub use-last : (usage : Usage) (row : RowShown) → AllByRecursion IsAtRest row.node_entries → HasLast (Some (Use usage)) (with_entry usage row).node_entries
+use-last usage row all = λ entry found. subst (CameLast usage.target) (same_Some (entry_for usage (node_entry_of row usage.node)) entry (sym put ∙ found)) begins.came
   where
-    by : (o : Option NodeEntryShown) → node_entry_of row usage.node ≡ o → BeginsLast usage row.node_entries (entry_for usage o)
-    by None e =
-        record {
-          at_node = refl;
-          came =
-              record {
-                target_last = λ un. text-same usage.target;
-                node_last =
-                    λ un one.
-                    subst (IsLast (λ (e : NodeEntryShown). e.node) usage.node) (sym (put-last (λ (e : NodeEntryShown). e.node) (entry_for usage None) row.node_entries e))
-                    (last-append (λ (e : NodeEntryShown). e.node) usage.node (entry_for usage None) row.node_entries (text-same usage.node));
-              };
-        }
+    by : (o : Option NodeEntryShown) → node_entry_of row usage.node ≡ o → BeginsLast usage (entry_for usage o)
+    by None e = record { at_node = refl; came = λ un. text-same usage.target }
     by (Some own) e =
         let among = among-find (λ (p : NodeEntryShown). same_text p.node usage.node) row.node_entries own e in
         record {
           at_node = held-node usage own ∙ (same_text-tells own.node usage.node).0 (find-passes (λ (p : NodeEntryShown). same_text p.node usage.node) row.node_entries own e);
-          came = targeted-last usage (put_by (λ (e : NodeEntryShown). e.node) (entry_for usage (Some own)) row.node_entries) own (each_of IsInUse row.node_entries own all among);
+          came = targeted-last usage own (each_of IsAtRest row.node_entries own all among);
         }
 
-    begins : BeginsLast usage row.node_entries (entry_for usage (node_entry_of row usage.node))
+    begins : BeginsLast usage (entry_for usage (node_entry_of row usage.node))
     begins = by (node_entry_of row usage.node) refl
 
     put : find (λ (e : NodeEntryShown). same_text e.node usage.node) (with_entry usage row).node_entries ≡ Some (entry_for usage (node_entry_of row usage.node))

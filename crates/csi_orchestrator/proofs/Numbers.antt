@@ -12,7 +12,7 @@ use Rattle.csi_types.specs.Model.Same.{same_number, same_text}
 use Rattle.csi_types.proofs.Equality.{same_number-tells}
 use Rattle.csi_types.proofs.Order.{before-from, before-trans}
 use Rattle.csi_orchestrator.specs.Model.Thing.{Issued}
-use Rattle.csi_orchestrator.specs.Model.History.{Item, Started, Sent, Accepted, Closed, Noted}
+use Rattle.csi_orchestrator.specs.Model.History.{Item, Started, Lost, Forgotten, Sent, Accepted, Closed, Noted}
 use Rattle.csi_orchestrator.specs.Model.Readings.{issued_in, has_success, id_in, open_in, unless, last_in}
 use Rattle.csi_orchestrator.specs.Model.WellFormed.{AreWellFormed}
 
@@ -48,7 +48,7 @@ most-before a b c (inr k) h = then-before a b c k h
 -- the number of each call that was sent is the last one, or before it
 sent-most : (began : Number) (items : List Item) (call : Issued) → AreWellFormed began items → IsAmong call (issued_in items) → AtMost call.number (last_in began items)
 sent-most began [] call form among = absurd among
-sent-most began (Started session ∷ older) call form among =
+sent-most began (Started session nodes ∷ older) call form among =
     let started : Number = record { session = session; call = 0 } in
     inr (most-before call.number (last_in began older) started (sent-most began older call form.1 among)
     (is_before-from (last_in began older) started (before-from (last_in began older) started (inl form.0))))
@@ -58,6 +58,8 @@ sent-most began (Sent issued ∷ older) call form (inr there) =
 sent-most began (Accepted number status id ∷ older) call form among = sent-most began older call form.1 among
 sent-most began (Closed number ∷ older) call form among = sent-most began older call form.1 among
 sent-most began (Noted name goal ∷ older) call form among = sent-most began older call form.1 among
+sent-most began (Lost node ∷ older) call form among = sent-most began older call form.1 among
+sent-most began (Forgotten gone ∷ older) call form among = sent-most began older call form.1 among
 
 -- a call that may be sent now has a later number than each sent before
 pub sent-before : (began : Number) (items : List Item) (number : Number) (call : Issued) → AreWellFormed began items → IsBefore (last_in began items) number → IsAmong call (issued_in items) → IsBefore call.number number
@@ -66,7 +68,7 @@ sent-before began items number call form next among = most-before call.number (l
 -- a number was given once
 pub one-call : (began : Number) (items : List Item) (a b : Issued) → AreWellFormed began items → IsAmong a (issued_in items) → IsAmong b (issued_in items) → a.number ≡ b.number → a ≡ b
 one-call began [] a b form at bt same = absurd at
-one-call began (Started session ∷ older) a b form at bt same = one-call began older a b form.1 at bt same
+one-call began (Started session nodes ∷ older) a b form at bt same = one-call began older a b form.1 at bt same
 one-call began (Sent issued ∷ older) a b form (inl e) (inl f) same = e ∙ sym f
 one-call began (Sent issued ∷ older) a b form (inl e) (inr bt) same =
     absurd (not-before-itself b.number (subst (λ n. IsBefore b.number n) (sym (ap (λ (c : Issued). c.number) e) ∙ same) (sent-before began older issued.number b form.1 form.0.0.later bt)))
@@ -76,6 +78,8 @@ one-call began (Sent issued ∷ older) a b form (inr at) (inr bt) same = one-cal
 one-call began (Accepted number status id ∷ older) a b form at bt same = one-call began older a b form.1 at bt same
 one-call began (Closed number ∷ older) a b form at bt same = one-call began older a b form.1 at bt same
 one-call began (Noted name goal ∷ older) a b form at bt same = one-call began older a b form.1 at bt same
+one-call began (Lost node ∷ older) a b form at bt same = one-call began older a b form.1 at bt same
+one-call began (Forgotten gone ∷ older) a b form at bt same = one-call began older a b form.1 at bt same
 
 -- the call, unless it is of that number
 pub unless-some : (number : Number) (o : Option Issued) (call : Issued) → unless number o ≡ Some call → (o ≡ Some call) × (same_number call.number number ≡ false)
@@ -89,7 +93,7 @@ unless-some number (Some issued) call e = by (same_number issued.number number) 
 -- an open call was sent, for that name
 pub open-sent : (name : List ℕ) (items : List Item) (call : Issued) → open_in name items ≡ Some call → IsAmong call (issued_in items) × (same_text call.name name ≡ true)
 open-sent name [] call e = absurd (none-some call e)
-open-sent name (Started session ∷ older) call e = absurd (none-some call e)
+open-sent name (Started session nodes ∷ older) call e = absurd (none-some call e)
 open-sent name (Sent issued ∷ older) call e = by (same_text issued.name name) refl e (open-sent name older call)
   where
     by : (t : Bool) → same_text issued.name name ≡ t → cond t (Some issued) (open_in name older) ≡ Some call
@@ -99,12 +103,14 @@ open-sent name (Sent issued ∷ older) call e = by (same_text issued.name name) 
 open-sent name (Accepted number status id ∷ older) call e = open-sent name older call (unless-some number (open_in name older) call e).0
 open-sent name (Closed number ∷ older) call e = open-sent name older call (unless-some number (open_in name older) call e).0
 open-sent name (Noted other goal ∷ older) call e = open-sent name older call e
+open-sent name (Lost node ∷ older) call e = open-sent name older call e
+open-sent name (Forgotten gone ∷ older) call e = open-sent name older call e
 
 -- a reply that was taken was to a call that was sent
 success-sent : (began : Number) (items : List Item) (number : Number) → AreWellFormed began items → ((call : Issued) → IsAmong call (issued_in items) → same_number call.number number ≡ false)
     → (has_success items number ≡ false) × (filter_map (id_in number) items ≡ [])
 success-sent began [] number form none = (refl, refl)
-success-sent began (Started session ∷ older) number form none = success-sent began older number form.1 none
+success-sent began (Started session nodes ∷ older) number form none = success-sent began older number form.1 none
 success-sent began (Sent issued ∷ older) number form none = success-sent began older number form.1 (λ call among. none call (inr among))
 success-sent began (Accepted other status id ∷ older) number form none =
     let call = form.0.issued in
@@ -113,6 +119,8 @@ success-sent began (Accepted other status id ∷ older) number form none =
     rw differs (success-sent began older number form.1 none)
 success-sent began (Closed other ∷ older) number form none = success-sent began older number form.1 none
 success-sent began (Noted name goal ∷ older) number form none = success-sent began older number form.1 none
+success-sent began (Lost node ∷ older) number form none = success-sent began older number form.1 none
+success-sent began (Forgotten gone ∷ older) number form none = success-sent began older number form.1 none
 
 -- of a number that is after all there is no success yet, and no id
 pub fresh-silent : (began : Number) (items : List Item) (number : Number) → AreWellFormed began items → IsBefore (last_in began items) number
@@ -123,7 +131,7 @@ fresh-silent began items number form next = success-sent began items number form
 pub open-silent : (began : Number) (items : List Item) (name : List ℕ) (call : Issued) → AreWellFormed began items → open_in name items ≡ Some call
     → (has_success items call.number ≡ false) × (filter_map (id_in call.number) items ≡ [])
 open-silent began [] name call form e = (refl, refl)
-open-silent began (Started session ∷ older) name call form e = absurd (none-some call e)
+open-silent began (Started session nodes ∷ older) name call form e = absurd (none-some call e)
 open-silent began (Sent issued ∷ older) name call form e = by (same_text issued.name name) e (open-silent began older name call form.1)
   where
     by : (t : Bool) → cond t (Some issued) (open_in name older) ≡ Some call → (open_in name older ≡ Some call → (has_success older call.number ≡ false) × (filter_map (id_in call.number) older ≡ []))
@@ -139,3 +147,19 @@ open-silent began (Accepted number status id ∷ older) name call form e =
     flipped a b h = grind (arith, nat_tests)
 open-silent began (Closed number ∷ older) name call form e = open-silent began older name call form.1 (unless-some number (open_in name older) call e).0
 open-silent began (Noted other goal ∷ older) name call form e = open-silent began older name call form.1 e
+open-silent began (Lost node ∷ older) name call form e = open-silent began older name call form.1 e
+open-silent began (Forgotten gone ∷ older) name call form e = open-silent began older name call form.1 e
+
+-- of a session in which nothing was sent no call is open
+pub unused-closed : (began : Number) (items : List Item) (name : List ℕ) → AreWellFormed began items → (last_in began items).call ≡ 0 → open_in name items ≡ None
+unused-closed began [] name form unused = refl
+unused-closed began (Started session nodes ∷ older) name form unused = refl
+unused-closed began (Lost node ∷ older) name form unused = unused-closed began older name form.1 unused
+unused-closed began (Forgotten gone ∷ older) name form unused = unused-closed began older name form.1 unused
+unused-closed began (Sent issued ∷ older) name form unused = absurd (not-first (last_in began older) issued.number form.0.0.later (form.0.0).same_session unused)
+  where
+    not-first : (last number : Number) → IsBefore last number → last.session ≡ number.session → number.call ≡ 0 → ⊥
+    not-first last number before same none = let t : is_before last number ≡ true = is_before-then last number before in grind (arith, nat_tests)
+unused-closed began (Accepted number status id ∷ older) name form unused = ap (unless number) (unused-closed began older name form.1 unused)
+unused-closed began (Closed number ∷ older) name form unused = ap (unless number) (unused-closed began older name form.1 unused)
+unused-closed began (Noted other goal ∷ older) name form unused = unused-closed began older name form.1 unused

@@ -1,11 +1,9 @@
 -- A row that keeps the rules passes the tests.
-use Rattle.std.proofs.Common.{◌≡◌, ℕ, length, map, Bool, true, false, cond, not, List, [], ◌∷◌, ◌++◌, refl, sym, ◌∙◌, ap, subst, arith}
-use Rattle.std.specs.Prelude.{Option, Some, None, is_some, is_none, ◌==◌, ◌&&◌, ◌||◌, nat_le}
+use Rattle.std.proofs.Common.{◌≡◌, ℕ, length, map, Bool, true, false, cond, not, List, [], ◌∷◌, ◌++◌, refl, sym, ◌∙◌, ap, subst, inl, inr, arith}
+use Rattle.std.specs.Prelude.{◌⊎◌, Option, Some, None, is_some, is_none, ◌==◌, ◌&&◌, ◌||◌, nat_le}
 use Rattle.std.specs.List.{AllByRecursion, list_all}
-use Rattle.std.proofs.Math.Bool.{or-true}
 use Rattle.std.proofs.lemmas.Bool.{and_from, le-leb}
 use Rattle.std.proofs.lemmas.List.{length-append, length-map}
-use Rattle.csi_lists.specs.Model.Members.{EachTwo}
 use Rattle.csi_lists.proofs.Each.{each-weaker}
 use Rattle.csi_types.proofs.Equality.{same_text-tells, same_capability-tells}
 use Rattle.csi_types.specs.Model.Same.{same_text, same_flag, same_capability}
@@ -20,14 +18,13 @@ use Rattle.csi_orchestrator.specs.declared.thing.Known.{Known}
 use Rattle.csi_orchestrator.specs.declared.thing.Known.TheVariants.{Yes, No, Maybe}
 use Rattle.csi_orchestrator.specs.Model.Shown.{NodeEntryShown}
 use Rattle.csi_orchestrator.specs.Model.Thing.{is_yes}
-use Rattle.csi_orchestrator.specs.Public.Bounds.{IsEntryWithin}
+use Rattle.csi_orchestrator.specs.Public.Steady.{IsLeft}
 use Rattle.csi_orchestrator.specs.Public.Shown.{node_entry_shown, row_shown}
-use Rattle.csi_orchestrator.specs.Public.Restored.{IsEntryFit, AreEntriesFit, IsPublished, IsSettled, HasPlace, IsOnTheWay, IsStopOnTheWay, IsUseOnTheWay, FitsLife, IsRestorable}
-use Rattle.csi_orchestrator.specs.Private.Judging.{is_published, is_settled, is_way, is_at_target, stops_here, uses_here, is_stop_on_the_way, is_use_on_the_way, fits_life, has_tries, are_entries_fit, is_restorable}
-use Rattle.csi_orchestrator.proofs.BoundsStay.{few-entries}
-use Rattle.csi_orchestrator.proofs.Judged.{from-all, shown-all, from-settled, from-entries, from-tries}
+use Rattle.csi_orchestrator.specs.Public.Restored.{AreEntriesFit, IsPublished, IsResting, HasPlace, IsOnTheWay, IsStopOnTheWay, IsStopOfLeft, IsUseOnTheWay, FitsLife, IsRestorable}
+use Rattle.csi_orchestrator.specs.Private.Judging.{is_published, is_left, is_resting, is_way, is_at_target, stops_here, uses_here, is_stop_on_the_way, is_use_on_the_way, fits_life, has_tries, is_tried, are_entries_fit, is_restorable}
+use Rattle.csi_orchestrator.proofs.Judged.{from-all, shown-all, from-resting, from-left, first-passes, second-passes, from-entries, from-tries, from-tried}
 use Rattle.csi_orchestrator.proofs.SplitLists.{two-there}
-use Rattle.csi_orchestrator.proofs.StopsOnTheWay.{placed-apart}
+use Rattle.csi_orchestrator.proofs.RestoredPlaces.{placed-apart, nodes-apart}
 
 -- ---- tests
 
@@ -38,14 +35,6 @@ from-published targets all = from-all is_published IsPublished targets (λ t e. 
 -- there are none
 from-empty : {X : Type 0} (xs : List X) → xs ≡ [] → (length xs == 0) ≡ true
 from-empty xs none = ap (λ ys. length ys == 0) none
-
--- the first of two is passed
-or-left : (a b : Bool) → a ≡ true → (a || b) ≡ true
-or-left a b e = ap (λ c. c || b) e
-
--- or the second
-or-right : (a b : Bool) → b ≡ true → (a || b) ≡ true
-or-right a b e = ap (λ c. a || c) e ∙ or-true a
 
 -- ---- a target
 
@@ -130,60 +119,69 @@ parted view (r ∷ rs) (y ∷ front) x rear e =
       rear_is = rest.rear_is;
     }
 
--- all are settled
-from-settled-all : (entries : List NodeEntry) → AllByRecursion IsSettled (map node_entry_shown entries) → list_all is_settled entries ≡ true
-from-settled-all entries all = shown-all node_entry_shown is_settled IsSettled entries from-settled all
+-- nothing is on the way at any
+from-resting-all : (entries : List NodeEntry) → AllByRecursion IsResting (map node_entry_shown entries) → list_all is_resting entries ≡ true
+from-resting-all entries all = shown-all node_entry_shown is_resting IsResting entries from-resting all
 
 -- those in front of a place are of other nodes
 front-apart : (nodes : List (List ℕ)) (arguments : Arguments) (entries : List NodeEntryShown) (node target : List ℕ) (h : HasPlace entries node target) → AreEntriesFit nodes arguments entries
     → AllByRecursion (λ (y : NodeEntryShown). same_text y.node node ≡ false) h.front
-front-apart nodes arguments entries node target h fit =
-    let apart = two-there (λ (a b : NodeEntryShown). same_text a.node b.node ≡ false) h.front h.entry h.rear (subst (EachTwo (λ (a b : NodeEntryShown). same_text a.node b.node ≡ false)) h.entries_are fit.apart) in
-    each-weaker (λ (y : NodeEntryShown). same_text y.node (h.entry).node ≡ false) (λ (y : NodeEntryShown). same_text y.node node ≡ false) h.front (λ y e. subst (λ k. same_text y.node k ≡ false) h.of_node e) apart.0
+front-apart nodes arguments entries node target h fit = (nodes-apart nodes arguments entries h.front h.entry h.rear node h.entries_are h.of_node fit).0
 
 -- ---- a stop
 
 -- the test goes by what is in front
 stop-walk : (node target : List ℕ) (before : List NodeEntry) (own : NodeEntry) (after : List NodeEntry) → AllByRecursion (λ (y : NodeEntryShown). same_text y.node node ≡ false) (map node_entry_shown before)
-    → AllByRecursion IsSettled (map node_entry_shown before) → own.node ≡ node → stops_here target own ≡ true → AllByRecursion IsSettled (map node_entry_shown after) → is_stop_on_the_way node target (before ++ own ∷ after) ≡ true
-stop-walk node target [] own after apart settled is here rest =
-    ap (λ b. cond b (stops_here target own && list_all is_settled after) (is_settled own && is_stop_on_the_way node target after)) ((same_text-tells own.node node).1 is)
-    ∙ and_from (stops_here target own) (list_all is_settled after) here (from-settled-all after rest)
-stop-walk node target (x ∷ before) own after apart settled is here rest =
+    → AllByRecursion IsResting (map node_entry_shown before) → own.node ≡ node → stops_here target own ≡ true → AllByRecursion IsResting (map node_entry_shown after) → is_stop_on_the_way node target (before ++ own ∷ after) ≡ true
+stop-walk node target [] own after apart resting is here rest =
+    ap (λ b. cond b (stops_here target own && list_all is_resting after) (is_resting own && is_stop_on_the_way node target after)) ((same_text-tells own.node node).1 is)
+    ∙ and_from (stops_here target own) (list_all is_resting after) here (from-resting-all after rest)
+stop-walk node target (x ∷ before) own after apart resting is here rest =
     let later = before ++ own ∷ after in
-    ap (λ b. cond b (stops_here target x && list_all is_settled later) (is_settled x && is_stop_on_the_way node target later)) apart.0
-    ∙ and_from (is_settled x) (is_stop_on_the_way node target later) (from-settled x settled.0) (stop-walk node target before own after apart.1 settled.1 is here rest)
+    ap (λ b. cond b (stops_here target x && list_all is_resting later) (is_resting x && is_stop_on_the_way node target later)) apart.0
+    ∙ and_from (is_resting x) (is_stop_on_the_way node target later) (from-resting x resting.0) (stop-walk node target before own after apart.1 resting.1 is here rest)
 
 -- by the rules
-from-stop : (nodes : List (List ℕ)) (arguments : Arguments) (node target : List ℕ) (entries : List NodeEntry) → AreEntriesFit nodes arguments (map node_entry_shown entries) → IsStopOnTheWay (map node_entry_shown entries) node target
-    → is_stop_on_the_way node target entries ≡ true
-from-stop nodes arguments node target entries fit stop =
+from-stop : (nodes : List (List ℕ)) (arguments : Arguments) (node target : List ℕ) (entries : List NodeEntry) → AreEntriesFit nodes arguments (map node_entry_shown entries)
+    → IsStopOnTheWay (map node_entry_shown entries) node target ⊎ IsStopOfLeft (map node_entry_shown entries) node → is_stop_on_the_way node target entries ≡ true
+from-stop nodes arguments node target entries fit (inl stop) =
     let h = stop.place in
     let shown = map node_entry_shown entries in
     let p = parted node_entry_shown entries h.front h.entry h.rear h.entries_are in
     ap (is_stop_on_the_way node target) p.are
     ∙ stop-walk node target p.before p.own p.after
     (subst (AllByRecursion (λ (y : NodeEntryShown). same_text y.node node ≡ false)) (sym p.front_is) (front-apart nodes arguments shown node target h fit))
-    (subst (AllByRecursion IsSettled) (sym p.front_is) h.settled_front)
+    (subst (AllByRecursion IsResting) (sym p.front_is) h.resting_front)
     (ap (λ (e : NodeEntryShown). e.node) p.own_is ∙ h.of_node)
-    (subst (λ (e : NodeEntryShown). is_at_target false e.attached e.staged target true e.target_entries ≡ true) (sym p.own_is) (target-passes false nodes arguments shown node target h fit stop.way (λ m. absurd (false-true m))))
-    (subst (AllByRecursion IsSettled) (sym p.rear_is) h.settled_rear)
+    (second-passes (is_left p.own) (is_at_target false p.own.attached p.own.staged target true p.own.target_entries.items)
+    (subst (λ (e : NodeEntryShown). is_at_target false e.attached e.staged target true e.target_entries ≡ true) (sym p.own_is) (target-passes false nodes arguments shown node target h fit stop.way (λ m. absurd (false-true m)))))
+    (subst (AllByRecursion IsResting) (sym p.rear_is) h.resting_rear)
   where
     false-true : false ≡ true → ⊥
     false-true e = cc
+from-stop nodes arguments node target entries fit (inr stop) =
+    let shown = map node_entry_shown entries in
+    let p = parted node_entry_shown entries stop.front stop.entry stop.rear stop.entries_are in
+    ap (is_stop_on_the_way node target) p.are
+    ∙ stop-walk node target p.before p.own p.after
+    (subst (AllByRecursion (λ (y : NodeEntryShown). same_text y.node node ≡ false)) (sym p.front_is) (nodes-apart nodes arguments shown stop.front stop.entry stop.rear node stop.entries_are stop.of_node fit).0)
+    (subst (AllByRecursion IsResting) (sym p.front_is) stop.resting_front)
+    (ap (λ (e : NodeEntryShown). e.node) p.own_is ∙ stop.of_node)
+    (first-passes (is_left p.own) (is_at_target false p.own.attached p.own.staged target true p.own.target_entries.items) (from-left p.own (subst IsLeft (sym p.own_is) stop.left)))
+    (subst (AllByRecursion IsResting) (sym p.rear_is) stop.resting_rear)
 
 -- ---- a use
 
 -- the test goes by what is in front
 use-walk : (usage : Usage) (before : List NodeEntry) (own : NodeEntry) (after : List NodeEntry) → AllByRecursion (λ (y : NodeEntryShown). same_text y.node usage.node ≡ false) (map node_entry_shown before)
-    → AllByRecursion IsSettled (map node_entry_shown before) → own.node ≡ usage.node → uses_here usage (length after == 0) own ≡ true → AllByRecursion IsSettled (map node_entry_shown after) → is_use_on_the_way usage (before ++ own ∷ after) ≡ true
-use-walk usage [] own after apart settled is here rest =
-    ap (λ b. cond b (uses_here usage (length after == 0) own && list_all is_settled after) (is_settled own && is_use_on_the_way usage after)) ((same_text-tells own.node usage.node).1 is)
-    ∙ and_from (uses_here usage (length after == 0) own) (list_all is_settled after) here (from-settled-all after rest)
-use-walk usage (x ∷ before) own after apart settled is here rest =
+    → AllByRecursion IsResting (map node_entry_shown before) → own.node ≡ usage.node → uses_here usage own ≡ true → AllByRecursion IsResting (map node_entry_shown after) → is_use_on_the_way usage (before ++ own ∷ after) ≡ true
+use-walk usage [] own after apart resting is here rest =
+    ap (λ b. cond b (uses_here usage own && list_all is_resting after) (is_resting own && is_use_on_the_way usage after)) ((same_text-tells own.node usage.node).1 is)
+    ∙ and_from (uses_here usage own) (list_all is_resting after) here (from-resting-all after rest)
+use-walk usage (x ∷ before) own after apart resting is here rest =
     let later = before ++ own ∷ after in
-    ap (λ b. cond b (uses_here usage (length later == 0) x && list_all is_settled later) (is_settled x && is_use_on_the_way usage later)) apart.0
-    ∙ and_from (is_settled x) (is_use_on_the_way usage later) (from-settled x settled.0) (use-walk usage before own after apart.1 settled.1 is here rest)
+    ap (λ b. cond b (uses_here usage x && list_all is_resting later) (is_resting x && is_use_on_the_way usage later)) apart.0
+    ∙ and_from (is_resting x) (is_use_on_the_way usage later) (from-resting x resting.0) (use-walk usage before own after apart.1 resting.1 is here rest)
 
 -- the same flag
 from-flag : (a b : Bool) → a ≡ b → same_flag a b ≡ true
@@ -192,25 +190,9 @@ from-flag false false e = refl
 from-flag true false e = sym e
 from-flag false true e = e
 
--- its target is one of several at its node, or nothing stands behind
-use-end : (entries : List NodeEntryShown) (usage : Usage) (use_ : IsUseOnTheWay entries usage) (count : ℕ) → ((use_.place).rear ≡ [] → count ≡ 0) → ((count == 0) || nat_le 2 (length ((use_.place).entry).target_entries)) ≡ true
-use-end entries usage use_ count behind = by (use_.place).first refl
-  where
-    at : List TargetEntry
-    at = ((use_.place).entry).target_entries
-
-    by : (front : List TargetEntry) → (use_.place).first ≡ front → ((count == 0) || nat_le 2 (length at)) ≡ true
-    by [] e = or-left (count == 0) (nat_le 2 (length at)) (ap (λ n. n == 0) (behind (use_.last_node e)))
-    by (y ∷ ys) e =
-        let long = length-append ys ((use_.place).target_entry ∷ (use_.place).last) in
-        let whole : length at ≡ length ((y ∷ ys) ++ (use_.place).target_entry ∷ (use_.place).last) = ap length (use_.place).targets_are ∙ ap (λ (ts : List TargetEntry). length (ts ++ (use_.place).target_entry ∷ (use_.place).last)) e in
-        or-right (count == 0) (nat_le 2 (length at)) (le-leb 2 (length at) (omega (arith, long, whole)))
-
 -- the use of an entry as it is shown
-abbrev uses_shown : Usage → Bool → NodeEntryShown → Bool
-uses_shown usage last entry =
-    (last || nat_le 2 (length entry.target_entries))
-    && (same_capability entry.capability usage.capability && (same_flag entry.readonly usage.readonly && is_at_target true entry.attached entry.staged usage.target true entry.target_entries))
+abbrev uses_shown : Usage → NodeEntryShown → Bool
+uses_shown usage entry = same_capability entry.capability usage.capability && (same_flag entry.readonly usage.readonly && is_at_target true entry.attached entry.staged usage.target true entry.target_entries)
 
 -- by the rules
 from-use : (nodes : List (List ℕ)) (arguments : Arguments) (usage : Usage) (entries : List NodeEntry) → AreEntriesFit nodes arguments (map node_entry_shown entries) → IsUseOnTheWay (map node_entry_shown entries) usage → is_use_on_the_way usage entries ≡ true
@@ -218,21 +200,18 @@ from-use nodes arguments usage entries fit way =
     let h = way.place in
     let shown = map node_entry_shown entries in
     let p = parted node_entry_shown entries h.front h.entry h.rear h.entries_are in
-    let none : h.rear ≡ [] → length p.after ≡ 0 = λ e. sym (length-map p.after node_entry_shown) ∙ ap length (p.rear_is ∙ e) in
     let capable = same_capability (h.entry).capability usage.capability in
     let flagged = same_flag (h.entry).readonly usage.readonly in
     let at = is_at_target true (h.entry).attached (h.entry).staged usage.target true (h.entry).target_entries in
-    let last = (length p.after == 0) || nat_le 2 (length (h.entry).target_entries) in
     ap (is_use_on_the_way usage) p.are
     ∙ use-walk usage p.before p.own p.after
     (subst (AllByRecursion (λ (y : NodeEntryShown). same_text y.node usage.node ≡ false)) (sym p.front_is) (front-apart nodes arguments shown usage.node usage.target h fit))
-    (subst (AllByRecursion IsSettled) (sym p.front_is) h.settled_front)
+    (subst (AllByRecursion IsResting) (sym p.front_is) h.resting_front)
     (ap (λ (e : NodeEntryShown). e.node) p.own_is ∙ h.of_node)
-    (subst (λ (e : NodeEntryShown). uses_shown usage (length p.after == 0) e ≡ true) (sym p.own_is)
-    (and_from last (capable && (flagged && at)) (use-end shown usage way (length p.after) none)
+    (subst (λ (e : NodeEntryShown). uses_shown usage e ≡ true) (sym p.own_is)
     (and_from capable (flagged && at) ((same_capability-tells (h.entry).capability usage.capability).1 way.as_capable)
-    (and_from flagged at (from-flag (h.entry).readonly usage.readonly way.as_flagged) (target-passes true nodes arguments shown usage.node usage.target h fit way.way (λ m. way.last_target))))))
-    (subst (AllByRecursion IsSettled) (sym p.rear_is) h.settled_rear)
+    (and_from flagged at (from-flag (h.entry).readonly usage.readonly way.as_flagged) (target-passes true nodes arguments shown usage.node usage.target h fit way.way (λ m. way.last_target)))))
+    (subst (AllByRecursion IsResting) (sym p.rear_is) h.resting_rear)
 
 -- ---- a row
 
@@ -245,20 +224,12 @@ from-life : (nodes : List (List ℕ)) (arguments : Arguments) (entries : List No
     → FitsLife (map node_entry_shown entries) id exists goal → fits_life goal (is_some id) exists entries ≡ true
 from-life nodes arguments entries None Maybe None fit life = from-none-shown entries life
 from-life nodes arguments entries None Maybe (Some Create) fit life = from-none-shown entries life
-from-life nodes arguments entries (Some id) Yes None fit life = from-settled-all entries life
+from-life nodes arguments entries (Some id) Yes None fit life = from-resting-all entries life
 from-life nodes arguments entries (Some id) Yes (Some (Use usage)) fit life = from-use nodes arguments usage entries fit life
 from-life nodes arguments entries (Some id) Yes (Some (Stop node target)) fit life = from-stop nodes arguments node target entries fit life
 from-life nodes arguments entries (Some id) Maybe (Some Delete) fit life = from-none-shown entries life
 from-life nodes arguments entries (Some id) No None fit life = from-none-shown entries life
 from-life nodes arguments entries id exists goal fit life = absurd life
-
--- it has no more entries than there are nodes
-from-few : (nodes : List (List ℕ)) (arguments : Arguments) (entries : List NodeEntry) → AreEntriesFit nodes arguments (map node_entry_shown entries) → nat_le (length entries) (length nodes) ≡ true
-from-few nodes arguments entries fit =
-    let shown = map node_entry_shown entries in
-    let long = length-map entries node_entry_shown in
-    let few = few-entries nodes shown fit.apart (each-weaker (IsEntryFit nodes arguments) (IsEntryWithin nodes) shown (λ entry own. record { among = own.listed; targets = own.few }) fit.each) in
-    le-leb (length entries) (length nodes) (omega (arith, long, few))
 
 -- a row that keeps the rules
 pub from-restorable : (nodes : List (List ℕ)) (row : Row) → IsRestorable nodes (row_shown row) → is_restorable nodes row ≡ true
@@ -267,7 +238,9 @@ from-restorable nodes row kept =
     let life = fits_life row.goal (is_some row.id) row.exists entries in
     let fit = are_entries_fit nodes row.arguments entries in
     let tried = has_tries row.goal row.tries in
-    and_from (nat_le (length entries) (length nodes)) (is_none row.open_call && (tried && (fit && life))) (from-few nodes row.arguments entries kept.entries)
-    (and_from (is_none row.open_call) (tried && (fit && life)) (ap is_none kept.quiet)
-    (and_from tried (fit && life) (from-tries row.goal row.tries kept.tries)
-    (and_from fit life (from-entries nodes row.arguments entries kept.entries) (from-life nodes row.arguments entries row.id row.exists row.goal kept.entries kept.life))))
+    let left = is_tried row.goal row.tries entries in
+    and_from (nat_le (length entries) 64) (is_none row.open_call && (tried && (left && (fit && life)))) (le-leb (length entries) 64 (let few = kept.few in let long = length-map entries node_entry_shown in omega (arith, few, long)))
+    (and_from (is_none row.open_call) (tried && (left && (fit && life))) (ap is_none kept.quiet)
+    (and_from tried (left && (fit && life)) (from-tries row.goal row.tries kept.tries)
+    (and_from left (fit && life) (from-tried row.goal row.tries entries kept.untried)
+    (and_from fit life (from-entries nodes row.arguments entries kept.entries) (from-life nodes row.arguments entries row.id row.exists row.goal kept.entries kept.life)))))

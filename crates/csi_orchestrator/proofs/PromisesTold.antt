@@ -1,14 +1,25 @@
 -- What the rows tell is what each call promises.
-use Rattle.std.proofs.Common.{◌≡◌, ℕ, List, refl, sym, ◌∙◌, ap, subst}
-use Rattle.std.specs.Prelude.{Result, Ok, Err, IfOk, IfErr}
+use Rattle.std.proofs.Common.{◌≡◌, refl, sym, ◌∙◌, ap, subst}
+use Rattle.std.specs.Prelude.{Option, Some, None, Result, Ok, Err, IfOk, IfErr}
+use Rattle.csi_types.specs.declared.call.Kind.{Kind}
+use Rattle.csi_types.specs.declared.frame.Body.{Body}
+use Rattle.csi_types.specs.declared.frame.Body.TheVariants as bodies
+use Rattle.csi_types.specs.declared.reply.Reply.{Reply}
+use Rattle.csi_types.specs.Model.Frame.{Frame}
+use Rattle.csi_orchestrator.specs.declared.step.Step.{Step}
+use Rattle.csi_orchestrator.specs.declared.step.Step.TheVariants as steps
 use Rattle.csi_orchestrator.specs.declared.fault.OrchFault.{OrchFault}
 use Rattle.csi_orchestrator.specs.Model.History.{History, with_items}
 use Rattle.csi_orchestrator.specs.Model.WellFormed.{IsWellFormed}
-use Rattle.csi_orchestrator.specs.Model.Moves.{Input, Answer, Moved, moves}
+use Rattle.csi_orchestrator.specs.Model.Moves.{Input, ToCreate, ToUse, ToStop, ToDelete, TimesOut, Comes, Restarts, Loses, Answer, Sends, hears, Moved, moves}
 use Rattle.csi_orchestrator.specs.Public.Moves.{moved_to}
-use Rattle.csi_orchestrator.specs.Model.Shown.{OrchestratorParts, Shows}
+use Rattle.csi_orchestrator.specs.Model.Shown.{RowShown, OrchestratorParts, row_of, Shows}
 use Rattle.csi_orchestrator.specs.Public.RowMoves.{MovedRows, IsRefusal}
-use Rattle.csi_orchestrator.specs.Private.RowMoves.{row_moves, IsMoveOf, RowsAnswer}
+use Rattle.csi_orchestrator.specs.Private.RowMoves.{all_rows_moved, steps_at, creates, row_replied, step_heard, hears_reply, receives, row_moves, IsMoveOf, RowsAnswer}
+use Rattle.csi_orchestrator.specs.Private.RowChanges.{new_row}
+use Rattle.csi_orchestrator.specs.Private.RowRefusals.{first_fault}
+use Rattle.csi_orchestrator.specs.Private.RowSteps.{MovedRow, row_sends_due, row_unless, row_step}
+use Rattle.csi_orchestrator.specs.Public.Steady.{AreSteadyRowsIf}
 use Rattle.csi_orchestrator.specs.Public.Sound.{AreSoundRows, HasHistory, AreSoundParts}
 use Rattle.csi_orchestrator.specs.Public.Steps.{IsReached, GoesOn}
 use Rattle.csi_orchestrator.specs.Public.Promises.{FollowsUnrefused, IsAnsweredAs}
@@ -16,7 +27,7 @@ use Rattle.csi_orchestrator.proofs.AddedItems.{moves-add, stays-formed}
 use Rattle.csi_orchestrator.proofs.SendingAgrees.{Tells}
 use Rattle.csi_orchestrator.proofs.RulesStay.{rows-stay-sound}
 use Rattle.csi_orchestrator.proofs.BoundsStay.{rows-stay-within}
-use Rattle.csi_orchestrator.proofs.KeptRows.{IsFitInput, rows-stay-steady}
+use Rattle.csi_orchestrator.proofs.KeptRows.{IsFitInput, rows-stay-steady, all-steady-any}
 use Rattle.csi_orchestrator.proofs.RepliesAgree.{all-tell}
 
 -- where the rows tell what the history tells, what is told is done
@@ -25,10 +36,10 @@ done history moved_rows (Ok moved) tells = record { answered = sym tells.0.0; ag
 done history moved_rows (Err fault) tells = absurd tells.0
 
 -- what was told is done
-pub is-done : (old : OrchestratorParts) (history : History) (input : Input) (moved_rows : MovedRows) → AreSoundRows old.rows → IsWellFormed history → Shows old history → row_moves old input ≡ Ok moved_rows
-    → FollowsUnrefused history (moves old.nodes history input) moved_rows.answer moved_rows.parts
-is-done old history input moved_rows kept form agrees e =
-    done history moved_rows (moves old.nodes history input) (subst (λ r. Tells history r (moves old.nodes history input)) e (all-tell old history input form kept agrees))
+pub is-done : (old : OrchestratorParts) (history : History) (input : Input) (moved_rows : MovedRows) → AreSoundRows old.rows → AreSteadyRowsIf (Unit {0}) old.rows → IsWellFormed history → Shows old history → row_moves old input ≡ Ok moved_rows
+    → FollowsUnrefused history (moves history input) moved_rows.answer moved_rows.parts
+is-done old history input moved_rows kept steady form agrees e =
+    done history moved_rows (moves history input) (subst (λ r. Tells history r (moves history input)) e (all-tell old history input form kept steady agrees))
 
 -- where they do, what the rows refuse is refused
 refused : (history : History) (moved_rows : Result MovedRows OrchFault) (moved : Result Moved OrchFault) (fault : OrchFault) → Tells history moved_rows moved → IsRefusal moved_rows fault → IsRefusal moved fault
@@ -38,65 +49,99 @@ refused history (Err other) (Ok moved) fault tells is = absurd tells.0
 refused history (Err one) (Err other) fault tells is = is ∙ tells.0
 
 -- what is refused by the rows is refused
-pub is-refused : (old : OrchestratorParts) (history : History) (input : Input) (fault : OrchFault) → AreSoundRows old.rows → IsWellFormed history → Shows old history → IsRefusal (row_moves old input) fault
-    → IsRefusal (moves old.nodes history input) fault
-is-refused old history input fault kept form agrees is = refused history (row_moves old input) (moves old.nodes history input) fault (all-tell old history input form kept agrees) is
+pub is-refused : (old : OrchestratorParts) (history : History) (input : Input) (fault : OrchFault) → AreSoundRows old.rows → AreSteadyRowsIf (Unit {0}) old.rows → IsWellFormed history → Shows old history → IsRefusal (row_moves old input) fault
+    → IsRefusal (moves history input) fault
+is-refused old history input fault kept steady form agrees is = refused history (row_moves old input) (moves history input) fault (all-tell old history input form kept steady agrees) is
 
 -- what was told is told by a history that goes on
-pub told-on : (old new : OrchestratorParts) (told : HasHistory old) (input : Input) (answer : Answer) → new.nodes ≡ old.nodes → (moved : Result Moved OrchFault) → moves old.nodes told.history input ≡ moved → FollowsUnrefused told.history moved answer new → HasHistory new
-told-on old new told input answer nodes (Ok moved) e done =
+pub told-on : (old new : OrchestratorParts) (told : HasHistory old) (input : Input) (answer : Answer) → (moved : Result Moved OrchFault) → moves told.history input ≡ moved → FollowsUnrefused told.history moved answer new → HasHistory new
+told-on old new told input answer (Ok moved) e done =
     record {
       history = with_items told.history moved.items;
-      reached =
-          subst (λ (n : List (List ℕ)). IsReached n (with_items told.history moved.items)) (sym nodes)
-          (subst (λ m. IsReached old.nodes (moved_to told.history m)) e (GoesOn told.history input told.reached));
-      form = subst (λ m. IsWellFormed (moved_to told.history m)) e (stays-formed told.history input _ told.form (moves-add old.nodes told.history input told.form));
+      reached = subst (λ m. IsReached (moved_to told.history m)) e (GoesOn told.history input told.reached);
+      form = subst (λ m. IsWellFormed (moved_to told.history m)) e (stays-formed told.history input _ told.form (moves-add told.history input told.form));
       agrees = done.agrees;
     }
-told-on old new told input answer nodes (Err fault) e done = absurd done
+told-on old new told input answer (Err fault) e done = absurd done
 
 -- the same of a call's result, by the parts that are shown
-pub ok-promised : {R : Type 0} {old now new : OrchestratorParts} {input : Input} {says : R → Answer} {result : Result R OrchFault} → old ≡ now → AreSoundRows old.rows → IsMoveOf old new input says result
+pub ok-promised : {R : Type 0} {old now new : OrchestratorParts} {input : Input} {says : R → Answer} {result : Result R OrchFault} → old ≡ now → AreSoundParts old → IsMoveOf old new input says result
     → (history : History) → IsWellFormed history → Shows now history
-    → IfOk result (λ r. FollowsUnrefused history (moves now.nodes history input) (says r) new)
+    → IfOk result (λ r. FollowsUnrefused history (moves history input) (says r) new)
 ok-promised {old = old} {now = now} {new = new} {input = input} {says = says} {result = Err fault} is kept told history form agrees = tt
 ok-promised {old = old} {now = now} {new = new} {input = input} {says = says} {result = Ok r} is kept told history form agrees =
-    subst (λ (p : OrchestratorParts). FollowsUnrefused history (moves p.nodes history input) (says r) new) is
-    (is-done old history input (record { answer = says r; parts = new }) kept form (subst (λ (p : OrchestratorParts). Shows p history) (sym is) agrees) told.ok)
+    (is-done old history input (record { answer = says r; parts = new }) kept.sound (all-steady-any old.rows kept.steady) form (subst (λ (p : OrchestratorParts). Shows p history) (sym is) agrees) told.ok)
 
 -- a refusal is the one that the history tells, by the parts that are shown
-pub err-promised : {R : Type 0} {old now new : OrchestratorParts} {input : Input} {says : R → Answer} {result : Result R OrchFault} → old ≡ now → AreSoundRows old.rows → IsMoveOf old new input says result
+pub err-promised : {R : Type 0} {old now new : OrchestratorParts} {input : Input} {says : R → Answer} {result : Result R OrchFault} → old ≡ now → AreSoundParts old → IsMoveOf old new input says result
     → (history : History) → IsWellFormed history → Shows now history
-    → IfErr result (IsRefusal (moves now.nodes history input))
+    → IfErr result (IsRefusal (moves history input))
 err-promised {old = old} {now = now} {new = new} {input = input} {says = says} {result = Ok r} is kept told history form agrees = tt
 err-promised {old = old} {now = now} {new = new} {input = input} {says = says} {result = Err fault} is kept told history form agrees =
-    subst (λ (p : OrchestratorParts). IsRefusal (moves p.nodes history input) fault) is (is-refused old history input fault kept form (subst (λ (p : OrchestratorParts). Shows p history) (sym is) agrees) told.err)
-
--- the rows stay sound and the nodes as they were, whatever the result
-sound-promised : {R : Type 0} {old new : OrchestratorParts} {input : Input} {says : R → Answer} {result : Result R OrchFault} → AreSoundRows old.rows → IsMoveOf old new input says result
-    → AreSoundRows new.rows × (new.nodes ≡ old.nodes)
-sound-promised {old = old} {new = new} {input = input} {says = says} {result = Ok r} kept told = rows-stay-sound old input (record { answer = says r; parts = new }) kept told.ok
-sound-promised {old = old} {new = new} {input = input} {says = says} {result = Err fault} kept told =
-    (subst (λ (p : OrchestratorParts). AreSoundRows p.rows) (sym told.stays) kept, ap (λ (p : OrchestratorParts). p.nodes) told.stays)
+    (is-refused old history input fault kept.sound (all-steady-any old.rows kept.steady) form (subst (λ (p : OrchestratorParts). Shows p history) (sym is) agrees) told.err)
 
 -- parts that are kept as they have to be stay so, whatever the result
 pub kept-promised : {R : Type 0} {old new : OrchestratorParts} {input : Input} {says : R → Answer} {result : Result R OrchFault} → AreSoundParts old → IsMoveOf old new input says result → IsFitInput input → AreSoundParts new
 kept-promised {old = old} {new = new} {input = input} {says = says} {result = Ok r} kept told fits =
-    let after = sound-promised {input = input} {says = says} {result = Ok r} kept.sound told in
+    let moved : MovedRows = record { answer = says r; parts = new } in
     record {
-      sound = after.0;
-      steady = rows-stay-steady old input (record { answer = says r; parts = new }) kept.sound kept.steady fits told.ok;
-      within = rows-stay-within old input (record { answer = says r; parts = new }) kept.steady kept.within told.ok;
-      told =
-          told-on old new kept.told input (says r) after.1 _ refl
-          (is-done old kept.told.history input (record { answer = says r; parts = new }) kept.sound kept.told.form kept.told.agrees told.ok);
+      sound = rows-stay-sound old input moved kept.sound told.ok;
+      steady = rows-stay-steady old input moved kept.sound kept.steady fits told.ok;
+      within = rows-stay-within old input moved kept.sound kept.steady kept.within told.ok;
+      told = told-on old new kept.told input (says r) _ refl (is-done old kept.told.history input moved kept.sound (all-steady-any old.rows kept.steady) kept.told.form kept.told.agrees told.ok);
     }
 kept-promised {old = old} {new = new} {input = input} {says = says} {result = Err fault} kept told fits = subst AreSoundParts (sym told.stays) kept
 
+-- ---- the nodes
+
+-- no session begins
+abbrev pub IsOfSession : Input → Type 0
+IsOfSession (Restarts nodes) = ⊥
+IsOfSession (Loses node) = ⊥
+IsOfSession input = Unit {0}
+
+-- the nodes are as they were, unless it is refused
+abbrev NodesAfter : OrchestratorParts → Result MovedRows OrchFault → Type 0
+NodesAfter parts (Ok moved_rows) = moved_rows.parts.nodes ≡ parts.nodes
+NodesAfter parts (Err fault) = Unit {0}
+
+-- where one row is put in
+put-nodes : (parts : OrchestratorParts) (answer : Option Frame → Answer) (result : Result MovedRow OrchFault) → NodesAfter parts (all_rows_moved parts answer result)
+put-nodes parts answer (Err fault) = tt
+put-nodes parts answer (Ok moved_row) = refl
+
+-- where a row takes a step, or there is none
+step-nodes : (parts : OrchestratorParts) (answer : Option Frame → Answer) (step : Step) (o : Option RowShown) → NodesAfter parts (steps_at parts answer step o)
+step-nodes parts answer step None = tt
+step-nodes parts answer step (Some row) = put-nodes parts answer (row_step parts.nodes parts.last step row)
+
+-- whatever comes in a session
+moves-nodes : (parts : OrchestratorParts) (input : Input) → IsOfSession input → NodesAfter parts (row_moves parts input)
+moves-nodes parts (ToCreate name arguments) plain = by (row_of parts.rows name)
+  where
+    by : (o : Option RowShown) → NodesAfter parts (creates parts name arguments o)
+    by None = put-nodes parts Sends (row_unless (first_fault parts.last parts.rows) (row_sends_due parts.last (new_row name arguments)))
+    by (Some row) = step-nodes parts Sends (steps.Create arguments) (Some row)
+moves-nodes parts (ToUse name usage) plain = step-nodes parts Sends (steps.Use usage) (row_of parts.rows name)
+moves-nodes parts (ToStop name node target) plain = step-nodes parts Sends (steps.Stop node target) (row_of parts.rows name)
+moves-nodes parts (ToDelete name) plain = step-nodes parts Sends steps.Delete (row_of parts.rows name)
+moves-nodes parts (TimesOut name) plain = step-nodes parts Sends steps.TimeOut (row_of parts.rows name)
+moves-nodes parts (Comes frame) plain = by frame.body
+  where
+    heard : (kind : Kind) (reply : Reply) (o : Option RowShown) → NodesAfter parts (hears_reply parts kind reply o)
+    heard kind reply None = refl
+    heard kind reply (Some row) = step-nodes parts hears (step_heard kind reply) (Some row)
+
+    by : (body : Body) → NodesAfter parts (receives parts frame.number frame.party body)
+    by (bodies.Call call) = refl
+    by (bodies.Reply kind reply) = heard kind reply (row_replied parts.rows frame.number frame.party kind)
+moves-nodes parts (Restarts nodes) plain = absurd plain
+moves-nodes parts (Loses node) plain = absurd plain
+
 -- the nodes stay as they were shown, whatever the result
-pub nodes-promised : {R : Type 0} {old now new : OrchestratorParts} {input : Input} {says : R → Answer} {result : Result R OrchFault} → old ≡ now → AreSoundRows old.rows → IsMoveOf old new input says result
-    → new.nodes ≡ now.nodes
-nodes-promised is kept told = (sound-promised kept told).1 ∙ ap (λ (p : OrchestratorParts). p.nodes) is
+pub nodes-promised : {R : Type 0} {old now new : OrchestratorParts} {input : Input} {says : R → Answer} {result : Result R OrchFault} → old ≡ now → IsMoveOf old new input says result → IsOfSession input → new.nodes ≡ now.nodes
+nodes-promised {old = old} {input = input} {result = Ok r} is told plain = subst (NodesAfter old) told.ok (moves-nodes old input plain) ∙ ap (λ (p : OrchestratorParts). p.nodes) is
+nodes-promised {old = old} {input = input} {result = Err fault} is told plain = ap (λ (p : OrchestratorParts). p.nodes) (told.stays ∙ is)
 
 -- where they do, what the history answers the rows answer
 told-so : (history : History) (answer : Answer) (result : Result MovedRows OrchFault) (moved : Result Moved OrchFault) → Tells history result moved → IsAnsweredAs answer moved → RowsAnswer answer result
@@ -106,9 +151,9 @@ told-so history answer (Err fault) (Ok moved) tells is = absurd tells.0
 told-so history answer (Err fault) (Err other) tells is = absurd is
 
 -- as a history answers, so the rows do
-pub answered-promised : {old now : OrchestratorParts} (input : Input) (answer : Answer) → old ≡ now → AreSoundRows old.rows → (history : History) → IsWellFormed history → Shows now history
-    → IsAnsweredAs answer (moves now.nodes history input)
+pub answered-promised : {old now : OrchestratorParts} (input : Input) (answer : Answer) → old ≡ now → AreSoundParts old → (history : History) → IsWellFormed history → Shows now history
+    → IsAnsweredAs answer (moves history input)
     → RowsAnswer answer (row_moves old input)
 answered-promised {old = old} {now = now} input answer is kept history form agrees answered =
-    told-so history answer (row_moves old input) (moves old.nodes history input) (all-tell old history input form kept (subst (λ (p : OrchestratorParts). Shows p history) (sym is) agrees))
-    (subst (λ (p : OrchestratorParts). IsAnsweredAs answer (moves p.nodes history input)) (sym is) answered)
+    told-so history answer (row_moves old input) (moves history input)
+    (all-tell old history input form kept.sound (all-steady-any old.rows kept.steady) (subst (λ (p : OrchestratorParts). Shows p history) (sym is) agrees)) answered

@@ -1,6 +1,6 @@
 -- Why the rows tell what the history tells of a timeout, a reply and a restart.
-use Rattle.std.proofs.Common.{◌≡◌, ◌+◌, ◌^◌, ℕ, List, [], ◌∷◌, Bool, true, false, cond, refl, sym, ◌∙◌, ap, subst}
-use Rattle.std.specs.Prelude.{Option, Some, None, nat_lt, ◌==◌, ◌&&◌, is_none, option_map, option_and_then, Result, Ok, Err}
+use Rattle.std.proofs.Common.{◌≡◌, ℕ, List, [], ◌∷◌, Bool, true, false, cond, refl, sym, ◌∙◌, ap, subst}
+use Rattle.std.specs.Prelude.{Option, Some, None, ◌==◌, ◌&&◌, is_none, option_map, option_and_then, Result, Ok, Err}
 use Rattle.std.proofs.lemmas.Bool.{false≢true, and_parts}
 use Rattle.std.proofs.lemmas.Option.{same_Some, none-some}
 use Rattle.csi_types.specs.declared.call.Kind.{Kind}
@@ -25,29 +25,29 @@ use Rattle.csi_orchestrator.specs.declared.step.Step.TheVariants.{TimeOut, Succe
 use Rattle.csi_orchestrator.specs.Model.Thing.{Issued}
 use Rattle.csi_orchestrator.specs.Model.History.{Item, Started, Accepted, Closed, Noted, History, with_items}
 use Rattle.csi_orchestrator.specs.Model.History as wishes
-use Rattle.csi_orchestrator.specs.Model.Readings.{goal_of, open_call, tries, last_number}
+use Rattle.csi_orchestrator.specs.Model.Readings.{goal_of, open_call, tries}
 use Rattle.csi_orchestrator.specs.Model.WellFormed.{IsWellFormed}
 use Rattle.csi_orchestrator.specs.Model.Commands.{timeout_fault}
 use Rattle.csi_orchestrator.specs.Model.Due.{Due, call_for}
-use Rattle.csi_orchestrator.specs.Model.Moves.{Input, ToCreate, ToUse, ToStop, ToDelete, TimesOut, Comes, Restarts, Answer, Sends, Hears, Restarted, Moved, send_due, is_forward, is_forward_due, undoing_goal, closing, timeout, hears, call_replied, heard, heard_refusal, deliver, restart, moves}
+use Rattle.csi_orchestrator.specs.Model.Moves.{Input, ToCreate, ToUse, ToStop, ToDelete, TimesOut, Comes, Restarts, Loses, Answer, Sends, Hears, Moved, send_due, is_forward, is_forward_due, undoing_goal, closing, timeout, hears, call_replied, heard, heard_refusal, deliver, moves}
 use Rattle.csi_orchestrator.specs.Model.Agrees.{OrchestratorView, Agrees}
 use Rattle.csi_orchestrator.specs.Private.Following.{after_accepted, after_closed, after_noted}
 use Rattle.csi_orchestrator.specs.Model.Shown.{RowShown, OrchestratorParts, row_of, goal_in, goal_shown, held_on_node, open_in_row, issued_as, orchestrator_view, Shows}
 use Rattle.csi_orchestrator.specs.Public.Shown.{closed}
-use Rattle.csi_orchestrator.specs.Private.Shown.{parts_in_session}
 use Rattle.csi_orchestrator.specs.Public.RowDue.{due_in}
 use Rattle.csi_orchestrator.specs.Private.Found.{kind_due}
 use Rattle.csi_orchestrator.specs.Private.RowChanges.{succeeded_row, wanted_row, stopped_goal}
 use Rattle.csi_orchestrator.specs.Private.RowRefusals.{idle_refusal}
 use Rattle.csi_orchestrator.specs.Private.RowSteps.{MovedRow, row_sends_due, row_rests, row_unless, waits_for, is_given_up, timed_out, failed}
 use Rattle.csi_orchestrator.specs.Public.RowMoves.{MovedRows, moved_rows}
-use Rattle.csi_orchestrator.specs.Private.RowMoves.{all_rows_moved, steps_at, row_replied, is_issued_as, hears_reply, receives, starts_again, row_moves}
+use Rattle.csi_orchestrator.specs.Private.RowMoves.{all_rows_moved, steps_at, row_replied, is_issued_as, hears_reply, receives, row_moves}
+use Rattle.csi_orchestrator.specs.Public.Steady.{AreSteadyRowsIf}
 use Rattle.csi_orchestrator.specs.Public.Sound.{IsSoundRow, AreSoundRows, AreGuarded}
 use Rattle.csi_orchestrator.specs.Private.Sound.{RowsTell, MovesAreGuarded}
 use Rattle.csi_orchestrator.proofs.TextLists.{text-same}
 use Rattle.csi_orchestrator.proofs.DueCalls.{due-of-row}
 use Rattle.csi_orchestrator.proofs.DueCases.{IsDueFor, due-cases, ToMake, ToRemove, ToAttach, ToStage, ToPublish, ToUnpublish, ToUnstage, ToDetach}
-use Rattle.csi_orchestrator.proofs.ViewsFollow.{closed-follows, noted-follows, started-follows}
+use Rattle.csi_orchestrator.proofs.ViewsFollow.{closed-follows, noted-follows}
 use Rattle.csi_orchestrator.proofs.RepliesFollow.{accepted-follows}
 use Rattle.csi_orchestrator.proofs.RowMarks.{has-entry}
 use Rattle.csi_orchestrator.proofs.SendingAgrees.{Guards, Tells, IsReady, then-dropped, sends-due-tells}
@@ -55,7 +55,7 @@ use Rattle.csi_orchestrator.proofs.StepsSound.{closed-may, stopped-may, changed-
 use Rattle.csi_orchestrator.proofs.RowsAfterNotes.{reads-wanted, reads-closed, reads-quiet, reads-refused}
 use Rattle.csi_orchestrator.proofs.RefusalsRead.{timeout-unknown, timeout-refused}
 use Rattle.csi_orchestrator.proofs.RepliedRows.{replied, found-own, hears-it}
-use Rattle.csi_orchestrator.proofs.RestartAgrees.{session-agrees}
+use Rattle.csi_orchestrator.proofs.BeginningsAgree.{restarts-tell, losses-tell}
 use Rattle.csi_orchestrator.proofs.RowViews.{Reads, SameAt, same-self, same-then, same-accepted, same-closed, same-noted, put-agrees, row-reads, own-name, IsRowOf, is-row-of}
 use Rattle.csi_orchestrator.proofs.RowsAfterSending.{issued-by, reads-succeeded}
 use Rattle.csi_orchestrator.proofs.CommandsAgree.{AreRight, IsFound, own-kept, own-reads, creates-tell, uses-tell, stops-tell, deletes-tell}
@@ -91,6 +91,7 @@ record IsClosed (parts : OrchestratorParts) (history : History) (name : List ℕ
   agrees : Agrees view (with_items history items)
   reads : Reads (closed row) view name
   others : (other : List ℕ) → same_text name other ≡ false → SameAt view (orchestrator_view parts) other
+  same_nodes : parts.nodes ≡ view.nodes
   same_last : parts.last ≡ view.last
   guarded : AreGuarded history items
 
@@ -103,6 +104,7 @@ closed-ready parts history name row items at c =
       agrees = c.agrees;
       reads = c.reads;
       others = c.others;
+      same_nodes = c.same_nodes;
       same_last = c.same_last;
       old_last = sym ((at.right).agrees).same_last;
       quiet = sym (c.reads).open_calls;
@@ -122,6 +124,7 @@ use-stops parts history name row items usage answer at c goal =
       agrees = noted-follows c.view (with_items history items) name stop c.agrees;
       reads = reads-wanted (Stop usage.node usage.target) (closed row) c.view name c.reads (sym (c.reads).open_calls);
       others = λ other differs. same-then (after_noted name stop c.view) c.view (orchestrator_view parts) other (same-noted name stop c.view other differs) (c.others other differs);
+      same_nodes = c.same_nodes;
       same_last = c.same_last;
       old_last = sym ((at.right).agrees).same_last;
       quiet = sym (c.reads).open_calls;
@@ -141,6 +144,7 @@ given-up parts history name row at None f =
       agrees = (at.right).agrees;
       reads = reads-quiet row (orchestrator_view parts) name (own-reads parts history name row at) (((at.right).agrees).same_open_calls name ∙ f);
       others = λ other differs. same-self (orchestrator_view parts) other;
+      same_nodes = refl;
       same_last = refl;
       guarded = tt;
     }
@@ -151,6 +155,7 @@ given-up parts history name row at (Some issued) f =
       agrees = closed-follows (orchestrator_view parts) history issued (at.right).form (at.right).agrees (ap (open_call history) its ∙ f);
       reads = reads-closed row issued (orchestrator_view parts) name its (own-reads parts history name row at);
       others = λ other differs. same-closed issued (orchestrator_view parts) other (ap (λ n. same_text n other) its ∙ differs);
+      same_nodes = refl;
       same_last = refl;
       guarded = tt;
     }
@@ -238,6 +243,7 @@ heard-closed parts history row number due reply by bad =
       agrees = heard-agrees parts history row number due reply by;
       reads = reads-refused row (issued-by row.name number due) reply.status reply.id (orchestrator_view parts) row.name refl bad (row-reads parts row.name row refl (by.at).found);
       others = λ other differs. same-accepted (issued-by row.name number due) reply.status reply.id (orchestrator_view parts) other differs;
+      same_nodes = refl;
       same_last = refl;
       guarded = tt;
     }
@@ -254,6 +260,7 @@ success-tells parts history row number due reply by fine =
       reads = reads-succeeded row (orchestrator_view parts) row.name due number reply.status reply.id (row-reads parts row.name row refl (by.at).found) (λ node. sym (ap (option_and_then (λ (r : RowShown). held_on_node r node)) (by.at).found))
           (has-entry row row.goal own.goal) (due-cases row due by.is_due) fine;
       others = λ other differs. same-accepted (issued-by row.name number due) reply.status reply.id (orchestrator_view parts) other differs;
+      same_nodes = refl;
       same_last = refl;
       old_last = sym ((by.at.right).agrees).same_last;
       quiet = ap (λ b. cond b None ((orchestrator_view parts).open_calls row.name)) (text-same row.name);
@@ -275,7 +282,7 @@ unfolding taken Fails
 waits-tell parts history row number due reply goal by bad waiting wish =
     let c = heard-closed parts history row number due reply by bad in
     subst (λ b. Tells history (all_rows_moved parts hears (cond b (row_rests (closed row)) (row_sends_due parts.last (failed row row.goal)))) (Ok (let m : Moved = record { answer = hears None; items = taken number reply ∷ [] } in m)))
-    (sym (ap waits_for wish ∙ waiting)) ((refl, put-agrees parts parts.last row.name (closed row) c.view (with_items history (taken number reply ∷ [])) c.reads c.others c.same_last c.agrees), tt)
+    (sym (ap waits_for wish ∙ waiting)) ((refl, put-agrees parts parts.last row.name (closed row) c.view (with_items history (taken number reply ∷ [])) c.reads c.others c.same_nodes c.same_last c.agrees), tt)
 
 -- a create that was refused
 drops-tell : (parts : OrchestratorParts) (history : History) (row : RowShown) (number : Number) (due : Due) (reply : Reply) → IsHeardBy parts history row number due → is_ok_status reply.status ≡ false → row.goal ≡ Some Create
@@ -342,36 +349,26 @@ deliveries-tell : (parts : OrchestratorParts) (history : History) (number : Numb
 deliveries-tell parts history number party (bodies.Call call) right = ((refl, right.agrees), tt)
 deliveries-tell parts history number party (bodies.Reply kind reply) right = replies-tell parts history number party kind reply right (row_replied parts.rows number party kind) refl
 
--- a restart
-restarts-tell : (parts : OrchestratorParts) (history : History) → Shows parts history → Tells history (starts_again parts) (restart (last_number history))
-restarts-tell parts history agrees =
-    subst (λ l. Tells history (starts_again parts) (restart l)) agrees.same_last (by (nat_lt (parts.last.session + 1) (2 ^ 64)))
-  where
-    next : ℕ
-    next = parts.last.session + 1
-
-    by : (b : Bool) → Tells history (cond b (moved_rows (parts_in_session next parts) Restarted) (Err faults.NumbersSpent)) (cond b (Ok (let m : Moved = record { answer = Restarted; items = Started next ∷ [] } in m)) (Err faults.NumbersSpent))
-    by true = ((refl, session-agrees parts (with_items history (Started next ∷ [])) next (started-follows (orchestrator_view parts) history next agrees)), tt)
-    by false = (refl, tt)
-
 -- each input
-by-input : (parts : OrchestratorParts) (history : History) (input : Input) → AreRight parts history → Tells history (row_moves parts input) (moves parts.nodes history input)
+by-input : (parts : OrchestratorParts) (history : History) (input : Input) → AreRight parts history → Tells history (row_moves parts input) (moves history input)
 by-input parts history (ToCreate name arguments) right = creates-tell parts history name arguments right (row_of parts.rows name) refl
 by-input parts history (ToUse name usage) right = uses-tell parts history name usage right (row_of parts.rows name) refl
 by-input parts history (ToStop name node target) right = stops-tell parts history name node target right (row_of parts.rows name) refl
 by-input parts history (ToDelete name) right = deletes-tell parts history name right (row_of parts.rows name) refl
 by-input parts history (TimesOut name) right = timeouts-tell parts history name right (row_of parts.rows name) refl
 by-input parts history (Comes frame) right = deliveries-tell parts history frame.number frame.party frame.body right
-by-input parts history Restarts right = restarts-tell parts history right.agrees
+by-input parts history (Restarts nodes) right = restarts-tell parts history nodes right.kept right.steady right.agrees
+by-input parts history (Loses node) right = losses-tell parts history node right.kept right.steady right.agrees
 
 -- the same of rows that are sound and agree with a well-formed history
-pub all-tell : (parts : OrchestratorParts) (history : History) (input : Input) → IsWellFormed history → AreSoundRows parts.rows → Shows parts history → Tells history (row_moves parts input) (moves parts.nodes history input)
-all-tell parts history input form kept agrees = by-input parts history input (record { form = form; kept = kept; agrees = agrees })
+pub all-tell : (parts : OrchestratorParts) (history : History) (input : Input) → IsWellFormed history → AreSoundRows parts.rows → AreSteadyRowsIf (Unit {0}) parts.rows → Shows parts history
+    → Tells history (row_moves parts input) (moves history input)
+all-tell parts history input form kept steady agrees = by-input parts history input (record { form = form; kept = kept; steady = steady; agrees = agrees })
 
 -- whatever comes, the rows tell what the history tells
 pub rows-tell : RowsTell
-rows-tell parts history input form kept agrees = (all-tell parts history input form kept agrees).0
+rows-tell parts history input form kept steady agrees = (all-tell parts history input form kept steady agrees).0
 
 -- whatever comes, each call that is sent may be sent
 pub moves-are-guarded : MovesAreGuarded
-moves-are-guarded parts history input moved form kept agrees e = subst (Guards history) e (all-tell parts history input form kept agrees).1
+moves-are-guarded parts history input moved form kept steady agrees e = subst (Guards history) e (all-tell parts history input form kept steady agrees).1

@@ -29,7 +29,7 @@ use Rattle.csi_orchestrator.proofs.DueAfterStep.{due-used}
 use Rattle.csi_orchestrator.proofs.DueCases.{removing}
 use Rattle.csi_orchestrator.proofs.EntryRules.{by_if}
 use Rattle.csi_orchestrator.proofs.PutPlaces.{find-first, put-same}
-use Rattle.csi_orchestrator.proofs.RestartAgrees.{same-parts}
+use Rattle.csi_orchestrator.proofs.BeginningsAgree.{same-parts}
 use Rattle.csi_orchestrator.proofs.RowViews.{own-name}
 
 -- ---- one row

@@ -13,7 +13,7 @@ use Rattle.csi_orchestrator.specs.declared.thing.Thing.TheVariants.{Attached}
 use Rattle.csi_orchestrator.specs.declared.thing.Known.TheVariants.{No, Maybe}
 use Rattle.csi_orchestrator.specs.Model.Thing.{Issued, name_in, touches}
 use Rattle.csi_orchestrator.specs.Model.History.{Arguments, Goal, History}
-use Rattle.csi_orchestrator.specs.Model.Readings.{known, id_of, goal_of, arguments_of, held, open_call, tries, last_number, has_row}
+use Rattle.csi_orchestrator.specs.Model.Readings.{nodes_of, known, id_of, goal_of, arguments_of, held, open_call, tries, last_number, has_row}
 use Rattle.csi_orchestrator.specs.Model.Agrees.{OrchestratorView, Agrees}
 use Rattle.csi_orchestrator.specs.Private.Following.{after_sent, after_accepted, after_closed, after_noted}
 use Rattle.csi_orchestrator.specs.Model.Shown.{RowShown, OrchestratorParts, row_of, mark_in, mark_of, goal_in, held_on_node, open_in_row, tries_in, orchestrator_view, Shows}
@@ -99,10 +99,11 @@ same-noted name goal view other differs = record { rest = rw differs refl; marks
 
 -- a row that tells what is shown of its name stands in its place: what is shown of the others is as it was
 pub put-agrees : (parts : OrchestratorParts) (last : Number) (name : List ℕ) (row : RowShown) (view : OrchestratorView) (history : History) → Reads row view name
-    → ((other : List ℕ) → same_text name other ≡ false → SameAt view (orchestrator_view parts) other) → last ≡ view.last → Agrees view history
+    → ((other : List ℕ) → same_text name other ≡ false → SameAt view (orchestrator_view parts) other) → parts.nodes ≡ view.nodes → last ≡ view.last → Agrees view history
     → Shows (record { nodes = parts.nodes; last = last; rows = put row parts.rows }) history
-put-agrees parts last name row view history reads others is_last agrees =
+put-agrees parts last name row view history reads others is_nodes is_last agrees =
     record {
+      same_nodes = is_nodes ∙ agrees.same_nodes;
       same_last = is_last ∙ agrees.same_last;
       same_rows = λ other. ap (λ (h : Here). h.there) (own other (same_text name other) refl) ∙ agrees.same_rows other;
       same_marks = λ thing. own_marks thing (same_text name (name_in thing)) refl ∙ agrees.same_marks thing;
@@ -165,6 +166,7 @@ row-reads parts name row own found =
 abbrev pub told_by : History → OrchestratorView
 told_by history =
     record {
+      nodes = nodes_of history;
       last = last_number history;
       rows = has_row history;
       marks = known history;

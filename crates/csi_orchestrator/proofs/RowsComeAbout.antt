@@ -21,8 +21,7 @@ use Rattle.csi_orchestrator.specs.Model.Due.{Due, call_for}
 use Rattle.csi_orchestrator.specs.Model.Shown.{NodeEntryShown, RowShown, row_of, goal_in, open_in_row}
 use Rattle.csi_orchestrator.specs.Public.Shown.{closed}
 use Rattle.csi_orchestrator.specs.Private.RowMoves.{is_issued_as, row_replied}
-use Rattle.csi_orchestrator.specs.Public.Restored.{AreEntriesFit, FitsLife, IsRestorable}
-use Rattle.csi_orchestrator.specs.Public.Steady.{HasTries}
+use Rattle.csi_orchestrator.specs.Private.Unlost.{HasTries, AreEntriesFit, FitsLife, IsRestorable}
 use Rattle.csi_orchestrator.specs.Private.Restored.{IsComeTo}
 use Rattle.csi_orchestrator.proofs.DueCases.{making, removing}
 use Rattle.csi_orchestrator.proofs.SplitLists.{find-behind, find-of_none, two-there}
@@ -30,50 +29,49 @@ use Rattle.csi_orchestrator.proofs.LastRow.{Spot, number, opened, RowComes, with
 use Rattle.csi_orchestrator.proofs.StepsTaken.{and-false}
 use Rattle.csi_orchestrator.proofs.PlainLives.{plain, created, refused, made, removes, removed, tried}
 use Rattle.csi_orchestrator.proofs.SettledRows.{settled-comes}
-use Rattle.csi_orchestrator.proofs.EntriesFit.{few-entries}
 use Rattle.csi_orchestrator.proofs.StopsOnTheWay.{five_more, ComesSomehow, stop-comes}
 use Rattle.csi_orchestrator.proofs.UsesOnTheWay.{use-comes}
 
 -- ---- one row
 
 -- whatever is known and wanted
-row-comes : (s : Spot) (left : ℕ) → length s.nodes ≤ 64 → RowComes s (3072 + five_more left) (Some kinds.CreateVolume) (plain s None Maybe (Some Create) 1 [])
+row-comes : (s : Spot) (left : ℕ) → RowComes s (3072 + five_more left) (Some kinds.CreateVolume) (plain s None Maybe (Some Create) 1 [])
     → (id : Option ℕ) (exists : Known) (goal : Option Goal) (tries : ℕ) (entries : List NodeEntryShown) → FitsLife entries id exists goal → HasTries goal tries → AreEntriesFit s.nodes s.arguments entries
     → ComesSomehow s left id exists goal tries entries
-row-comes s left few_nodes came None Maybe None tries entries life spent fit =
+row-comes s left came None Maybe None tries entries life spent fit =
     let none = sym spent in
     let bare = sym life in
     (None, subst (RowComes s left None) (λ i. plain s None Maybe None (none i) (bare i)) (refused s left (with-fewer s (3072 + five_more left) left (Some kinds.CreateVolume) (plain s None Maybe (Some Create) 1 []) (omega arith) came)))
-row-comes s left few_nodes came None Maybe (Some Create) tries entries life spent fit = (
+row-comes s left came None Maybe (Some Create) tries entries life spent fit = (
   Some kinds.CreateVolume,
   subst (λ (es : List NodeEntryShown). RowComes s left (Some kinds.CreateVolume) (plain s None Maybe (Some Create) tries es)) (sym life)
       (tried s left None Maybe Create [] (making (plain s None Maybe (Some Create) 1 [])) tries (record { is = refl; may = λ more. refl }) spent.0 spent.1
       (with-fewer s (3072 + five_more left) (suc (suc left)) (Some kinds.CreateVolume) (plain s None Maybe (Some Create) 1 []) (omega arith) came)),
 )
-row-comes s left few_nodes came (Some id) Yes None tries entries life spent fit =
+row-comes s left came (Some id) Yes None tries entries life spent fit =
     let none = sym spent in
-    let few : length entries ≤ 64 = (let most = few-entries s.nodes s.arguments entries fit in omega (arith, most, few_nodes)) in (
+    let few : length entries ≤ 64 = (let most = fit.few in omega (arith, most)) in (
       None,
       subst (λ (n : ℕ). RowComes s left None (plain s (Some id) Yes None n entries)) none
           (settled-comes s left id entries few fit life (with-fewer s (3072 + five_more left) (3072 + left) None (plain s (Some id) Yes None 0 []) (omega arith) (made s (3072 + five_more left) id came))),
     )
-row-comes s left few_nodes came (Some id) Yes (Some (Use usage)) tries entries life spent fit = use-comes s left id tries usage entries few_nodes life spent.0 spent.1 fit (made s (3072 + five_more left) id came)
-row-comes s left few_nodes came (Some id) Yes (Some (Stop node target)) tries entries life spent fit = stop-comes s left id tries node target entries few_nodes life spent.0 spent.1 fit (made s (3072 + five_more left) id came)
-row-comes s left few_nodes came (Some id) Maybe (Some Delete) tries entries life spent fit = (
+row-comes s left came (Some id) Yes (Some (Use usage)) tries entries life spent fit = use-comes s left id tries usage entries life spent.0 spent.1 fit (made s (3072 + five_more left) id came)
+row-comes s left came (Some id) Yes (Some (Stop node target)) tries entries life spent fit = stop-comes s left id tries node target entries life spent.0 spent.1 fit (made s (3072 + five_more left) id came)
+row-comes s left came (Some id) Maybe (Some Delete) tries entries life spent fit = (
   Some kinds.DeleteVolume,
   subst (λ (es : List NodeEntryShown). RowComes s left (Some kinds.DeleteVolume) (plain s (Some id) Maybe (Some Delete) tries es)) (sym life)
       (tried s left (Some id) Maybe Delete [] (removing id) tries (record { is = refl; may = λ more. refl }) spent.0 spent.1
       (removes s (suc (suc left)) id (made s (suc (suc (suc left))) id
       (with-fewer s (3072 + five_more left) (suc (suc (suc left))) (Some kinds.CreateVolume) (plain s None Maybe (Some Create) 1 []) (omega arith) came)))),
 )
-row-comes s left few_nodes came (Some id) No None tries entries life spent fit =
+row-comes s left came (Some id) No None tries entries life spent fit =
     let none = sym spent in
     let bare = sym life in (
       None,
       subst (RowComes s left None) (λ i. plain s (Some id) No None (none i) (bare i))
           (removed s left id (removes s left id (made s (suc left) id (with-fewer s (3072 + five_more left) (suc left) (Some kinds.CreateVolume) (plain s None Maybe (Some Create) 1 []) (omega arith) came)))),
     )
-row-comes s left few_nodes came id exists goal tries entries life spent fit = absurd life
+row-comes s left came id exists goal tries entries life spent fit = absurd life
 
 -- ---- one behind others
 
@@ -116,9 +114,9 @@ abbrev pub row_calls : ℕ → ℕ
 row_calls left = suc (3072 + five_more left)
 
 -- one row more
-one-row : (nodes : List (List ℕ)) (session left : ℕ) (rows : List RowShown) (row : RowShown) → length nodes ≤ 64 → length rows < 4096 → row_of rows row.name ≡ None → IsRestorable nodes row
+one-row : (nodes : List (List ℕ)) (session left : ℕ) (rows : List RowShown) (row : RowShown) → length rows < 4096 → row_of rows row.name ≡ None → IsRestorable nodes row
     → RowsCome nodes session (row_calls left) rows → RowsCome nodes session left (rows ++ row ∷ [])
-one-row nodes session left rows row few_nodes few fresh own old =
+one-row nodes session left rows row few fresh own old =
     record {
       call = (there.1).call;
       kept = old.kept ++ last ∷ [];
@@ -151,7 +149,7 @@ one-row nodes session left rows row few_nodes few fresh own old =
     bare = plain s row.id row.exists row.goal row.tries row.node_entries
 
     there : ComesSomehow s left row.id row.exists row.goal row.tries row.node_entries
-    there = row-comes s left few_nodes (created s (3072 + five_more left) few_kept old.room old.came) row.id row.exists row.goal row.tries row.node_entries own.life own.tries own.entries
+    there = row-comes s left (created s (3072 + five_more left) few_kept old.room old.came) row.id row.exists row.goal row.tries row.node_entries own.life own.tries own.entries
 
     last : RowShown
     last = opened s (there.1).call there.0 bare
@@ -172,14 +170,14 @@ calls-few [] = omega arith
 calls-few (row ∷ rows) = let rest = calls-few rows in omega (arith, rest)
 
 -- row after row
-pub more-rows : (nodes : List (List ℕ)) (session : ℕ) (done todo : List RowShown) → length nodes ≤ 64 → length (done ++ todo) ≤ 4096 → EachTwo (λ (a b : RowShown). same_text a.name b.name ≡ false) (done ++ todo)
+pub more-rows : (nodes : List (List ℕ)) (session : ℕ) (done todo : List RowShown) → length (done ++ todo) ≤ 4096 → EachTwo (λ (a b : RowShown). same_text a.name b.name ≡ false) (done ++ todo)
     → AllByRecursion (IsRestorable nodes) todo → RowsCome nodes session (all_calls todo) done → RowsCome nodes session 0 (done ++ todo)
-more-rows nodes session done [] few_nodes few apart each came = subst (RowsCome nodes session 0) (sym (append-nil done)) came
-more-rows nodes session done (row ∷ todo) few_nodes few apart each came =
+more-rows nodes session done [] few apart each came = subst (RowsCome nodes session 0) (sym (append-nil done)) came
+more-rows nodes session done (row ∷ todo) few apart each came =
     let same : (done ++ row ∷ []) ++ todo ≡ done ++ row ∷ todo = append_assoc done (row ∷ []) todo in
     let long = length-append done (row ∷ todo) in
     let fresh = find-of_none (λ (r : RowShown). same_text r.name row.name) done (two-there (λ (a b : RowShown). same_text a.name b.name ≡ false) done row todo apart).0 in
     subst (RowsCome nodes session 0) same
-    (more-rows nodes session (done ++ row ∷ []) todo few_nodes (subst (λ (rs : List RowShown). length rs ≤ 4096) (sym same) few)
+    (more-rows nodes session (done ++ row ∷ []) todo (subst (λ (rs : List RowShown). length rs ≤ 4096) (sym same) few)
     (subst (EachTwo (λ (a b : RowShown). same_text a.name b.name ≡ false)) (sym same) apart) each.1
-    (one-row nodes session (all_calls todo) done row few_nodes (omega (arith, long, few)) fresh each.0 came))
+    (one-row nodes session (all_calls todo) done row (omega (arith, long, few)) fresh each.0 came))

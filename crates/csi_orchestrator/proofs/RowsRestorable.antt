@@ -1,6 +1,6 @@
 -- Why the rows of every orchestrator, once their open calls are given up, keep the rules of rows.
 use Rattle.std.proofs.Common.{◌≡◌, ◌≢◌, ◌≤◌, ℕ, List, [], ◌∷◌, ◌++◌, Bool, true, false, cond, length, map, refl, sym, ◌∙◌, ap, subst, inl, inr, arith}
-use Rattle.std.specs.Prelude.{Option, Some, None, find, ◌&&◌, ◌||◌}
+use Rattle.std.specs.Prelude.{◌⊎◌, Option, Some, None, find, ◌&&◌, ◌||◌}
 use Rattle.std.specs.List.{AllByRecursion}
 use Rattle.std.proofs.lemmas.Bool.{false≢true, or_parts}
 use Rattle.std.proofs.lemmas.List.{length-append, length-map}
@@ -17,15 +17,14 @@ use Rattle.csi_orchestrator.specs.declared.row.TargetEntry.{TargetEntry}
 use Rattle.csi_orchestrator.specs.declared.request.Usage.{Usage}
 use Rattle.csi_orchestrator.specs.declared.thing.Known.{Known}
 use Rattle.csi_orchestrator.specs.declared.thing.Known.TheVariants.{Yes, No, Maybe}
-use Rattle.csi_orchestrator.specs.Model.Shown.{NodeEntryShown, RowShown, OrchestratorParts, publication_known}
+use Rattle.csi_orchestrator.specs.Model.Shown.{NodeEntryShown, RowShown, OrchestratorParts, mark_in, publication_known}
 use Rattle.csi_orchestrator.specs.Model.Thing.{is_yes}
 use Rattle.csi_orchestrator.specs.Public.Bounds.{IsEntryWithin, AreWithin}
-use Rattle.csi_orchestrator.specs.Public.Restored.{AreHeldTogether, IsEntryFit, IsSettled, HasPlace, IsOnTheWay, IsStopOnTheWay, IsUseOnTheWay, FitsLife, IsRestorable, AreRestorable}
+use Rattle.csi_orchestrator.specs.Public.Restored.{AreHeldTogether, IsEntryFit, IsSettled, IsResting, HasPlace, IsOnTheWay, IsStopOnTheWay, IsStopOfLeft, IsUseOnTheWay, FitsLife, IsRestorable, AreRestorable}
 use Rattle.csi_orchestrator.specs.Public.Shown.{AreTargetsApart, closed}
 use Rattle.csi_orchestrator.specs.Public.Sound.{MayBeWanted, IsUsable, IsSoundRow, AreSoundParts}
-use Rattle.csi_orchestrator.specs.Public.Steady.{IsStanding, HasOne, IsAtWork, HasMarks, IsInUse, AreMarked, IsLast, CameLast, HasLast, IsAllowed, CanBeBeside, IsSteadyRow, AreSteadyRows}
+use Rattle.csi_orchestrator.specs.Public.Steady.{IsStanding, HasOne, IsAtWork, HasMarks, IsInUse, IsLeft, IsAtRest, AreMarked, IsLast, HasLast, IsAllowed, CanBeBeside, IsSteadyRow, AreSteadyRows}
 use Rattle.csi_orchestrator.proofs.EntryRules.{apart-map}
-use Rattle.csi_orchestrator.proofs.KeptMarks.{known-there}
 
 -- ---- a list of which one is so
 
@@ -82,7 +81,7 @@ last-rest key text x [] own rear last = last
 last-rest key text x (y ∷ ys) own rear last = last
 
 -- nothing stands behind the one of the text, if the last is of the text
-none-behind : {X : Type 0} (key : X → List ℕ) (text : List ℕ) (Q : X → Type 0) (front : List X) (own : X) (rear : List X) → AllByRecursion (λ y. (same_text (key y) text ≡ false) × Q y) rear → IsLast key text (front ++ own ∷ rear)
+pub none-behind : {X : Type 0} (key : X → List ℕ) (text : List ℕ) (Q : X → Type 0) (front : List X) (own : X) (rear : List X) → AllByRecursion (λ y. (same_text (key y) text ≡ false) × Q y) rear → IsLast key text (front ++ own ∷ rear)
     → rear ≡ []
 none-behind key text Q [] own [] all last = refl
 none-behind key text Q [] own (y ∷ ys) all last = absurd (ends-otherwise key text Q (y ∷ ys) all last)
@@ -127,19 +126,36 @@ has-some (t ∷ ts) some = omega arith
 used-settled : (entry : NodeEntryShown) → IsInUse entry → IsSettled entry
 used-settled entry used = record { attached = used.attached; staged = used.staged; published = used.published; some = has-some entry.target_entries used.some }
 
+-- nothing is on the way where no goal is at work
+rest-resting : (entry : NodeEntryShown) → IsAtRest entry → IsResting entry
+rest-resting entry (inl used) = inl (used-settled entry used)
+rest-resting entry (inr left) = inr left
+
 -- ---- a use or a stop
 
 -- the entry of its node
-abbrev NodeSplit : List ℕ → List ℕ → List NodeEntryShown → Type 0
-NodeSplit node target entries = IsSplit (λ (e : NodeEntryShown). e.node) node (HasMarks IsAtWork target) IsInUse entries
+abbrev NodeSplit : (NodeEntryShown → Type 0) → List ℕ → List NodeEntryShown → Type 0
+NodeSplit So node entries = IsSplit (λ (e : NodeEntryShown). e.node) node So IsAtRest entries
+
+-- nothing is on the way at the others
+resting-front : {So : NodeEntryShown → Type 0} (node : List ℕ) (entries : List NodeEntryShown) (n : NodeSplit So node entries) → AllByRecursion IsResting n.front
+resting-front node entries n = each-weaker IsAtRest IsResting n.front rest-resting n.in_front
+
+-- nor behind
+resting-rear : {So : NodeEntryShown → Type 0} (node : List ℕ) (entries : List NodeEntryShown) (n : NodeSplit So node entries) → AllByRecursion IsResting n.rear
+resting-rear node entries n = each-weaker (λ (e : NodeEntryShown). (same_text e.node node ≡ false) × IsAtRest e) IsResting n.rear (λ e own. rest-resting e own.1) n.behind
 
 -- the entry of its target there, which is published so
 abbrev TargetSplit : List ℕ → Known → List TargetEntry → Type 0
 TargetSplit target published ts = IsSplit (λ (t : TargetEntry). t.target) target (λ (t : TargetEntry). t.published ≡ published) (λ (t : TargetEntry). t.published ≡ Yes) ts
 
+-- the targets of such an entry are split so
+split-targets : (target : List ℕ) (entry : NodeEntryShown) (m : HasMarks IsAtWork target entry) → TargetSplit target m.published entry.target_entries
+split-targets target entry m = split (λ (t : TargetEntry). t.target) target (λ (t : TargetEntry). t.published ≡ m.published) (λ (t : TargetEntry). t.published ≡ Yes) entry.target_entries m.targets
+
 -- they have a place
-abbrev placed : (node target : List ℕ) (entries : List NodeEntryShown) (n : NodeSplit node target entries) → TargetSplit target n.so.published n.own.target_entries → HasPlace entries node target
-placed node target entries n t =
+abbrev placed : {So : NodeEntryShown → Type 0} (node target : List ℕ) (entries : List NodeEntryShown) (n : NodeSplit So node entries) (published : Known) → TargetSplit target published n.own.target_entries → HasPlace entries node target
+placed node target entries n published t =
     record {
       front = n.front;
       entry = n.own;
@@ -151,71 +167,71 @@ placed node target entries n t =
       targets_are = t.are;
       of_node = (same_text-tells n.own.node node).0 n.of_text;
       of_target = (same_text-tells t.own.target target).0 t.of_text;
-      settled_front = each-weaker IsInUse IsSettled n.front used-settled n.in_front;
-      settled_rear = each-weaker (λ (e : NodeEntryShown). (same_text e.node node ≡ false) × IsInUse e) IsSettled n.rear (λ e own. used-settled e own.1) n.behind;
+      resting_front = resting-front node entries n;
+      resting_rear = resting-rear node entries n;
       published_first = t.in_front;
       published_last = each-weaker (λ (u : TargetEntry). (same_text u.target target ≡ false) × (u.published ≡ Yes)) (λ (u : TargetEntry). u.published ≡ Yes) t.rear (λ u own. own.1) t.behind;
     }
 
 -- and are on the way
-under-way : (node target : List ℕ) (entries : List NodeEntryShown) (n : NodeSplit node target entries) (t : TargetSplit target n.so.published n.own.target_entries)
-    → IsOnTheWay t.front t.rear n.own.attached n.own.staged t.own.published
-under-way node target entries n t =
-    work-way t.front t.own t.rear n.own.attached n.own.staged t.own.published (subst (IsAtWork n.own.attached n.own.staged) (sym t.so) n.so.marks) (λ unstaged. sym (ap length t.are) ∙ n.so.alone unstaged)
+under-way : (target : List ℕ) (entry : NodeEntryShown) (m : HasMarks IsAtWork target entry) (t : TargetSplit target m.published entry.target_entries) → IsOnTheWay t.front t.rear entry.attached entry.staged t.own.published
+under-way target entry m t =
+    work-way t.front t.own t.rear entry.attached entry.staged t.own.published (subst (IsAtWork entry.attached entry.staged) (sym t.so) m.marks) (λ unstaged. sym (ap length t.are) ∙ m.alone unstaged)
 
 -- a stop
-stop-way : (node target : List ℕ) (entries : List NodeEntryShown) → NodeSplit node target entries → IsStopOnTheWay entries node target
-stop-way node target entries n =
-    let t = split (λ (t : TargetEntry). t.target) target (λ (t : TargetEntry). t.published ≡ n.so.published) (λ (t : TargetEntry). t.published ≡ Yes) n.own.target_entries n.so.targets in
-    record { place = placed node target entries n t; way = under-way node target entries n t }
+stop-way : (node target : List ℕ) (entries : List NodeEntryShown) → NodeSplit (λ entry. HasMarks IsAtWork target entry ⊎ IsLeft entry) node entries → IsStopOnTheWay entries node target ⊎ IsStopOfLeft entries node
+stop-way node target entries n = by n.so
+  where
+    by : HasMarks IsAtWork target n.own ⊎ IsLeft n.own → IsStopOnTheWay entries node target ⊎ IsStopOfLeft entries node
+    by (inl m) = let t = split-targets target n.own m in inl (record { place = placed node target entries n m.published t; way = under-way target n.own m t })
+    by (inr left) =
+        inr
+        (record {
+          front = n.front;
+          entry = n.own;
+          rear = n.rear;
+          entries_are = n.are;
+          of_node = (same_text-tells n.own.node node).0 n.of_text;
+          left = left;
+          resting_front = resting-front node entries n;
+          resting_rear = resting-rear node entries n;
+        })
 
 -- a use
-use-way : (row : RowShown) (usage : Usage) → IsUsable row usage → HasLast (Some (Use usage)) row.node_entries → (n : NodeSplit usage.node usage.target row.node_entries)
-    → TargetSplit usage.target n.so.published n.own.target_entries → IsUseOnTheWay row.node_entries usage
-use-way row usage usable lasts n t =
+use-way : (row : RowShown) (usage : Usage) → IsUsable row usage → HasLast (Some (Use usage)) row.node_entries → NodeSplit (HasMarks IsAtWork usage.target) usage.node row.node_entries → IsUseOnTheWay row.node_entries usage
+use-way row usage usable lasts n =
     record {
-      place = placed usage.node usage.target row.node_entries n t;
-      way = under-way usage.node usage.target row.node_entries n t;
+      place = placed usage.node usage.target row.node_entries n n.so.published t;
+      way = under-way usage.target n.own n.so t;
       as_capable = ap (λ (e : NodeEntryShown). e.capability) own ∙ usable.entry.same_capability;
       as_flagged = ap (λ (e : NodeEntryShown). e.readonly) own ∙ usable.entry.same_flag;
-      last_target = last-target;
-      last_node = λ none.
-          none-behind (λ (e : NodeEntryShown). e.node) usage.node IsInUse n.front n.own n.rear n.behind
-          (subst (IsLast (λ (e : NodeEntryShown). e.node) usage.node) n.are (came.node_last unpublished (one none)));
+      last_target =
+          none-behind (λ (u : TargetEntry). u.target) usage.target (λ (u : TargetEntry). u.published ≡ Yes) t.front t.own t.rear t.behind
+          (subst (IsLast (λ (u : TargetEntry). u.target) usage.target) t.are (lasts n.own n.found unpublished));
     }
   where
+    t : TargetSplit usage.target n.so.published n.own.target_entries
+    t = split-targets usage.target n.own n.so
+
     own : n.own ≡ usable.entry.node_entry
     own = same_Some n.own usable.entry.node_entry (sym n.found ∙ usable.entry.at_node)
 
-    came : CameLast usage.node usage.target row.node_entries n.own
-    came = lasts n.own n.found
-
     unpublished : is_yes (publication_known usage.target n.own) ≡ false
-    unpublished = ap is_yes (known-there IsAtWork usage.target n.own n.so) ∙ work-unpublished n.own.attached n.own.staged n.so.published n.so.marks
-
-    last-target : t.rear ≡ []
-    last-target =
-        none-behind (λ (u : TargetEntry). u.target) usage.target (λ (u : TargetEntry). u.published ≡ Yes) t.front t.own t.rear t.behind
-        (subst (IsLast (λ (u : TargetEntry). u.target) usage.target) t.are (came.target_last unpublished))
-
-    one : t.front ≡ [] → length n.own.target_entries ≡ 1
-    one none = ap length t.are ∙ ap (λ (us : List TargetEntry). length (us ++ t.own ∷ t.rear)) none ∙ ap (λ (us : List TargetEntry). length (t.own ∷ us)) last-target
+    unpublished = ap (λ (o : Option TargetEntry). is_yes (mark_in (λ (u : TargetEntry). u.published) o)) t.found ∙ ap is_yes t.so ∙ work-unpublished n.own.attached n.own.staged n.so.published n.so.marks
 
 -- ---- rows
 
 -- what is known of the volume, and what is wanted
-row-life : (row : RowShown) (goal : Option Goal) (id : Option ℕ) (exists : Known) → IsStanding goal id exists → (exists ≢ Yes → row.node_entries ≡ []) → AreMarked IsAtWork goal row.node_entries → HasLast goal row.node_entries
+row-life : (row : RowShown) (goal : Option Goal) (id : Option ℕ) (exists : Known) → IsStanding goal id exists → (exists ≢ Yes → row.node_entries ≡ []) → AreMarked IsAtWork (λ mark. mark ≢ No) goal row.node_entries → HasLast goal row.node_entries
     → MayBeWanted row goal → FitsLife row.node_entries id exists goal
 row-life row None None Maybe standing empty marked lasts may = empty maybe-yes
-row-life row None (Some id) Yes standing empty marked lasts may = each-weaker IsInUse IsSettled row.node_entries used-settled marked
+row-life row None (Some id) Yes standing empty marked lasts may = each-weaker IsAtRest IsResting row.node_entries rest-resting marked
 row-life row None (Some id) No standing empty marked lasts may = empty no-yes
 row-life row (Some Create) None Maybe standing empty marked lasts may = empty maybe-yes
 row-life row (Some (Use usage)) (Some id) Yes standing empty marked lasts may =
-    let n = split (λ (e : NodeEntryShown). e.node) usage.node (HasMarks IsAtWork usage.target) IsInUse row.node_entries marked in
-    use-way row usage may lasts n
-    (split (λ (t : TargetEntry). t.target) usage.target (λ (t : TargetEntry). t.published ≡ n.so.published) (λ (t : TargetEntry). t.published ≡ Yes) n.own.target_entries n.so.targets)
+    use-way row usage may lasts (split (λ (e : NodeEntryShown). e.node) usage.node (HasMarks IsAtWork usage.target) IsAtRest row.node_entries marked)
 row-life row (Some (Stop node target)) (Some id) Yes standing empty marked lasts may =
-    stop-way node target row.node_entries (split (λ (e : NodeEntryShown). e.node) node (HasMarks IsAtWork target) IsInUse row.node_entries marked)
+    stop-way node target row.node_entries (split (λ (e : NodeEntryShown). e.node) node (λ entry. HasMarks IsAtWork target entry ⊎ IsLeft entry) IsAtRest row.node_entries marked)
 row-life row (Some Delete) (Some id) Maybe standing empty marked lasts may = empty maybe-yes
 row-life row goal id exists standing empty marked lasts may = absurd standing
 
@@ -248,18 +264,20 @@ row-restorable nodes row sound within steady =
     record {
       quiet = refl;
       tries = steady.tries;
+      untried = steady.untried;
       life = row-life row row.goal row.id row.exists steady.standing steady.empty steady.marked steady.last sound.goal;
       entries =
           record {
             each =
                 all_of (IsEntryFit nodes row.arguments) row.node_entries
                 (λ entry among.
-                let here = each_of (IsEntryWithin nodes) row.node_entries entry within among in
+                let here = each_of (IsEntryWithin nodes) row.node_entries entry within.each among in
                 let allowed = each_of (IsAllowed row.arguments.capabilities) row.node_entries entry steady.allowed among in
-                record { listed = here.among; capable = allowed.capable; few = here.targets; apart = each_of AreTargetsApart row.node_entries entry sound.targets among; one = allowed.one_target });
+                record { among = here.among; capable = allowed.capable; few = here.targets; apart = each_of AreTargetsApart row.node_entries entry sound.targets among; one = allowed.one_target });
             apart = sound.nodes;
             together = two-more CanBeBeside AreHeldTogether row.node_entries held-together steady.beside;
           };
+      few = within.few;
     }
 
 -- each of them
@@ -268,10 +286,9 @@ each-restorable nodes [] sound within steady = tt
 each-restorable nodes (row ∷ rows) sound within steady = (row-restorable nodes row sound.0 within.0 steady.0, each-restorable nodes rows sound.1 within.1 steady.1)
 
 -- all rows of an orchestrator
-pub steady-restorable : (parts : OrchestratorParts) → AreSoundParts parts → length parts.nodes ≤ 64 → AreRestorable parts.nodes (map closed parts.rows)
-steady-restorable parts kept few_nodes =
+pub steady-restorable : (parts : OrchestratorParts) → AreSoundParts parts → AreRestorable parts.nodes (map closed parts.rows)
+steady-restorable parts kept =
     record {
-      few_nodes = few_nodes;
       few = subst (λ (n : ℕ). n ≤ 4096) (sym (length-map parts.rows closed)) kept.within.rows;
       names = apart-map (λ (r : RowShown). r.name) closed parts.rows (λ row. refl) kept.sound.names;
       each = each-restorable parts.nodes parts.rows kept.sound.each kept.within.entries kept.steady;

@@ -1,6 +1,6 @@
 -- Why the rows stay as an orchestrator's type keeps them.
-use Rattle.std.proofs.Common.{◌≡◌, ℕ, ◌+◌, ◌^◌, List, Bool, refl, subst}
-use Rattle.std.specs.Prelude.{find, nat_lt, Option, Some, None, Result, Ok, Err}
+use Rattle.std.proofs.Common.{◌≡◌, ℕ, List, Bool, refl, subst}
+use Rattle.std.specs.Prelude.{find, false, not, Option, Some, None, Result, Ok, Err}
 use Rattle.csi_types.specs.declared.call.Kind.{Kind}
 use Rattle.csi_types.specs.declared.call.Party.{Party}
 use Rattle.csi_types.specs.declared.frame.Body.{Body}
@@ -11,43 +11,42 @@ use Rattle.csi_types.specs.Model.Frame.{Frame}
 use Rattle.csi_types.specs.Model.Same.{same_text}
 use Rattle.csi_lists.proofs.Members.{each_of, among-find}
 use Rattle.csi_lists.proofs.Searches.{find-passes}
-use Rattle.csi_lists.proofs.Each.{each-map}
+use Rattle.csi_lists.proofs.Each.{each-map, each-filter}
+use Rattle.csi_lists.proofs.Pairs.{two-filter}
 use Rattle.csi_orchestrator.specs.declared.fault.OrchFault.{OrchFault}
-use Rattle.csi_orchestrator.specs.declared.fault.OrchFault.TheVariants as faults
 use Rattle.csi_orchestrator.specs.declared.step.Step.{Step}
 use Rattle.csi_orchestrator.specs.declared.step.Step.TheVariants as steps
 use Rattle.csi_orchestrator.specs.Model.History.{Arguments}
 use Rattle.csi_orchestrator.specs.Private.Hearing.{IsDueSuccess}
-use Rattle.csi_orchestrator.specs.Model.Moves.{Input, ToCreate, ToUse, ToStop, ToDelete, TimesOut, Comes, Restarts, Answer, Sends, Restarted, hears}
+use Rattle.csi_orchestrator.specs.Model.Moves.{Input, ToCreate, ToUse, ToStop, ToDelete, TimesOut, Comes, Restarts, Loses, Answer, Sends, Restarted, GivenUp, hears}
 use Rattle.csi_orchestrator.specs.Model.Shown.{RowShown, OrchestratorParts, row_of, open_in_row}
 use Rattle.csi_orchestrator.specs.Public.Shown.{closed}
-use Rattle.csi_orchestrator.specs.Private.Shown.{parts_in_session}
+use Rattle.csi_orchestrator.specs.Public.Beginning.{is_row_forgotten, remembered, restart_refusal, restarted_parts, loss_refusal, row_at_loss, parts_at_loss}
 use Rattle.csi_orchestrator.specs.Private.RowChanges.{new_row}
 use Rattle.csi_orchestrator.specs.Private.RowRefusals.{first_fault}
 use Rattle.csi_orchestrator.specs.Private.RowSteps.{MovedRow, row_step}
 use Rattle.csi_orchestrator.specs.Public.RowMoves.{MovedRows, moved_rows}
-use Rattle.csi_orchestrator.specs.Private.RowMoves.{all_rows_moved, steps_at, creates, is_issued_as, row_replied, step_heard, hears_reply, receives, starts_again, row_moves}
+use Rattle.csi_orchestrator.specs.Private.RowMoves.{all_rows_moved, steps_at, creates, is_issued_as, row_replied, step_heard, hears_reply, receives, moved_unless, starts_again, gives_up, row_moves}
 use Rattle.csi_orchestrator.specs.Public.Sound.{IsSoundRow, AreSoundRows}
 use Rattle.csi_orchestrator.specs.Private.Sound.{RowsStaySound}
-use Rattle.csi_orchestrator.proofs.EntryRules.{by_if, each-put, apart-put, apart-map}
+use Rattle.csi_orchestrator.proofs.EntryRules.{each-put, apart-put, apart-map}
 use Rattle.csi_orchestrator.proofs.RowRules.{kept-closed}
+use Rattle.csi_orchestrator.proofs.RowsLost.{lost-name, lost-sound}
 use Rattle.csi_orchestrator.proofs.StepsSound.{SoundRowAfter, sends-due-kept, unless-kept, step-kept, new-may, heard-fits}
 
 -- what is told, if anything, is kept so
 abbrev pub SoundAfter : OrchestratorParts → Result MovedRows OrchFault → Type 0
-SoundAfter parts (Ok moved_rows) = AreSoundRows moved_rows.parts.rows × (moved_rows.parts.nodes ≡ parts.nodes)
+SoundAfter parts (Ok moved_rows) = AreSoundRows moved_rows.parts.rows
 SoundAfter parts (Err fault) = Unit {0}
 
 -- kept rows stay so where a kept row is put in
 put-kept : (parts : OrchestratorParts) (answer : Option Frame → Answer) (result : Result MovedRow OrchFault) → AreSoundRows parts.rows → SoundRowAfter result → SoundAfter parts (all_rows_moved parts answer result)
 put-kept parts answer (Err fault) kept own = tt
-put-kept parts answer (Ok moved_row) kept own = (
-  record {
-    names = apart-put (λ (r : RowShown). r.name) moved_row.row parts.rows kept.names;
-    each = each-put IsSoundRow (λ (r : RowShown). r.name) moved_row.row parts.rows own kept.each;
-  },
-  refl,
-)
+put-kept parts answer (Ok moved_row) kept own =
+    record {
+      names = apart-put (λ (r : RowShown). r.name) moved_row.row parts.rows kept.names;
+      each = each-put IsSoundRow (λ (r : RowShown). r.name) moved_row.row parts.rows own kept.each;
+    }
 
 -- the row that is found is kept so
 pub found-kept : (p : RowShown → Bool) (rows : List RowShown) (row : RowShown) → AreSoundRows rows → find p rows ≡ Some row → IsSoundRow row
@@ -74,28 +73,48 @@ creates-kept parts name arguments kept (Some row) e = asked-kept parts (steps.Cr
 -- a reply is heard
 reply-kept : (parts : OrchestratorParts) (number : Number) (party : Party) (kind : Kind) (reply : Reply) → AreSoundRows parts.rows → (o : Option RowShown) → row_replied parts.rows number party kind ≡ o
     → SoundAfter parts (hears_reply parts kind reply o)
-reply-kept parts number party kind reply kept None e = (kept, refl)
+reply-kept parts number party kind reply kept None e = kept
 reply-kept parts number party kind reply kept (Some row) e =
     let heard = λ (r : RowShown). is_issued_as number party kind (open_in_row r) in
     found-steps parts hears (step_heard kind reply) heard row kept e (heard-fits row number party kind reply (find-passes heard parts.rows row e))
 
 -- a frame that comes
 receives-kept : (parts : OrchestratorParts) (number : Number) (party : Party) (body : Body) → AreSoundRows parts.rows → SoundAfter parts (receives parts number party body)
-receives-kept parts number party (bodies.Call call) kept = (kept, refl)
+receives-kept parts number party (bodies.Call call) kept = kept
 receives-kept parts number party (bodies.Reply kind reply) kept = reply-kept parts number party kind reply kept (row_replied parts.rows number party kind) refl
 
+-- unless it is refused
+unless-sound : (parts then : OrchestratorParts) (fault : Option OrchFault) (answer : Answer) → AreSoundRows then.rows → SoundAfter parts (moved_unless fault then answer)
+unless-sound parts then None answer kept = kept
+unless-sound parts then (Some fault) answer kept = tt
+
+-- the rows that are remembered
+pub remembered-sound : (rows : List RowShown) → AreSoundRows rows → AreSoundRows (remembered rows)
+remembered-sound rows kept =
+    record {
+      names = two-filter (λ (a b : RowShown). same_text a.name b.name ≡ false) (λ (r : RowShown). not (is_row_forgotten r)) rows kept.names;
+      each = each-filter IsSoundRow (λ (r : RowShown). not (is_row_forgotten r)) rows kept.each;
+    }
+
 -- a restart
-restart-kept : (parts : OrchestratorParts) → AreSoundRows parts.rows → SoundAfter parts (starts_again parts)
-restart-kept parts kept =
-    by_if (SoundAfter parts) (nat_lt (parts.last.session + 1) (2 ^ 64)) (moved_rows (parts_in_session (parts.last.session + 1) parts) Restarted) (Err faults.NumbersSpent)
-    (λ free. (
-      record {
-        names = apart-map (λ (r : RowShown). r.name) closed parts.rows (λ row. refl) kept.names;
-        each = each-map IsSoundRow IsSoundRow closed parts.rows kept-closed kept.each;
-      },
-      refl,
-    ))
-    (λ spent. tt)
+restart-kept : (parts : OrchestratorParts) (nodes : List (List ℕ)) → AreSoundRows parts.rows → SoundAfter parts (starts_again parts nodes)
+restart-kept parts nodes kept =
+    let left = remembered-sound parts.rows kept in
+    unless-sound parts (restarted_parts nodes parts) (restart_refusal parts.last.session parts.nodes nodes parts.rows) Restarted
+    (record {
+      names = apart-map (λ (r : RowShown). r.name) closed (remembered parts.rows) (λ row. refl) left.names;
+      each = each-map IsSoundRow IsSoundRow closed (remembered parts.rows) kept-closed left.each;
+    })
+
+-- a loss
+loss-kept : (parts : OrchestratorParts) (node : List ℕ) → AreSoundRows parts.rows → SoundAfter parts (gives_up parts node)
+loss-kept parts node kept =
+    let left = remembered-sound parts.rows kept in
+    unless-sound parts (parts_at_loss node parts) (loss_refusal parts.last.session) GivenUp
+    (record {
+      names = apart-map (λ (r : RowShown). r.name) (row_at_loss node) (remembered parts.rows) (lost-name node) left.names;
+      each = each-map IsSoundRow IsSoundRow (row_at_loss node) (remembered parts.rows) (lost-sound node) left.each;
+    })
 
 -- whatever comes
 moves-kept : (parts : OrchestratorParts) (input : Input) → AreSoundRows parts.rows → SoundAfter parts (row_moves parts input)
@@ -105,8 +124,9 @@ moves-kept parts (ToStop name node target) kept = asked-kept parts (steps.Stop n
 moves-kept parts (ToDelete name) kept = asked-kept parts steps.Delete name kept (λ row. tt) (row_of parts.rows name) refl
 moves-kept parts (TimesOut name) kept = asked-kept parts steps.TimeOut name kept (λ row. tt) (row_of parts.rows name) refl
 moves-kept parts (Comes frame) kept = receives-kept parts frame.number frame.party frame.body kept
-moves-kept parts Restarts kept = restart-kept parts kept
+moves-kept parts (Restarts nodes) kept = restart-kept parts nodes kept
+moves-kept parts (Loses node) kept = loss-kept parts node kept
 
--- whatever comes, the rows stay kept, and the nodes are as they were
+-- whatever comes, the rows stay kept
 pub rows-stay-sound : RowsStaySound
 rows-stay-sound parts input moved_rows kept e = subst (SoundAfter parts) e (moves-kept parts input kept)

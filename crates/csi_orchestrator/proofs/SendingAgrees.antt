@@ -54,6 +54,7 @@ pub record IsReady (parts : OrchestratorParts) (history : History) (name : List 
   pub agrees : Agrees view (with_items history items)
   pub reads : Reads row view name
   pub others : (other : List ℕ) → same_text name other ≡ false → SameAt view (orchestrator_view parts) other
+  pub same_nodes : parts.nodes ≡ view.nodes
   pub same_last : parts.last ≡ view.last
   pub old_last : last_number history ≡ parts.last
   pub quiet : view.open_calls name ≡ None
@@ -90,7 +91,7 @@ then-sent : (parts : OrchestratorParts) (history : History) (name : List ℕ) (r
 then-sent parts history name row view items due number ready e n =
     put-agrees parts number name (row_once_sent number (kind_of due.call) row) (after_sent issued view) (with_items history (Sent issued ∷ items))
     (reads-sent row view name due number ready.reads (has-entry row row.goal ((ready.may_send).may due e)) case)
-    (λ other differs. same-then (after_sent issued view) view (orchestrator_view parts) other (same-sent issued view other differs) (ready.others other differs)) refl
+    (λ other differs. same-then (after_sent issued view) view (orchestrator_view parts) other (same-sent issued view other differs) (ready.others other differs)) ready.same_nodes refl
     (sent-follows view (with_items history items) issued ready.form ready.agrees next detaches)
   where
     issued : Issued
@@ -116,7 +117,7 @@ pub then-dropped : (parts : OrchestratorParts) (history : History) (name : List 
 then-dropped parts history name row view items ready =
     put-agrees parts parts.last name (dropped_row row) (after_noted name None view) (with_items history (Noted name None ∷ items))
     (reads-dropped row view name ((ready.may_send).distinct).nodes ((ready.may_send).distinct).targets ready.reads ready.quiet)
-    (λ other differs. same-then (after_noted name None view) view (orchestrator_view parts) other (same-noted name None view other differs) (ready.others other differs)) ready.same_last
+    (λ other differs. same-then (after_noted name None view) view (orchestrator_view parts) other (same-noted name None view other differs) (ready.others other differs)) ready.same_nodes ready.same_last
     (noted-follows view (with_items history items) name None ready.agrees)
 
 -- the due call of a row that is ready is sent as the history tells it

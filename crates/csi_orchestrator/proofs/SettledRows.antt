@@ -11,7 +11,7 @@ use Rattle.csi_orchestrator.specs.declared.request.Arguments.{Arguments}
 use Rattle.csi_orchestrator.specs.declared.row.TargetEntry.{TargetEntry}
 use Rattle.csi_orchestrator.specs.declared.thing.Known.TheVariants.{Yes}
 use Rattle.csi_orchestrator.specs.Model.Shown.{NodeEntryShown}
-use Rattle.csi_orchestrator.specs.Public.Restored.{IsEntryFit, AreEntriesFit, IsPublished, IsSettled}
+use Rattle.csi_orchestrator.specs.Private.Unlost.{IsEntryFit, AreEntriesFit, IsPublished, IsSettled}
 use Rattle.csi_orchestrator.proofs.SplitLists.{find-of_none, two-there}
 use Rattle.csi_orchestrator.proofs.LastRow.{Spot, RowComes, with-fewer}
 use Rattle.csi_orchestrator.proofs.PlainLives.{plain}

@@ -18,7 +18,7 @@ use Rattle.csi_orchestrator.specs.Model.Due.{Due, call_for}
 use Rattle.csi_orchestrator.specs.Model.Shown.{NodeEntryShown, goal_shown}
 use Rattle.csi_orchestrator.specs.Public.RowDue.{others_in, due_in}
 use Rattle.csi_orchestrator.specs.Private.RowChanges.{aspect_of, exists_marked, nodes_marked, known_by_success_of, id_told, succeeded_row, is_target_kept, with_kept_targets, is_node_kept, tidied_entries, row_once_sent}
-use Rattle.csi_orchestrator.specs.Public.Restored.{IsPublished, IsSettled}
+use Rattle.csi_orchestrator.specs.Private.Unlost.{IsPublished, IsSettled}
 use Rattle.csi_orchestrator.proofs.DueCases.{attaching, staging, publishing, unpublishing, unstaging, detaching}
 use Rattle.csi_orchestrator.proofs.LastRow.{Spot, number, opened, RowComes, heard, sends, rests}
 use Rattle.csi_orchestrator.proofs.StepsTaken.{step-sends, step-drops}

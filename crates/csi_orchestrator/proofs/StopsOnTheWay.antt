@@ -17,7 +17,7 @@ use Rattle.csi_orchestrator.specs.declared.thing.Known.TheVariants.{Yes, No, May
 use Rattle.csi_orchestrator.specs.Model.Thing.{is_no}
 use Rattle.csi_orchestrator.specs.Model.Shown.{NodeEntryShown}
 use Rattle.csi_orchestrator.specs.Public.RowDue.{others_in}
-use Rattle.csi_orchestrator.specs.Public.Restored.{IsEntryFit, AreEntriesFit, IsPublished, IsSettled, HasPlace, IsOnTheWay, IsStopOnTheWay}
+use Rattle.csi_orchestrator.specs.Private.Unlost.{IsEntryFit, AreEntriesFit, IsPublished, IsSettled, HasPlace, IsOnTheWay, IsStopOnTheWay}
 use Rattle.csi_orchestrator.proofs.TextLists.{text-same}
 use Rattle.csi_orchestrator.proofs.DueCases.{unpublishing, unstaging, detaching}
 use Rattle.csi_orchestrator.proofs.SplitLists.{find-of_none, two-there, two-put_at}
@@ -26,7 +26,7 @@ use Rattle.csi_orchestrator.proofs.PlainLives.{plain, tried}
 use Rattle.csi_orchestrator.proofs.NodePlaces.{Place, target_with, entry_with, entry_at, entries_at}
 use Rattle.csi_orchestrator.proofs.StepsOnTheWay.{unpublished-unstages, unstaged-detaches, due-unpublish, due-unstage, due-detach}
 use Rattle.csi_orchestrator.proofs.UsesBegun.{stopped}
-use Rattle.csi_orchestrator.proofs.EntriesFit.{fit-put, fit-there, none-there, few-entries}
+use Rattle.csi_orchestrator.proofs.EntriesFit.{fit-put, fit-there, none-there}
 use Rattle.csi_orchestrator.proofs.SettledRows.{settled-comes}
 
 -- five calls more
@@ -119,9 +119,9 @@ stop-goes s left id tries p Yes Yes Maybe way some few listed came = (
 stop-goes s left id tries p a st q way some few listed came = absurd way
 
 -- the whole row
-pub stop-comes : (s : Spot) (left id tries : ℕ) (node target : List ℕ) (entries : List NodeEntryShown) → length s.nodes ≤ 64 → IsStopOnTheWay entries node target → 1 ≤ tries → tries ≤ 3
+pub stop-comes : (s : Spot) (left id tries : ℕ) (node target : List ℕ) (entries : List NodeEntryShown) → IsStopOnTheWay entries node target → 1 ≤ tries → tries ≤ 3
     → AreEntriesFit s.nodes s.arguments entries → RowComes s (3072 + five_more left) None (plain s (Some id) Yes None 0 []) → ComesSomehow s left (Some id) Yes (Some (Stop node target)) tries entries
-stop-comes s left id tries node target entries few_nodes stop some few fit came = (there.0, subst (RowComes s left there.0) same there.1)
+stop-comes s left id tries node target entries stop some few fit came = (there.0, subst (RowComes s left there.0) same there.1)
   where
     h : HasPlace entries node target
     h = stop.place
@@ -156,7 +156,7 @@ stop-comes s left id tries node target entries few_nodes stop some few fit came 
         (record { attached = refl; staged = refl; published = each-append IsPublished h.first (target_with (h.target_entry).target Yes ∷ h.last) h.published_first (refl, h.published_last); some = some_there }, h.settled_rear)
 
     few_there : length (entries_at p Yes Yes Yes) ≤ 64
-    few_there = let most = few-entries s.nodes s.arguments (entries_at p Yes Yes Yes) fit_before in omega (arith, most, few_nodes)
+    few_there = let most = fit_before.few in omega (arith, most)
 
     there : ComesSomehow s left (Some id) Yes (Some (Stop p.node p.target)) tries (entries_at p (h.entry).attached (h.entry).staged (h.target_entry).published)
     there = stop-goes s left id tries p (h.entry).attached (h.entry).staged (h.target_entry).published stop.way some few own.listed (settled-comes s (five_more left) id (entries_at p Yes Yes Yes) few_there fit_before settled came)

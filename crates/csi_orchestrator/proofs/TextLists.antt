@@ -1,8 +1,8 @@
 -- Texts that are compared, and lists of texts of which each is taken once.
 use Rattle.std.proofs.Common.{◌≡◌, ◌≢◌, ◌⊎◌, ℕ, suc, List, [], ◌∷◌, Bool, true, false, cond, not, length, map, refl, sym, ◌∙◌, ap, subst, inl, inr}
-use Rattle.std.specs.Prelude.{filter, ◌||◌}
+use Rattle.std.specs.Prelude.{filter, ◌||◌, ◌&&◌}
 use Rattle.std.specs.List.{list_any}
-use Rattle.std.proofs.lemmas.Bool.{false≢true, false_from_ne_true}
+use Rattle.std.proofs.lemmas.Bool.{false≢true, false_from_ne_true, and_parts}
 use Rattle.std.proofs.lemmas.List.{length-map}
 use Rattle.csi_lists.specs.Model.Members.{IsAmong, EachTwo}
 use Rattle.csi_lists.proofs.Members.{each_of, all_of, in_filter, among-kept, in-map, among-map, empty-where}
@@ -11,7 +11,8 @@ use Rattle.csi_lists.proofs.Tests.{alike, any-then, then-any, none-among}
 use Rattle.csi_lists.proofs.Filters.{filter-each}
 use Rattle.csi_types.specs.Model.Same.{same_text}
 use Rattle.csi_types.proofs.Equality.{same_text-tells}
-use Rattle.csi_orchestrator.specs.Model.Readings.{distinct}
+use Rattle.csi_orchestrator.specs.Model.History.{Item, Started, Lost, Forgotten, Sent, Accepted, Closed, Noted}
+use Rattle.csi_orchestrator.specs.Model.Readings.{distinct, with_name, names_in}
 
 -- a text is the same as itself, two are compared alike from both sides, and those that aren't equal differ
 pub text-same : (text : List ℕ) → same_text text text ≡ true
@@ -110,3 +111,50 @@ as-many-as texts key xs once apart there back =
     as-many texts (map key xs) once (two-map (λ (a b : List ℕ). same_text a b ≡ false) key xs apart)
     (λ text among. let x = there text among in subst (λ t. IsAmong t (map key xs)) x.2 (in-map key xs x.0 x.1))
     (λ text among. let x = among-map key xs text among in subst (λ t. IsAmong t texts) (sym x.2) (back x.0 x.1)) ∙ length-map xs key
+
+-- ---- the names that have a row
+
+-- a name among others that is there once, and another one
+pub any-with : (text name : List ℕ) (names : List (List ℕ)) → list_any (same_text text) (with_name name names) ≡ (same_text text name || list_any (same_text text) names)
+any-with text name names = by (list_any (same_text name) names) refl
+  where
+    again : list_any (same_text name) names ≡ true → (b : Bool) → same_text text name ≡ b → list_any (same_text text) names ≡ (b || list_any (same_text text) names)
+    again there true e = subst (λ t. list_any (same_text t) names ≡ true) (sym ((same_text-tells text name).0 e)) there
+    again there false e = refl
+
+    by : (b : Bool) → list_any (same_text name) names ≡ b → list_any (same_text text) (cond b names (name ∷ names)) ≡ (same_text text name || list_any (same_text text) names)
+    by true there = again there (same_text text name) refl
+    by false there = refl
+
+-- without a name the others are there still
+pub any-without : (text name : List ℕ) (names : List (List ℕ)) → list_any (same_text text) (filter (λ n. not (same_text n name)) names) ≡ (not (same_text text name) && list_any (same_text text) names)
+any-without text name names = alike _ _ there back
+  where
+    there : list_any (same_text text) (filter (λ n. not (same_text n name)) names) ≡ true → (not (same_text text name) && list_any (same_text text) names) ≡ true
+    there e =
+        let found = any-then (same_text text) (filter (λ n. not (same_text n name)) names) e in
+        let kept = among-kept (λ n. not (same_text n name)) names found.0 found.1 in
+        let is = (same_text-tells text found.0).0 found.2 in
+        ap (λ b. b && list_any (same_text text) names) (ap (λ t. not (same_text t name)) is ∙ kept.1) ∙ then-any (same_text text) names found.0 kept.0 found.2
+
+    back : (not (same_text text name) && list_any (same_text text) names) ≡ true → list_any (same_text text) (filter (λ n. not (same_text n name)) names) ≡ true
+    back e =
+        let both = and_parts (not (same_text text name)) (list_any (same_text text) names) e in
+        let found = any-then (same_text text) names both.1 in
+        let is = (same_text-tells text found.0).0 found.2 in
+        then-any (same_text text) (filter (λ n. not (same_text n name)) names) found.0 (in_filter (λ n. not (same_text n name)) names found.0 found.1 (ap (λ t. not (same_text t name)) (sym is) ∙ both.0)) found.2
+
+-- each name that has a row is there once
+pub names-once : (items : List Item) → AreOnce (names_in items)
+names-once [] = tt
+names-once (Noted name goal ∷ older) = by (list_any (same_text name) (names_in older)) refl (names-once older)
+  where
+    by : (b : Bool) → list_any (same_text name) (names_in older) ≡ b → AreOnce (names_in older) → AreOnce (cond b (names_in older) (name ∷ names_in older))
+    by true e once = once
+    by false e once = (all_of (λ (t : List ℕ). same_text name t ≡ false) (names_in older) (λ t among. none-among (same_text name) (names_in older) t e among), once)
+names-once (Forgotten name ∷ older) = two-filter (λ (a b : List ℕ). same_text a b ≡ false) (λ n. not (same_text n name)) (names_in older) (names-once older)
+names-once (Started session nodes ∷ older) = names-once older
+names-once (Lost node ∷ older) = names-once older
+names-once (Sent issued ∷ older) = names-once older
+names-once (Accepted number status id ∷ older) = names-once older
+names-once (Closed number ∷ older) = names-once older

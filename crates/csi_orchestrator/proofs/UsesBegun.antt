@@ -1,8 +1,8 @@
 -- The steps that begin the way to a target or back: the first use of a node, the use of one more target there, and a stop.
 use Rattle.std.proofs.Common.{◌≡◌, ◌<◌, ◌+◌, ℕ, suc, List, [], ◌∷◌, ◌++◌, Bool, true, false, cond, not, length, refl, sym, ◌∙◌, ap, arith}
-use Rattle.std.specs.Prelude.{Option, Some, None, is_some, is_none, find, nat_le, ◌&&◌}
+use Rattle.std.specs.Prelude.{Option, Some, None, is_some, is_none, find, count_by, nat_le, ◌&&◌, ◌||◌}
 use Rattle.std.specs.List.{list_any}
-use Rattle.std.proofs.lemmas.Bool.{and_from}
+use Rattle.std.proofs.lemmas.Bool.{and_from, or_from}
 use Rattle.std.proofs.lemmas.List.Sums.{count_by-le-length}
 use Rattle.csi_types.specs.declared.capability.Capability.{Capability}
 use Rattle.csi_types.specs.declared.call.Kind.TheVariants as kinds
@@ -23,7 +23,7 @@ use Rattle.csi_orchestrator.specs.Public.RowDue.{others_in, use_due}
 use Rattle.csi_orchestrator.specs.Public.RowRefusals.{is_so_elsewhere}
 use Rattle.csi_orchestrator.specs.Private.Keyed.{put_by}
 use Rattle.csi_orchestrator.specs.Private.RowChanges.{entry_for}
-use Rattle.csi_orchestrator.specs.Private.RowRefusals.{is_last, is_entry_otherwise, others_count, use_refusal}
+use Rattle.csi_orchestrator.specs.Private.RowRefusals.{is_last, is_entry_otherwise, others_count, others_attached, is_left, use_refusal}
 use Rattle.csi_orchestrator.proofs.TextLists.{text-same}
 use Rattle.csi_orchestrator.proofs.DueCases.{attaching, publishing, unpublishing}
 use Rattle.csi_orchestrator.proofs.SplitLists.{find-at, put-at, put-last}
@@ -39,6 +39,7 @@ pub record MayUse (s : Spot) (usage : Usage) (entries : List NodeEntryShown) : T
   pub capable : has_capability s.arguments.capabilities usage.capability ≡ true
   pub one_node : list_any (is_so_elsewhere (is_for_one_node usage) usage.node) entries ≡ false
   pub one_writer : list_any (is_so_elsewhere (uses_as_second_writer usage) usage.node) entries ≡ false
+  pub room : count_by (λ (entry : NodeEntryShown). not (same_text entry.node usage.node) && not (is_no entry.attached)) entries < 64
 
 -- nor is it for what is at the node
 unrefused : (s : Spot) (id : ℕ) (usage : Usage) (entries : List NodeEntryShown) → MayUse s usage entries → is_entry_otherwise usage (find (λ (entry : NodeEntryShown). same_text entry.node usage.node) entries) ≡ false
@@ -71,7 +72,8 @@ used-anew s left id front node capability readonly target none may came =
     (unrefused s id usage front may (ap (is_entry_otherwise usage) none) (ap (λ o. allows_one_target capability.mode && others_in target o) none ∙ and-false (allows_one_target capability.mode)))
     (ap (λ o. is_none (use_due usage (marks_from target o) id)) none) refl
     (unless-first (is_last (number s call)) faults.NumbersSpent _ (isnt-last s.session call room)
-    (unless-first (nat_le 16 (others_count target (find (λ (entry : NodeEntryShown). same_text entry.node node) front))) faults.Full None (ap (λ o. nat_le 16 (others_count target o)) none) refl))
+    (unless-first (nat_le 16 (others_count target (find (λ (entry : NodeEntryShown). same_text entry.node node) front)) || nat_le 64 (others_attached node row)) faults.Full None
+    (or_from (nat_le 16 (others_count target (find (λ (entry : NodeEntryShown). same_text entry.node node) front))) (nat_le 64 (others_attached node row)) (ap (λ o. nat_le 16 (others_count target o)) none) (not-reached 64 (others_attached node row) may.room)) refl))
     (ap (plain s (Some id) Yes (Some (Use usage)) 0)
     (ap (λ o. put_by (λ (entry : NodeEntryShown). entry.node) (entry_for usage o) front) none ∙ put-last (λ (entry : NodeEntryShown). entry.node) (entry_at p No No No) front none))
     (use-due s id p No No No) (next-sent s (call + 1) id (Use usage) (entries_at p No No No) (attaching usage id) (entries_at p Maybe No No) (sends-attach s id p))) came
@@ -109,7 +111,9 @@ used-too s left id p ends may several short came =
     (unrefused s id usage old may (ap (is_entry_otherwise usage) found ∙ alike) (ap (λ b. b && others_in p.target (find here old)) several))
     (ap (λ o. is_none (use_due usage (marks_from p.target o) id)) found ∙ ap (λ o. is_none (use_due usage (published_so o) id)) p.no_target) refl
     (unless-first (is_last (number s call)) faults.NumbersSpent _ (isnt-last s.session call room)
-    (unless-first (nat_le 16 (others_count p.target (find here old))) faults.Full None (ap (λ o. nat_le 16 (others_count p.target o)) found ∙ not-reached 16 (others_count p.target (Some own)) few) refl))
+    (unless-first (nat_le 16 (others_count p.target (find here old)) || nat_le 64 (others_attached p.node row)) faults.Full None
+    (or_from (nat_le 16 (others_count p.target (find here old))) (nat_le 64 (others_attached p.node row)) (ap (λ o. nat_le 16 (others_count p.target o)) found ∙ not-reached 16 (others_count p.target (Some own)) few)
+    (not-reached 64 (others_attached p.node row) may.room)) refl))
     (ap (plain s (Some id) Yes (Some (Use usage)) 0) put_in)
     (use-due s id p Yes Yes No) (next-sent s (call + 1) id (Use usage) (entries_at p Yes Yes No) (publishing usage id) (entries_at p Yes Yes Maybe) (sends-publish s id p))) came
   where
@@ -159,8 +163,8 @@ stopped s left id p listed came =
     sends s left None row (steps.Stop p.node p.target) kinds.NodeUnpublishVolume (plain s (Some id) Yes (Some goal) 1 (entries_at p Yes Yes Maybe)) refl refl (asked-stop s None row p.node p.target refl)
     (λ call room. step-sends s call None row (steps.Stop p.node p.target) (plain s (Some id) Yes (Some goal) 0 (entries_at p Yes Yes Yes)) (unpublishing p.node p.target id)
     (plain s (Some id) Yes (Some goal) 1 (entries_at p Yes Yes Maybe)) room
-    (unless-first (not (list_any (same_text p.node) s.nodes)) faults.NoSuchNode _ (ap not listed)
-    (unless-first (is_no (marks_from p.target (find (λ (entry : NodeEntryShown). same_text entry.node p.node) (entries_at p Yes Yes Yes))).published) faults.NoSuchTarget _
-    (ap (λ (m : Marks). is_no m.published) (marks-are p Yes Yes Yes)) (unless-first (is_last (number s call)) faults.NumbersSpent None (isnt-last s.session call room) refl)))
+    (unless-first (not (list_any (same_text p.node) s.nodes) && not (is_left p.node p.target row)) faults.NoSuchNode _ (ap (λ b. not b && not (is_left p.node p.target row)) listed)
+    (unless-first (is_no (marks_from p.target (find (λ (entry : NodeEntryShown). same_text entry.node p.node) (entries_at p Yes Yes Yes))).published && not (is_left p.node p.target row)) faults.NoSuchTarget _
+    (ap (λ (m : Marks). is_no m.published && not (is_left p.node p.target row)) (marks-are p Yes Yes Yes)) (unless-first (is_last (number s call)) faults.NumbersSpent None (isnt-last s.session call room) refl)))
     refl refl refl refl (stop-due s id p Yes Yes Yes)
     (next-sent s (call + 1) id goal (entries_at p Yes Yes Yes) (unpublishing p.node p.target id) (entries_at p Yes Yes Maybe) (sends-unpublish s id p))) came

@@ -13,7 +13,7 @@ use Rattle.csi_orchestrator.specs.declared.row.TargetEntry.{TargetEntry}
 use Rattle.csi_orchestrator.specs.declared.thing.Known.{Known}
 use Rattle.csi_orchestrator.specs.declared.thing.Known.TheVariants.{Yes, No, Maybe}
 use Rattle.csi_orchestrator.specs.Model.Shown.{NodeEntryShown}
-use Rattle.csi_orchestrator.specs.Public.Restored.{IsEntryFit, AreEntriesFit, IsSettled, HasPlace, IsOnTheWay, IsUseOnTheWay}
+use Rattle.csi_orchestrator.specs.Private.Unlost.{IsEntryFit, AreEntriesFit, IsSettled, HasPlace, IsOnTheWay, IsUseOnTheWay}
 use Rattle.csi_orchestrator.proofs.DueCases.{attaching, staging, publishing}
 use Rattle.csi_orchestrator.proofs.SplitLists.{two-left}
 use Rattle.csi_orchestrator.proofs.LastRow.{Spot, RowComes, with-fewer}
@@ -21,7 +21,7 @@ use Rattle.csi_orchestrator.proofs.PlainLives.{plain, tried}
 use Rattle.csi_orchestrator.proofs.NodePlaces.{Place, target_with, entry_with, entries_at, use_at}
 use Rattle.csi_orchestrator.proofs.StepsOnTheWay.{attached-stages, staged-publishes, due-attach, due-stage, due-publish}
 use Rattle.csi_orchestrator.proofs.UsesBegun.{alone, used-anew, used-too}
-use Rattle.csi_orchestrator.proofs.EntriesFit.{fit-left, fit-put, fit-there, none-there, may-use, may-use-there, several, few-entries}
+use Rattle.csi_orchestrator.proofs.EntriesFit.{fit-left, fit-put, fit-there, none-there, may-use, may-use-there, several}
 use Rattle.csi_orchestrator.proofs.SettledRows.{settled-comes}
 use Rattle.csi_orchestrator.proofs.StopsOnTheWay.{five_more, ComesSomehow, placed-fit, placed-apart, place_of, placed-entries, own-fit}
 
@@ -30,11 +30,11 @@ none : (ts : List TargetEntry) → ts ≡ [] → 1 ≤ length ts → ⊥
 none ts is more = let long = ap length is in omega (arith, long, more)
 
 -- the whole row, where the target is the only one of a node that came last
-use-alone : (s : Spot) (left id tries : ℕ) (front : List NodeEntryShown) (entry : NodeEntryShown) (target : List ℕ) (a st q : Known) → length s.nodes ≤ 64 → IsOnTheWay [] [] a st q → 1 ≤ tries → tries ≤ 3
+use-alone : (s : Spot) (left id tries : ℕ) (front : List NodeEntryShown) (entry : NodeEntryShown) (target : List ℕ) (a st q : Known) → IsOnTheWay [] [] a st q → 1 ≤ tries → tries ≤ 3
     → (fits : AreEntriesFit s.nodes s.arguments (front ++ entry ∷ [])) → AllByRecursion IsSettled front → RowComes s (3072 + five_more left) None (plain s (Some id) Yes None 0 [])
     → ComesSomehow s left (Some id) Yes (Some (Use (use_at (alone front entry.node entry.capability entry.readonly target (none-there s.nodes s.arguments front entry [] fits))))) tries
     (entries_at (alone front entry.node entry.capability entry.readonly target (none-there s.nodes s.arguments front entry [] fits)) a st q)
-use-alone s left id tries front entry target a st q few_nodes way some few fits settled came = by a st q way
+use-alone s left id tries front entry target a st q way some few fits settled came = by a st q way
   where
     p : Place
     p = alone front entry.node entry.capability entry.readonly target (none-there s.nodes s.arguments front entry [] fits)
@@ -43,7 +43,7 @@ use-alone s left id tries front entry target a st q few_nodes way some few fits 
     fit_front = fit-left s.nodes s.arguments front (entry ∷ []) fits
 
     few_front : length front ≤ 64
-    few_front = let most = few-entries s.nodes s.arguments front fit_front in omega (arith, most, few_nodes)
+    few_front = let most = fit_front.few in omega (arith, most)
 
     begun : (more : ℕ) → suc more ≤ five_more left → RowComes s more (Some kinds.ControllerPublishVolume) (plain s (Some id) Yes (Some (Use (use_at p))) 1 (entries_at p Maybe No No))
     begun more fewer =
@@ -67,10 +67,10 @@ use-alone s left id tries front entry target a st q few_nodes way some few fits 
     by a st q on = absurd on
 
 -- the whole row, where the node has other targets
-use-too : (s : Spot) (left id tries : ℕ) (entries : List NodeEntryShown) (usage : Usage) (h : HasPlace entries usage.node usage.target) (fit : AreEntriesFit s.nodes s.arguments entries) → length s.nodes ≤ 64 → h.last ≡ [] → 1 ≤ length h.first
+use-too : (s : Spot) (left id tries : ℕ) (entries : List NodeEntryShown) (usage : Usage) (h : HasPlace entries usage.node usage.target) (fit : AreEntriesFit s.nodes s.arguments entries) → h.last ≡ [] → 1 ≤ length h.first
     → 1 ≤ tries → tries ≤ 3 → RowComes s (3072 + five_more left) None (plain s (Some id) Yes None 0 [])
     → ComesSomehow s left (Some id) Yes (Some (Use (use_at (place_of s entries usage.node usage.target h fit)))) tries (entries_at (place_of s entries usage.node usage.target h fit) Yes Yes Maybe)
-use-too s left id tries entries usage h fit few_nodes ends others some few came = (
+use-too s left id tries entries usage h fit ends others some few came = (
   Some kinds.NodePublishVolume,
   tried s left (Some id) Yes (Use (use_at p)) (entries_at p Yes Yes Maybe) (publishing (use_at p) id) tries (due-publish s id p) some few
       (used-too s (suc (suc left)) id p ends (may-use-there s h.front h.entry h.rear (h.target_entry).target Yes Yes h.first fits) (several (allows_one_target (h.entry).capability.mode) (length (h.entry).target_entries) own.one two) short
@@ -105,7 +105,7 @@ use-too s left id tries entries usage h fit few_nodes ends others some few came 
         (two-left (λ (x y : TargetEntry). same_text x.target y.target ≡ false) h.first (h.target_entry ∷ h.last) (placed-apart s.nodes s.arguments entries usage.node usage.target h fit)))
 
     few_before : length before ≤ 64
-    few_before = let most = few-entries s.nodes s.arguments before fit_before in omega (arith, most, few_nodes)
+    few_before = let most = fit_before.few in omega (arith, most)
 
     settled : AllByRecursion IsSettled before
     settled =
@@ -113,9 +113,9 @@ use-too s left id tries entries usage h fit few_nodes ends others some few came 
         (record { attached = refl; staged = refl; published = h.published_first; some = others }, h.settled_rear)
 
 -- the whole row
-pub use-comes : (s : Spot) (left id tries : ℕ) (usage : Usage) (entries : List NodeEntryShown) → length s.nodes ≤ 64 → IsUseOnTheWay entries usage → 1 ≤ tries → tries ≤ 3
+pub use-comes : (s : Spot) (left id tries : ℕ) (usage : Usage) (entries : List NodeEntryShown) → IsUseOnTheWay entries usage → 1 ≤ tries → tries ≤ 3
     → AreEntriesFit s.nodes s.arguments entries → RowComes s (3072 + five_more left) None (plain s (Some id) Yes None 0 []) → ComesSomehow s left (Some id) Yes (Some (Use usage)) tries entries
-use-comes s left id tries usage entries few_nodes use_way some few fit came =
+use-comes s left id tries usage entries use_way some few fit came =
     let there = by h.first refl in
     (there.0, subst (RowComes s left there.0) same there.1)
   where
@@ -134,7 +134,7 @@ use-comes s left id tries usage entries few_nodes use_way some few fit came =
         let way : IsOnTheWay [] [] (h.entry).attached (h.entry).staged (h.target_entry).published =
         subst (λ (ts : List TargetEntry). IsOnTheWay [] ts (h.entry).attached (h.entry).staged (h.target_entry).published) last
         (subst (λ (ts : List TargetEntry). IsOnTheWay ts h.last (h.entry).attached (h.entry).staged (h.target_entry).published) first use_way.way) in
-        let begun = use-alone s left id tries h.front h.entry (h.target_entry).target (h.entry).attached (h.entry).staged (h.target_entry).published few_nodes way some few fits h.settled_front came in
+        let begun = use-alone s left id tries h.front h.entry (h.target_entry).target (h.entry).attached (h.entry).staged (h.target_entry).published way some few fits h.settled_front came in
         let no_first = sym first in
         let no_last = sym last in
         let no_rear = sym rear in (
@@ -146,7 +146,7 @@ use-comes s left id tries usage entries few_nodes use_way some few fit came =
 
     -- else it is published there
     others : (a st q : Known) → IsOnTheWay h.first h.last a st q → 1 ≤ length h.first → ComesSomehow s left (Some id) Yes (Some (Use (use_at p))) tries (entries_at p a st q)
-    others Yes Yes Maybe on more = use-too s left id tries entries usage h fit few_nodes use_way.last_target more some few came
+    others Yes Yes Maybe on more = use-too s left id tries entries usage h fit use_way.last_target more some few came
     others Maybe No No on more = absurd (none h.first on.0 more)
     others Yes Maybe No on more = absurd (none h.first on.0 more)
     others a st q on more = absurd on

@@ -1,6 +1,6 @@
 -- Why what an orchestrator shows can be kept up item by item.
-use Rattle.std.proofs.Common.{◌≡◌, ◌≢◌, ◌+◌, ℕ, List, [], ◌∷◌, Bool, true, false, cond, refl, sym, ◌∙◌, ap, subst, inl, inr, arith}
-use Rattle.std.specs.Prelude.{Option, Some, None, min, find, filter_map, option_and_then, ◌&&◌, ◌||◌}
+use Rattle.std.proofs.Common.{◌≡◌, ◌≢◌, ◌+◌, ℕ, List, [], ◌∷◌, Bool, true, false, cond, not, refl, sym, ◌∙◌, ap, subst, inl, inr, arith}
+use Rattle.std.specs.Prelude.{Option, Some, None, min, find, filter, filter_map, option_and_then, ◌&&◌, ◌||◌}
 use Rattle.std.specs.List.{list_any, cons_option}
 use Rattle.std.specs.Option.{option_or}
 use Rattle.std.proofs.lemmas.Bool.{false≢true}
@@ -17,13 +17,13 @@ use Rattle.csi_orchestrator.specs.declared.thing.Thing.{Thing}
 use Rattle.csi_orchestrator.specs.declared.thing.Thing.TheVariants.{Exists, Attached, Staged, Published}
 use Rattle.csi_orchestrator.specs.declared.thing.Known.TheVariants.{No, Maybe}
 use Rattle.csi_orchestrator.specs.Model.Thing.{Issued, name_in, same_thing, thing_at, is_thing, is_doing, touches}
-use Rattle.csi_orchestrator.specs.Model.History.{Goal, Item, Started, Sent, Closed, Noted, Held, Arguments, History, with_items}
-use Rattle.csi_orchestrator.specs.Model.Readings.{newest, issued_in, issued_of, is_success_of, has_success, known_by, known, id_in, id_by, id_of, held_by_call, noted_for, arguments_in_goal, open_call, unless, calls_since, last_number, distinct, name_noted}
+use Rattle.csi_orchestrator.specs.Model.History.{Goal, Item, Started, Lost, Forgotten, Sent, Closed, Noted, Held, Arguments, History, with_items}
+use Rattle.csi_orchestrator.specs.Model.Readings.{newest, issued_in, issued_of, is_success_of, has_success, known_by, known, id_in, id_by, id_of, held_by_call, noted_for, arguments_in_goal, open_call, unless, calls_since, last_number, since, lifetime, is_gone_with, ends, issued_since, with_name, names_of}
 use Rattle.csi_orchestrator.specs.Model.WellFormed.{IsNextNumber, IsWellFormed}
 use Rattle.csi_orchestrator.specs.Model.Agrees.{OrchestratorView, Agrees}
-use Rattle.csi_orchestrator.specs.Private.Following.{after_started, after_sent, after_closed, after_noted, DetachesSomething}
+use Rattle.csi_orchestrator.specs.Private.Following.{after_started, after_lost, after_forgotten, after_sent, after_closed, after_noted, DetachesSomething}
 use Rattle.csi_orchestrator.proofs.Numbers.{one-call, open-sent, fresh-silent}
-use Rattle.csi_orchestrator.proofs.TextLists.{same_text-flip, any-distinct}
+use Rattle.csi_orchestrator.proofs.TextLists.{same_text-flip, any-with, any-without}
 
 -- where two tests pass together, the left one does
 left-true : (a b : Bool) → (a && b) ≡ true → a ≡ true
@@ -59,6 +59,10 @@ is_thing-name thing name Controller call e = absurd (false≢true e)
 pub touches-name : (thing : Thing) (issued : Issued) → touches thing issued ≡ true → same_text issued.name (name_in thing) ≡ true
 touches-name thing issued e = same_text-flip issued.name (name_in thing) ∙ is_thing-name thing issued.name issued.party issued.call e
 
+-- the latest call that does or undoes a thing, since the thing was ended without one
+abbrev pub latest : History → Thing → Option Issued
+latest history thing = find (touches thing) (issued_in (since (ends thing) history.items))
+
 -- an item that tells of no success changes no mark
 pub known-quiet : (item : Item) (items : List Item) (thing : Thing) (o : Option Issued) → ((number : Number) → is_success_of number item ≡ false) → known_by (item ∷ items) thing o ≡ known_by items thing o
 known-quiet item items thing None quiet = refl
@@ -83,13 +87,14 @@ no-id items issued (calls.CreateVolume name required limit capabilities) none = 
 no-id items issued call none = refl
 
 -- a session starts
-pub started-follows : (view : OrchestratorView) (history : History) (session : ℕ) → Agrees view history → Agrees (after_started session view) (with_items history (Started session ∷ []))
-started-follows view history session agrees =
+pub started-follows : (view : OrchestratorView) (history : History) (session : ℕ) (nodes : List (List ℕ)) → Agrees view history → Agrees (after_started session nodes view) (with_items history (Started session nodes ∷ []))
+started-follows view history session nodes agrees =
     record {
+      same_nodes = refl;
       same_last = refl;
       same_rows = agrees.same_rows;
       same_marks = λ thing. agrees.same_marks thing ∙ sym (quiet thing);
-      same_ids = λ name. agrees.same_ids name ∙ sym (ap newest (ids-quiet (Started session) history.items (issued_of history name) (λ issued among. refl)));
+      same_ids = λ name. agrees.same_ids name ∙ sym (ap newest (ids-quiet (Started session nodes) history.items (issued_since history name) (λ issued among. refl)));
       same_goals = agrees.same_goals;
       same_arguments = agrees.same_arguments;
       same_holdings = λ name node there. agrees.same_holdings name node (λ e. there (quiet (Attached name node) ∙ e));
@@ -97,8 +102,8 @@ started-follows view history session agrees =
       same_counts = agrees.same_counts;
     }
   where
-    quiet : (thing : Thing) → known (with_items history (Started session ∷ [])) thing ≡ known history thing
-    quiet thing = known-quiet (Started session) history.items thing (find (touches thing) (issued_in history.items)) (λ number. refl)
+    quiet : (thing : Thing) → known (with_items history (Started session nodes ∷ [])) thing ≡ known history thing
+    quiet thing = known-quiet (Started session nodes) history.items thing (latest history thing) (λ number. refl)
 
 -- a call that publishes nothing at the node, and yet is of its attachment, detaches
 attach-held : (name node : List ℕ) (own : List ℕ) (party : Party) (call : Call) → is_thing (Attached name node) (thing_at own party call) ≡ true → held_by_call node call ≡ None → is_doing call ≡ false
@@ -124,6 +129,7 @@ pub sent-follows : (view : OrchestratorView) (history : History) (issued : Issue
     → DetachesSomething history issued → Agrees (after_sent issued view) (with_items history (Sent issued ∷ []))
 sent-follows view history issued form agrees next detaches =
     record {
+      same_nodes = agrees.same_nodes;
       same_last = refl;
       same_rows = agrees.same_rows;
       same_marks = λ thing. mark thing (touches thing issued);
@@ -141,21 +147,21 @@ sent-follows view history issued form agrees next detaches =
     silent : (has_success history.items issued.number ≡ false) × (filter_map (id_in issued.number) history.items ≡ [])
     silent = fresh-silent history.began history.items issued.number form next.later
 
-    mark : (thing : Thing) (b : Bool) → cond b Maybe (view.marks thing) ≡ known_by (Sent issued ∷ history.items) thing (cond b (Some issued) (find (touches thing) (issued_in history.items)))
+    mark : (thing : Thing) (b : Bool) → cond b Maybe (view.marks thing) ≡ known_by (Sent issued ∷ history.items) thing (cond b (Some issued) (latest history thing))
     mark thing true = rw (silent.0) refl
-    mark thing false = agrees.same_marks thing ∙ sym (known-quiet (Sent issued) history.items thing (find (touches thing) (issued_in history.items)) (λ number. refl))
+    mark thing false = agrees.same_marks thing ∙ sym (known-quiet (Sent issued) history.items thing (latest history thing) (λ number. refl))
 
     id_kept : (name : List ℕ) (b : Bool)
-        → newest (filter_map (λ (i : Issued). id_by (Sent issued ∷ history.items) i i.call) (cond b (issued ∷ issued_of history name) (issued_of history name))) ≡ id_of history name
+        → newest (filter_map (λ (i : Issued). id_by (Sent issued ∷ history.items) i i.call) (cond b (issued ∷ issued_since history name) (issued_since history name))) ≡ id_of history name
     id_kept name true =
-        ap (λ o. newest (cons_option o (filter_map (λ (i : Issued). id_by (Sent issued ∷ history.items) i i.call) (issued_of history name)))) (no-id (Sent issued ∷ history.items) issued issued.call (silent.1))
-        ∙ ap newest (ids-quiet (Sent issued) history.items (issued_of history name) (λ i among. refl))
-    id_kept name false = ap newest (ids-quiet (Sent issued) history.items (issued_of history name) (λ i among. refl))
+        ap (λ o. newest (cons_option o (filter_map (λ (i : Issued). id_by (Sent issued ∷ history.items) i i.call) (issued_since history name)))) (no-id (Sent issued ∷ history.items) issued issued.call (silent.1))
+        ∙ ap newest (ids-quiet (Sent issued) history.items (issued_since history name) (λ i among. refl))
+    id_kept name false = ap newest (ids-quiet (Sent issued) history.items (issued_since history name) (λ i among. refl))
 
     unmarked : (name node : List ℕ) → touches (Attached name node) issued ≡ false → known (with_items history (Sent issued ∷ [])) (Attached name node) ≡ known history (Attached name node)
     unmarked name node e =
-        ap (λ b. known_by (Sent issued ∷ history.items) (Attached name node) (cond b (Some issued) (find (touches (Attached name node)) (issued_in history.items)))) e
-        ∙ known-quiet (Sent issued) history.items (Attached name node) (find (touches (Attached name node)) (issued_in history.items)) (λ number. refl)
+        ap (λ b. known_by (Sent issued ∷ history.items) (Attached name node) (cond b (Some issued) (latest history (Attached name node)))) e
+        ∙ known-quiet (Sent issued) history.items (Attached name node) (latest history (Attached name node)) (λ number. refl)
 
     -- where it may be attached still, it may have been before
     was_there : (name node : List ℕ) → same_text issued.name name ≡ true → held_by_call node issued.call ≡ None → known (with_items history (Sent issued ∷ [])) (Attached name node) ≢ No
@@ -217,10 +223,11 @@ pub closed-follows : (view : OrchestratorView) (history : History) (issued : Iss
     → Agrees (after_closed issued view) (with_items history (Closed issued.number ∷ []))
 closed-follows view history issued form agrees is_open =
     record {
+      same_nodes = agrees.same_nodes;
       same_last = agrees.same_last;
       same_rows = agrees.same_rows;
       same_marks = λ thing. agrees.same_marks thing ∙ sym (quiet thing);
-      same_ids = λ name. agrees.same_ids name ∙ sym (ap newest (ids-quiet (Closed issued.number) history.items (issued_of history name) (λ i among. refl)));
+      same_ids = λ name. agrees.same_ids name ∙ sym (ap newest (ids-quiet (Closed issued.number) history.items (issued_since history name) (λ i among. refl)));
       same_goals = agrees.same_goals;
       same_arguments = agrees.same_arguments;
       same_holdings = λ name node there. agrees.same_holdings name node (λ e. there (quiet (Attached name node) ∙ e));
@@ -229,16 +236,17 @@ closed-follows view history issued form agrees is_open =
     }
   where
     quiet : (thing : Thing) → known (with_items history (Closed issued.number ∷ [])) thing ≡ known history thing
-    quiet thing = known-quiet (Closed issued.number) history.items thing (find (touches thing) (issued_in history.items)) (λ number. refl)
+    quiet thing = known-quiet (Closed issued.number) history.items thing (latest history thing) (λ number. refl)
 
 -- something is noted
 pub noted-follows : (view : OrchestratorView) (history : History) (name : List ℕ) (goal : Option Goal) → Agrees view history → Agrees (after_noted name goal view) (with_items history (Noted name goal ∷ []))
 noted-follows view history name goal agrees =
     record {
+      same_nodes = agrees.same_nodes;
       same_last = agrees.same_last;
       same_rows = λ other. row other (same_text name other) refl;
       same_marks = λ thing. agrees.same_marks thing ∙ sym (quiet thing);
-      same_ids = λ other. agrees.same_ids other ∙ sym (ap newest (ids-quiet (Noted name goal) history.items (issued_of history other) (λ i among. refl)));
+      same_ids = λ other. agrees.same_ids other ∙ sym (ap newest (ids-quiet (Noted name goal) history.items (issued_since history other) (λ i among. refl)));
       same_goals = λ other. wanted other (same_text name other);
       same_arguments = λ other. told_so other (same_text name other);
       same_holdings = λ other node there. agrees.same_holdings other node (λ e. there (quiet (Attached other node) ∙ e));
@@ -247,27 +255,25 @@ noted-follows view history name goal agrees =
     }
   where
     quiet : (thing : Thing) → known (with_items history (Noted name goal ∷ [])) thing ≡ known history thing
-    quiet thing = known-quiet (Noted name goal) history.items thing (find (touches thing) (issued_in history.items)) (λ number. refl)
+    quiet thing = known-quiet (Noted name goal) history.items thing (latest history thing) (λ number. refl)
 
-    row : (other : List ℕ) (b : Bool) → same_text name other ≡ b → cond b true (view.rows other) ≡ list_any (same_text other) (distinct (name ∷ filter_map name_noted history.items))
+    row : (other : List ℕ) (b : Bool) → same_text name other ≡ b → cond b true (view.rows other) ≡ list_any (same_text other) (with_name name (names_of history))
     row other b e =
-        by b e ∙ sym (any-distinct other (name ∷ filter_map name_noted history.items))
+        by b e ∙ sym (any-with other name (names_of history))
       where
-        by : (b : Bool) → same_text name other ≡ b → cond b true (view.rows other) ≡ (same_text other name || list_any (same_text other) (filter_map name_noted history.items))
-        by true f = ap (λ t. t || list_any (same_text other) (filter_map name_noted history.items)) (sym (same_text-flip other name ∙ f))
-        by false f =
-            agrees.same_rows other ∙ any-distinct other (filter_map name_noted history.items)
-            ∙ ap (λ t. t || list_any (same_text other) (filter_map name_noted history.items)) (sym (same_text-flip other name ∙ f))
+        by : (b : Bool) → same_text name other ≡ b → cond b true (view.rows other) ≡ (same_text other name || list_any (same_text other) (names_of history))
+        by true f = ap (λ t. t || list_any (same_text other) (names_of history)) (sym (same_text-flip other name ∙ f))
+        by false f = agrees.same_rows other ∙ ap (λ t. t || list_any (same_text other) (names_of history)) (sym (same_text-flip other name ∙ f))
 
     wanted : (other : List ℕ) (b : Bool) → cond b goal (view.goals other) ≡ option_and_then (λ (g : Option Goal). g) (newest (cons_option (cond b (Some goal) None) (filter_map (noted_for other) history.items)))
     wanted other true = refl
     wanted other false = agrees.same_goals other
 
     told_so : (other : List ℕ) (b : Bool) → cond b (option_or (arguments_in_goal goal) (view.arguments other)) (view.arguments other)
-        ≡ newest (cons_option (option_and_then arguments_in_goal (cond b (Some goal) None)) (filter_map (λ (item : Item). option_and_then arguments_in_goal (noted_for other item)) history.items))
+        ≡ newest (cons_option (option_and_then arguments_in_goal (cond b (Some goal) None)) (filter_map (λ (item : Item). option_and_then arguments_in_goal (noted_for other item)) (lifetime other history.items)))
     told_so other true = by (arguments_in_goal goal)
       where
-        by : (o : Option Arguments) → option_or o (view.arguments other) ≡ newest (cons_option o (filter_map (λ (item : Item). option_and_then arguments_in_goal (noted_for other item)) history.items))
+        by : (o : Option Arguments) → option_or o (view.arguments other) ≡ newest (cons_option o (filter_map (λ (item : Item). option_and_then arguments_in_goal (noted_for other item)) (lifetime other history.items)))
         by (Some arguments) = refl
         by None = agrees.same_arguments other
     told_so other false = agrees.same_arguments other
@@ -275,3 +281,60 @@ noted-follows view history name goal agrees =
     count : (b : Bool) (k n : ℕ) → k ≡ min 3 n → cond b 0 k ≡ min 3 (cond b 0 n)
     count true k n e = refl
     count false k n e = e
+
+-- a node is lost
+pub lost-follows : (view : OrchestratorView) (history : History) (node : List ℕ) → Agrees view history → Agrees (after_lost node view) (with_items history (Lost node ∷ []))
+lost-follows view history node agrees =
+    record {
+      same_nodes = agrees.same_nodes;
+      same_last = agrees.same_last;
+      same_rows = agrees.same_rows;
+      same_marks = λ thing. mark thing (is_gone_with node thing);
+      same_ids = λ name. agrees.same_ids name ∙ sym (ap newest (ids-quiet (Lost node) history.items (issued_since history name) (λ i among. refl)));
+      same_goals = agrees.same_goals;
+      same_arguments = agrees.same_arguments;
+      same_holdings = λ name there maybe. agrees.same_holdings name there (λ e. maybe (mark-quiet (Attached name there) ∙ e));
+      same_open_calls = agrees.same_open_calls;
+      same_counts = agrees.same_counts;
+    }
+  where
+    mark-quiet : (thing : Thing) → known_by (Lost node ∷ history.items) thing (latest history thing) ≡ known history thing
+    mark-quiet thing = known-quiet (Lost node) history.items thing (latest history thing) (λ number. refl)
+
+    mark : (thing : Thing) (b : Bool) → cond b No (view.marks thing) ≡ known_by (Lost node ∷ history.items) thing (find (touches thing) (issued_in (cond b [] (Lost node ∷ since (ends thing) history.items))))
+    mark thing true = refl
+    mark thing false = agrees.same_marks thing ∙ sym (mark-quiet thing)
+
+-- a name is forgotten
+pub forgotten-follows : (view : OrchestratorView) (history : History) (name : List ℕ) → Agrees view history → Agrees (after_forgotten name view) (with_items history (Forgotten name ∷ []))
+forgotten-follows view history name agrees =
+    record {
+      same_nodes = agrees.same_nodes;
+      same_last = agrees.same_last;
+      same_rows = λ other. row other (same_text name other) refl;
+      same_marks = λ thing. agrees.same_marks thing ∙ sym (quiet thing);
+      same_ids = λ other. an_id other (same_text name other);
+      same_goals = agrees.same_goals;
+      same_arguments = λ other. told_so other (same_text name other);
+      same_holdings = λ other node there. agrees.same_holdings other node (λ e. there (quiet (Attached other node) ∙ e));
+      same_open_calls = agrees.same_open_calls;
+      same_counts = agrees.same_counts;
+    }
+  where
+    quiet : (thing : Thing) → known (with_items history (Forgotten name ∷ [])) thing ≡ known history thing
+    quiet thing = known-quiet (Forgotten name) history.items thing (latest history thing) (λ number. refl)
+
+    row : (other : List ℕ) (b : Bool) → same_text name other ≡ b → cond b false (view.rows other) ≡ list_any (same_text other) (filter (λ n. not (same_text n name)) (names_of history))
+    row other true e = sym (any-without other name (names_of history) ∙ ap (λ b. not b && list_any (same_text other) (names_of history)) (same_text-flip other name ∙ e))
+    row other false e =
+        agrees.same_rows other ∙ sym (any-without other name (names_of history) ∙ ap (λ b. not b && list_any (same_text other) (names_of history)) (same_text-flip other name ∙ e))
+
+    an_id : (other : List ℕ) (b : Bool) → cond b None (view.ids other)
+        ≡ newest (filter_map (λ (i : Issued). id_by (Forgotten name ∷ history.items) i i.call) (filter (λ (i : Issued). same_text i.name other) (issued_in (cond b [] (Forgotten name ∷ lifetime other history.items)))))
+    an_id other true = refl
+    an_id other false = agrees.same_ids other ∙ sym (ap newest (ids-quiet (Forgotten name) history.items (issued_since history other) (λ i among. refl)))
+
+    told_so : (other : List ℕ) (b : Bool) → cond b None (view.arguments other)
+        ≡ newest (filter_map (λ (item : Item). option_and_then arguments_in_goal (noted_for other item)) (cond b [] (Forgotten name ∷ lifetime other history.items)))
+    told_so other true = refl
+    told_so other false = agrees.same_arguments other

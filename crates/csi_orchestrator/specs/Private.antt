@@ -4,6 +4,7 @@ pub mod Shown
 pub mod RowDue
 pub mod Keyed
 pub mod RowChanges
+pub mod Beginning
 pub mod RowMoves
 pub mod RowRefusals
 pub mod Sound
@@ -14,7 +15,9 @@ pub mod Hearing
 pub mod Worked
 pub mod RowSteps
 pub mod Decisions
+pub mod Unlost
 pub mod Restored
 pub mod Opened
 pub mod Judging
 pub mod Judged
+pub mod WorkedRecords

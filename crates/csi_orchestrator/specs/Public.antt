@@ -1,6 +1,7 @@
 pub mod Guards
 pub mod Moves
 pub mod Shown
+pub mod Beginning
 pub mod RowDue
 pub mod RowMoves
 pub mod RowRefusals

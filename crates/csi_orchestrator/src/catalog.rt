@@ -7,12 +7,15 @@ ghost use Rattle.csi_lists.specs.Model.Members.{EachTwo};
 ghost use Rattle.csi_lists.specs.Public.Places.{IsAt};
 ghost use Rattle.csi_types.specs.Model.Same.{same_text};
 ghost use Rattle.csi_orchestrator.specs.Public.Catalog.{rows_of, by_name, place_noted, IsNoted, IsIndexed, AreUpTo, HasFewNotes};
-ghost use Rattle.csi_orchestrator.specs.Private.Catalog.{IsNotedWith, IsNextFor, IsReady, IsClosedAt, AreNotedBefore};
+ghost use Rattle.csi_orchestrator.specs.Private.Catalog.{IsNotedWith, IsNextFor, IsReady, IsClosedAt, IsLostAt, AreNotedBefore};
 ghost use Rattle.csi_orchestrator.specs.Private.Shown.{without_call};
+ghost use Rattle.csi_orchestrator.specs.Public.Beginning.{remembered, row_at_loss};
+ghost use Rattle.csi_orchestrator.specs.Public.Shown.{row_shown};
 
+use crate::beginning::{is_forgotten, lose_at};
 use crate::fault::OrchFault;
 use crate::row::Row;
-use csi_types::Name;
+use csi_types::{Name, NodeId};
 use indexmap::IndexMap;
 use std::alloc::{AllocError, Global};
 
@@ -191,5 +194,42 @@ impl Catalog {
             self.close_noted(turn);
         }
         self.calls.clear();
+    }
+
+    /// Forgets the rows of which nothing is wanted and whose volumes aren't there. No call is open. The other rows keep their order. It
+    /// takes no memory.
+    pub fn forget(&mut self)
+        requires indexed { IsIndexed self.old }
+        requires closed { AllByRecursion (λ row. row.open_call ≡ None) (rows_of self.old) }
+        ensures rows { map row_shown (rows_of self.new) ≡ remembered (map row_shown (rows_of self.old)) }
+        ensures indexed { IsIndexed self.new }
+        ensures known { (last : ℕ) → AreUpTo last self.new }
+    {
+        // What is noted are the places of rows, and rows move up.
+        self.calls.clear();
+        self.rows.retain(|_name, row| !is_forgotten(row));
+    }
+
+    // The row at this index once a node was lost.
+    fn lose_row(&mut self, index: usize, node: &NodeId)
+        requires { index < index_map_len self.old.rows }
+        ensures rows { IsLostAt node.now index (rows_of self.old) (rows_of self.new) }
+        ensures names { self.old.rows.entries ≡ map by_name (rows_of self.old) → self.new.rows.entries ≡ map by_name (rows_of self.new) }
+        ensures calls { self.new.calls ≡ self.old.calls }
+    {
+        lose_at(&mut self.rows[index], node);
+    }
+
+    /// The rows once a node was lost. No call is open. It takes no memory.
+    pub fn lose(&mut self, node: &NodeId)
+        requires indexed { IsIndexed self.old }
+        requires closed { AllByRecursion (λ row. row.open_call ≡ None) (rows_of self.old) }
+        ensures rows { map row_shown (rows_of self.new) ≡ map (row_at_loss node.now) (map row_shown (rows_of self.old)) }
+        ensures indexed { IsIndexed self.new }
+        ensures known { (last : ℕ) → AreUpTo last self.old → AreUpTo last self.new }
+    {
+        for index in 0..self.rows.len() {
+            self.lose_row(index, node);
+        }
     }
 }

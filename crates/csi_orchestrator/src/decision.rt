@@ -1,6 +1,7 @@
 //! What a step comes to by the row of its volume, before anything changes, and why the first create of a name is refused: the
 //! first reason that holds.
-ghost use Rattle.std.specs.Prelude.{◌≡◌, ◌||◌, map, is_none, Some};
+ghost use Rattle.std.specs.Prelude.{◌≡◌, ◌||◌, ◌&&◌, map, not, is_none, Some};
+ghost use Rattle.csi_orchestrator.specs.Model.Thing.{is_no};
 ghost use Rattle.csi_orchestrator.specs.Model.Commands.{next_number as number_after};
 ghost use Rattle.csi_orchestrator.specs.Private.Decisions.{refused_or, decided_then, decided, decided_at, is_used_at};
 ghost use Rattle.csi_orchestrator.specs.Public.Shown.{row_shown, node_entry_shown};
@@ -9,11 +10,12 @@ ghost use Rattle.csi_orchestrator.specs.Private.RowRefusals.{stop_refusal, delet
 
 use crate::due::next_number;
 use crate::fault::OrchFault;
-use crate::marks::{marks_in, others_of};
+use crate::marks::{Marks, marks_in, others_of};
 use crate::request::Usage;
 use crate::row::{Goal, NodeEntry, Row};
 use crate::sharing::{
     has_node, is_attached_somewhere, is_held_elsewhere, is_held_otherwise, is_written_elsewhere,
+    others_attached,
 };
 use crate::state::{node_entry_at, published_at};
 use crate::step::Step;
@@ -21,6 +23,9 @@ use csi_types::{MAX_ROWS, NodeId, Number, Target, VolumeId, allows_one_target, h
 
 /// The most other targets of a node at which a volume may be published when it is to be published there.
 pub(crate) const MAX_OTHERS: usize = 16;
+
+/// The most other nodes at which a volume may be attached when it is to be attached to one.
+pub(crate) const MAX_NODES: usize = 64;
 
 /// What a step comes to, before anything changes.
 #[derive(Clone, Copy)]
@@ -78,9 +83,15 @@ fn is_met(id: Option<VolumeId>, entry: &NodeEntry, target: &Target) -> bool
             && published_at(entry, target).is_yes())
 }
 
-// What a use comes to at a node that has this entry, where nothing else refuses it.
-fn decide_at(last: Number, usage: &Usage, id: Option<VolumeId>, entry: &NodeEntry) -> Decision
-    ensures { result ≡ decided_at last usage.now id (Some (node_entry_shown entry.now)) }
+// What a use comes to at a node that has this entry, beside so many others, where nothing else refuses it.
+fn decide_at(
+    last: Number,
+    usage: &Usage,
+    others_attached: usize,
+    id: Option<VolumeId>,
+    entry: &NodeEntry,
+) -> Decision
+    ensures { result ≡ decided_at last usage.now others_attached id (Some (node_entry_shown entry.now)) }
 {
     if is_held_otherwise(entry, usage) {
         return Decision::Refuse(OrchFault::HeldOtherwise);
@@ -95,7 +106,7 @@ fn decide_at(last: Number, usage: &Usage, id: Option<VolumeId>, entry: &NodeEntr
     if is_used_up(last) {
         return Decision::Refuse(OrchFault::NumbersSpent);
     }
-    if others >= MAX_OTHERS {
+    if others >= MAX_OTHERS || others_attached >= MAX_NODES {
         return Decision::Refuse(OrchFault::Full);
     }
     Decision::Send
@@ -126,12 +137,21 @@ fn decide_use(nodes: &[NodeId], last: Number, row: &Row, usage: &Usage) -> Decis
     if is_written_elsewhere(&row.node_entries, usage) {
         return Decision::Refuse(OrchFault::WriterElsewhere);
     }
+    let others = others_attached(&row.node_entries, &usage.node);
     match node_entry_at(row, &usage.node) {
-        Some(entry) => decide_at(last, usage, row.id, entry),
+        Some(entry) => decide_at(last, usage, others, row.id, entry),
         None if row.id.is_none() => Decision::Met,
         None if is_used_up(last) => Decision::Refuse(OrchFault::NumbersSpent),
+        None if others >= MAX_NODES => Decision::Refuse(OrchFault::Full),
         None => Decision::Send,
     }
+}
+
+// Whether all that is left to be done is to detach the volume.
+fn is_left(marks: Marks) -> bool
+    ensures { result ≡ (not (is_no marks.attached) && (is_no marks.published && not marks.others)) }
+{
+    !marks.attached.is_no() && marks.published.is_no() && !marks.others
 }
 
 // What a stop comes to.
@@ -150,10 +170,12 @@ fn decide_stop(
     if row.goal.is_some() {
         return Decision::Refuse(OrchFault::Busy);
     }
-    if !has_node(nodes, node) {
+    let marks = marks_in(row, node, target);
+    let left = is_left(marks);
+    if !left && !has_node(nodes, node) {
         return Decision::Refuse(OrchFault::NoSuchNode);
     }
-    if marks_in(row, node, target).published.is_no() {
+    if !left && marks.published.is_no() {
         return Decision::Refuse(OrchFault::NoSuchTarget);
     }
     if is_used_up(last) {

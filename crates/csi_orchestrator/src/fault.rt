@@ -53,12 +53,15 @@ pub enum OrchFault {
     /// The next call or session would have a number above 2^64 - 1.
     #[error("the numbers are spent")]
     NumbersSpent,
-    /// There are 4,096 rows, or 16 other targets of the node.
+    /// There are 4,096 rows, 16 other targets of the node, or 64 other nodes of the volume.
     #[error("no room")]
     Full,
     /// An allocation was refused.
     #[error("out of memory")]
     NoMemory,
+    /// A volume may be attached at a node that the new list leaves out.
+    #[error("a node that is left out is in use")]
+    NodeInUse,
 }
 
 impl From<NoMemory> for OrchFault {

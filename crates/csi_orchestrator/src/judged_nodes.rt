@@ -3,11 +3,9 @@ ghost use Rattle.std.specs.Prelude.{◌≡◌, true, false};
 ghost use Rattle.csi_orchestrator.specs.Public.Record.{AreNodesFit};
 ghost use Rattle.csi_orchestrator.specs.Private.Judging.{are_nodes_apart as are_apart};
 
+use crate::decision::MAX_NODES;
 use crate::sharing::has_node;
 use csi_types::NodeId;
-
-// How many nodes a record has at most.
-const MAX_NODES: usize = 64;
 
 // Whether each node is another one than all behind it.
 fn are_nodes_apart(nodes: &[NodeId]) -> bool
@@ -21,8 +19,8 @@ fn are_nodes_apart(nodes: &[NodeId]) -> bool
     true
 }
 
-/// Whether a record may have these nodes. They are compared where they are few.
-pub(crate) fn are_nodes_fit(nodes: &[NodeId]) -> bool
+/// Whether a record may have these nodes: at most 64, all different (this profile's own). They are compared where they are few.
+pub fn are_nodes_fit(nodes: &[NodeId]) -> bool
     ensures fit { result ≡ true → AreNodesFit nodes.now }
     ensures unfit { result ≡ false → AreNodesFit nodes.now → ⊥ }
 {

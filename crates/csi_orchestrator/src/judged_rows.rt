@@ -41,7 +41,6 @@ pub(crate) fn first_refused(
     nodes: &[NodeId],
     rows: &[Row],
 ) -> Result<Option<u64>, NoMemory>
-    requires few { length nodes.now ≤ 64 }
     ensures { IfOk result (λ found. MatchOption found (AreRestorable nodes.now (map row_shown rows.now))
         (IsFirstRefused (AreRestorable nodes.now) (map row_shown rows.now))) }
 {

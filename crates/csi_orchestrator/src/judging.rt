@@ -1,19 +1,23 @@
 //! The rules of one row of a record.
-ghost use Rattle.std.specs.Prelude.{◌≡◌, true, is_some};
+ghost use Rattle.std.specs.Prelude.{◌≡◌, ◌==◌, ◌||◌, nat_le, length, true, Some, is_some, find};
 ghost use Rattle.std.specs.List.{list_all};
-ghost use Rattle.csi_orchestrator.specs.Private.Judging.{is_published as is_published_at, is_settled as is_in_rest};
+ghost use Rattle.csi_orchestrator.specs.Private.Judging.{is_published as is_published_at, is_settled as is_in_use, is_left as is_what_is_left};
+ghost use Rattle.csi_orchestrator.specs.Private.Judging.{is_resting as is_in_rest};
 ghost use Rattle.csi_orchestrator.specs.Private.Judging.{is_other_target as is_another_target, are_targets_apart as are_apart};
 ghost use Rattle.csi_orchestrator.specs.Private.Judging.{is_entry_fit as is_fit, are_beside as beside, are_entries_fit as are_fit};
 ghost use Rattle.csi_orchestrator.specs.Private.Judging.{is_way as is_on_way, is_at_target as is_on_way_at, stops_here as is_stop_at};
 ghost use Rattle.csi_orchestrator.specs.Private.Judging.{uses_here as is_use_at, is_stop_on_the_way as is_stop_somewhere};
-ghost use Rattle.csi_orchestrator.specs.Private.Judging.{is_use_on_the_way as is_use_somewhere, has_tries as are_tries};
+ghost use Rattle.csi_orchestrator.specs.Private.Judging.{is_use_on_the_way as is_use_somewhere, has_tries as are_tries, is_tried as is_tried_or_left, is_untargeted as is_without_targets};
 ghost use Rattle.csi_orchestrator.specs.Private.Judging.{fits_rest as is_rest, is_bare as is_without_entries, fits_goal as is_goal};
 ghost use Rattle.csi_orchestrator.specs.Private.Judging.{fits_life as is_life, is_restorable as is_one_of_record};
+ghost use Rattle.csi_types.specs.Model.Same.{same_text};
 ghost use Rattle.csi_orchestrator.specs.Private.Judged.{PassingKeeps, KeepingPasses};
 
+use crate::decision::MAX_NODES;
 use crate::request::{Arguments, Usage};
 use crate::row::{Goal, NodeEntry, Row, TargetEntry};
 use crate::sharing::has_node;
+use crate::state::node_entry_at;
 use crate::thing::Known;
 use csi_types::{
     NodeId, Target, allows_one_target, has_capability, same_capability, single_node, two_writers,
@@ -33,7 +37,7 @@ fn are_published(target_entries: &[TargetEntry]) -> bool
 
 // Whether it is attached and staged at the node, and published at each target, of which there is one at least.
 fn is_settled(entry: &NodeEntry) -> bool
-    ensures { result ≡ is_in_rest entry.now }
+    ensures { result ≡ is_in_use entry.now }
 {
     entry.attached.is_yes()
         && entry.staged.is_yes()
@@ -41,12 +45,26 @@ fn is_settled(entry: &NodeEntry) -> bool
         && are_published(entry.target_entries.as_slice())
 }
 
+// Whether it is what is left of a node that was lost: it may be attached there, and isn't staged or published.
+fn is_left(entry: &NodeEntry) -> bool
+    ensures { result ≡ is_what_is_left entry.now }
+{
+    !entry.attached.is_no() && entry.staged.is_no() && entry.target_entries.is_empty()
+}
+
+// Whether nothing is on the way at the node.
+fn is_resting(entry: &NodeEntry) -> bool
+    ensures { result ≡ is_in_rest entry.now }
+{
+    is_settled(entry) || is_left(entry)
+}
+
 // Whether it is so at each of these nodes.
-fn are_settled(entries: &[NodeEntry]) -> bool
+fn are_resting(entries: &[NodeEntry]) -> bool
     ensures { result ≡ list_all is_in_rest entries.now }
 {
     for entry in entries {
-        if !is_settled(entry) {
+        if !is_resting(entry) {
             return false;
         }
     }
@@ -83,7 +101,7 @@ fn is_entry_fit(nodes: &[NodeId], arguments: &Arguments, entry: &NodeEntry) -> b
 {
     entry.target_entries.len() <= 16
         && (!allows_one_target(entry.capability.mode) || entry.target_entries.len() <= 1)
-        && has_node(nodes, &entry.node)
+        && (has_node(nodes, &entry.node) || entry.target_entries.is_empty())
         && has_capability(arguments.capabilities.as_slice(), entry.capability.lend())
         && are_targets_apart(entry.target_entries.as_slice())
 }
@@ -162,25 +180,31 @@ fn is_at_target(must: bool, entry: &NodeEntry, target: &Target) -> bool
     false
 }
 
-// Whether a use is on its way at this entry.
-fn uses_here(usage: &Usage, last: bool, entry: &NodeEntry) -> bool
-    ensures { result ≡ is_use_at usage.now last entry.now }
+// Whether a stop is on its way at this entry, or of what is left there.
+fn stops_here(entry: &NodeEntry, target: &Target) -> bool
+    ensures { result ≡ is_stop_at target.now entry.now }
 {
-    (last || entry.target_entries.len() >= 2)
-        && same_capability(entry.capability.lend(), usage.capability.lend())
+    is_left(entry) || is_at_target(false, entry, target)
+}
+
+// Whether a use is on its way at this entry.
+fn uses_here(usage: &Usage, entry: &NodeEntry) -> bool
+    ensures { result ≡ is_use_at usage.now entry.now }
+{
+    same_capability(entry.capability.lend(), usage.capability.lend())
         && entry.readonly == usage.readonly
         && is_at_target(true, entry, &usage.target)
 }
 
-// Whether a stop is on its way at this node, and all other entries are settled.
+// Whether a stop is on its way at this node, and nothing at the others.
 fn is_stop_on_the_way(node: &NodeId, target: &Target, entries: &[NodeEntry]) -> bool
     ensures { result ≡ is_stop_somewhere node.now target.now entries.now }
 {
     for (place, entry) in entries.iter().enumerate() {
         if entry.node == *node {
-            return is_at_target(false, entry, target) && are_settled(&entries[place + 1..]);
+            return stops_here(entry, target) && are_resting(&entries[place + 1..]);
         }
-        if !is_settled(entry) {
+        if !is_resting(entry) {
             return false;
         }
     }
@@ -194,9 +218,9 @@ fn is_use_on_the_way(usage: &Usage, entries: &[NodeEntry]) -> bool
     for (place, entry) in entries.iter().enumerate() {
         if entry.node == usage.node {
             let later = &entries[place + 1..];
-            return uses_here(usage, later.is_empty(), entry) && are_settled(later);
+            return uses_here(usage, entry) && are_resting(later);
         }
-        if !is_settled(entry) {
+        if !is_resting(entry) {
             return false;
         }
     }
@@ -209,7 +233,52 @@ fn has_tries(row: &Row) -> bool
 {
     match row.goal {
         None => row.tries == 0,
+        Some(Goal::Stop { .. }) => row.tries <= 3,
         Some(_) => row.tries >= 1 && row.tries <= 3,
+    }
+}
+
+// Whether the entry has no targets.
+fn has_no_targets(entry: &NodeEntry) -> bool
+    ensures { result ≡ (length entry.now.target_entries.items == 0) }
+{
+    entry.target_entries.is_empty()
+}
+
+// Whether the node has no targets, as where it was lost.
+fn is_untargeted(row: &Row, node: &NodeId) -> bool
+    ensures { result ≡ is_without_targets (find (λ entry. same_text entry.node node.now) row.now.node_entries.items) }
+{
+    match node_entry_at(row, node) {
+        Some(entry) => has_no_targets(entry),
+        None => true,
+    }
+}
+
+// Whether a stop at the node was tried, or the node has no targets.
+fn is_stop_tried(row: &Row, node: &NodeId) -> bool
+    ensures { result ≡ (nat_le 1 row.now.tries || is_without_targets (find (λ entry. same_text entry.node node.now) row.now.node_entries.items)) }
+{
+    row.tries >= 1 || is_untargeted(row, node)
+}
+
+// Whether this was tried, or is a stop at a node without targets.
+fn is_goal_tried(goal: &Goal, row: &Row) -> bool
+    ensures { result ≡ is_tried_or_left (Some goal.now) row.now.tries row.now.node_entries.items }
+{
+    match goal {
+        Goal::Stop { node, .. } => is_stop_tried(row, node),
+        Goal::Create | Goal::Use(_) | Goal::Delete => true,
+    }
+}
+
+// Whether what is wanted was, if anything is.
+fn is_tried(row: &Row) -> bool
+    ensures { result ≡ is_tried_or_left row.now.goal row.now.tries row.now.node_entries.items }
+{
+    match &row.goal {
+        None => true,
+        Some(goal) => is_goal_tried(goal, row),
     }
 }
 
@@ -228,7 +297,7 @@ fn fits_rest(has_id: bool, exists: Known, entries: &[NodeEntry]) -> bool
     ensures { result ≡ is_rest has_id exists entries.now }
 {
     match exists {
-        Known::Yes => has_id && are_settled(entries),
+        Known::Yes => has_id && are_resting(entries),
         Known::No => has_id && entries.is_empty(),
         Known::Maybe => !has_id && entries.is_empty(),
     }
@@ -263,9 +332,10 @@ fn fits_life(row: &Row) -> bool
 pub(crate) fn is_restorable(nodes: &[NodeId], row: &Row) -> bool
     ensures { result ≡ is_one_of_record nodes.now row.now }
 {
-    row.node_entries.len() <= nodes.len()
+    row.node_entries.len() <= MAX_NODES
         && row.open_call.is_none()
         && has_tries(row)
+        && is_tried(row)
         && are_entries_fit(nodes, &row.arguments, row.node_entries.as_slice())
         && fits_life(row)
 }

@@ -1,12 +1,12 @@
 //! Laws of what an orchestrator does. Each function proves a statement, and does nothing.
-ghost use Rattle.csi_orchestrator.specs.Public.Laws.{MovesKeepForm, RecordsLaw};
+ghost use Rattle.csi_orchestrator.specs.Public.Laws.{MovesKeepForm, RecordsLaw, RestartsAreTold};
 ghost use Rattle.csi_orchestrator.specs.Private.Following.{ViewFollows};
 ghost use Rattle.csi_orchestrator.specs.Private.RowDue.{DueIsTold};
 ghost use Rattle.csi_orchestrator.specs.Public.Steps.{MovesLaw};
 ghost use Rattle.std.specs.List.{AllByRecursion};
 ghost use Rattle.csi_orchestrator.specs.Public.Bounds.{IsBounded};
-ghost use Rattle.csi_orchestrator.specs.Private.Restored.{RecordsAreReached};
 ghost use Rattle.csi_orchestrator.specs.Private.Opened.{RecordsAreOpened};
+ghost use Rattle.csi_orchestrator.specs.Private.Restored.{RecordsAreReached};
 ghost use Rattle.csi_orchestrator.specs.Private.Sound.{RowsTell, RowsStaySound, MovesAreGuarded};
 ghost use Rattle.csi_orchestrator.specs.Public.Restored.{AreRestorable};
 ghost use Rattle.csi_orchestrator.specs.Public.Shown.{closed};
@@ -33,16 +33,17 @@ fn rows_follow()
     ensures moves_are_guarded { MovesAreGuarded }
 {}
 
-// What is restored from a record is what some orchestrator came to: whatever rows keep the rules of rows without open calls are
-// those of an orchestrator of these nodes, once it gave its calls up. In the next session they keep all that its type keeps.
-fn records_are_reached()
-    ensures reached { RecordsAreReached }
+// Whatever rows keep the rules of rows without open calls, with each list of nodes that leaves out no node at which a volume may be
+// attached they keep all that an orchestrator's type keeps, and are told by a history. If no node was lost, some orchestrator came to them.
+fn records_are_opened()
     ensures opened { RecordsAreOpened }
+    ensures reached { RecordsAreReached }
 {}
 
 /// A law, and nothing that runs: whatever comes, each call that an orchestrator sends has the next number and may be sent
 /// then (the guards of CSI's spec.md, "Volume Lifecycle"), each reply that it takes is one that came to an open call, and
-/// its answer has the frame of the call that it sent, if it sent one. At most three things are done at a time.
+/// its answer has the frame of the call that it sent, if it sent one. At most three things are done at a time, and where a session
+/// begins two, and one for each name.
 pub fn moves_law()
     ensures { MovesLaw }
 {}
@@ -63,25 +64,37 @@ pub fn entries_law(orchestrator: &Orchestrator)
     orchestrator.assert_kept();
 }
 
-/// A law, and nothing that runs: whatever it was asked and whatever came, the rows of every orchestrator of at most 64 nodes, once their
-/// open calls are given up, keep the rules of rows: goal, tries, id and entries go together, each entry is as the volume's arguments
-/// allow, any two of them may be held together, and where a use or a stop is on the way, all other entries are settled. There are no
-/// other rules to keep: some orchestrator came to whatever rows keep these. This profile's own.
+/// A law, and nothing that runs: whatever it was asked and whatever came, the rows of every orchestrator, once their open calls are given
+/// up, keep the rules of rows: goal, tries, id and entries go together, each entry is as the volume's arguments allow, and of a listed
+/// node or what is left of one that was lost, any two of them may be held together, and where a use or a stop is on the way, nothing is
+/// at the other nodes. This profile's own.
 pub fn rows_law(orchestrator: &Orchestrator)
-    ensures { length orchestrator.now.nodes ≤ 64 → AreRestorable orchestrator.now.nodes (map closed orchestrator.now.rows) }
+    ensures { AreRestorable orchestrator.now.nodes (map closed orchestrator.now.rows) }
 {
     orchestrator.assert_kept();
 }
 
-/// A law, and nothing that runs: whatever rows keep the rules of rows (`rows_law`), some orchestrator of these nodes, in this session, came
-/// to them, but for open calls, which it gives up; and what is opened from a record of them has a history, in the next session if one is
-/// left, so that what contracts say of an orchestrator is said of it. Every `OrchestratorRecord` is such a record. This profile's own.
+/// A law, and nothing that runs: whatever rows keep the rules of rows (`rows_law`), what is opened from a record of them has a history, in
+/// the next session if one is left, with each list of nodes that leaves out none at which a volume may be attached, so that what
+/// contracts say of an orchestrator is said of it. If no node was lost, there are no other rules to keep: some orchestrator of these
+/// nodes, in this session, came to the rows, but for open calls, which it gives up. Every `OrchestratorRecord` is such a record. This
+/// profile's own.
 pub fn records_law()
     ensures { RecordsLaw }
-{}
+{
+    records_are_opened();
+}
 
-/// A law, and nothing that runs: every orchestrator keeps at most 4,096 names, for each of them at most as many entries as there are
-/// nodes, and for each entry at most 16 targets, however many it was asked for. This profile's own.
+/// A law, and nothing that runs: from each history that an orchestrator shows, a restart with a list of nodes that isn't refused (`restart`) is
+/// what the history tells. It speaks of the orchestrator before that. This profile's own.
+pub fn restart_law(orchestrator: &Orchestrator)
+    ensures { RestartsAreTold orchestrator.now }
+{
+    orchestrator.assert_kept();
+}
+
+/// A law, and nothing that runs: every orchestrator keeps at most 4,096 names, for each of them at most 64 entries, and for each
+/// entry at most 16 targets, however many it was asked for. This profile's own.
 pub fn bounds_law(orchestrator: &Orchestrator)
     ensures { IsBounded orchestrator.now }
 {

@@ -2,6 +2,7 @@
 //! what it knows, and which call it sends next.
 #![tactic(auto)]
 
+mod beginning;
 mod calls;
 mod catalog;
 mod changes;
@@ -31,7 +32,10 @@ mod thing;
 mod worked;
 
 pub use fault::{Heard, OrchFault, OrchRecordFault};
-pub use laws::{bounds_law, entries_law, form_law, moves_law, records_law, rows_law, showing_law};
+pub use judged_nodes::are_nodes_fit;
+pub use laws::{
+    bounds_law, entries_law, form_law, moves_law, records_law, restart_law, rows_law, showing_law,
+};
 pub use orchestrator::Orchestrator;
 pub use record::OrchestratorRecord;
 pub use request::{Arguments, Usage};

@@ -1,5 +1,5 @@
 //! The orchestrator.
-ghost use Rattle.std.specs.Prelude.{◌≡◌, ◌+◌, ◌<◌, ◌≤◌, ◌^◌, length, map, None, IfOk, OnOk, OnErr, IfErr, IsOk};
+ghost use Rattle.std.specs.Prelude.{◌≡◌, ◌+◌, ◌≤◌, ◌^◌, length, map, Some, None, IfOk, OnOk, OnErr, IfErr, IsOk};
 ghost use Rattle.std.specs.List.{AllByRecursion};
 ghost use Rattle.csi_orchestrator.specs.declared.fault.OrchFault.{OrchFault as Fault};
 ghost use Rattle.csi_orchestrator.specs.declared.fault.OrchRecordFault.{OrchRecordFault as RecordFaultShown};
@@ -7,6 +7,7 @@ ghost use Rattle.csi_orchestrator.specs.declared.fault.Heard.{Heard as HeardShow
 ghost use Rattle.csi_orchestrator.specs.declared.thing.Known.TheVariants.{No};
 ghost use Rattle.csi_orchestrator.specs.declared.thing.Thing.{Thing as ThingShown};
 
+use crate::beginning::session_with;
 use crate::catalog::Catalog;
 use crate::fault::{Heard, OrchFault, OrchRecordFault};
 use crate::listing::things_in;
@@ -44,7 +45,7 @@ impl Model for Orchestrator {
 impl Orchestrator {
     ghost use Rattle.csi_orchestrator.specs.Model.History.{History, new_history, history_after};
     ghost use Rattle.csi_orchestrator.specs.Model.WellFormed.{IsWellFormed};
-    ghost use Rattle.csi_orchestrator.specs.Model.Moves.{ToCreate, ToUse, ToStop, ToDelete, TimesOut, Comes, Restarts, Sends, Hears, Restarted, moves};
+    ghost use Rattle.csi_orchestrator.specs.Model.Moves.{ToCreate, ToUse, ToStop, ToDelete, TimesOut, Comes, Restarts, Loses, Sends, Hears, Restarted, GivenUp, moves};
     ghost use Rattle.csi_orchestrator.specs.Model.Readings.{known, last_number};
     ghost use Rattle.csi_orchestrator.specs.Model.Shown.{Shows, orchestrator_view};
     ghost use Rattle.csi_orchestrator.specs.Public.RowMoves.{IsRefusal};
@@ -54,6 +55,8 @@ impl Orchestrator {
     ghost use Rattle.csi_orchestrator.specs.Public.Bounds.{AreFew, IsRowFew};
     ghost use Rattle.csi_orchestrator.specs.Public.Changed.{place_by_name, place_by_call, ChangesRowOf, ChangesAsHeard};
     ghost use Rattle.csi_orchestrator.specs.Public.Record.{AreNodesFit};
+    ghost use Rattle.csi_orchestrator.specs.Public.Beginning.{restart_refusal, restarted_parts, parts_at_loss};
+    ghost use Rattle.csi_orchestrator.specs.Public.Laws.{opened_parts};
     ghost use Rattle.csi_orchestrator.specs.Public.Shown.{row_shown, closed};
 
     // What its type keeps of what it shows. It does nothing.
@@ -66,7 +69,7 @@ impl Orchestrator {
     /// An orchestrator of these nodes that did nothing, in session 1. It takes no memory.
     pub fn new(alloc: Global, nodes: Vec<NodeId>) -> Orchestrator
         ensures nodes { result.nodes ≡ nodes.items }
-        ensures agrees { Shows result new_history }
+        ensures agrees { Shows result (new_history nodes.items) }
     {
         Orchestrator::numbered(
             alloc,
@@ -81,7 +84,7 @@ impl Orchestrator {
     /// The same, with its calls numbered after this number. It takes no memory.
     pub fn numbered(alloc: Global, nodes: Vec<NodeId>, last: Number) -> Orchestrator
         ensures nodes { result.nodes ≡ nodes.items }
-        ensures agrees { Shows result (history_after last) }
+        ensures agrees { Shows result (history_after nodes.items last) }
     {
         Orchestrator {
             core: OrchestratorCore {
@@ -93,20 +96,27 @@ impl Orchestrator {
         }
     }
 
-    /// The orchestrator of a record (this profile's own), as a restart leaves it: in the next session, with the record's nodes and rows,
-    /// and no open call. Refused with `NumbersSpent` where the record's session is the last one, and never otherwise. It takes no memory.
-    pub fn from_record(alloc: Global, kept: OrchestratorRecord) -> Result<Orchestrator, OrchFault>
-        ensures value { IfOk result (λ made. made ≡ record { nodes = kept.nodes; last = record { session = kept.session + 1; call = 0 }; rows = kept.rows }) }
-        ensures left { OnOk result (kept.session + 1 < 2 ^ 64) }
-        ensures spent { IfErr result (λ fault. (fault ≡ Fault.NumbersSpent) × (kept.session + 1 ≡ 2 ^ 64)) }
+    /// The orchestrator of a record (this profile's own), as a restart with these nodes leaves it: in the next session, with the record's
+    /// rows but those that are forgotten, and no open call. Refused with the first that holds of `NumbersSpent` (the record's session is
+    /// the last one) and `NodeInUse` (a volume may be attached at a node of the record that isn't one of these), and never otherwise. It
+    /// takes no memory.
+    pub fn from_record(
+        alloc: Global,
+        kept: OrchestratorRecord,
+        nodes: Vec<NodeId>,
+    ) -> Result<Orchestrator, OrchFault>
+        ensures value { IfOk result (λ made. made ≡ opened_parts kept nodes.items) }
+        ensures unrefused { OnOk result (restart_refusal kept.session kept.nodes nodes.items kept.rows ≡ None) }
+        ensures refused { IfErr result (λ fault. restart_refusal kept.session kept.nodes nodes.items kept.rows ≡ Some fault) }
     {
-        match kept.session().checked_add(1) {
-            Some(session) => Ok(Orchestrator {
-                core: kept.opened(alloc, session),
+        match session_with(kept.session(), kept.nodes(), nodes.as_slice(), kept.rows()) {
+            Ok(session) => Ok(Orchestrator {
+                core: kept.opened(alloc, session, nodes),
             }),
-            None => {
+            Err(fault) => {
                 drop(kept);
-                Err(OrchFault::NumbersSpent)
+                drop(nodes);
+                Err(fault)
             }
         }
     }
@@ -137,11 +147,11 @@ impl Orchestrator {
         self.core.nodes.as_slice()
     }
 
-    /// Its rows, in the order of the first creates (this profile's own). What has to be spelled of a row is bounded, where there are at
-    /// most 64 nodes: at most 64 entries, each of at most 16 targets, and tries up to 3.
+    /// Its rows, in the order of the first creates (this profile's own). What has to be spelled of a row is bounded: at most 64 entries,
+    /// each of at most 16 targets, and tries up to 3.
     pub fn rows(&self) -> &[Row]
         ensures value { map row_shown result.now ≡ self.now.rows }
-        ensures few { length self.now.nodes ≤ 64 → AllByRecursion IsRowFew result.now }
+        ensures few { AllByRecursion IsRowFew result.now }
     {
         self.core.catalog.rows()
     }
@@ -188,13 +198,13 @@ impl Orchestrator {
         capabilities: CapabilityList,
     ) -> Result<Option<Frame>, OrchFault>
         ensures ok { (history : History) → IsWellFormed history → Shows self.old history →
-            IfOk result (λ sent. FollowsUnrefused history (moves self.old.nodes history (ToCreate name (record {
+            IfOk result (λ sent. FollowsUnrefused history (moves history (ToCreate name (record {
               required = required;
               limit = limit;
               capabilities = capabilities;
             }))) (Sends sent) self.new) }
         ensures err { (history : History) → IsWellFormed history → Shows self.old history →
-            IfErr result (IsRefusal (moves self.old.nodes history (ToCreate name (record {
+            IfErr result (IsRefusal (moves history (ToCreate name (record {
               required = required;
               limit = limit;
               capabilities = capabilities;
@@ -215,7 +225,7 @@ impl Orchestrator {
     /// "ControllerPublishVolume", "NodeStageVolume" and "NodePublishVolume"): the call to send, or `None` where it is so
     /// already. Refused with the first that holds of `NoSuchVolume`, `NotCreated`, `Busy`, `NoSuchNode`, `NotCapable`,
     /// `HeldElsewhere`, `WriterElsewhere`, `HeldOtherwise` and `TargetTaken`, and, where it isn't so already, of
-    /// `NumbersSpent`, `Full` (16 other targets of the node) and `NoMemory`. A refusal changes nothing.
+    /// `NumbersSpent`, `Full` (16 other targets of the node, or 64 other nodes) and `NoMemory`. A refusal changes nothing.
     pub fn use_at(
         &mut self,
         name: &Name,
@@ -225,21 +235,21 @@ impl Orchestrator {
         readonly: bool,
     ) -> Result<Option<Frame>, OrchFault>
         ensures ok { (history : History) → IsWellFormed history → Shows self.old history →
-            IfOk result (λ sent. FollowsUnrefused history (moves self.old.nodes history (ToUse name.now (record {
+            IfOk result (λ sent. FollowsUnrefused history (moves history (ToUse name.now (record {
               node = node;
               target = target;
               capability = capability;
               readonly = readonly;
             }))) (Sends sent) self.new) }
         ensures err { (history : History) → IsWellFormed history → Shows self.old history →
-            IfErr result (IsRefusal (moves self.old.nodes history (ToUse name.now (record {
+            IfErr result (IsRefusal (moves history (ToUse name.now (record {
               node = node;
               target = target;
               capability = capability;
               readonly = readonly;
             })))) }
         ensures met { (history : History) → IsWellFormed history → Shows self.old history →
-            IsAnsweredAs (Sends None) (moves self.old.nodes history (ToUse name.now (record {
+            IsAnsweredAs (Sends None) (moves history (ToUse name.now (record {
               node = node;
               target = target;
               capability = capability;
@@ -261,7 +271,8 @@ impl Orchestrator {
 
     /// Requests that the volume is unpublished at the target, and then, where it is at no other target of the node, unstaged and
     /// detached there (CSI's spec.md, "NodeUnpublishVolume", "NodeUnstageVolume" and "ControllerUnpublishVolume"): the call to
-    /// send. Refused with the first that holds of `NoSuchVolume`, `NotCreated`, `Busy`, `NoSuchNode`, `NoSuchTarget`,
+    /// send. Where it may be attached, and is published at no target, as once the node was lost, any target will do, and the node needn't
+    /// be listed. Refused with the first that holds of `NoSuchVolume`, `NotCreated`, `Busy`, `NoSuchNode`, `NoSuchTarget`,
     /// `NumbersSpent` and `NoMemory`. A refusal changes nothing.
     pub fn stop(
         &mut self,
@@ -270,9 +281,9 @@ impl Orchestrator {
         target: Target,
     ) -> Result<Option<Frame>, OrchFault>
         ensures ok { (history : History) → IsWellFormed history → Shows self.old history →
-            IfOk result (λ sent. FollowsUnrefused history (moves self.old.nodes history (ToStop name.now node target)) (Sends sent) self.new) }
+            IfOk result (λ sent. FollowsUnrefused history (moves history (ToStop name.now node target)) (Sends sent) self.new) }
         ensures err { (history : History) → IsWellFormed history → Shows self.old history →
-            IfErr result (IsRefusal (moves self.old.nodes history (ToStop name.now node target))) }
+            IfErr result (IsRefusal (moves history (ToStop name.now node target))) }
         ensures stays { OnErr result (self.new ≡ self.old) }
         ensures nodes { self.new.nodes ≡ self.old.nodes }
         ensures changed { OnOk result (ChangesRowOf name.now self.old self.new) }
@@ -285,9 +296,9 @@ impl Orchestrator {
     /// there, of `Busy` and `NumbersSpent`. A refusal changes nothing. It takes no memory.
     pub fn delete(&mut self, name: &Name) -> Result<Option<Frame>, OrchFault>
         ensures ok { (history : History) → IsWellFormed history → Shows self.old history →
-            IfOk result (λ sent. FollowsUnrefused history (moves self.old.nodes history (ToDelete name.now)) (Sends sent) self.new) }
+            IfOk result (λ sent. FollowsUnrefused history (moves history (ToDelete name.now)) (Sends sent) self.new) }
         ensures err { (history : History) → IsWellFormed history → Shows self.old history →
-            IfErr result (IsRefusal (moves self.old.nodes history (ToDelete name.now))) }
+            IfErr result (IsRefusal (moves history (ToDelete name.now))) }
         ensures memory { IfErr result (λ fault. fault ≡ Fault.NoMemory → ⊥) }
         ensures stays { OnErr result (self.new ≡ self.old) }
         ensures nodes { self.new.nodes ≡ self.old.nodes }
@@ -303,9 +314,9 @@ impl Orchestrator {
     /// `NoMemory`. A refusal changes nothing, the open call included.
     pub fn timeout(&mut self, name: &Name) -> Result<Option<Frame>, OrchFault>
         ensures ok { (history : History) → IsWellFormed history → Shows self.old history →
-            IfOk result (λ sent. FollowsUnrefused history (moves self.old.nodes history (TimesOut name.now)) (Sends sent) self.new) }
+            IfOk result (λ sent. FollowsUnrefused history (moves history (TimesOut name.now)) (Sends sent) self.new) }
         ensures err { (history : History) → IsWellFormed history → Shows self.old history →
-            IfErr result (IsRefusal (moves self.old.nodes history (TimesOut name.now))) }
+            IfErr result (IsRefusal (moves history (TimesOut name.now))) }
         ensures stays { OnErr result (self.new ≡ self.old) }
         ensures nodes { self.new.nodes ≡ self.old.nodes }
         ensures changed { OnOk result (ChangesRowOf name.now self.old self.new) }
@@ -320,13 +331,13 @@ impl Orchestrator {
     /// is a next call and no number for it, and then `NoMemory`. A refusal changes nothing.
     pub fn deliver(&mut self, frame: &Frame) -> Result<Heard, OrchFault>
         ensures ok { (history : History) → IsWellFormed history → Shows self.old history →
-            IfOk result (λ heard. FollowsUnrefused history (moves self.old.nodes history (Comes frame.now)) (Hears heard) self.new) }
+            IfOk result (λ heard. FollowsUnrefused history (moves history (Comes frame.now)) (Hears heard) self.new) }
         ensures err { (history : History) → IsWellFormed history → Shows self.old history →
-            IfErr result (IsRefusal (moves self.old.nodes history (Comes frame.now))) }
+            IfErr result (IsRefusal (moves history (Comes frame.now))) }
         ensures ignored { (history : History) → IsWellFormed history → Shows self.old history →
-            IsHeardAs HeardShown.Ignored (moves self.old.nodes history (Comes frame.now)) → IsOk result }
+            IsHeardAs HeardShown.Ignored (moves history (Comes frame.now)) → IsOk result }
         ensures quiet { (history : History) → IsWellFormed history → Shows self.old history →
-            IsHeardAs (HeardShown.Taken None) (moves self.old.nodes history (Comes frame.now)) → IsOk result }
+            IsHeardAs (HeardShown.Taken None) (moves history (Comes frame.now)) → IsOk result }
         ensures stays { OnErr result (self.new ≡ self.old) }
         ensures nodes { self.new.nodes ≡ self.old.nodes }
         ensures changed { IfOk result (λ heard. ChangesAsHeard frame.now.number heard self.old self.new) }
@@ -347,21 +358,35 @@ impl Orchestrator {
         things_in(self.core.alloc, self.core.catalog.rows())
     }
 
-    /// Starts the next session: every open call is given up, and nothing is sent. Refused with `NumbersSpent` in the
-    /// last session, which changes nothing. It takes no memory. What it leaves is what is opened from its record.
-    pub fn restart(&mut self) -> Result<(), OrchFault>
-        ensures value { OnOk result (self.new ≡ record {
-          nodes = self.old.nodes;
-          last = record { session = self.old.last.session + 1; call = 0 };
-          rows = map closed self.old.rows;
-        }) }
+    /// Starts the next session with these nodes (this profile's own): every open call is given up, nothing is sent, and a name is forgotten
+    /// whose volume isn't there and of which nothing is wanted. Refused with the first that holds of `NumbersSpent` (in the last session)
+    /// and `NodeInUse` (a volume may be attached at a node that isn't one of these any more), which changes nothing. It takes no memory.
+    /// What it leaves is what is opened from its record with these nodes.
+    pub fn restart(&mut self, nodes: Vec<NodeId>) -> Result<(), OrchFault>
+        ensures value { OnOk result (self.new ≡ restarted_parts nodes.items self.old) }
         ensures ok { (history : History) → IsWellFormed history → Shows self.old history →
-            IfOk result (λ done. FollowsUnrefused history (moves self.old.nodes history Restarts) Restarted self.new) }
-        ensures err { (history : History) → IsWellFormed history → Shows self.old history → IfErr result (IsRefusal (moves self.old.nodes history Restarts)) }
-        ensures spent { IfErr result (λ fault. fault ≡ Fault.NumbersSpent) }
+            IfOk result (λ done. FollowsUnrefused history (moves history (Restarts nodes.items)) Restarted self.new) }
+        ensures err { (history : History) → IsWellFormed history → Shows self.old history → IfErr result (IsRefusal (moves history (Restarts nodes.items))) }
+        ensures refused { IfErr result (λ fault. restart_refusal self.old.last.session self.old.nodes nodes.items self.old.rows ≡ Some fault) }
         ensures stays { OnErr result (self.new ≡ self.old) }
-        ensures nodes { self.new.nodes ≡ self.old.nodes }
+        ensures nodes { OnOk result (self.new.nodes ≡ nodes.items) }
     {
-        self.core.restart()
+        self.core.restart(nodes)
+    }
+
+    /// A node is lost (this profile's own): its machine is off for good, and its store never comes back. The next session starts without
+    /// it: every open call is given up, nothing is sent, nothing is staged or published there, a use there becomes its stop, and names are
+    /// forgotten as by `restart`. What the controller attached to the node stays attached until `stop`, with any target, or a timeout
+    /// detached it. A node that isn't listed is lost too. Refused with `NumbersSpent` in the last session, which changes nothing. It takes
+    /// no memory.
+    pub fn lose(&mut self, node: &NodeId) -> Result<(), OrchFault>
+        ensures value { OnOk result (self.new ≡ parts_at_loss node.now self.old) }
+        ensures ok { (history : History) → IsWellFormed history → Shows self.old history →
+            IfOk result (λ done. FollowsUnrefused history (moves history (Loses node.now)) GivenUp self.new) }
+        ensures err { (history : History) → IsWellFormed history → Shows self.old history → IfErr result (IsRefusal (moves history (Loses node.now))) }
+        ensures spent { IfErr result (λ fault. (fault ≡ Fault.NumbersSpent) × (self.old.last.session + 1 ≡ 2 ^ 64)) }
+        ensures stays { OnErr result (self.new ≡ self.old) }
+    {
+        self.core.lose(node)
     }
 }

@@ -39,6 +39,7 @@ impl Model for OrchestratorRecord {
 impl OrchestratorRecord {
     ghost use Rattle.std.specs.List.{AllByRecursion};
     ghost use Rattle.csi_orchestrator.specs.Public.Bounds.{IsRowFew};
+    ghost use Rattle.csi_orchestrator.specs.Public.Beginning.{remembered};
     ghost use Rattle.csi_orchestrator.specs.Public.Catalog.{rows_of};
     ghost use Rattle.csi_orchestrator.specs.Public.CoreParts.{orchestrator_parts_shown, IsFiled};
     ghost use Rattle.csi_orchestrator.specs.Public.Record.{AreNodesFit, IsRecordRefusal};
@@ -48,10 +49,10 @@ impl OrchestratorRecord {
 
     /// The record of these nodes, this session and these rows (this profile's own). It is refused with `BadNodes` for more than 64 nodes
     /// or a node that stands there twice. It is refused with `BadRow` at the first row that no record has there: it has an open call; its
-    /// tries, its id, what is known of the volume, what is wanted of it, and its entries don't go together; an entry is of a node that
-    /// isn't listed, in a capability that the row lacks, or has more targets than it may; two entries are of one node, or the volume
-    /// can't be held by both; its name stands in an earlier row; or 4,096 rows stand before it. It is refused with `NoMemory` where an
-    /// allocation was: it takes memory for the map of names.
+    /// tries, its id, what is known of the volume, what is wanted of it, and its entries don't go together; it has more than 64 entries; an
+    /// entry with targets is of a node that isn't listed; an entry is in a capability that the row lacks, or has more targets than it may;
+    /// two entries are of one node, or the volume can't be held by both; its name stands in an earlier row; or 4,096 rows stand before it.
+    /// It is refused with `NoMemory` where an allocation was: it takes memory for the map of names.
     pub fn try_new(
         alloc: Global,
         nodes: Vec<NodeId>,
@@ -106,17 +107,19 @@ impl OrchestratorRecord {
         self.catalog.rows()
     }
 
-    // What is opened from it, in this session.
-    pub(crate) fn opened(self, alloc: Global, session: u64) -> OrchestratorCore
-        ensures parts { orchestrator_parts_shown result ≡ record { nodes = self.nodes; last = record { session = session; call = 0 }; rows = self.rows } }
+    // What is opened from it, in this session and with these nodes.
+    pub(crate) fn opened(self, alloc: Global, session: u64, nodes: Vec<NodeId>) -> OrchestratorCore
+        ensures parts { orchestrator_parts_shown result ≡ record { nodes = nodes.items; last = record { session = session; call = 0 }; rows = remembered self.rows } }
         ensures filed { IsFiled result }
         ensures kept { AreRestorable self.nodes self.rows }
     {
         let OrchestratorRecord {
-            nodes,
+            nodes: old,
             session: _,
-            catalog,
+            mut catalog,
         } = self;
+        drop(old);
+        catalog.forget();
         OrchestratorCore {
             alloc,
             nodes,

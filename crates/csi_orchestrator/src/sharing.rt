@@ -1,5 +1,5 @@
 //! Whether a use can be beside what a volume is used for already.
-ghost use Rattle.std.specs.Prelude.{◌≡◌, Some, map, not, ◌&&◌};
+ghost use Rattle.std.specs.Prelude.{◌≡◌, Some, map, count_by, not, ◌&&◌};
 ghost use Rattle.std.specs.List.{list_any};
 ghost use Rattle.csi_types.specs.Model.Same.{same_text};
 ghost use Rattle.csi_orchestrator.specs.Model.Thing.{is_no};
@@ -76,6 +76,19 @@ pub(crate) fn is_written_elsewhere(entries: &[NodeEntry], usage: &Usage) -> bool
         }
     }
     false
+}
+
+/// At how many of these entries' nodes, other than this one, the volume may be attached.
+pub(crate) fn others_attached(entries: &[NodeEntry], node: &NodeId) -> usize
+    ensures { result ≡ count_by (λ entry. not (same_text entry.node node.now) && not (is_no entry.attached)) (map node_entry_shown entries.now) }
+{
+    let mut count = 0;
+    for entry in entries {
+        if is_elsewhere(node, entry) {
+            count += 1;
+        }
+    }
+    count
 }
 
 /// Whether the volume may be attached by this entry with another capability or flag than the use has.

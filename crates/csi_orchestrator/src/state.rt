@@ -1,14 +1,17 @@
-//! The state of an orchestrator: its parts, what its rows know of a thing, and its restart.
-ghost use Rattle.std.specs.Prelude.{◌≡◌, ◌+◌, ◌<◌, ◌^◌, IfErr, OnErr, OnOk, None, IsTrue, not, nat_lt, map, option_map};
+//! The state of an orchestrator: its parts, what its rows know of a thing, and how a session begins.
+ghost use Rattle.std.specs.Prelude.{◌≡◌, ◌+◌, ◌^◌, IfErr, Some, None, map, option_map};
+ghost use Rattle.std.specs.List.{AllByRecursion};
 ghost use Rattle.std.specs.Option.{option_copied};
-ghost use Rattle.csi_orchestrator.specs.declared.fault.OrchFault.{OrchFault as Fault};
 ghost use Rattle.csi_orchestrator.specs.Model.Thing.{name_in};
-ghost use Rattle.csi_orchestrator.specs.Public.Shown.{row_shown, node_entry_shown};
+ghost use Rattle.csi_orchestrator.specs.Public.Shown.{row_shown, node_entry_shown, closed};
 ghost use Rattle.csi_orchestrator.specs.Model.Shown.{row_of, node_entry_of, mark_in, mark_of, publication_known};
-ghost use Rattle.csi_orchestrator.specs.Private.Shown.{without_call};
+ghost use Rattle.csi_orchestrator.specs.Model.Moves.{Restarts, Loses, Restarted, GivenUp};
+ghost use Rattle.csi_orchestrator.specs.Private.RowMoves.{IsMoveOf};
+ghost use Rattle.csi_orchestrator.specs.Public.Beginning.{remembered, restart_refusal, loss_refusal};
 ghost use Rattle.csi_orchestrator.specs.Public.Catalog.{rows_of, IsIndexed};
 ghost use Rattle.csi_orchestrator.specs.Public.CoreParts.{orchestrator_parts_shown, IsFiled};
 
+use crate::beginning::{session_after_loss, session_with};
 use crate::catalog::Catalog;
 use crate::entries::{node_index, target_index};
 use crate::fault::OrchFault;
@@ -80,23 +83,57 @@ pub(crate) fn known_in(catalog: &Catalog, thing: &Thing) -> Known
 }
 
 impl OrchestratorCore {
-    /// Starts the next session, or changes nothing where there is none.
-    pub fn restart(&mut self) -> Result<(), OrchFault>
+    // Begins a session: every open call is given up, and rows are forgotten.
+    fn begin(&mut self, session: u64)
         requires { IsFiled self.old }
-        ensures ok { OnOk result (IsTrue (nat_lt (self.old.last.session + 1) (2 ^ 64))
-            × (self.new.last ≡ record { session = self.old.last.session + 1; call = 0 })
-            × (rows_of self.new.catalog ≡ map without_call (rows_of self.old.catalog)) × (self.new.nodes.items ≡ self.old.nodes.items)) }
-        ensures err { IfErr result (λ fault. (fault ≡ Fault.NumbersSpent) × IsTrue (not (nat_lt (self.old.last.session + 1) (2 ^ 64)))) }
-        ensures stays { OnErr result (orchestrator_parts_shown self.new ≡ orchestrator_parts_shown self.old) }
+        ensures last { self.new.last ≡ record { session = session; call = 0 } }
+        ensures rows { map row_shown (rows_of self.new.catalog) ≡ remembered (map closed (map row_shown (rows_of self.old.catalog))) }
+        ensures closed { AllByRecursion (λ row. row.open_call ≡ None) (rows_of self.new.catalog) }
+        ensures nodes { self.new.nodes ≡ self.old.nodes }
         ensures filed { IsFiled self.new }
     {
-        match self.last.session.checked_add(1) {
-            Some(session) => {
-                self.last = Number { session, call: 0 };
-                self.catalog.close_all();
+        self.last = Number { session, call: 0 };
+        self.catalog.close_all();
+        self.catalog.forget();
+    }
+
+    /// Starts the next session with these nodes, or changes nothing where it is refused.
+    pub fn restart(&mut self, nodes: Vec<NodeId>) -> Result<(), OrchFault>
+        requires { IsFiled self.old }
+        ensures told { IsMoveOf (orchestrator_parts_shown self.old) (orchestrator_parts_shown self.new) (Restarts nodes.items) (λ done. Restarted) result }
+        ensures exact { IfErr result (λ fault. restart_refusal self.old.last.session self.old.nodes.items nodes.items (map row_shown (rows_of self.old.catalog)) ≡ Some fault) }
+        ensures filed { IsFiled self.new }
+    {
+        match session_with(
+            self.last.session,
+            self.nodes.as_slice(),
+            nodes.as_slice(),
+            self.catalog.rows(),
+        ) {
+            Ok(session) => {
+                self.nodes = nodes;
+                self.begin(session);
                 Ok(())
             }
-            None => Err(OrchFault::NumbersSpent),
+            Err(fault) => {
+                drop(nodes);
+                Err(fault)
+            }
         }
+    }
+
+    /// Starts the next session without a node that is lost, or changes nothing where there is none.
+    pub fn lose(&mut self, node: &NodeId) -> Result<(), OrchFault>
+        requires { IsFiled self.old }
+        ensures told { IsMoveOf (orchestrator_parts_shown self.old) (orchestrator_parts_shown self.new) (Loses node.now) (λ done. GivenUp) result }
+        ensures exact { IfErr result (λ fault. loss_refusal self.old.last.session ≡ Some fault) }
+        ensures spent { IfErr result (λ fault. (fault ≡ OrchFault.NumbersSpent) × (self.old.last.session + 1 ≡ 2 ^ 64)) }
+        ensures filed { IsFiled self.new }
+    {
+        let session = session_after_loss(self.last.session)?;
+        self.nodes.retain(|other| *other != *node);
+        self.begin(session);
+        self.catalog.lose(node);
+        Ok(())
     }
 }

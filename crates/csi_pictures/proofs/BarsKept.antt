@@ -13,14 +13,12 @@ use Rattle.csi_types.specs.Model.Frame.{Frame}
 use Rattle.csi_types.specs.Model.Same.{same_text}
 use Rattle.csi_types.specs.declared.event.Event.{Event}
 use Rattle.csi_types.specs.declared.event.Event.TheVariants as happens
-use Rattle.csi_node.specs.Model.Record.{NodeParts}
-use Rattle.csi_world.specs.Model.Simulated.{WorldParts}
 use Rattle.csi_world.specs.Public.Simulating.{numbered}
 use Rattle.csi_pictures.specs.declared.bars.Bar.{Bar}
 use Rattle.csi_pictures.specs.declared.columns.Columns.{Columns}
 use Rattle.csi_pictures.specs.declared.bars.Lasting.{Lasting}
-use Rattle.csi_pictures.specs.Public.Scene.{lane_of, node_lane, frame_delivered}
-use Rattle.csi_pictures.specs.Public.Bars.{is_same_thing, asks_in, asks_for, is_shown, is_shown_by, is_taken, is_taken_by, free_among, end_row, bar_of, lasting_of, with_lasting}
+use Rattle.csi_pictures.specs.Public.Scene.{RunParts, lane_of, node_lane, frame_delivered}
+use Rattle.csi_pictures.specs.Public.Bars.{is_same_thing, asks_in, asks_for, is_shown, is_shown_by, is_taken, is_taken_by, free_among, bar_end, bar_of, lasting_of, with_lasting}
 use Rattle.csi_pictures.specs.Private.Columns.{first_free, with_row, rows_at, AreBlank}
 use Rattle.csi_pictures.specs.Private.Links.{chain_by, chain_in, chain_of}
 use Rattle.csi_pictures.specs.Private.Begun.{asks_again, asks_by_frame, asks_at, IsOfChain, AreMarked, IsDelivery, shown_in, shown_by, shown_at, AreKept}
@@ -135,23 +133,23 @@ with-length column to rows = by (nat_lt column (length rows))
 
 -- ---- lanes
 
-node-within : (id : List ℕ) (nodes : List NodeParts) → node_lane id nodes < length nodes + 4
+node-within : (id : List ℕ) (nodes : List (List ℕ)) → node_lane id nodes < length nodes + 4
 node-within id [] = omega arith
-node-within id (node ∷ nodes) = by (same_text node.id id) (node-within id nodes)
+node-within id (node ∷ nodes) = by (same_text node id) (node-within id nodes)
   where
     by : (b : Bool) → node_lane id nodes < length nodes + 4 → (if b then 3 else suc (node_lane id nodes)) < suc (length nodes) + 4
     by true rest = omega arith
     by false rest = omega (arith, rest)
 
 -- no lane is behind that of a node that there isn't
-pub lane-within : (nodes : List NodeParts) (party : Party) → lane_of nodes party < length nodes + 4
+pub lane-within : (nodes : List (List ℕ)) (party : Party) → lane_of nodes party < length nodes + 4
 lane-within nodes parties.Controller = omega arith
 lane-within nodes (parties.Node id) = node-within id nodes
 
 -- ---- where no bar begins
 
-pub kept-later : (world : WorldParts) (events : List Event) (place : ℕ) (bars : List Bar) (marks : List Bool) (lanes : List Columns) → AreKept world events place bars marks lanes → AreKept world events (place + 1) bars marks lanes
-kept-later world events place bars marks lanes kept = record {
+pub kept-later : (run : RunParts) (events : List Event) (place : ℕ) (bars : List Bar) (marks : List Bool) (lanes : List Columns) → AreKept run events place bars marks lanes → AreKept run events (place + 1) bars marks lanes
+kept-later run events place bars marks lanes kept = record {
   size = kept.size;
   marked = λ at event above within is. kept.marked at event (omega (arith, above)) within is;
   count = kept.count;
@@ -161,7 +159,7 @@ kept-later world events place bars marks lanes kept = record {
 
 -- ---- the call that an event delivers
 
-module _ (world : WorldParts) (events : List Event) (place number lane : ℕ) (call : Call) (given : IsDelivery world events place number lane call) where
+module _ (run : RunParts) (events : List Event) (place number lane : ℕ) (call : Call) (given : IsDelivery run events place number lane call) where
   -- the event at its place
   pub event-there : happens.Deliver number ≡ get_or events place (happens.Deliver number)
   event-there =
@@ -169,26 +167,26 @@ module _ (world : WorldParts) (events : List Event) (place number lane : ℕ) (c
       sym (given.event own (get_or_default events place (happens.Deliver number) own given.within))
 
   -- it is of the call's chain
-  pub of-chain : IsOfChain world events call place
+  pub of-chain : IsOfChain run events call place
   of-chain event is =
-      ap (λ (e : Event). chain_of world.frames (length events) e) (given.event event is)
+      ap (λ (e : Event). chain_of run.frames (length events) e) (given.event event is)
       ∙ ap (λ (f : Option Frame). chain_by (length events) f) given.numbered
       ∙ ap (λ (b : Body). chain_in (length events) b) given.body
 
   -- its mark says whether some bar shows what it asks for
-  pub marked-shown : (bars : List Bar) (marks : List Bool) (lanes : List Columns) → AreKept world events place bars marks lanes → get_or marks place false ≡ is_shown world.frames lane (place + 1) call bars
+  pub marked-shown : (bars : List Bar) (marks : List Bool) (lanes : List Columns) → AreKept run events place bars marks lanes → get_or marks place false ≡ is_shown run.frames lane (place + 1) call bars
   marked-shown bars marks lanes kept =
       kept.marked place (happens.Deliver number) (omega arith) given.within event-there
-      ∙ ap (λ (f : Option Frame). shown_by world bars (place + 1) f) given.numbered
-      ∙ ap (λ (b : Body). shown_in world bars (lane_of world.nodes given.frame.party) (place + 1) b) given.body
-      ∙ ap (λ (n : ℕ). is_shown world.frames n (place + 1) call bars) (sym given.sent_to)
+      ∙ ap (λ (f : Option Frame). shown_by run bars (place + 1) f) given.numbered
+      ∙ ap (λ (b : Body). shown_in run bars (lane_of run.nodes given.frame.party) (place + 1) b) given.body
+      ∙ ap (λ (n : ℕ). is_shown run.frames n (place + 1) call bars) (sym given.sent_to)
 
   -- its lane is one of those that are kept
-  pub lane-kept : (bars : List Bar) (marks : List Bool) (lanes : List Columns) → AreKept world events place bars marks lanes → lane < length lanes
-  lane-kept bars marks lanes kept = omega (arith, kept.count, given.sent_to, lane-within world.nodes given.frame.party)
+  pub lane-kept : (bars : List Bar) (marks : List Bool) (lanes : List Columns) → AreKept run events place bars marks lanes → lane < length lanes
+  lane-kept bars marks lanes kept = omega (arith, kept.count, given.sent_to, lane-within run.nodes given.frame.party)
 
   -- the first free column is the bar's
-  pub column-is : (bars : List Bar) (marks : List Bool) (lanes : List Columns) → AreKept world events place bars marks lanes → first_free (place + 1) (rows_at lanes lane) ≡ free_among lane (place + 1) bars 0 bars
+  pub column-is : (bars : List Bar) (marks : List Bool) (lanes : List Columns) → AreKept run events place bars marks lanes → first_free (place + 1) (rows_at lanes lane) ≡ free_among lane (place + 1) bars 0 bars
   column-is bars marks lanes kept =
       let rows : List ℕ = rows_at lanes lane in
       let row : ℕ = place + 1 in
@@ -209,20 +207,20 @@ swapped true false c = refl
 swapped false true c = refl
 swapped false false c = refl
 
-module _ (world : WorldParts) (events : List Event) (place number lane : ℕ) (call : Call) (given : IsDelivery world events place number lane call) (bar : Bar) (own-number : bar.number ≡ number) (own-lane : bar.lane ≡ lane) where
-  asks-for : (other : Call) → asks_for other (numbered world.frames bar.number) ≡ is_same_thing call other
+module _ (run : RunParts) (events : List Event) (place number lane : ℕ) (call : Call) (given : IsDelivery run events place number lane call) (bar : Bar) (own-number : bar.number ≡ number) (own-lane : bar.lane ≡ lane) where
+  asks-for : (other : Call) → asks_for other (numbered run.frames bar.number) ≡ is_same_thing call other
   asks-for other =
-      ap (λ (n : ℕ). asks_for other (numbered world.frames n)) own-number
+      ap (λ (n : ℕ). asks_for other (numbered run.frames n)) own-number
       ∙ ap (λ (f : Option Frame). asks_for other f) given.numbered
       ∙ ap (λ (b : Body). asks_in other b) given.body
 
-  shown-more-in : (bars : List Bar) (to row : ℕ) (body : Body) → shown_in world (bars ++ bar ∷ []) to row body ≡ (shown_in world bars to row body || (nat_lt row bar.to && asks_at to lane call body))
+  shown-more-in : (bars : List Bar) (to row : ℕ) (body : Body) → shown_in run (bars ++ bar ∷ []) to row body ≡ (shown_in run bars to row body || (nat_lt row bar.to && asks_at to lane call body))
   shown-more-in bars to row (bodies.Call other) =
-      list_any-append (is_shown_by world.frames to row other) bars (bar ∷ [])
-      ∙ ap (λ (b : Bool). is_shown world.frames to row other bars || b)
-      (or-none (is_shown_by world.frames to row other bar)
-      ∙ swapped (bar.lane == to) (nat_lt row bar.to) (asks_for other (numbered world.frames bar.number))
-      ∙ ap (λ (n : ℕ). nat_lt row bar.to && ((n == to) && asks_for other (numbered world.frames bar.number))) own-lane
+      list_any-append (is_shown_by run.frames to row other) bars (bar ∷ [])
+      ∙ ap (λ (b : Bool). is_shown run.frames to row other bars || b)
+      (or-none (is_shown_by run.frames to row other bar)
+      ∙ swapped (bar.lane == to) (nat_lt row bar.to) (asks_for other (numbered run.frames bar.number))
+      ∙ ap (λ (n : ℕ). nat_lt row bar.to && ((n == to) && asks_for other (numbered run.frames bar.number))) own-lane
       ∙ ap (λ (b : Bool). nat_lt row bar.to && ((lane == to) && b)) (asks-for other))
   shown-more-in bars to row (bodies.Reply kind reply) = none (nat_lt row bar.to)
     where
@@ -230,17 +228,17 @@ module _ (world : WorldParts) (events : List Event) (place number lane : ℕ) (c
       none true = refl
       none false = refl
 
-  shown-more-by : (bars : List Bar) (row : ℕ) (frame : Option Frame) → shown_by world (bars ++ bar ∷ []) row frame ≡ (shown_by world bars row frame || (nat_lt row bar.to && asks_by_frame world lane call frame))
+  shown-more-by : (bars : List Bar) (row : ℕ) (frame : Option Frame) → shown_by run (bars ++ bar ∷ []) row frame ≡ (shown_by run bars row frame || (nat_lt row bar.to && asks_by_frame run lane call frame))
   shown-more-by bars row None = none (nat_lt row bar.to)
     where
       none : (b : Bool) → false ≡ (false || (b && false))
       none true = refl
       none false = refl
-  shown-more-by bars row (Some frame) = shown-more-in bars (lane_of world.nodes frame.party) row frame.body
+  shown-more-by bars row (Some frame) = shown-more-in bars (lane_of run.nodes frame.party) row frame.body
 
   -- what the new bar shows beside what the others do
-  shown-more : (bars : List Bar) (at : ℕ) (event : Event) → shown_at world (bars ++ bar ∷ []) at event ≡ (shown_at world bars at event || (nat_lt (at + 1) bar.to && asks_again world lane call event))
-  shown-more bars at event = shown-more-by bars (at + 1) (frame_delivered world.frames event)
+  shown-more : (bars : List Bar) (at : ℕ) (event : Event) → shown_at run (bars ++ bar ∷ []) at event ≡ (shown_at run bars at event || (nat_lt (at + 1) bar.to && asks_again run lane call event))
+  shown-more bars at event = shown-more-by bars (at + 1) (frame_delivered run.frames event)
 
 -- ---- and the columns
 
@@ -302,49 +300,49 @@ module _ (bars : List Bar) (lanes : List Columns) (lane row : ℕ) (columns : Co
 
 -- ---- all of it
 
-pub kept-more : (world : WorldParts) (events : List Event) (place number lane : ℕ) (call : Call) (what : Lasting) (bars : List Bar) (old new : List Bool) (lanes : List Columns) (columns : Columns)
-    → AreKept world events place bars old lanes → IsDelivery world events place number lane call
-    → length new ≡ length old → AreMarked world events lane call place (end_row world lane call (place + 1) 0 events) old new
-    → columns.rows.items ≡ with_row (first_free (place + 1) (rows_at lanes lane)) (end_row world lane call (place + 1) 0 events) (rows_at lanes lane)
-    → AreKept world events (place + 1) (bars ++ bar_of world events bars (place + 1) number lane call what ∷ []) new (set lanes lane columns)
-kept-more world events place number lane call what bars old new lanes columns kept given size marked changed =
-    let bar : Bar = bar_of world events bars (place + 1) number lane call what in
-    let inside : lane < length lanes = lane-kept world events place number lane call given bars old lanes kept in
-    let own-column : bar.column ≡ first_free (place + 1) (rows_at lanes lane) = sym (column-is world events place number lane call given bars old lanes kept) in
+pub kept-more : (run : RunParts) (events : List Event) (place number lane : ℕ) (call : Call) (what : Lasting) (bars : List Bar) (old new : List Bool) (lanes : List Columns) (columns : Columns)
+    → AreKept run events place bars old lanes → IsDelivery run events place number lane call
+    → length new ≡ length old → AreMarked run events lane call place (bar_end run lane call (place + 1) events) old new
+    → columns.rows.items ≡ with_row (first_free (place + 1) (rows_at lanes lane)) (bar_end run lane call (place + 1) events) (rows_at lanes lane)
+    → AreKept run events (place + 1) (bars ++ bar_of run events bars (place + 1) number lane call what ∷ []) new (set lanes lane columns)
+kept-more run events place number lane call what bars old new lanes columns kept given size marked changed =
+    let bar : Bar = bar_of run events bars (place + 1) number lane call what in
+    let inside : lane < length lanes = lane-kept run events place number lane call given bars old lanes kept in
+    let own-column : bar.column ≡ first_free (place + 1) (rows_at lanes lane) = sym (column-is run events place number lane call given bars old lanes kept) in
     record {
       size = size ∙ kept.size;
       marked = λ at event above within is.
           marked at event (omega (arith, above)) within is
-          ∙ ap (λ (b : Bool). b || (nat_lt (at + 1) bar.to && asks_again world lane call event)) (kept.marked at event (omega (arith, above)) within is)
-          ∙ sym (shown-more world events place number lane call given bar refl refl bars at event);
+          ∙ ap (λ (b : Bool). b || (nat_lt (at + 1) bar.to && asks_again run lane call event)) (kept.marked at event (omega (arith, above)) within is)
+          ∙ sym (shown-more run events place number lane call given bar refl refl bars at event);
       count = length-set lanes lane columns ∙ kept.count;
       taken = λ other column later above. taken-more bars lanes lane (place + 1) columns bar inside refl own-column (omega arith) changed other column later (omega (arith, above)) (kept.taken other column later (omega (arith, above)));
       widths = λ other. widths-more bars lanes lane (place + 1) columns bar inside refl own-column (omega arith) changed other kept.widths;
     }
 
 -- the same by what it is equal to
-pub kept-as : (world : WorldParts) (events : List Event) (place : ℕ) (bars bars_too : List Bar) (marks marks_too : List Bool) (lanes : List Columns) → bars_too ≡ bars → marks_too ≡ marks → AreKept world events place bars marks lanes → AreKept world events place bars_too marks_too lanes
-kept-as world events place bars bars_too marks marks_too lanes same same_marks kept =
-    subst (λ (bs : List Bar). AreKept world events place bs marks_too lanes) (sym same) (subst (λ (ms : List Bool). AreKept world events place bars ms lanes) (sym same_marks) kept)
+pub kept-as : (run : RunParts) (events : List Event) (place : ℕ) (bars bars_too : List Bar) (marks marks_too : List Bool) (lanes : List Columns) → bars_too ≡ bars → marks_too ≡ marks → AreKept run events place bars marks lanes → AreKept run events place bars_too marks_too lanes
+kept-as run events place bars bars_too marks marks_too lanes same same_marks kept =
+    subst (λ (bs : List Bar). AreKept run events place bs marks_too lanes) (sym same) (subst (λ (ms : List Bool). AreKept run events place bars ms lanes) (sym same_marks) kept)
 
 -- the bar that is put behind the others
-pub bar-more : (world : WorldParts) (events : List Event) (bars : List Bar) (row number lane to column : ℕ) (call : Call) (what : Lasting) → to ≡ end_row world lane call row 0 events → column ≡ free_among lane row bars 0 bars
-    → bars ++ record { what = what; number = number; lane = lane; from = row; to = to; column = column } ∷ [] ≡ bars ++ bar_of world events bars row number lane call what ∷ []
-bar-more world events bars row number lane to column call what to-is column-is =
+pub bar-more : (run : RunParts) (events : List Event) (bars : List Bar) (row number lane to column : ℕ) (call : Call) (what : Lasting) → to ≡ bar_end run lane call row events → column ≡ free_among lane row bars 0 bars
+    → bars ++ record { what = what; number = number; lane = lane; from = row; to = to; column = column } ∷ [] ≡ bars ++ bar_of run events bars row number lane call what ∷ []
+bar-more run events bars row number lane to column call what to-is column-is =
     ap (λ (t : ℕ). bars ++ record { what = what; number = number; lane = lane; from = row; to = t; column = column } ∷ []) to-is
-    ∙ ap (λ (k : ℕ). bars ++ record { what = what; number = number; lane = lane; from = row; to = end_row world lane call row 0 events; column = k } ∷ []) column-is
+    ∙ ap (λ (k : ℕ). bars ++ record { what = what; number = number; lane = lane; from = row; to = bar_end run lane call row events; column = k } ∷ []) column-is
 
 -- it is the call's
-pub lasting-more : (world : WorldParts) (events : List Event) (bars : List Bar) (row number lane : ℕ) (call : Call) (what : Lasting) → lasting_of call ≡ Some what → is_shown world.frames lane row call bars ≡ false
-    → bars ++ bar_of world events bars row number lane call what ∷ [] ≡ with_lasting world events bars row number lane call (lasting_of call)
-lasting-more world events bars row number lane call what lasts hidden =
-    ap (λ (b : Bool). if b then bars else bars ++ bar_of world events bars row number lane call what ∷ []) (sym hidden)
-    ∙ ap (λ (l : Option Lasting). with_lasting world events bars row number lane call l) (sym lasts)
+pub lasting-more : (run : RunParts) (events : List Event) (bars : List Bar) (row number lane : ℕ) (call : Call) (what : Lasting) → lasting_of call ≡ Some what → is_shown run.frames lane row call bars ≡ false
+    → bars ++ bar_of run events bars row number lane call what ∷ [] ≡ with_lasting run events bars row number lane call (lasting_of call)
+lasting-more run events bars row number lane call what lasts hidden =
+    ap (λ (b : Bool). if b then bars else bars ++ bar_of run events bars row number lane call what ∷ []) (sym hidden)
+    ∙ ap (λ (l : Option Lasting). with_lasting run events bars row number lane call l) (sym lasts)
 
 -- what a slice of all marks was given
-pub marked-as : (world : WorldParts) (events : List Event) (lane place to until : ℕ) (call : Call) (old given new : List Bool) → to ≡ until → given ≡ old → AreMarked world events lane call place to given new → AreMarked world events lane call place until old new
-marked-as world events lane place to until call old given new same same_marks marked =
-    subst (λ (n : ℕ). AreMarked world events lane call place n old new) same (subst (λ (ms : List Bool). AreMarked world events lane call place to ms new) same_marks marked)
+pub marked-as : (run : RunParts) (events : List Event) (lane place to until : ℕ) (call : Call) (old given new : List Bool) → to ≡ until → given ≡ old → AreMarked run events lane call place to given new → AreMarked run events lane call place until old new
+marked-as run events lane place to until call old given new same same_marks marked =
+    subst (λ (n : ℕ). AreMarked run events lane call place n old new) same (subst (λ (ms : List Bool). AreMarked run events lane call place to ms new) same_marks marked)
 
 -- ---- before any event
 
@@ -360,24 +358,24 @@ unmarked zero at = refl
 unmarked (suc count) zero = refl
 unmarked (suc count) (suc at) = unmarked count at
 
-nothing-in : (world : WorldParts) (row lane : ℕ) (body : Body) → shown_in world [] lane row body ≡ false
-nothing-in world row lane (bodies.Call call) = refl
-nothing-in world row lane (bodies.Reply kind reply) = refl
+nothing-in : (run : RunParts) (row lane : ℕ) (body : Body) → shown_in run [] lane row body ≡ false
+nothing-in run row lane (bodies.Call call) = refl
+nothing-in run row lane (bodies.Reply kind reply) = refl
 
-nothing-shown : (world : WorldParts) (row : ℕ) (frame : Option Frame) → shown_by world [] row frame ≡ false
-nothing-shown world row None = refl
-nothing-shown world row (Some frame) = nothing-in world row (lane_of world.nodes frame.party) frame.body
+nothing-shown : (run : RunParts) (row : ℕ) (frame : Option Frame) → shown_by run [] row frame ≡ false
+nothing-shown run row None = refl
+nothing-shown run row (Some frame) = nothing-in run row (lane_of run.nodes frame.party) frame.body
 
 -- nothing is marked, and no column is taken
-kept-none : (world : WorldParts) (events : List Event) (lanes : List Columns) → AreBlank (length world.nodes + 4) lanes → AreKept world events 0 [] (replicate (length events) false) lanes
-kept-none world events lanes none = record {
+kept-none : (run : RunParts) (events : List Event) (lanes : List Columns) → AreBlank (length run.nodes + 4) lanes → AreKept run events 0 [] (replicate (length events) false) lanes
+kept-none run events lanes none = record {
   size = length-replicate (length events) false;
-  marked = λ at event above within is. unmarked (length events) at ∙ sym (nothing-shown world (at + 1) (frame_delivered world.frames event));
+  marked = λ at event above within is. unmarked (length events) at ∙ sym (nothing-shown run (at + 1) (frame_delivered run.frames event));
   count = none.count;
   taken = λ lane column row above.
       (let low : nat_le row 0 ≡ false = grind (arith, nat_tests, above) in sym (ap (λ (rows : List ℕ). nat_le row (get_or rows column 0)) (none.blank lane) ∙ low));
   widths = λ lane. (let here : length (rows_at lanes lane) ≡ 0 = ap (λ (rows : List ℕ). length rows) (none.blank lane) in omega (arith, here));
 }
 
-pub kept-new : (world : WorldParts) (events : List Event) (bars : List Bar) (marks : List Bool) (lanes : List Columns) → bars ≡ [] → marks ≡ replicate (length events) false → AreBlank (length world.nodes + 4) lanes → AreKept world events 0 bars marks lanes
-kept-new world events bars marks lanes same same_marks none = kept-as world events 0 [] bars (replicate (length events) false) marks lanes same same_marks (kept-none world events lanes none)
+pub kept-new : (run : RunParts) (events : List Event) (bars : List Bar) (marks : List Bool) (lanes : List Columns) → bars ≡ [] → marks ≡ replicate (length events) false → AreBlank (length run.nodes + 4) lanes → AreKept run events 0 bars marks lanes
+kept-new run events bars marks lanes same same_marks none = kept-as run events 0 [] bars (replicate (length events) false) marks lanes same same_marks (kept-none run events lanes none)

@@ -3,3 +3,4 @@ pub mod WaysNoted
 pub mod LinksFollowed
 pub mod BarsFollowed
 pub mod BarsKept
+pub mod LossesFollowed

@@ -1,18 +1,22 @@
 //! What is attached, staged and published, as bars on the lanes of the plugins: each from the call that was carried out to the one
-//! that undid it.
-ghost use Rattle.std.specs.Prelude.{◌≡◌, ◌+◌, ◌++◌, ◌<◌, ◌==◌, ◌&&◌, ◌||◌, ℕ, [], false, IfOk, OnOk, length, get_or, slice_get, string_bytes};
+//! that undid it, or to the loss of its node.
+ghost use Rattle.std.specs.Prelude.{◌≡◌, ◌+◌, ◌++◌, ◌<◌, ◌≤◌, ◌==◌, ◌&&◌, ◌||◌, ℕ, [], false, IfOk, OnOk, length, get_or, slice_get, string_bytes, suc};
 ghost use Rattle.std.specs.List.{flat_map};
 ghost use Rattle.csi_types.specs.Model.Same.{same_text};
-ghost use Rattle.csi_pictures.specs.Public.Bars.{undoes_call, ends as ends_by, end_row as end_by, is_same_thing as same_thing};
+ghost use Rattle.csi_pictures.specs.Public.Scene.{run_shown};
+ghost use Rattle.csi_pictures.specs.Public.Bars.{undoes_call, ends as ends_by, loss_row, bar_end, is_same_thing as same_thing};
 ghost use Rattle.csi_pictures.specs.Public.Bars.{lasting_of as lasting_by, with_lasting, with_both, bars_to, bar_class, bar as bar_drawn};
 ghost use Rattle.csi_pictures.specs.Private.Begun.{asks_again as asks_again_by, IsOfChain, AreMarked, IsDelivery, IsBegunKept};
 ghost use Rattle.csi_pictures.specs.Private.Links.{AreLinks};
+ghost use Rattle.csi_pictures.specs.Private.Losses.{AreLosses};
 
 use crate::columns::{Columns, blank_columns, take_column};
 use crate::links::{link_at, links_of};
+use crate::losses::{limit_of, losses_of};
+use crate::run::Run;
 use crate::scene::{lane_of, succeeded};
 use csi_types::{Body, Call, NodeId, Target};
-use csi_world::{Event, World};
+use csi_world::Event;
 use std::alloc::{AllocError, Global};
 
 fn is_same_node(a: &NodeId, b: &NodeId) -> bool
@@ -55,23 +59,23 @@ fn undoes(begun: &Call, call: &Call) -> bool
 }
 
 // Whether an event ends the bar of a call: it is a call to the same plugin that undoes what that call does, and was carried out.
-fn ends(world: &World, lane: usize, begun: &Call, event: &Event, place: usize) -> bool
-    ensures { result ≡ ends_by world.now lane begun.now event.now (slice_get world.now.outcomes place) }
+fn ends(run: &Run<'_>, lane: usize, begun: &Call, event: &Event, place: usize) -> bool
+    ensures { result ≡ ends_by (run_shown run.now) lane begun.now event.now (slice_get (run_shown run.now).outcomes place) }
 {
-    let Some(outcome) = world.outcomes().get(place) else {
+    let Some(outcome) = run.world.outcomes().get(place) else {
         return false;
     };
-    if !succeeded(world, *outcome) {
+    if !succeeded(run.world, *outcome) {
         return false;
     }
     let Event::Deliver(number) = event else {
         return false;
     };
-    let Some(frame) = world.frame(*number) else {
+    let Some(frame) = run.world.frame(*number) else {
         return false;
     };
     match frame.body() {
-        Body::Call(call) => lane_of(world.nodes(), frame.party()) == lane && undoes(begun, call),
+        Body::Call(call) => lane_of(&run.nodes, frame.party()) == lane && undoes(begun, call),
         Body::Reply(..) => false,
     }
 }
@@ -106,18 +110,18 @@ fn is_same_thing(begun: &Call, call: &Call) -> bool
 }
 
 // Whether an event delivers a call to the plugin of a lane for the same thing as a call that went there.
-fn asks_again(world: &World, lane: usize, begun: &Call, event: &Event) -> bool
-    ensures { result ≡ asks_again_by world.now lane begun.now event.now }
+fn asks_again(run: &Run<'_>, lane: usize, begun: &Call, event: &Event) -> bool
+    ensures { result ≡ asks_again_by (run_shown run.now) lane begun.now event.now }
 {
     let Event::Deliver(number) = event else {
         return false;
     };
-    let Some(frame) = world.frame(*number) else {
+    let Some(frame) = run.world.frame(*number) else {
         return false;
     };
     match frame.body() {
         Body::Call(call) => {
-            lane == lane_of(world.nodes(), frame.party()) && is_same_thing(begun, call)
+            lane == lane_of(&run.nodes, frame.party()) && is_same_thing(begun, call)
         }
         Body::Reply(..) => false,
     }
@@ -167,35 +171,39 @@ fn mark_at(marks: &mut [bool], at: usize, mark: bool)
     marks[at] = true;
 }
 
-// Follows the bar that a call begins in a place down to the row where it ends, behind the last where nothing ends it, and marks
-// the events on its way that ask for the same thing.
+// Follows the bar that a call begins in a place down to the row where it ends, at the latest that behind a limit where its node is
+// lost or behind the last, and marks the events on its way that ask for the same thing.
 fn follow(
     marks: &mut [bool],
-    world: &World,
+    run: &Run<'_>,
     events: &[Event],
     links: &[usize],
     place: usize,
     lane: usize,
     begun: &Call,
+    limit: usize,
 ) -> usize
-    requires links { AreLinks (world.now).frames events.now links.now }
+    requires links { AreLinks (run_shown run.now).frames events.now links.now }
     requires size { length marks.old ≡ length events.now }
     requires place { place < length events.now }
-    requires chain { IsOfChain world.now events.now begun.now place }
-    ensures end { result ≡ end_by world.now lane begun.now (place + 1) 0 events.now }
+    requires chain { IsOfChain (run_shown run.now) events.now begun.now place }
+    requires limit { loss_row (run_shown run.now) lane (place + 1) 0 events.now ≡ suc limit }
+    requires within { limit ≤ length events.now }
+    requires behind { place < limit }
+    ensures end { result ≡ bar_end (run_shown run.now) lane begun.now (place + 1) events.now }
     ensures size { length marks.new ≡ length marks.old }
-    ensures marked { AreMarked world.now events.now lane begun.now place result marks.old marks.new }
+    ensures marked { AreMarked (run_shown run.now) events.now lane begun.now place result marks.old marks.new }
 {
     let mut at = link_at(links, place);
-    while at < events.len() {
+    while at < limit {
         let event = &events[at];
-        if ends(world, lane, begun, event, at) {
+        if ends(run, lane, begun, event, at) {
             return at + 1;
         }
-        mark_at(marks, at, asks_again(world, lane, begun, event));
+        mark_at(marks, at, asks_again(run, lane, begun, event));
         at = link_at(links, at);
     }
-    events.len() + 1
+    limit + 1
 }
 
 // What is kept while bars begin: the bars, the places of calls for what is there already, and the columns of the lanes.
@@ -209,20 +217,22 @@ struct Begun {
 // Puts the bar that a call begins behind the others.
 fn add_call(
     begun: &mut Begun,
-    world: &World,
+    run: &Run<'_>,
     events: &[Event],
     links: &[usize],
+    losses: &[usize],
     place: usize,
     number: u64,
     lane: usize,
     call: &Call,
 ) -> Result<(), AllocError>
-    requires kept { IsBegunKept world.now events.now place begun.old }
-    requires links { AreLinks (world.now).frames events.now links.now }
-    requires event { IsDelivery world.now events.now place number lane call.now }
-    ensures bars { OnOk result (begun.new.bars.items ≡ with_lasting world.now events.now begun.old.bars.items (place + 1) number lane call.now
+    requires kept { IsBegunKept (run_shown run.now) events.now place begun.old }
+    requires links { AreLinks (run_shown run.now).frames events.now links.now }
+    requires losses { AreLosses events.now losses.now }
+    requires event { IsDelivery (run_shown run.now) events.now place number lane call.now }
+    ensures bars { OnOk result (begun.new.bars.items ≡ with_lasting (run_shown run.now) events.now begun.old.bars.items (place + 1) number lane call.now
         (lasting_by call.now)) }
-    ensures kept { OnOk result (IsBegunKept world.now events.now (place + 1) begun.new) }
+    ensures kept { OnOk result (IsBegunKept (run_shown run.now) events.now (place + 1) begun.new) }
 {
     let Some(what) = lasting_of(call) else {
         return Ok(());
@@ -231,8 +241,9 @@ fn add_call(
         return Ok(());
     }
     let row = place + 1;
+    let limit = limit_of(run, events, losses, place, lane);
     let marks = begun.marks.as_mut_slice();
-    let to = follow(marks, world, events, links, place, lane, call);
+    let to = follow(marks, run, events, links, place, lane, call, limit);
     let column = take_column(&mut begun.lanes[lane], row, to)?;
     begun.bars.push(Bar {
         what,
@@ -248,48 +259,52 @@ fn add_call(
 // Puts the bar that the event in this place begins behind the others.
 fn add_at(
     begun: &mut Begun,
-    world: &World,
+    run: &Run<'_>,
     events: &[Event],
     links: &[usize],
+    losses: &[usize],
     place: usize,
 ) -> Result<(), AllocError>
-    requires kept { IsBegunKept world.now events.now place begun.old }
-    requires links { AreLinks (world.now).frames events.now links.now }
-    ensures bars { OnOk result (begun.new.bars.items ≡ with_both world.now events.now begun.old.bars.items (place + 1) (slice_get events.now place)
-        (slice_get (world.now).outcomes place)) }
-    ensures kept { OnOk result (IsBegunKept world.now events.now (place + 1) begun.new) }
+    requires kept { IsBegunKept (run_shown run.now) events.now place begun.old }
+    requires links { AreLinks (run_shown run.now).frames events.now links.now }
+    requires losses { AreLosses events.now losses.now }
+    ensures bars { OnOk result (begun.new.bars.items ≡ with_both (run_shown run.now) events.now begun.old.bars.items (place + 1) (slice_get events.now place)
+        (slice_get (run_shown run.now).outcomes place)) }
+    ensures kept { OnOk result (IsBegunKept (run_shown run.now) events.now (place + 1) begun.new) }
 {
     let Some(event) = events.get(place) else {
         return Ok(());
     };
-    let Some(outcome) = world.outcomes().get(place) else {
+    let Some(outcome) = run.world.outcomes().get(place) else {
         return Ok(());
     };
     let Event::Deliver(number) = event else {
         return Ok(());
     };
-    if !succeeded(world, *outcome) {
+    if !succeeded(run.world, *outcome) {
         return Ok(());
     }
-    let Some(frame) = world.frame(*number) else {
+    let Some(frame) = run.world.frame(*number) else {
         return Ok(());
     };
     match frame.body() {
         Body::Call(call) => {
-            let lane = lane_of(world.nodes(), frame.party());
-            add_call(begun, world, events, links, place, *number, lane, call)
+            let lane = lane_of(&run.nodes, frame.party());
+            add_call(
+                begun, run, events, links, losses, place, *number, lane, call,
+            )
         }
         Body::Reply(..) => Ok(()),
     }
 }
 
 // Nothing is begun yet.
-fn none_begun(alloc: Global, world: &World, events: &[Event]) -> Result<Begun, AllocError>
+fn none_begun(alloc: Global, run: &Run<'_>, events: &[Event]) -> Result<Begun, AllocError>
     ensures bars { IfOk result (λ begun. begun.bars.items ≡ []) }
-    ensures kept { IfOk result (IsBegunKept world.now events.now 0) }
+    ensures kept { IfOk result (IsBegunKept (run_shown run.now) events.now 0) }
 {
     let marks = vec![in alloc; false; events.len()]?;
-    let lanes = blank_columns(alloc, world.nodes().len() + 4)?;
+    let lanes = blank_columns(alloc, run.nodes.len() + 4)?;
     Ok(Begun {
         bars: Vec::new(alloc),
         marks,
@@ -300,15 +315,16 @@ fn none_begun(alloc: Global, world: &World, events: &[Event]) -> Result<Begun, A
 /// The bars of a run, in the order in which they begin.
 pub(crate) fn bars_of(
     alloc: Global,
-    world: &World,
+    run: &Run<'_>,
     events: &[Event],
 ) -> Result<Vec<Bar>, AllocError>
-    ensures { IfOk result (λ bars. bars.items ≡ bars_to world.now events.now (length events.now)) }
+    ensures { IfOk result (λ bars. bars.items ≡ bars_to (run_shown run.now) events.now (length events.now)) }
 {
-    let links = links_of(alloc, world, events)?;
-    let mut begun = none_begun(alloc, world, events)?;
+    let links = links_of(alloc, run.world, events)?;
+    let losses = losses_of(alloc, events)?;
+    let mut begun = none_begun(alloc, run, events)?;
     for place in 0..events.len() {
-        add_at(&mut begun, world, events, &links, place)?;
+        add_at(&mut begun, run, events, &links, &losses, place)?;
     }
     let Begun {
         bars,

@@ -9,8 +9,10 @@ mod escaping;
 mod front;
 mod lanes;
 mod links;
+mod losses;
 mod picture;
 mod rows;
+mod run;
 mod scene;
 mod ways;
 

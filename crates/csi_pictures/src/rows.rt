@@ -6,8 +6,7 @@ ghost use Rattle.csi_pictures.specs.Public.Rows.{is_delivery as is_delivery_by, 
 
 use crate::escaping::Escaped;
 use crate::scene::{is_ok, lane_of, node_lane};
-use csi_node::Node;
-use csi_types::{Body, Frame, Number, Reply, Status};
+use csi_types::{Body, Frame, NodeId, Number, Reply, Status};
 use csi_world::{Event, Outcome, text_of};
 use std::alloc::{AllocError, Global};
 use std::fmt;
@@ -45,19 +44,30 @@ impl fmt::Display for Words<'_> {
             Event::Timeout(name) => write!(f, "timeout {}", Escaped(name.as_str())),
             Event::Deliver(number) => write!(f, "deliver {number}"),
             Event::RestartOrchestrator => f.write_str("restart orchestrator"),
+            Event::RestartOrchestratorWith(_) => f.write_str("restart orchestrator with a list"),
             Event::RestartController => f.write_str("restart controller"),
+            Event::RestartControllerWith(_) => {
+                f.write_str("restart controller with a configuration")
+            }
             Event::RestartNode(node) => write!(f, "restart node {}", Escaped(node.as_str())),
+            Event::Join(node) => write!(f, "join {}", Escaped(node.as_str())),
+            Event::Lose(node) => write!(f, "lose {}", Escaped(node.as_str())),
+            Event::Settle(name) => write!(f, "settle {}", Escaped(name.as_str())),
         }
     }
 }
 
-// Whether what came of an event is that it couldn't happen.
+// Whether what came of an event is that it couldn't happen, or didn't bring what it is for.
 fn is_wrong(outcome: Outcome) -> bool
     ensures { result ≡ is_wrong_by outcome }
 {
     matches!(
         outcome,
-        Outcome::Refused(_) | Outcome::NoSuchFrame | Outcome::NoSuchNode
+        Outcome::Refused(_)
+            | Outcome::NoSuchFrame
+            | Outcome::NoSuchNode
+            | Outcome::NodeThere
+            | Outcome::NotSettled(_)
     )
 }
 
@@ -66,7 +76,11 @@ fn class_of(outcome: Outcome) -> &'static str
     ensures { result.now ≡ outcome_class outcome }
 {
     match outcome {
-        Outcome::Refused(_) | Outcome::NoSuchFrame | Outcome::NoSuchNode => "wrong",
+        Outcome::Refused(_)
+        | Outcome::NoSuchFrame
+        | Outcome::NoSuchNode
+        | Outcome::NodeThere
+        | Outcome::NotSettled(_) => "wrong",
         Outcome::Ignored => "odd",
         _ => "plain",
     }
@@ -99,19 +113,25 @@ fn mark_of(event: &Event, outcome: Outcome) -> &'static str
         return "cross";
     }
     match event {
-        Event::Timeout(_) => "clock",
-        Event::RestartOrchestrator | Event::RestartController | Event::RestartNode(_) => "restart",
+        Event::Timeout(_) | Event::Settle(_) => "clock",
+        Event::RestartOrchestrator
+        | Event::RestartOrchestratorWith(_)
+        | Event::RestartController
+        | Event::RestartControllerWith(_)
+        | Event::RestartNode(_)
+        | Event::Join(_)
+        | Event::Lose(_) => "restart",
         _ => "command",
     }
 }
 
 // The lane of an event's mark.
-fn mark_lane(nodes: &[Node], event: &Event) -> usize
+fn mark_lane(nodes: &[NodeId], event: &Event) -> usize
     ensures { result ≡ mark_lane_by nodes.now event.now }
 {
     match event {
-        Event::RestartController => 2,
-        Event::RestartNode(node) => node_lane(nodes, node),
+        Event::RestartController | Event::RestartControllerWith(_) => 2,
+        Event::RestartNode(node) | Event::Join(node) | Event::Lose(node) => node_lane(nodes, node),
         _ => 1,
     }
 }
@@ -127,7 +147,7 @@ fn is_delivery(event: &Event) -> bool
 #[tactic(auto, unfolding(crate::specs::Public::Rows::mark_at))]
 pub fn put_mark(
     out: &mut String,
-    nodes: &[Node],
+    nodes: &[NodeId],
     row: usize,
     event: &Event,
     outcome: Outcome,
@@ -190,7 +210,7 @@ fn put_reply_label(
 /// Appends what is written of the frame that an event sent.
 pub fn put_label(
     out: &mut String,
-    nodes: &[Node],
+    nodes: &[NodeId],
     row: usize,
     sent: u64,
     frame: &Frame,

@@ -4,19 +4,17 @@ ghost use Rattle.csi_types.specs.Model.Same.{same_text};
 ghost use Rattle.csi_pictures.specs.Public.Scene.{node_lane as node_lane_by, lane_of as lane_by, sender as sender_by, receiver as receiver_by};
 ghost use Rattle.csi_pictures.specs.Public.Scene.{sent_number as number_sent, came as has_come, is_ok as is_status_ok, was_answered_ok, way_of as way_by};
 
-use csi_node::Node;
 use csi_types::{Body, Frame, NodeId, Party, Status};
 use csi_world::{Event, Outcome, World};
 
-// Whether the node has this id.
-fn is_node(node: &Node, id: &NodeId) -> bool
-    ensures { result ≡ same_text node.now.id id.now }
+fn is_node(node: &NodeId, id: &NodeId) -> bool
+    ensures { result ≡ same_text node.now id.now }
 {
-    node.id() == id
+    node == id
 }
 
 /// The lane of the node of this id; behind the last where there is none.
-pub fn node_lane(nodes: &[Node], id: &NodeId) -> usize
+pub fn node_lane(nodes: &[NodeId], id: &NodeId) -> usize
     ensures { result ≡ node_lane_by id.now nodes.now }
 {
     let mut lane = 3;
@@ -30,7 +28,7 @@ pub fn node_lane(nodes: &[Node], id: &NodeId) -> usize
 }
 
 /// The lane of a plugin: 1 is the orchestrator's, 2 the controller's, and from 3 on are the nodes'.
-pub fn lane_of(nodes: &[Node], party: &Party) -> usize
+pub fn lane_of(nodes: &[NodeId], party: &Party) -> usize
     ensures { result ≡ lane_by nodes.now party.now }
 {
     match party {
@@ -40,7 +38,7 @@ pub fn lane_of(nodes: &[Node], party: &Party) -> usize
 }
 
 /// The lane that a frame is sent from.
-pub fn sender(nodes: &[Node], frame: &Frame) -> usize
+pub fn sender(nodes: &[NodeId], frame: &Frame) -> usize
     ensures { result ≡ sender_by nodes.now frame.now }
 {
     match frame.body() {
@@ -50,7 +48,7 @@ pub fn sender(nodes: &[Node], frame: &Frame) -> usize
 }
 
 /// The lane that it is for.
-pub fn receiver(nodes: &[Node], frame: &Frame) -> usize
+pub fn receiver(nodes: &[NodeId], frame: &Frame) -> usize
     ensures { result ≡ receiver_by nodes.now frame.now }
 {
     match frame.body() {
@@ -104,13 +102,13 @@ pub fn succeeded(world: &World, outcome: Outcome) -> bool
     }
 }
 
-/// How a delivery is drawn: what was refused, a reply that was ignored, and what was carried out or taken.
+/// How a delivery is drawn: what was refused or found no node, a reply that was ignored, and what was carried out or taken.
 pub fn way_of(world: &World, outcome: Outcome) -> &'static str
     ensures { result.now ≡ way_by world.now.frames outcome }
 {
     match outcome {
         Outcome::Ignored => "ignored",
-        Outcome::Refused(_) => "refused",
+        Outcome::Refused(_) | Outcome::NoSuchNode => "refused",
         Outcome::Answered(_) => {
             if succeeded(world, outcome) {
                 "taken"

@@ -1,12 +1,13 @@
 //! Of each frame of a run, by its number: the row where it was sent, and whether it is delivered.
 ghost use Rattle.std.specs.Prelude.{◌≡◌, ◌<◌, ℕ, length, get_or, slice_get, false, true, IfOk, if◌then◌else◌};
 ghost use Rattle.csi_types.specs.Model.Frame.{Frame as FrameParts};
-ghost use Rattle.csi_pictures.specs.Public.Scene.{sends_frame, comes_by as it_comes_by};
+ghost use Rattle.csi_pictures.specs.Public.Scene.{run_shown, sends_frame, comes_by as it_comes_by};
 ghost use Rattle.csi_pictures.specs.Private.Ways.{AreSentRows, AreDelivered, AreWays, came_at};
 
+use crate::run::Run;
 use crate::scene::{came, sent_number};
 use csi_types::Frame;
-use csi_world::{Event, Outcome, World};
+use csi_world::{Event, Outcome};
 use std::alloc::{AllocError, Global};
 
 /// The row where each frame was sent, and whether it is delivered, by its number.
@@ -117,10 +118,10 @@ pub fn is_marked(marks: &[bool], number: u64) -> bool
 }
 
 /// The ways of the frames of a run.
-pub fn ways_of(alloc: Global, world: &World, events: &[Event]) -> Result<Ways, AllocError>
-    ensures { IfOk result (AreWays world.now events.now) }
+pub fn ways_of(alloc: Global, run: &Run<'_>, events: &[Event]) -> Result<Ways, AllocError>
+    ensures { IfOk result (AreWays (run_shown run.now) events.now) }
 {
-    let rows = sent_rows(alloc, world.outcomes(), world.sent())?;
-    let marks = deliveries(alloc, world.outcomes(), events, world.sent())?;
+    let rows = sent_rows(alloc, run.world.outcomes(), run.world.sent())?;
+    let marks = deliveries(alloc, run.world.outcomes(), events, run.world.sent())?;
     Ok(Ways { rows, marks })
 }

@@ -35,7 +35,7 @@ mod writing;
 pub use fault::RecordStop;
 pub use laws::record_laws;
 pub use orchestrator_bytes::write_orchestrator;
-pub use orchestrator_parts::push_orchestrator_row;
+pub use orchestrator_parts::{push_orchestrator_row, push_orchestrator_rows};
 pub use orchestrator_values::{orchestrator_head_value, orchestrator_row_value};
 pub use record::{Record, read_record, record_of_node, write_record};
 pub use removals::push_removals;

@@ -33,6 +33,23 @@ pub fn push_orchestrator_row(
     push_value(parts, place, value)
 }
 
+/// Puts the parts of all rows of an orchestrator at the end, each under its place, counted from 1 (this profile's own).
+pub fn push_orchestrator_rows(
+    alloc: Global,
+    parts: &mut Vec<Part>,
+    rows: &[Row],
+) -> Result<(), NoMemory>
+    requires { AllByRecursion IsRowFew rows.now }
+    ensures pushed { OnOk result (map part_change parts.new.items ≡ map part_change parts.old.items
+        ++ put_all (map (orchestrator_part present) (keyed_from 1 (map row_shown rows.now)))) }
+    ensures fit { OnOk result (AllByRecursion (IsOrchestratorRow present) (map row_shown rows.now)) }
+{
+    for (index, row) in rows.iter().enumerate() {
+        push_orchestrator_row(alloc, parts, index as u64 + 1, row)?;
+    }
+    Ok(())
+}
+
 /// The parts of the record with a head of this value and these rows.
 pub(crate) fn keyed_parts(alloc: Global, head: Vec<u8>, rows: &[Row]) -> Result<Vec<Part>, NoMemory>
     requires { AllByRecursion IsRowFew rows.now }
@@ -44,8 +61,6 @@ pub(crate) fn keyed_parts(alloc: Global, head: Vec<u8>, rows: &[Row]) -> Result<
 {
     let mut parts = Vec::new(alloc);
     push_value(&mut parts, 0, head)?;
-    for (index, row) in rows.iter().enumerate() {
-        push_orchestrator_row(alloc, &mut parts, index as u64 + 1, row)?;
-    }
+    push_orchestrator_rows(alloc, &mut parts, rows)?;
     Ok(parts)
 }

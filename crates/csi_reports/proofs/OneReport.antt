@@ -133,7 +133,7 @@ states-of (node ∷ nodes) all =
 pub one-report : (world : WorldParts) → (state : ControllerState) × Shows world.controller state → AllByRecursion ShowsAState world.nodes → HasOneReport world
 one-report world controller nodes a b first second =
     let states = states-of world.nodes nodes in
-    let shown : World = record { frames = []; controller = controller.0; nodes = states.0; history = new_history } in
+    let shown : World = record { config = world.config; frames = []; controller = controller.0; nodes = states.0; history = new_history [] } in
     let plugins : ArePlugins world.controller world.nodes shown = record { controller = controller.1; nodes = states.1 } in
     let g = first.gathered in
     let h = second.gathered in

@@ -41,8 +41,8 @@ fn write_document(
 
 /// The report of this world, one object of JSON in compact form: what came of each event (`events`), how many frames were
 /// sent (`frames`) and the orchestrator's session (`session`); what the controller has attached (`attached`) and which
-/// volumes it has (`volumes`), what the nodes have staged and published (`staged`, `published`), by id, then node, then
-/// target; what the orchestrator doesn't know as No (`known`), as `Orchestrator::things` lists it; and whether the world is
+/// volumes it has (`volumes`), what the nodes that are there have staged and published (`staged`, `published`), by id, then
+/// node, then target; what the orchestrator doesn't know as No (`known`), as `Orchestrator::things` lists it; and whether the world is
 /// safe, as `audit` says (`safe`). Texts are ordered by their bytes. An `Err` is an allocation that was refused.
 pub fn report(alloc: Global, world: &World) -> Result<String, NoMemory>
     ensures { IfOk result (λ text. IsReport world.now (string_bytes text)) }

@@ -27,5 +27,7 @@ pub use live_volumes::write_volumes;
 pub use members::put_array;
 pub use orchestrator_records::orchestrator_line;
 pub use records::{controller_line, node_line};
-pub use responses::{RequestOutcome, Sending, answer_line, fault_line, ignored_line, opened_line};
+pub use responses::{
+    RequestOutcome, Sending, answer_line, fault_line, ignored_line, loss_line, opened_line,
+};
 pub use writer::JsonWriter;

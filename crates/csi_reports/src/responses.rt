@@ -6,7 +6,8 @@ ghost use Rattle.serde_json.specs.Written.{outline, members_outline, compact_tex
 ghost use Rattle.csi_orchestrator.specs.Public.Shown.{row_shown};
 ghost use Rattle.csi_reports.specs.Public.Goals.{goal_entry};
 ghost use Rattle.csi_reports.specs.Public.Responses.{party_text as text_of_party, kind_in as kind_of_body, send_entry, send_member, sending_shown};
-ghost use Rattle.csi_reports.specs.Public.Responses.{goal_now, request_outcome_text, answer_entry, ignored_entry, fault_entry, opened_entry, IsOpenedLine};
+ghost use Rattle.csi_reports.specs.Public.Responses.{goal_now, request_outcome_text, answer_entry, loss_entry};
+ghost use Rattle.csi_reports.specs.Public.Responses.{ignored_entry, fault_entry, opened_entry, IsOpenedLine};
 
 use crate::by_name::wanted_by_name;
 use crate::entries::Entry;
@@ -14,11 +15,11 @@ use crate::goals::write_goal;
 use crate::members::put_array;
 use crate::writer::JsonWriter;
 use csi_orchestrator::{OrchFault, Row};
-use csi_types::{Body, Frame, Kind, Name, Party};
+use csi_types::{Body, Frame, Kind, Name, NodeId, Party};
 use csi_world::{Outcome, text_of};
 use std::alloc::{AllocError, Global};
 
-/// What became of what was asked about a volume.
+/// What became of what was asked.
 #[derive(Clone, Copy, Debug, PartialEq, Eq)]
 pub enum RequestOutcome {
     /// A command or a timeout has a call sent.
@@ -29,6 +30,8 @@ pub enum RequestOutcome {
     Refused(OrchFault),
     /// A reply was taken.
     Taken,
+    /// A node was lost, and a session began.
+    Lost,
 }
 
 /// A call that is to be sent: its frame, and the frame's bytes.
@@ -135,6 +138,7 @@ fn write_outcome_text(
             out.text(text.as_str())
         }
         RequestOutcome::Taken => out.text("taken"),
+        RequestOutcome::Lost => out.text("lost"),
     }
 }
 
@@ -171,6 +175,38 @@ pub fn answer_line(
 {
     let mut out = JsonWriter::new(alloc);
     write_answer(alloc, &mut out, name, row, outcome, sending)?;
+    Ok(out.into_string())
+}
+
+fn write_loss(
+    alloc: Global,
+    out: &mut JsonWriter,
+    node: &NodeId,
+    outcome: RequestOutcome,
+    session: u64,
+) -> Result<(), AllocError>
+    ensures { OnOk result (out.new ≡ out.old ++ json_tokens (outline (loss_entry node.now outcome session))) }
+{
+    out.begin_object()?;
+    out.put_text("node", node.as_str())?;
+    out.key("outcome")?;
+    write_outcome_text(alloc, out, outcome)?;
+    out.put_number("session", session)?;
+    out.end_object()
+}
+
+/// The answer about the loss of a node, so: its id (`node`), what became of it (`outcome`: `lost` or a refusal), and the session that
+/// there is then (`session`).
+pub fn loss_line(
+    alloc: Global,
+    node: &NodeId,
+    outcome: RequestOutcome,
+    session: u64,
+) -> Result<String, AllocError>
+    ensures { IfOk result (λ text. string_bytes text ≡ compact_text (loss_entry node.now outcome session)) }
+{
+    let mut out = JsonWriter::new(alloc);
+    write_loss(alloc, &mut out, node, outcome, session)?;
     Ok(out.into_string())
 }
 

@@ -20,4 +20,5 @@ pub mod JoinedSessions
 pub mod AnsweredFrames
 pub mod ReplyLengths
 pub mod OrchestratorChanges
+pub mod WholeChanges
 pub mod OrchestratorRecords

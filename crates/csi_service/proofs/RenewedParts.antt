@@ -106,19 +106,28 @@ is-left key old olds news found missed =
 
 -- ---- all of them
 
--- where keys rise, the new parts, put in, and then what they lack taken out, are all that is there
-pub all-renewed : (olds news : List StoredPart) → AreRisingParts olds → AreRisingParts news → all_changed (put_all news ++ take_all (left_out olds news)) olds ≡ news
-all-renewed olds news rising rising_too =
-    same-parts (all_changed (put_all news ++ take_all (left_out olds news)) olds) news (rising-all (put_all news ++ take_all (left_out olds news)) olds rising) rising_too
-    (λ key. ap (part_at key) (all-append (put_all news) (take_all (left_out olds news)) olds) ∙ by key (part_at key news) refl)
+-- where keys rise, the new parts, put in, and then keys taken out, are all that is there: no new part has such a key, and each has one that was there
+-- and that the new parts lack
+pub all-put : (olds news : List StoredPart) (keys : List ℕ) → AreRisingParts olds → AreRisingParts news
+    → ((key : ℕ) (part : StoredPart) → part_at key news ≡ Some part → IsAmong key keys → ⊥)
+    → ((key : ℕ) (old : StoredPart) → part_at key olds ≡ Some old → part_at key news ≡ None → IsAmong key keys)
+    → all_changed (put_all news ++ take_all keys) olds ≡ news
+all-put olds news keys rising rising_too stays goes =
+    same-parts (all_changed (put_all news ++ take_all keys) olds) news (rising-all (put_all news ++ take_all keys) olds rising) rising_too
+    (λ key. ap (part_at key) (all-append (put_all news) (take_all keys) olds) ∙ by key (part_at key news) refl)
   where
     mid : List StoredPart
     mid = all_changed (put_all news) olds
 
-    gone : (key : ℕ) → part_at key news ≡ None → (o : Option StoredPart) → part_at key olds ≡ o → part_at key (all_changed (take_all (left_out olds news)) mid) ≡ None
-    gone key missed None e = take-none key (left_out olds news) mid (put-missed key news olds missed ∙ e)
-    gone key missed (Some old) e = take-own key (left_out olds news) mid (is-left key old olds news e missed)
+    gone : (key : ℕ) → part_at key news ≡ None → (o : Option StoredPart) → part_at key olds ≡ o → part_at key (all_changed (take_all keys) mid) ≡ None
+    gone key missed None e = take-none key keys mid (put-missed key news olds missed ∙ e)
+    gone key missed (Some old) e = take-own key keys mid (goes key old e missed)
 
-    by : (key : ℕ) (o : Option StoredPart) → part_at key news ≡ o → part_at key (all_changed (take_all (left_out olds news)) mid) ≡ part_at key news
-    by key (Some part) e = take-other key (left_out olds news) mid (not-left key part olds news e) ∙ put-found key part news olds rising_too e ∙ sym e
+    by : (key : ℕ) (o : Option StoredPart) → part_at key news ≡ o → part_at key (all_changed (take_all keys) mid) ≡ part_at key news
+    by key (Some part) e = take-other key keys mid (stays key part e) ∙ put-found key part news olds rising_too e ∙ sym e
     by key None e = gone key e (part_at key olds) refl ∙ sym e
+
+-- what the new parts lack
+pub all-renewed : (olds news : List StoredPart) → AreRisingParts olds → AreRisingParts news → all_changed (put_all news ++ take_all (left_out olds news)) olds ≡ news
+all-renewed olds news rising rising_too =
+    all-put olds news (left_out olds news) rising rising_too (λ key part. not-left key part olds news) (λ key old. is-left key old olds news)

@@ -1,18 +1,18 @@
 //! What a call changes of an orchestrator's record, and the parts that say so.
-ghost use Rattle.std.specs.Prelude.{◌≡◌, ◌≤◌, ◌++◌, map, slice_get, if◌then◌else◌, length, IfSome, OnOk};
+ghost use Rattle.std.specs.Prelude.{◌≡◌, ◌≤◌, ◌+◌, ◌-◌, ◌++◌, map, slice_get, if◌then◌else◌, length, IfSome, OnOk};
 ghost use Rattle.std.specs.List.{AllByRecursion, position_or_len};
 ghost use Rattle.csi_types.specs.Model.Same.{same_text};
 ghost use Rattle.csi_types.specs.Public.Text.{IsNodeId};
 ghost use Rattle.csi_orchestrator.specs.Public.Changed.{place_by_name};
-ghost use Rattle.csi_stores.specs.Public.Part.{part_change};
+ghost use Rattle.csi_stores.specs.Public.Part.{part_change, take_all};
 ghost use Rattle.csi_records.specs.Public.OrchestratorRows.{IsOrchestratorRow};
 ghost use Rattle.csi_records.specs.Public.Spelling.{present};
 ghost use Rattle.csi_service.specs.Private.OrchestratorServices.{changed_at, heard_at};
-ghost use Rattle.csi_service.specs.Public.OrchestratorServices.{orchestrator_row_change};
+ghost use Rattle.csi_service.specs.Public.OrchestratorServices.{orchestrator_row_change, keys_from, session_change as changed_by_session};
 
 use csi_orchestrator::{Heard, Orchestrator};
 use csi_records::push_orchestrator_row;
-use csi_stores::Part;
+use csi_stores::{Part, push_removal};
 use csi_types::{Name, NoMemory, NodeId};
 use std::alloc::Global;
 
@@ -25,6 +25,19 @@ pub(crate) enum OrchestratorChanged {
     Head,
     /// The row at this place among the rows, from 0, which was changed or made.
     Row(usize),
+    /// All of it, where there were so many rows before: a session began, and rows were forgotten, or a node was lost.
+    Whole(usize),
+}
+
+/// What a session that began changed, where there were so many rows before, and there are so many now.
+pub(crate) fn session_change(before: usize, now: usize) -> OrchestratorChanged
+    ensures { result ≡ changed_by_session before now }
+{
+    if before == now {
+        OrchestratorChanged::Head
+    } else {
+        OrchestratorChanged::Whole(before)
+    }
 }
 
 /// The row at this place, if one was found.
@@ -88,6 +101,20 @@ pub(crate) fn push_row(
         Some(row) => push_orchestrator_row(alloc, parts, place as u64 + 1, row),
         None => Ok(()),
     }
+}
+
+/// Puts at the end that what stands under the keys behind so many rows is taken out, where there were so many before.
+pub(crate) fn push_removals_behind(
+    parts: &mut Vec<Part>,
+    now: usize,
+    before: usize,
+) -> Result<(), NoMemory>
+    ensures { OnOk result (map part_change parts.new.items ≡ map part_change parts.old.items ++ take_all (keys_from (now + 1) (before - now))) }
+{
+    for place in now..before {
+        push_removal(parts, place as u64 + 1)?;
+    }
+    Ok(())
 }
 
 /// For the proof alone: nodes are texts within their limits.

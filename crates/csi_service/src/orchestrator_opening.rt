@@ -1,15 +1,14 @@
 //! An orchestrator, made of the parts of a store.
-ghost use Rattle.std.specs.Prelude.{◌≡◌, ◌↔◌, IsTrue, IfOk, IfErr, map};
+ghost use Rattle.std.specs.Prelude.{◌≡◌, IfOk, IfErr, map};
 ghost use Rattle.csi_orchestrator.specs.Public.Record.{AreNodesFit};
 ghost use Rattle.csi_orchestrator.specs.Public.Restored.{AreRestorable};
 ghost use Rattle.csi_stores.specs.Public.Part.{part_change};
 ghost use Rattle.csi_service.specs.Private.OrchestratorOpening.{IsBegun};
 
-use crate::opening::{Opens, head_part};
-use crate::orchestrator_changes::OrchestratorChanged;
+use crate::opening::Opens;
 use crate::orchestrator_service::OrchestratorService;
-use csi_orchestrator::{OrchRecordFault, OrchestratorRecord};
-use csi_records::{Record, RecordStop, Stored, orchestrator_head_value};
+use csi_orchestrator::{OrchFault, OrchestratorRecord, are_nodes_fit};
+use csi_records::{Record, RecordStop, Stored};
 use csi_stores::Part;
 use csi_types::NodeId;
 use std::alloc::Global;
@@ -19,41 +18,35 @@ use std::alloc::Global;
 pub(crate) enum OrchestratorMade {
     /// It is in the next session.
     Opened(OrchestratorService),
-    /// No record has the nodes that are asked for.
+    /// No orchestrator that is served has the nodes that are asked for.
     BadNodes,
-    /// The record is of other nodes.
-    OtherNodes,
     /// The record's session is the last one.
     NumbersSpent,
+    /// A volume may be attached at a node of the record that isn't asked for.
+    NodeInUse,
 }
 
-// Whether these are the same nodes in the same order.
-fn same_nodes(one: &[NodeId], other: &[NodeId]) -> bool
-    ensures { IsTrue result ↔ (one.now ≡ other.now) }
-{
-    one == other
-}
-
-// The orchestrator of a record, in its next session, if one is left; and its head, which is to be committed.
+// The orchestrator of a record, in its next session, with these nodes; and what is to be committed.
 fn begun(
     alloc: Global,
     kept: OrchestratorRecord,
+    nodes: Vec<NodeId>,
 ) -> Result<(OrchestratorMade, Vec<Part>), RecordStop>
-    ensures made { IfOk result (λ made. IsBegun kept made.0 (map part_change made.1.items)) }
+    requires { AreNodesFit nodes.items }
+    ensures made { IfOk result (λ made. IsBegun kept nodes.items made.0 (map part_change made.1.items)) }
     ensures memory { IfErr result (λ stop. stop ≡ RecordStop.NoMemory) }
-    ensures nodes { AreNodesFit kept.nodes }
     ensures rows { AreRestorable kept.nodes kept.rows }
 {
-    let _nodes = kept.nodes();
     let _rows = kept.rows();
-    let Ok(service) = OrchestratorService::of_record(alloc, kept, OrchestratorChanged::Nothing)
-    else {
-        return Ok((OrchestratorMade::NumbersSpent, Vec::new(alloc)));
-    };
-    let orchestrator = service.orchestrator();
-    let head = orchestrator_head_value(alloc, orchestrator.session(), orchestrator.nodes())?;
-    let changed = head_part(alloc, head)?;
-    Ok((OrchestratorMade::Opened(service), changed))
+    match OrchestratorService::of_record(alloc, kept, nodes) {
+        Ok(mut service) => {
+            service.record_law();
+            let changed = service.take_parts()?;
+            Ok((OrchestratorMade::Opened(service), changed))
+        }
+        Err(OrchFault::NodeInUse) => Ok((OrchestratorMade::NodeInUse, Vec::new(alloc))),
+        Err(_) => Ok((OrchestratorMade::NumbersSpent, Vec::new(alloc))),
+    }
 }
 
 impl Opens for OrchestratorMade {
@@ -70,21 +63,19 @@ impl Opens for OrchestratorMade {
         nodes: Vec<NodeId>,
         parts: &[Part],
     ) -> Result<(OrchestratorMade, Vec<Part>), RecordStop> {
-        let new = match OrchestratorRecord::try_new(alloc, nodes, 0, Vec::new(alloc)) {
-            Ok(new) => new,
-            Err(OrchRecordFault::NoMemory) => return Err(RecordStop::NoMemory),
-            Err(_) => return Ok((OrchestratorMade::BadNodes, Vec::new(alloc))),
-        };
+        if !are_nodes_fit(nodes.as_slice()) {
+            return Ok((OrchestratorMade::BadNodes, Vec::new(alloc)));
+        }
         if parts.is_empty() {
-            return begun(alloc, new);
+            let none = Vec::new(alloc);
+            return match OrchestratorRecord::try_new(alloc, none, 0, Vec::new(alloc)) {
+                Ok(new) => begun(alloc, new, nodes),
+                Err(_) => Err(RecordStop::NoMemory),
+            };
         }
-        let kept = match OrchestratorRecord::of_parts(alloc, parts) {
-            Ok(Stored { kept, .. }) => kept,
-            Err(stop) => return Err(stop),
-        };
-        if !same_nodes(kept.nodes(), new.nodes()) {
-            return Ok((OrchestratorMade::OtherNodes, Vec::new(alloc)));
+        match OrchestratorRecord::of_parts(alloc, parts) {
+            Ok(Stored { kept, .. }) => begun(alloc, kept, nodes),
+            Err(stop) => Err(stop),
         }
-        begun(alloc, kept)
     }
 }

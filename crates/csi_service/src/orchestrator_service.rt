@@ -1,14 +1,15 @@
 //! The orchestrator over a store.
 use crate::opening::open;
 use crate::orchestrator_changes::{
-    OrchestratorChanged, nodes_law, place_for, push_row, row_heard, row_named,
+    OrchestratorChanged, nodes_law, place_for, push_removals_behind, push_row, row_heard,
+    row_named, session_change,
 };
 use crate::orchestrator_opening::OrchestratorMade;
 use crate::orchestrator_unopened::OrchestratorUnopened;
 use csi_orchestrator::{
-    Heard, OrchFault, OrchRecordFault, Orchestrator, OrchestratorRecord, rows_law,
+    Heard, OrchFault, OrchRecordFault, Orchestrator, OrchestratorRecord, are_nodes_fit, rows_law,
 };
-use csi_records::orchestrator_head_value;
+use csi_records::{orchestrator_head_value, push_orchestrator_rows};
 use csi_stores::{Keep, Part, push_value};
 use csi_types::{Capability, CapabilityList, Frame, Name, NoMemory, NodeId, Target};
 use std::alloc::Global;
@@ -36,7 +37,7 @@ impl Model for OrchestratorService {
 }
 
 impl OrchestratorService {
-    ghost use Rattle.std.specs.Prelude.{◌≡◌, ◌+◌, ◌++◌, ◌∷◌, ◌<◌, ◌^◌, [], ℕ, List, None, map, IfOk, IfErr, IsOk, OnOk};
+    ghost use Rattle.std.specs.Prelude.{◌≡◌, ◌++◌, ◌∷◌, [], ℕ, List, Some, None, length, map, IfOk, IfErr, IsOk, OnOk};
     ghost use Rattle.csi_orchestrator.specs.declared.fault.OrchFault.{OrchFault as Fault};
     ghost use Rattle.csi_orchestrator.specs.declared.fault.Heard.{Heard as HeardShown};
     ghost use Rattle.csi_orchestrator.specs.Model.History.{History, new_history};
@@ -52,51 +53,75 @@ impl OrchestratorService {
     ghost use Rattle.csi_records.specs.Public.OrchestratorSpelling.{orchestrator_head};
     ghost use Rattle.csi_records.specs.Public.Records.{IsRecordOf};
     ghost use Rattle.csi_records.specs.Public.Spelling.{present};
-    ghost use Rattle.csi_service.specs.Public.OrchestratorOpening.{new_record, orchestrator_rules, HasOrchestrator, IsNewRefusal};
+    ghost use Rattle.csi_service.specs.Public.OrchestratorOpening.{new_record, opening_refusal, orchestrator_rules, HasOrchestrator, IsNewRefusal, IsRecordUnopened};
     ghost use Rattle.csi_service.specs.Public.OrchestratorOpening.{IsOrchestratorUnopened, RefusesForeign};
-    ghost use Rattle.csi_service.specs.Public.OrchestratorServices.{kept_of, orchestrator_service_parts, orchestrator_service_changes};
+    ghost use Rattle.csi_service.specs.Public.OrchestratorServices.{kept_of, orchestrator_service_parts, orchestrator_service_changes, whole_change};
+    ghost use Rattle.csi_service.specs.Public.OrchestratorServices.{session_change as changed_by_session, session_changes, OrchestratorLoses};
+    ghost use Rattle.csi_service.specs.declared.orchestrator_changes.OrchestratorChanged.{OrchestratorChanged as Changed};
     ghost use Rattle.csi_service.specs.Public.OrchestratorServices.{AreFitOrchestratorRows, IsChangedRowFit, OrchestratorAnswers, TellsChanges};
     ghost use Rattle.csi_service.specs.Public.StoreOpening.{LeavesOpening};
 
     /// An orchestrator of these nodes that did nothing, in session 1, which no store has yet: its head is told as changed. Refused with
     /// `BadNodes` for more than 64 nodes or a node that stands there twice, and else only with `NoMemory`.
     pub fn new(alloc: Global, nodes: Vec<NodeId>) -> Result<OrchestratorService, OrchRecordFault>
-        ensures has { IfOk result (λ service. service.orchestrator ≡ opened_parts (new_record nodes.items)) }
-        ensures shows { IfOk result (λ service. Shows service.orchestrator new_history) }
+        ensures has { IfOk result (λ service. service.orchestrator ≡ opened_parts new_record nodes.items) }
+        ensures shows { IfOk result (λ service. Shows service.orchestrator (new_history nodes.items)) }
         ensures changes { IfOk result (λ service. orchestrator_service_changes service ≡ put_all (orchestrator_head present 1 nodes.items ∷ [])) }
         ensures fit { OnOk result (AreNodesFit nodes.items) }
         ensures refused { IfErr result (IsNewRefusal nodes.items) }
     {
-        let kept = OrchestratorRecord::try_new(alloc, nodes, 0, Vec::new(alloc))?;
-        Ok(OrchestratorService::from_record(alloc, kept).unwrap())
+        if !are_nodes_fit(nodes.as_slice()) {
+            return Err(OrchRecordFault::BadNodes);
+        }
+        match OrchestratorRecord::try_new(alloc, Vec::new(alloc), 0, Vec::new(alloc)) {
+            Ok(kept) => Ok(OrchestratorService::of_record(alloc, kept, nodes).unwrap()),
+            Err(_) => Err(OrchRecordFault::NoMemory),
+        }
     }
 
-    /// The orchestrator of a record, as a restart leaves it: in the next session, and with no open call. Its head is told as changed.
-    /// Refused with `NumbersSpent` where the record's session is the last one, and never otherwise. It takes no memory.
+    /// The orchestrator of a record, as a restart with these nodes leaves it: in the next session, with no open call, and without the names
+    /// that are forgotten (`Orchestrator::restart`). What changed is told. Refused with the first that holds of `BadNodes` (more than 64
+    /// nodes, or a node that stands there twice), `NumbersSpent` (the record's session is the last one) and `NodeInUse` (a volume may be
+    /// attached at a node of the record that isn't one of these), and never otherwise. It takes no memory.
     pub fn from_record(
         alloc: Global,
         kept: OrchestratorRecord,
-    ) -> Result<OrchestratorService, OrchFault>
-        ensures has { IfOk result (λ service. service.orchestrator ≡ opened_parts kept) }
+        nodes: Vec<NodeId>,
+    ) -> Result<OrchestratorService, OrchestratorUnopened>
+        ensures has { IfOk result (λ service. service.orchestrator ≡ opened_parts kept nodes.items) }
         ensures changes { IfOk result (λ service. orchestrator_service_changes service
-            ≡ put_all (orchestrator_head present (kept.session + 1) kept.nodes ∷ [])) }
-        ensures spent { IfErr result (λ fault. (fault ≡ Fault.NumbersSpent) × (kept.session + 1 ≡ 2 ^ 64)) }
+            ≡ session_changes (length kept.rows) (opened_parts kept nodes.items)) }
+        ensures fit { OnOk result (AreNodesFit nodes.items) }
+        ensures unrefused { OnOk result (opening_refusal kept nodes.items ≡ None) }
+        ensures refused { IfErr result (IsRecordUnopened kept nodes.items) }
     {
-        OrchestratorService::of_record(alloc, kept, OrchestratorChanged::Head)
+        if !are_nodes_fit(nodes.as_slice()) {
+            return Err(OrchestratorUnopened::BadNodes);
+        }
+        match OrchestratorService::of_record(alloc, kept, nodes) {
+            Ok(service) => Ok(service),
+            Err(OrchFault::NodeInUse) => Err(OrchestratorUnopened::NodeInUse),
+            Err(_) => Err(OrchestratorUnopened::NumbersSpent),
+        }
     }
 
-    // The same, of which this is told as changed.
+    // The same of nodes that are fit.
     pub(crate) fn of_record(
         alloc: Global,
         kept: OrchestratorRecord,
-        changed: OrchestratorChanged,
+        nodes: Vec<NodeId>,
     ) -> Result<OrchestratorService, OrchFault>
-        ensures value { IfOk result (λ service. service ≡ record { orchestrator = opened_parts kept; changed = changed }) }
-        ensures left { OnOk result (kept.session + 1 < 2 ^ 64) }
-        ensures spent { IfErr result (λ fault. (fault ≡ Fault.NumbersSpent) × (kept.session + 1 ≡ 2 ^ 64)) }
+        requires { AreNodesFit nodes.items }
+        ensures value { IfOk result (λ service. service ≡ record {
+          orchestrator = opened_parts kept nodes.items;
+          changed = changed_by_session (length kept.rows) (length (opened_parts kept nodes.items).rows);
+        }) }
+        ensures unrefused { OnOk result (opening_refusal kept nodes.items ≡ None) }
+        ensures refused { IfErr result (λ fault. opening_refusal kept nodes.items ≡ Some fault) }
     {
-        let _fit = kept.nodes();
-        let orchestrator = Orchestrator::from_record(alloc, kept)?;
+        let before = kept.rows().len();
+        let orchestrator = Orchestrator::from_record(alloc, kept, nodes)?;
+        let changed = session_change(before, orchestrator.rows().len());
         Ok(OrchestratorService {
             alloc,
             orchestrator,
@@ -112,13 +137,14 @@ impl OrchestratorService {
         orchestrator.into_record().unwrap()
     }
 
-    /// The orchestrator of these nodes, of the store's record, in the session after the record's; of a store without a part in session 1.
-    /// Its head is committed before it is given, which makes it the orchestrator after a restart: every open call is given up, and no number
-    /// comes twice. Refused with `BadNodes` for more than 64 nodes or a node that stands there twice, with `OtherNodes` where the record is
-    /// of others or has them in another order, and with `NumbersSpent` where its session is the last one: then nothing is changed. Else with
-    /// `Keep`: `BadRecord` where the store's parts are no orchestrator's record, with the first that is refused; `Device` only where the
+    /// The orchestrator of the store's record after a restart with these nodes (`Orchestrator::restart`), in the session after the record's;
+    /// of a store without a part in session 1. What changed is committed before it is given: every open call is given up, no number
+    /// comes twice, and names are forgotten. It is the head, or, where names were forgotten, the whole record, in one commit. Refused with the
+    /// first that holds of `BadNodes` (more than 64 nodes, or a node that stands there twice), `Keep`, `NumbersSpent` (the record's session is
+    /// the last one) and `NodeInUse` (a volume may be attached at a node of the record that isn't one of these); `Keep` also at the commit. It is
+    /// `BadRecord` where the store's parts are no orchestrator's record, with the first that is refused; `Device` only where the
     /// device failed in this call, and `Full` only where what it would commit doesn't fit; what is left then is what was there, or what it
-    /// would commit. This profile's own.
+    /// would commit. The other refusals change nothing. This profile's own.
     pub fn open<K: Keep>(
         alloc: Global,
         nodes: Vec<NodeId>,
@@ -136,8 +162,8 @@ impl OrchestratorService {
         match open(alloc, nodes, keep) {
             Ok(OrchestratorMade::Opened(service)) => Ok(service),
             Ok(OrchestratorMade::BadNodes) => Err(OrchestratorUnopened::BadNodes),
-            Ok(OrchestratorMade::OtherNodes) => Err(OrchestratorUnopened::OtherNodes),
             Ok(OrchestratorMade::NumbersSpent) => Err(OrchestratorUnopened::NumbersSpent),
+            Ok(OrchestratorMade::NodeInUse) => Err(OrchestratorUnopened::NodeInUse),
             Err(fault) => Err(OrchestratorUnopened::Keep(fault)),
         }
     }
@@ -191,7 +217,7 @@ impl OrchestratorService {
           readonly = readonly;
         })) result self.new }
         ensures met { (history : History) → IsWellFormed history → Shows self.old.orchestrator history →
-            IsAnsweredAs (Sends None) (moves self.old.orchestrator.nodes history (ToUse name.now (record {
+            IsAnsweredAs (Sends None) (moves history (ToUse name.now (record {
               node = node;
               target = target;
               capability = capability;
@@ -253,9 +279,9 @@ impl OrchestratorService {
     pub fn deliver(&mut self, frame: &Frame) -> Result<Heard, OrchFault>
         ensures answered { OrchestratorAnswers Hears self.old (Comes frame.now) result self.new }
         ensures ignored { (history : History) → IsWellFormed history → Shows self.old.orchestrator history →
-            IsHeardAs HeardShown.Ignored (moves self.old.orchestrator.nodes history (Comes frame.now)) → IsOk result }
+            IsHeardAs HeardShown.Ignored (moves history (Comes frame.now)) → IsOk result }
         ensures quiet { (history : History) → IsWellFormed history → Shows self.old.orchestrator history →
-            IsHeardAs (HeardShown.Taken None) (moves self.old.orchestrator.nodes history (Comes frame.now)) → IsOk result }
+            IsHeardAs (HeardShown.Taken None) (moves history (Comes frame.now)) → IsOk result }
         ensures row { IfOk result (λ heard. ChangesAsHeard frame.now.number heard self.old.orchestrator self.new.orchestrator) }
         ensures changed { TellsChanges self.old result self.new }
         ensures rests { IfOk result (λ heard. heard ≡ HeardShown.Ignored → orchestrator_service_changes self.new ≡ []) }
@@ -265,6 +291,19 @@ impl OrchestratorService {
         let heard = self.orchestrator.deliver(frame)?;
         self.changed = row_heard(place, &heard);
         Ok(heard)
+    }
+
+    /// A node is lost (`Orchestrator::lose`): its machine is off for good, and its store never comes back. What changed is the whole record. A
+    /// refusal, `NumbersSpent` in the last session, changes nothing. It takes no memory.
+    pub fn lose(&mut self, node: &NodeId) -> Result<(), OrchFault>
+        ensures answered { OrchestratorLoses self.old node.now result self.new }
+        ensures changed { TellsChanges self.old result self.new }
+    {
+        self.changed = OrchestratorChanged::Nothing;
+        let before = self.orchestrator.rows().len();
+        self.orchestrator.lose(node)?;
+        self.changed = OrchestratorChanged::Whole(before);
+        Ok(())
     }
 
     // Puts the part of the head at the end.
@@ -281,8 +320,20 @@ impl OrchestratorService {
         push_value(parts, 0, value)
     }
 
-    /// What the last call changed, or opening: the part of the head, or that of the one row that was changed or made. No row is searched
-    /// for.
+    // Puts the parts of the whole record at the end, and that the keys behind its rows are taken out, where there were so many rows before.
+    fn push_whole(&self, parts: &mut Vec<Part>, before: usize) -> Result<(), NoMemory>
+        ensures parts { OnOk result (map part_change parts.new.items ≡ map part_change parts.old.items ++ whole_change before self.now.orchestrator) }
+        ensures fit { OnOk result (AreFitOrchestratorRows self.now.orchestrator.rows) }
+    {
+        let rows = self.orchestrator.rows();
+        self.push_head(parts)?;
+        push_orchestrator_rows(self.alloc, parts, rows)?;
+        push_removals_behind(parts, rows.len(), before)
+    }
+
+    /// What the last call changed, or opening: the part of the head; that of the one row that was changed or made, for which no row is
+    /// searched; or, where a session began and names were forgotten or a node was lost, those of the whole record, and what takes out the
+    /// rows behind.
     pub fn parts(&self) -> Result<Vec<Part>, NoMemory>
         ensures changes { IfOk result (λ parts. map part_change parts.items ≡ orchestrator_service_changes self.now) }
         ensures fit { OnOk result (IsChangedRowFit self.now.changed self.now.orchestrator.rows) }
@@ -294,7 +345,19 @@ impl OrchestratorService {
             OrchestratorChanged::Row(place) => {
                 push_row(self.alloc, &mut parts, &self.orchestrator, place)?
             }
+            OrchestratorChanged::Whole(before) => self.push_whole(&mut parts, before)?,
         }
+        Ok(parts)
+    }
+
+    /// The same, after which nothing is told as changed.
+    pub(crate) fn take_parts(&mut self) -> Result<Vec<Part>, NoMemory>
+        ensures changes { IfOk result (λ parts. map part_change parts.items ≡ orchestrator_service_changes self.old) }
+        ensures fit { OnOk result (IsChangedRowFit self.old.changed self.old.orchestrator.rows) }
+        ensures left { OnOk result (self.new ≡ record { orchestrator = self.old.orchestrator; changed = Changed.Nothing }) }
+    {
+        let parts = self.parts()?;
+        self.changed = OrchestratorChanged::Nothing;
         Ok(parts)
     }
 

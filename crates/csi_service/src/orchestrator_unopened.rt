@@ -11,10 +11,10 @@ pub enum OrchestratorUnopened {
     /// More than 64 nodes are asked for, or one of them twice.
     #[error("no orchestrator has these nodes")]
     BadNodes,
-    /// The record is of other nodes than those that are asked for, or of these in another order.
-    #[error("the record is of other nodes")]
-    OtherNodes,
     /// The record's session is the last one.
     #[error("the numbers are spent")]
     NumbersSpent,
+    /// A volume may be attached at a node of the record that isn't one of those that are asked for.
+    #[error("a node that is left out is in use")]
+    NodeInUse,
 }

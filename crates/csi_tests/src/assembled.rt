@@ -171,7 +171,7 @@ fn a_safe_world_is_reported_so(rt: HostRuntime) {
     drop(parts);
 }
 
-// ---- the nodes of the configuration
+// ---- the nodes that are there
 
 // Which refusal comes for the records of these nodes, where the configuration has `n1` and then `n2`.
 fn refusal(rt: &(impl Abort + AllocGlobal), ids: &[&str]) -> Option<AssembleFault> {
@@ -204,13 +204,27 @@ fn is_refused(rt: &(impl Abort + AllocGlobal), ids: &[&str], fault: Option<Assem
     }
 }
 
+// Any nodes may be there, in any order, but each once.
+const TAKEN: &[&[&str]] = &[
+    &["n1", "n2"],
+    &["n2", "n1"],
+    &["n1"],
+    &["n1", "n2", "n3"],
+    &[],
+];
+
+const TWICE: &[&[&str]] = &[
+    &["n1", "n1"],
+    &["n3", "n1", "n2", "n3"],
+    &["n2", "n1", "n1"],
+];
+
 #[test]
-fn records_are_of_the_nodes_in_order(rt: HostRuntime) {
-    is_refused(&rt, &["n1", "n2"], None);
-    let other = Some(AssembleFault::OtherNodes);
-    is_refused(&rt, &["n2", "n1"], other);
-    is_refused(&rt, &["n1"], other);
-    is_refused(&rt, &["n1", "n2", "n3"], other);
-    is_refused(&rt, &["n1", "n3"], other);
-    is_refused(&rt, &[], other);
+fn no_two_records_are_of_one_node(rt: HostRuntime) {
+    for ids in TAKEN {
+        is_refused(&rt, ids, None);
+    }
+    for ids in TWICE {
+        is_refused(&rt, ids, Some(AssembleFault::OtherNodes));
+    }
 }

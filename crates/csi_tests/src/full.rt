@@ -1,7 +1,11 @@
 //! A system of the greatest size: an orchestrator of 4,096 names and 64 nodes, and their plugins, over more than 100,000 calls of one
-//! session. Each call and each reply is compared with the one that is to be sent.
+//! session. Each call and each reply is compared with the one that is to be sent. And what such an orchestrator forgets and loses.
 mod calls;
+mod entries;
+mod joining;
 mod lines;
+mod losing;
+mod names;
 mod runs;
 
 use crate::values::{block, blocks, room};
@@ -10,7 +14,7 @@ use csi_controller::Controller;
 use csi_node::Node;
 use csi_orchestrator::{Heard, OrchFault, Orchestrator};
 use csi_types::Mode::MultiNodeMultiWriter;
-use csi_types::{Config, Frame, Kind, NodeSlots, Party};
+use csi_types::{Config, Frame, Kind, NodeId, NodeSlots, Number, Party};
 use std::alloc::Global;
 use std::process::Abort;
 
@@ -18,30 +22,36 @@ const NODES: u64 = 64;
 
 const VOLUMES: u64 = 4096;
 
-// An orchestrator and its plugins, and how many calls were sent.
+// An orchestrator and its plugins, and the number of the last call.
 #[derive(Drop)]
 struct System {
     orchestrator: Orchestrator,
     controller: Controller,
     nodes: Vec<Node>,
-    calls: u64,
+    last: Number,
 }
 
-fn config_of(rt: &(impl Abort + AllocGlobal)) -> Config {
+// A configuration of as many nodes as there may be, from this one on.
+fn config_from(rt: &(impl Abort + AllocGlobal), first: u64) -> Config {
     let mut list = room(rt, 64);
-    for node in 0..NODES {
-        let id = node_of(rt, node);
+    for id in nodes_from(rt, first) {
         list.push(NodeSlots { id, slots: 4096 }).expect(rt, "room");
     }
     Config::try_new(rt.alloc(), 1000, list).expect(rt, "a configuration")
 }
 
-fn new_orchestrator(rt: &(impl Abort + AllocGlobal)) -> Orchestrator {
+// As many nodes.
+fn nodes_from(rt: &(impl Abort + AllocGlobal), first: u64) -> Vec<NodeId> {
     let mut ids = room(rt, 64);
     for node in 0..NODES {
-        ids.push(node_of(rt, node)).expect(rt, "room");
+        ids.push(node_of(rt, first.saturating_add(node)))
+            .expect(rt, "room");
     }
-    Orchestrator::new(rt.alloc(), ids)
+    ids
+}
+
+fn new_orchestrator(rt: &(impl Abort + AllocGlobal)) -> Orchestrator {
+    Orchestrator::new(rt.alloc(), nodes_from(rt, 0))
 }
 
 fn new_nodes(rt: &(impl Abort + AllocGlobal)) -> Vec<Node> {
@@ -57,9 +67,12 @@ fn new_nodes(rt: &(impl Abort + AllocGlobal)) -> Vec<Node> {
 fn new_system(rt: &(impl Abort + AllocGlobal)) -> System {
     System {
         orchestrator: new_orchestrator(rt),
-        controller: Controller::new(rt.alloc(), config_of(rt)),
+        controller: Controller::new(rt.alloc(), config_from(rt, 0)),
         nodes: new_nodes(rt),
-        calls: 0,
+        last: Number {
+            session: 1,
+            call: 0,
+        },
     }
 }
 
@@ -82,9 +95,9 @@ fn sent_after(
     sent: Option<Frame>,
     (kind, place): (Kind, Place),
 ) -> Option<Frame> {
-    system.calls = system.calls.saturating_add(1);
-    let call = call_frame(rt, system.calls, kind, place);
-    let wanted = reply_frame(rt, system.calls, kind, place);
+    system.last.call = system.last.call.saturating_add(1);
+    let call = call_frame(rt, system.last, kind, place);
+    let wanted = reply_frame(rt, system.last, kind, place);
     let is_sent = match &sent {
         Some(frame) => *frame == call,
         None => false,

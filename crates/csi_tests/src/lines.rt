@@ -5,7 +5,8 @@ use csi_orchestrator::{
     TargetEntry, Usage,
 };
 use csi_reports::{
-    RequestOutcome, Sending, answer_line, fault_line, ignored_line, opened_line, orchestrator_line,
+    RequestOutcome, Sending, answer_line, fault_line, ignored_line, loss_line, opened_line,
+    orchestrator_line,
 };
 use csi_types::Mode::{MultiNodeMultiWriter, SingleNodeWriter};
 use csi_types::{Call, CapabilityList, Frame, Party};
@@ -92,15 +93,46 @@ fn leaving_row(rt: &(impl Abort + AllocGlobal), text: &str) -> Row {
     row
 }
 
+// What is left at a node that was lost: the volume is attached there, or may be.
+fn left_entry(rt: &(impl Abort + AllocGlobal), at: &str, attached: Known) -> NodeEntry {
+    NodeEntry {
+        node: node_id(rt, at),
+        capability: block(MultiNodeMultiWriter),
+        readonly: false,
+        attached,
+        staged: Known::No,
+        target_entries: room(rt, 0),
+    }
+}
+
+// A volume that was at two nodes which were lost. At one of them, which isn't listed, it is to be detached, and was on the way to `/c`.
+fn left_row(rt: &(impl Abort + AllocGlobal), text: &str) -> Row {
+    let goal = Goal::Stop {
+        node: node_id(rt, "n3"),
+        target: target(rt, "/c"),
+    };
+    let mut row = made_row(rt, text, Some(goal));
+    row.tries = 0;
+    row.node_entries = room(rt, 2);
+    row.node_entries
+        .push(left_entry(rt, "n3", Known::Maybe))
+        .expect(rt, "room");
+    row.node_entries
+        .push(left_entry(rt, "n1", Known::Yes))
+        .expect(rt, "room");
+    row
+}
+
 fn try_kept(rt: &(impl Abort + AllocGlobal)) -> Result<OrchestratorRecord, OrchRecordFault> {
     let mut nodes = room(rt, 2);
     nodes.push(node_id(rt, "n2")).expect(rt, "room");
     nodes.push(node_id(rt, "n1")).expect(rt, "room");
-    let mut rows = room(rt, 4);
+    let mut rows = room(rt, 5);
     rows.push(used_row(rt, "w")).expect(rt, "room");
     rows.push(new_row(rt, "v")).expect(rt, "room");
     rows.push(made_row(rt, "vv", None)).expect(rt, "room");
     rows.push(leaving_row(rt, "B")).expect(rt, "room");
+    rows.push(left_row(rt, "l")).expect(rt, "room");
     OrchestratorRecord::try_new(rt.alloc(), nodes, 3, rows)
 }
 
@@ -136,7 +168,7 @@ pub(crate) fn is_told(alloc: Global, kept: &OrchestratorRecord, wanted: &str) ->
 }
 
 const KEPT: &str =
-    "{\"nodes\":[\"n2\",\"n1\"],\"plugin\":\"orchestrator\",\"session\":3,\"volumes\":[{\"at\":[],\"capabilities\":[{\"access\":\"block\",\"mode\":5},{\"access\":\"block\",\"mode\":1}],\"exists\":\"maybe\",\"goal\":{\"delete\":\"B\"},\"id\":7,\"limit\":20,\"name\":\"B\",\"required\":10,\"tries\":1},{\"at\":[],\"capabilities\":[{\"access\":\"block\",\"mode\":1}],\"exists\":\"maybe\",\"goal\":{\"create\":{\"capabilities\":[{\"access\":\"block\",\"mode\":1}],\"limit\":20,\"name\":\"v\",\"required\":10}},\"id\":null,\"limit\":20,\"name\":\"v\",\"required\":10,\"tries\":2},{\"at\":[],\"capabilities\":[{\"access\":\"block\",\"mode\":5},{\"access\":\"block\",\"mode\":1}],\"exists\":\"yes\",\"goal\":null,\"id\":7,\"limit\":20,\"name\":\"vv\",\"required\":10,\"tries\":0},{\"at\":[{\"attached\":\"yes\",\"capability\":{\"access\":\"block\",\"mode\":5},\"node\":\"n2\",\"published\":[{\"known\":\"yes\",\"target\":\"/b\"},{\"known\":\"maybe\",\"target\":\"/a\"}],\"readonly\":true,\"staged\":\"yes\"}],\"capabilities\":[{\"access\":\"block\",\"mode\":5},{\"access\":\"block\",\"mode\":1}],\"exists\":\"yes\",\"goal\":{\"use\":{\"capability\":{\"access\":\"block\",\"mode\":5},\"name\":\"w\",\"node\":\"n2\",\"readonly\":true,\"target\":\"/a\"}},\"id\":7,\"limit\":20,\"name\":\"w\",\"required\":10,\"tries\":1}]}";
+    "{\"nodes\":[\"n2\",\"n1\"],\"plugin\":\"orchestrator\",\"session\":3,\"volumes\":[{\"at\":[],\"capabilities\":[{\"access\":\"block\",\"mode\":5},{\"access\":\"block\",\"mode\":1}],\"exists\":\"maybe\",\"goal\":{\"delete\":\"B\"},\"id\":7,\"limit\":20,\"name\":\"B\",\"required\":10,\"tries\":1},{\"at\":[{\"attached\":\"maybe\",\"capability\":{\"access\":\"block\",\"mode\":5},\"node\":\"n3\",\"published\":[],\"readonly\":false,\"staged\":\"no\"},{\"attached\":\"yes\",\"capability\":{\"access\":\"block\",\"mode\":5},\"node\":\"n1\",\"published\":[],\"readonly\":false,\"staged\":\"no\"}],\"capabilities\":[{\"access\":\"block\",\"mode\":5},{\"access\":\"block\",\"mode\":1}],\"exists\":\"yes\",\"goal\":{\"stop\":{\"name\":\"l\",\"node\":\"n3\",\"target\":\"/c\"}},\"id\":7,\"limit\":20,\"name\":\"l\",\"required\":10,\"tries\":0},{\"at\":[],\"capabilities\":[{\"access\":\"block\",\"mode\":1}],\"exists\":\"maybe\",\"goal\":{\"create\":{\"capabilities\":[{\"access\":\"block\",\"mode\":1}],\"limit\":20,\"name\":\"v\",\"required\":10}},\"id\":null,\"limit\":20,\"name\":\"v\",\"required\":10,\"tries\":2},{\"at\":[],\"capabilities\":[{\"access\":\"block\",\"mode\":5},{\"access\":\"block\",\"mode\":1}],\"exists\":\"yes\",\"goal\":null,\"id\":7,\"limit\":20,\"name\":\"vv\",\"required\":10,\"tries\":0},{\"at\":[{\"attached\":\"yes\",\"capability\":{\"access\":\"block\",\"mode\":5},\"node\":\"n2\",\"published\":[{\"known\":\"yes\",\"target\":\"/b\"},{\"known\":\"maybe\",\"target\":\"/a\"}],\"readonly\":true,\"staged\":\"yes\"}],\"capabilities\":[{\"access\":\"block\",\"mode\":5},{\"access\":\"block\",\"mode\":1}],\"exists\":\"yes\",\"goal\":{\"use\":{\"capability\":{\"access\":\"block\",\"mode\":5},\"name\":\"w\",\"node\":\"n2\",\"readonly\":true,\"target\":\"/a\"}},\"id\":7,\"limit\":20,\"name\":\"w\",\"required\":10,\"tries\":1}]}";
 
 #[test]
 fn a_record_is_told_by_names(rt: HostRuntime) {
@@ -162,7 +194,7 @@ pub(crate) fn is_opened(alloc: Global, session: u64, rows: &[Row], wanted: &str)
 #[test]
 fn the_first_line_names_what_is_wanted(rt: HostRuntime) {
     let kept = kept(&rt);
-    let wanted = "{\"session\":4,\"wanted\":[\"B\",\"v\",\"w\"]}";
+    let wanted = "{\"session\":4,\"wanted\":[\"B\",\"l\",\"v\",\"w\"]}";
     assert!(&rt; is_opened(rt.alloc(), 4, kept.rows(), wanted));
     assert!(&rt; is_opened(rt.alloc(), 1, &[], "{\"session\":1,\"wanted\":[]}"));
 }
@@ -253,4 +285,29 @@ fn what_is_no_answer_about_a_volume_is_told_so(rt: HostRuntime) {
         line => line,
     };
     assert!(&rt; is_line(line, "{\"fault\":\"BadLine\"}"));
+}
+
+const LOSSES: &[(RequestOutcome, u64, &str)] = &[
+    (
+        RequestOutcome::Lost,
+        3,
+        "{\"node\":\"n1\",\"outcome\":\"lost\",\"session\":3}",
+    ),
+    (
+        RequestOutcome::Refused(OrchFault::NumbersSpent),
+        u64::MAX,
+        "{\"node\":\"n1\",\"outcome\":\"refused 14 NumbersSpent\",\"session\":18446744073709551615}",
+    ),
+];
+
+#[test]
+fn a_loss_is_told_with_its_session(rt: HostRuntime) {
+    let node = node_id(&rt, "n1");
+    for (outcome, session, wanted) in LOSSES {
+        let line = match loss_line(rt.alloc(), &node, *outcome, *session) {
+            Err(_) => loss_line(rt.alloc(), &node, *outcome, *session),
+            line => line,
+        };
+        assert!(&rt; is_line(line, wanted));
+    }
 }

@@ -1,8 +1,10 @@
 //! Tests of the orchestrator. What it is to answer comes from the rules of the lifecycle, written out in tables. A table is
 //! played in every test by the same functions, which also see each growth refused (`playing`).
 mod asking;
+mod beginnings;
 mod frames;
 mod listing;
+mod losses;
 mod names;
 mod notes;
 mod numbers;
@@ -29,6 +31,9 @@ const TWO_WRITERS: Mode = Mode::SingleNodeMultiWriter;
 
 const OK: Status = Status::Ok;
 
+// The nodes of each new orchestrator.
+const NODES: &[&str] = &["n1", "n10", "n2", "n3", "n4"];
+
 // A call that an orchestrator sends, as a test writes it: about volume 1, for a block device. `Create` is of at least 10
 // bytes. The node comes first, which a node's call is for.
 #[derive(Clone, Copy)]
@@ -43,8 +48,9 @@ enum Sent {
     Unpublish(&'static str, &'static str),
 }
 
-// What is asked of an orchestrator: a command about the volume `v`, unless another name is told, a restart, or a frame
-// that comes. `Hear` is the reply to a call under this session's number, with this status; `Echo` is the call itself.
+// What is asked of an orchestrator: a command about the volume `v`, unless another name is told, a restart with the same nodes or with
+// others, the loss of a node, or a frame that comes. `Hear` is the reply to a call under this session's number, with this status; `Echo`
+// is the call itself.
 #[derive(Clone, Copy)]
 enum Ask {
     Create(&'static str, Mode),
@@ -53,6 +59,8 @@ enum Ask {
     Delete,
     Timeout,
     Restart,
+    Lists(&'static [&'static str]),
+    Lose(&'static str),
     Hear(u64, u64, Sent, Status),
     Echo(u64, u64, Sent),
 }

@@ -64,6 +64,15 @@ pub(crate) fn room<T: Drop>(rt: &(impl Abort + AllocGlobal), count: usize) -> Ve
     }
 }
 
+/// Nodes with these ids.
+pub(crate) fn node_ids(rt: &(impl Abort + AllocGlobal), texts: &[&str]) -> Vec<NodeId> {
+    let mut nodes = room(rt, texts.len());
+    for text in texts {
+        nodes.push(node_id(rt, text)).expect(rt, "room");
+    }
+    nodes
+}
+
 /// Raw devices in these modes, at most 8.
 pub(crate) fn blocks(rt: &(impl Abort + AllocGlobal), modes: &[Mode]) -> CapabilityList {
     let mut list = room(rt, modes.len());

@@ -4,6 +4,7 @@ mod checking;
 mod events;
 mod forgotten;
 mod given_up;
+mod lost;
 mod modes;
 mod playing;
 mod refused;
@@ -41,6 +42,11 @@ enum Does {
     RestartOrchestrator,
     RestartController,
     RestartNode(&'static str),
+    // The controller restarts with a configuration of these nodes, and the orchestrator with this list.
+    Configures(&'static [(&'static str, u64)]),
+    Lists(&'static [&'static str]),
+    Join(&'static str),
+    Lose(&'static str),
 }
 
 // A step of a test.
@@ -83,6 +89,8 @@ enum Step {
 const NONE: &[(&str, u64)] = &[];
 
 const N1: &[(&str, u64)] = &[("n1", 4)];
+
+const TWO: &[(&str, u64)] = &[("n1", 4), ("n2", 4)];
 
 const NODES: &[(&str, u64)] = &[("n1", 4), ("n2", 4), ("n3", 4), ("n4", 4)];
 

@@ -140,8 +140,17 @@ impl Clone for Event {
             Event::Timeout(name) => Ok(Event::Timeout(name.clone()?)),
             Event::Deliver(number) => Ok(Event::Deliver(*number)),
             Event::RestartOrchestrator => Ok(Event::RestartOrchestrator),
+            Event::RestartOrchestratorWith(nodes) => Ok(Event::RestartOrchestratorWith(
+                nodes.clone()?,
+            )),
             Event::RestartController => Ok(Event::RestartController),
+            Event::RestartControllerWith(config) => Ok(Event::RestartControllerWith(
+                config.clone()?,
+            )),
             Event::RestartNode(node) => Ok(Event::RestartNode(node.clone()?)),
+            Event::Join(node) => Ok(Event::Join(node.clone()?)),
+            Event::Lose(node) => Ok(Event::Lose(node.clone()?)),
+            Event::Settle(name) => Ok(Event::Settle(name.clone()?)),
         }
     }
 }

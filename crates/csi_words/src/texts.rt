@@ -151,7 +151,7 @@ after its changes are committed to DB. It ends where the input ends.
   DB      its store, a SQLite file, made if it is missing; while it runs, and
           after any exit status but 0, the log DB-wal is part of the store
   CONFIG  a file of JSON, {\"greatest\":N,\"nodes\":[{\"id\":\"n1\",\"slots\":N},..]}, as
-          the controller's: its nodes, which are those of each earlier run
+          the controller's: its nodes; none that is in use may be left out
 
 Example: csi-replay orchestrator orchestrator.db config < lines
 

@@ -1,6 +1,6 @@
--- Which names' ids were heard: before a call of another kind is sent for a name its id was heard, and after that no
--- CreateVolume is sent for it. So each CreateVolume of a name comes before every other call of it.
-use Rattle.std.proofs.Common.{◌≡◌, ℕ, List, [], ◌∷◌, true, false, Some, None, filter_map, refl, sym, ◌∙◌, ap, subst, inl, inr}
+-- Which names' ids were heard since they were forgotten last: before a call of another kind is sent for a name its id was heard, and after
+-- that no CreateVolume is sent for it. So each CreateVolume of a name comes before every other call of it.
+use Rattle.std.proofs.Common.{◌≡◌, ◌⊎◌, ℕ, List, [], ◌∷◌, true, false, Some, None, filter_map, refl, sym, ◌∙◌, ap, subst, inl, inr}
 use Rattle.std.proofs.lemmas.Bool.{false≢true}
 use Rattle.std.proofs.lemmas.Option.{none-some}
 use Rattle.csi_types.specs.declared.call.Call.{Call}
@@ -14,24 +14,26 @@ use Rattle.csi_lists.specs.Model.Members.{IsAmong}
 use Rattle.csi_lists.proofs.Members.{among-kept, in_filter, in-filter_map}
 use Rattle.csi_orchestrator.specs.Model.Thing.{Issued}
 use Rattle.csi_orchestrator.specs.Model.History.{Item, Sent, History}
-use Rattle.csi_orchestrator.specs.Model.Readings.{newest, issued_in, issued_of, id_in, id_by, id_of}
+use Rattle.csi_orchestrator.specs.Model.Readings.{newest, lifetime, issued_in, issued_since, id_in, id_by, id_of}
 use Rattle.csi_orchestrator.specs.Public.Guards.{IsGuarded, HasId}
+use Rattle.csi_types.specs.Public.PluginThing.{Exists}
 use Rattle.csi_world.proofs.CallThings.{is_making}
+use Rattle.csi_world.proofs.Lifetimes.{calls_since, lifetime-is}
 use Rattle.csi_world.proofs.HeardReplies.{newest-found}
 
--- an id of the name was heard
+-- an id of the name was heard since it was forgotten
 pub record IsKnown (items : List Item) (name : List ℕ) : Type 0 where
   pub call : Issued
   pub item : Item
   pub id : ℕ
-  pub among : IsAmong call (issued_in items)
+  pub among : IsAmong call (calls_since (Exists name) items)
   pub of_name : call.name ≡ name
   pub makes : is_making call.call ≡ true
   pub told : IsAmong item items
   pub has_id : id_in call.number item ≡ Some id
 
 -- it is so still in a longer history
-pub known-later : (items more : List Item) (name : List ℕ) → ((call : Issued) → IsAmong call (issued_in items) → IsAmong call (issued_in more)) → ((item : Item) → IsAmong item items → IsAmong item more)
+pub known-later : (items more : List Item) (name : List ℕ) → ((call : Issued) → IsAmong call (calls_since (Exists name) items) → IsAmong call (calls_since (Exists name) more)) → ((item : Item) → IsAmong item items → IsAmong item more)
     → IsKnown items name → IsKnown more name
 known-later items more name calls_too items_too known =
     record {
@@ -48,11 +50,11 @@ known-later items more name calls_too items_too known =
 -- the orchestrator's reading tells it
 pub heard-known : (history : History) (name : List ℕ) (id : ℕ) → id_of history name ≡ Some id → IsKnown history.items name
 heard-known history name id h =
-    let found = newest-found (λ (issued : Issued). id_by history.items issued issued.call) (issued_of history name) id h in
-    let kept = among-kept (λ (issued : Issued). same_text issued.name name) (issued_in history.items) found.0 found.1 in
-    by found.0 kept.0 ((same_text-tells (found.0).name name).0 kept.1) (found.0).call refl found.2
+    let found = newest-found (λ (issued : Issued). id_by history.items issued issued.call) (issued_since history name) id h in
+    let kept = among-kept (λ (issued : Issued). same_text issued.name name) (issued_in (lifetime name history.items)) found.0 found.1 in
+    by found.0 (subst (λ (xs : List Item). IsAmong found.0 (issued_in xs)) (lifetime-is name history.items) kept.0) ((same_text-tells (found.0).name name).0 kept.1) (found.0).call refl found.2
   where
-    by : (call : Issued) → IsAmong call (issued_in history.items) → call.name ≡ name → (c : Call) → call.call ≡ c → id_by history.items call c ≡ Some id → IsKnown history.items name
+    by : (call : Issued) → IsAmong call (calls_since (Exists name) history.items) → call.name ≡ name → (c : Call) → call.call ≡ c → id_by history.items call c ≡ Some id → IsKnown history.items name
     by call there named (calls.CreateVolume create required limit capabilities) is e =
         let told = newest-found (id_in call.number) history.items id e in
         record { call = call; item = told.0; id = id; among = there; of_name = named; makes = ap is_making is; told = told.1; has_id = told.2 }
@@ -69,19 +71,21 @@ known-heard history name known none =
     let call : Issued = known.call in
     let told = newest-some (filter_map (id_in call.number) history.items) known.id (in-filter_map (id_in call.number) history.items known.item known.id known.told known.has_id) in
     let by_call : id_by history.items call call.call ≡ Some told.0 = made call.call known.makes told.0 told.1 in
-    let of_name = in_filter (λ (issued : Issued). same_text issued.name name) (issued_in history.items) call known.among ((same_text-tells call.name name).1 known.of_name) in
-    let read = newest-some (filter_map (λ (issued : Issued). id_by history.items issued issued.call) (issued_of history name)) told.0
-    (in-filter_map (λ (issued : Issued). id_by history.items issued issued.call) (issued_of history name) call told.0 of_name by_call) in
+    let there = subst (λ (xs : List Item). IsAmong call (issued_in xs)) (sym (lifetime-is name history.items)) known.among in
+    let of_name = in_filter (λ (issued : Issued). same_text issued.name name) (issued_in (lifetime name history.items)) call there ((same_text-tells call.name name).1 known.of_name) in
+    let read = newest-some (filter_map (λ (issued : Issued). id_by history.items issued issued.call) (issued_since history name)) told.0
+    (in-filter_map (λ (issued : Issued). id_by history.items issued issued.call) (issued_since history name) call told.0 of_name by_call) in
     none-some read.0 (sym none ∙ read.1)
   where
     made : (c : Call) → is_making c ≡ true → (id : ℕ) → newest (filter_map (id_in known.call.number) history.items) ≡ Some id → id_by history.items known.call c ≡ Some id
     made (calls.CreateVolume create required limit capabilities) making id e = e
     made c making id e = absurd (false≢true making)
 
--- before a call that makes no volume the name's id was heard, and each call that makes one comes before it
+-- before a call that makes no volume the name's id was heard, and each call that makes one comes before it, where it was sent since the name
+-- was forgotten
 pub record CreatesFirst (items : List Item) : Type 0 where
-  pub known : (call : Issued) → IsAmong call (issued_in items) → is_making call.call ≡ false → IsKnown items call.name
-  pub first : (create other : Issued) → IsAmong create (issued_in items) → IsAmong other (issued_in items) → create.name ≡ other.name
+  pub known : (call : Issued) → IsAmong call (calls_since (Exists call.name) items) → is_making call.call ≡ false → IsKnown items call.name
+  pub first : (create other : Issued) → IsAmong create (issued_in items) → IsAmong other (calls_since (Exists other.name) items) → create.name ≡ other.name
       → is_making create.call ≡ true → is_making other.call ≡ false → IsBefore create.number other.number
 
 -- a guarded call that makes no volume carries an id that was heard
@@ -114,13 +118,13 @@ first-sent history call creates guard later =
     longer : (name : List ℕ) → IsKnown history.items name → IsKnown (Sent call ∷ history.items) name
     longer name k = known-later history.items (Sent call ∷ history.items) name (λ c there. inr there) (λ item there. inr there) k
 
-    known : (other : Issued) → IsAmong other (call ∷ issued_in history.items) → is_making other.call ≡ false → IsKnown history.items other.name
+    known : (other : Issued) → IsAmong other (call ∷ calls_since (Exists other.name) history.items) → is_making other.call ≡ false → IsKnown history.items other.name
     known other (inl e) not_making =
         let heard = id-guarded history call.name call.party call.call guard (ap (λ (x : Issued). is_making x.call) (sym e) ∙ not_making) in
         subst (IsKnown history.items) (ap (λ (x : Issued). x.name) (sym e)) (heard-known history call.name heard.0 heard.1)
     known other (inr there) not_making = creates.known other there not_making
 
-    first : (create other : Issued) → IsAmong create (call ∷ issued_in history.items) → IsAmong other (call ∷ issued_in history.items) → create.name ≡ other.name
+    first : (create other : Issued) → IsAmong create (call ∷ issued_in history.items) → IsAmong other (call ∷ calls_since (Exists other.name) history.items) → create.name ≡ other.name
         → is_making create.call ≡ true → is_making other.call ≡ false → IsBefore create.number other.number
     first create other (inl e) (inl f) named making not_making =
         absurd (false≢true (sym not_making ∙ ap (λ (x : Issued). is_making x.call) (f ∙ sym e) ∙ making))
@@ -131,11 +135,27 @@ first-sent history call creates guard later =
     first create other (inr there) (inl f) named making not_making = subst (λ (x : Issued). IsBefore create.number x.number) (sym f) (later create there)
     first create other (inr there) (inr too) named making not_making = creates.first create other there too named making not_making
 
+-- an item leaves a name's calls as they are, or the name is forgotten
+abbrev pub LeavesNames : List Item → Item → Type 0
+LeavesNames items item = (name : List ℕ) → (calls_since (Exists name) (item ∷ items) ≡ []) ⊎ (calls_since (Exists name) (item ∷ items) ≡ calls_since (Exists name) items)
+
 -- an item that sends nothing
-pub first-noted : (items : List Item) (item : Item) → issued_in (item ∷ items) ≡ issued_in items → CreatesFirst items → CreatesFirst (item ∷ items)
-first-noted items item same creates =
-    let back = λ (call : Issued) (there : IsAmong call (issued_in (item ∷ items))). subst (IsAmong call) same there in
+pub first-noted : (items : List Item) (item : Item) → issued_in (item ∷ items) ≡ issued_in items → LeavesNames items item → CreatesFirst items → CreatesFirst (item ∷ items)
+first-noted items item same leaves creates =
     record {
-      known = λ call there not_making. known-later items (item ∷ items) call.name (λ c among. subst (IsAmong c) (sym same) among) (λ i among. inr among) (creates.known call (back call there) not_making);
-      first = λ create other there too. creates.first create other (back create there) (back other too);
+      known = λ call there not_making. known call there not_making (leaves call.name);
+      first = λ create other there too named making not_making. first create other there too named making not_making (leaves other.name);
     }
+  where
+    Left : List ℕ → Type 0
+    Left name = (calls_since (Exists name) (item ∷ items) ≡ []) ⊎ (calls_since (Exists name) (item ∷ items) ≡ calls_since (Exists name) items)
+
+    known : (call : Issued) → IsAmong call (calls_since (Exists call.name) (item ∷ items)) → is_making call.call ≡ false → Left call.name → IsKnown (item ∷ items) call.name
+    known call there not_making (inl none) = absurd (subst (IsAmong call) none there)
+    known call there not_making (inr left) =
+        known-later items (item ∷ items) call.name (λ c among. subst (IsAmong c) (sym left) among) (λ i among. inr among) (creates.known call (subst (IsAmong call) left there) not_making)
+
+    first : (create other : Issued) → IsAmong create (issued_in (item ∷ items)) → IsAmong other (calls_since (Exists other.name) (item ∷ items)) → create.name ≡ other.name
+        → is_making create.call ≡ true → is_making other.call ≡ false → Left other.name → IsBefore create.number other.number
+    first create other there too named making not_making (inl none) = absurd (subst (IsAmong other) none too)
+    first create other there too named making not_making (inr left) = creates.first create other (subst (IsAmong create) same there) (subst (IsAmong other) left too) named making not_making

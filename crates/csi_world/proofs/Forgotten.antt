@@ -1,5 +1,5 @@
 -- A world by its things, where what a controller forgot is spent: no call of it will be carried out. No controller can know that of a name.
-use Rattle.std.proofs.Common.{◌≡◌, ℕ, List, true, None, option_map, sym, ◌∙◌, ap, ⊎_elim, ◌==◌, ◌&&◌, ◌||◌}
+use Rattle.std.proofs.Common.{◌≡◌, ℕ, List, Bool, true, false, None, option_map, sym, ◌∙◌, ap, ⊎_elim, ◌==◌, ◌&&◌, ◌||◌}
 use Rattle.std.specs.Prelude.{is_some}
 use Rattle.std.proofs.lemmas.Bool.{and_parts, and_left, eqb-true, false≢true, or_cases, or_left, or_right}
 use Rattle.csi_types.specs.declared.holding.Holding.{Holding}
@@ -16,24 +16,53 @@ use Rattle.csi_controller.specs.Public.State.{volume_with_id}
 use Rattle.csi_controller.specs.Public.View as controllers
 use Rattle.csi_world.specs.Model.World.{World}
 use Rattle.csi_world.specs.Model.Safe.{IsAttachedWhileLive}
-use Rattle.csi_world.proofs.GivenIds.{GivenId, AreGiven, AreOf, gone-unnamed, unnamed-dead, is_given, is_forgotten}
-use Rattle.csi_world.proofs.WorldView.{view_of}
+use Rattle.csi_types.specs.declared.number.Number.{Number}
+use Rattle.csi_types.specs.Model.Number.{IsBefore}
+use Rattle.csi_fence.specs.Model.Fence.{is_over}
+use Rattle.csi_world.proofs.GivenIds.{GivenId, AreGiven, AreOf, now-given, gone-unnamed, is_given, is_forgotten}
+use Rattle.csi_world.proofs.Lifetimes.{over-before}
+use Rattle.csi_world.proofs.WorldView.{over_at, view_with, view_of}
+
+-- the number is of a session before the one in which the orchestrator forgot the name, where the thing is whether its volume is there
+abbrev pub is_past_name : (PluginThing → ℕ) → PluginThing → Number → Bool
+is_past_name over (Exists name) number = is_over (over (Exists name)) number
+is_past_name over (Attached id node) number = false
+is_past_name over (Staged id node) number = false
+is_past_name over (Published id node target) number = false
+
+-- no call of the number will be carried out for the thing, since it was forgotten by the controller or by the orchestrator
+abbrev pub is_told : List GivenId → World → PluginThing → Number → Bool
+is_told given world thing number = is_forgotten given world.controller thing || is_past_name (over_at world) thing number
+
+-- the world by its things, where what was forgotten is spent too, and things ended in these sessions
+abbrev pub told_with : List GivenId → World → (PluginThing → ℕ) → PluginView
+told_with given world over =
+    record {
+      held = (view_with world over).held;
+      is_spent = λ thing number. (view_with world over).is_spent thing number || (is_forgotten given world.controller thing || is_past_name over thing number);
+      kept = (view_with world over).kept;
+    }
 
 -- the world by its things, where what was forgotten is spent too
 abbrev pub told_by : List GivenId → World → PluginView
-told_by given world =
-    record {
-      held = (view_of world).held;
-      is_spent = λ thing number. (view_of world).is_spent thing number || is_forgotten given world.controller thing;
-      kept = (view_of world).kept;
-    }
+told_by given world = told_with given world (over_at world)
+
+-- so it is of numbers before it
+closed-past : (over : PluginThing → ℕ) (thing : PluginThing) (earlier later : Number) → IsBefore earlier later → is_past_name over thing later ≡ true → is_past_name over thing earlier ≡ true
+closed-past over (Exists name) earlier later before past = over-before (over (Exists name)) earlier later before past
+closed-past over (Attached id node) earlier later before past = past
+closed-past over (Staged id node) earlier later before past = past
+closed-past over (Published id node target) earlier later before past = past
 
 -- what came before a spent number is spent
 pub closed-told : (given : List GivenId) (world : World) → IsClosed (view_of world) → IsClosed (told_by given world)
 closed-told given world closed thing earlier later before spent =
-    ⊎_elim (λ own. or_left ((view_of world).is_spent thing earlier) (is_forgotten given world.controller thing) (closed thing earlier later before own))
-    (λ forgotten. or_right ((view_of world).is_spent thing earlier) (is_forgotten given world.controller thing) forgotten)
-    (or_cases ((view_of world).is_spent thing later) (is_forgotten given world.controller thing) spent)
+    ⊎_elim (λ mine. or_left ((view_of world).is_spent thing earlier) (is_told given world thing earlier) (closed thing earlier later before mine))
+    (λ told. or_right ((view_of world).is_spent thing earlier) (is_told given world thing earlier)
+    (⊎_elim (λ forgotten. or_left (is_forgotten given world.controller thing) (is_past_name (over_at world) thing earlier) forgotten)
+    (λ past. or_right (is_forgotten given world.controller thing) (is_past_name (over_at world) thing earlier) (closed-past (over_at world) thing earlier later before past))
+    (or_cases (is_forgotten given world.controller thing) (is_past_name (over_at world) thing later) told)))
+    (or_cases ((view_of world).is_spent thing later) (is_told given world thing later) spent)
 
 -- ---- a volume that isn't there any more
 
@@ -51,13 +80,23 @@ gone-detached world id node live gone =
     let lives = live holding (among-find (is_held_at id node) world.controller.holdings holding is) in
     false≢true (sym (ap is_some (ap (λ n. live_volume n world.controller) (eqb-true holding.volume id passes.0) ∙ gone-dead world.controller id gone)) ∙ lives))
 
+-- where only live volumes are attached, no volume without a live one is
+pub ended-detached : (world : World) (id : ℕ) (node : List ℕ) → IsAttachedWhileLive world → live_volume id world.controller ≡ None → (view_of world).held (Attached id node) ≡ None
+ended-detached world id node live ended =
+    ap (option_map (λ (holding : Holding). AttachedAs holding.capability holding.readonly))
+    (none-where (holding_at id node world.controller) (λ holding is.
+    let passes = and_parts (holding.volume == id) (same_text holding.node node) (find-passes (is_held_at id node) world.controller.holdings holding is) in
+    let lives = live holding (among-find (is_held_at id node) world.controller.holdings holding is) in
+    false≢true (sym (ap is_some (ap (λ n. live_volume n world.controller) (eqb-true holding.volume id passes.0) ∙ ended)) ∙ lives)))
+
 -- a thing whose volume isn't there isn't there
 pub gone-held : (world : World) (given : List GivenId) (thing : PluginThing) (one : GivenId) → AreGiven given → AreOf world.controller given → IsAttachedWhileLive world
     → IsAmong one given → is_given thing one ≡ true → volume_with_id one.id world.controller ≡ None → (view_of world).held thing ≡ None
-gone-held world given (Exists name) one are of live among named gone =
-    let same : one.name ≡ name = (same_text-tells one.name name).0 named in
-    let unnamed = gone-unnamed world.controller given one.name one.id are of among gone in
-    ap (option_map (λ (volume : Volume). HasId volume.id)) (ap (λ n. controllers.live_named n world.controller) (sym same) ∙ unnamed-dead world.controller one.name of.names unnamed)
+gone-held world given (Exists name) one are of live among passes gone =
+    let parts = and_parts (same_text one.name name) one.now passes in
+    let same : one.name ≡ name = (same_text-tells one.name name).0 parts.0 in
+    let unlive = gone-unnamed world.controller given one.name one.id are of (now-given given one among parts.1) gone in
+    ap (option_map (λ (volume : Volume). HasId volume.id)) (ap (λ n. controllers.live_named n world.controller) (sym same) ∙ unlive)
 gone-held world given (Attached id node) one are of live among same gone =
     ap (option_map (λ (holding : Holding). AttachedAs holding.capability holding.readonly))
     (ap (λ n. holding_at n node world.controller) (sym (eqb-true one.id id same)) ∙ gone-detached world one.id node live gone)

@@ -27,7 +27,8 @@ use Rattle.csi_orchestrator.specs.Public.Listing.{thing_order, IsInOrder}
 use Rattle.csi_orchestrator.specs.Model.Thing.{same_thing}
 use Rattle.csi_orchestrator.proofs.ThingOrder.{order-total, order-same}
 use Rattle.csi_world.specs.Private.Listed.{is_entry_of}
-use Rattle.csi_world.proofs.MarksTold.{same-itself, same-tells}
+use Rattle.csi_world.proofs.MarksTold.{same-itself}
+use Rattle.csi_world.proofs.NamedCalls.{same-tells}
 
 -- what is among a list stands at a place of it, and the other way round
 pub place-of : {X : Type 0} (xs : List X) (x : X) → IsAmong x xs → (k : ℕ) × (k < length xs) × (get_or xs k x ≡ x)

@@ -23,9 +23,12 @@ use Rattle.csi_orchestrator.specs.declared.thing.Thing.{Thing}
 use Rattle.csi_orchestrator.specs.declared.thing.Known.TheVariants.{Yes, No, Maybe}
 use Rattle.csi_orchestrator.specs.Model.Thing.{Issued, touches, is_doing, is_yes, is_no}
 use Rattle.csi_orchestrator.specs.Model.History.{Item, Accepted, History}
-use Rattle.csi_orchestrator.specs.Model.Readings.{newest, issued_in, issued_of, is_success_of, has_success, known_by, known, id_in, id_by, id_of}
-use Rattle.csi_world.proofs.GivenIds.{GivenId, HasName}
-use Rattle.csi_world.proofs.CallThings.{IsAnsweredOk, ComesAfter, one-number, Named}
+use Rattle.csi_orchestrator.specs.Model.Readings.{newest, lifetime, issued_in, issued_since, is_success_of, has_success, known_by, known, id_in, id_by, id_of}
+use Rattle.csi_types.specs.Public.PluginThing.{Exists}
+use Rattle.csi_world.proofs.GivenIds.{GivenId, HasNow}
+use Rattle.csi_world.proofs.CallThings.{IsAnsweredOk, ComesAfter, one-number}
+use Rattle.csi_world.proofs.Lifetimes.{calls_since, calls_for, lifetime-is, since-sent}
+use Rattle.csi_world.proofs.NamedCalls.{Named}
 
 -- a reply like this was sent to a sent call of this number
 pub record WasSent (issued : List Issued) (frames : List Frame) (number : Number) (status : Status) (id : Option ℕ) : Type 0 where
@@ -53,7 +56,7 @@ is_ok-then Ok h = refl
 is_ok-then status h = cc
 
 -- a reply that was heard to a sent call was sent to it
-heard-ok : (items : List Item) (issued : List Issued) (frames : List Frame) (call : Issued) (other : Number) (status : Status) (id : Option ℕ) → IsHeard items issued frames → EachTwo ComesAfter issued → IsAmong call issued
+pub heard-ok : (items : List Item) (issued : List Issued) (frames : List Frame) (call : Issued) (other : Number) (status : Status) (id : Option ℕ) → IsHeard items issued frames → EachTwo ComesAfter issued → IsAmong call issued
     → IsAmong (Accepted other status id) items → (same_number other call.number && is_ok_status status) ≡ true → (reply : Reply) × IsAnsweredOk frames call reply × (reply.id ≡ id)
 heard-ok items issued frames call other status id heard numbers there among passes =
     let parts = and_parts (same_number other call.number) (is_ok_status status) passes in
@@ -81,58 +84,60 @@ among-get (y ∷ ys) (suc place) x e = inr (among-get ys place x e)
 pub newest-found : {X Y : Type 0} (f : X → Option Y) (xs : List X) (y : Y) → newest (filter_map f xs) ≡ Some y → (x : X) × IsAmong x xs × (f x ≡ Some y)
 newest-found f xs y h = among-filter_map f xs y (among-get (filter_map f xs) 0 y h)
 
--- an id that was heard for a name is the one that it was given
+-- an id that was heard for a name is the one that it has now
 pub id-given : (history : History) (frames : List Frame) (given : List GivenId) (name : List ℕ) (id : ℕ) → IsHeard history.items (issued_in history.items) frames → EachTwo ComesAfter (issued_in history.items)
-    → Named (issued_in history.items) frames given → id_of history name ≡ Some id → HasName given name id
+    → Named history.items frames given → id_of history name ≡ Some id → HasNow given name id
 id-given history frames given name id heard numbers named h =
     let of_name : Issued → Bool = λ issued. same_text issued.name name in
-    let found = newest-found (λ (issued : Issued). id_by history.items issued issued.call) (issued_of history name) id h in
+    let found = newest-found (λ (issued : Issued). id_by history.items issued issued.call) (issued_since history name) id h in
     let call : Issued = found.0 in
-    let kept = among-kept of_name (issued_in history.items) call found.1 in
-    subst (λ n. HasName given n id) ((same_text-tells call.name name).0 kept.1) (by call kept.0 call.call refl found.2)
+    let kept = among-kept of_name (issued_in (lifetime name history.items)) call found.1 in
+    let same : call.name ≡ name = (same_text-tells call.name name).0 kept.1 in
+    let there : IsAmong call (calls_since (Exists name) history.items) = subst (λ (xs : List Item). IsAmong call (issued_in xs)) (lifetime-is name history.items) kept.0 in
+    subst (λ n. HasNow given n id) same (by call (subst (λ n. IsAmong call (calls_since (Exists n) history.items)) (sym same) there) call.call refl found.2)
   where
-    accepted : (call : Issued) → IsAmong call (issued_in history.items) → (create : List ℕ) (required limit : ℕ) (capabilities : List Capability) → call.call ≡ calls.CreateVolume create required limit capabilities
-        → (item : Item) → IsAmong item history.items → id_in call.number item ≡ Some id → HasName given call.name id
+    accepted : (call : Issued) → IsAmong call (calls_since (Exists call.name) history.items) → (create : List ℕ) (required limit : ℕ) (capabilities : List Capability) → call.call ≡ calls.CreateVolume create required limit capabilities
+        → (item : Item) → IsAmong item history.items → id_in call.number item ≡ Some id → HasNow given call.name id
     accepted call there create required limit capabilities is (Accepted other status heard_id) among h = at (same_number other call.number && is_ok_status status) refl h
       where
-        at : (b : Bool) → (same_number other call.number && is_ok_status status) ≡ b → cond b heard_id None ≡ Some id → HasName given call.name id
+        at : (b : Bool) → (same_number other call.number && is_ok_status status) ≡ b → cond b heard_id None ≡ Some id → HasNow given call.name id
         at false e h = absurd (none-some id h)
         at true e h =
-            let ok = heard-ok history.items (issued_in history.items) frames call other status heard_id heard numbers there among e in
+            let ok = heard-ok history.items (issued_in history.items) frames call other status heard_id heard numbers (since-sent (Exists call.name) history.items call there) among e in
             named.made call ok.0 id create required limit capabilities there is ok.1 (ok.2 ∙ h)
     accepted call there create required limit capabilities is item among h = absurd (none-some id h)
 
-    by : (call : Issued) → IsAmong call (issued_in history.items) → (c : Call) → call.call ≡ c → id_by history.items call c ≡ Some id → HasName given call.name id
+    by : (call : Issued) → IsAmong call (calls_since (Exists call.name) history.items) → (c : Call) → call.call ≡ c → id_by history.items call c ≡ Some id → HasNow given call.name id
     by call there (calls.CreateVolume create required limit capabilities) is h =
         let found = newest-found (id_in call.number) history.items id h in accepted call there create required limit capabilities is found.0 found.1 found.2
     by call there c is h = absurd (none-some id h)
 
--- what is known of a thing: by its latest call, and whether a success of it was heard
+-- what is known of a thing: by its latest call since a loss ended it, and whether a success of it was heard
 pub record IsLatest (items : List Item) (thing : Thing) (call : Issued) (doing : Bool) : Type 0 where
-  pub found : find (touches thing) (issued_in items) ≡ Some call
+  pub found : find (touches thing) (calls_for thing items) ≡ Some call
   pub success : has_success items call.number ≡ true
   pub is_so : is_doing call.call ≡ doing
 
 -- where a thing is known to be so, its latest call does it, and its success was heard
 pub known-yes : (history : History) (thing : Thing) → known history thing ≡ Yes → (call : Issued) × IsLatest history.items thing call true
-known-yes history thing h = by (find (touches thing) (issued_in history.items)) refl h
+known-yes history thing h = by (find (touches thing) (calls_for thing history.items)) refl h
   where
-    by : (o : Option Issued) → find (touches thing) (issued_in history.items) ≡ o → known_by history.items thing o ≡ Yes → (call : Issued) × IsLatest history.items thing call true
+    by : (o : Option Issued) → find (touches thing) (calls_for thing history.items) ≡ o → known_by history.items thing o ≡ Yes → (call : Issued) × IsLatest history.items thing call true
     by None e h = absurd (false≢true (ap is_yes h))
-    by (Some call) e h = at (has_success history.items call.number) (is_doing call.call) refl refl (rw (find-passes (touches thing) (issued_in history.items) call e) at h)
+    by (Some call) e h = at (has_success history.items call.number) (is_doing call.call) refl refl (rw (find-passes (touches thing) (calls_for thing history.items) call e) at h)
       where
         at : (s d : Bool) → has_success history.items call.number ≡ s → is_doing call.call ≡ d → cond (not s) Maybe (cond d Yes No) ≡ Yes → (call : Issued) × IsLatest history.items thing call true
         at true true p q h = (call, record { found = e; success = p; is_so = q })
         at true false p q h = absurd (false≢true (ap is_yes h))
         at false d p q h = absurd (false≢true (ap is_yes h))
 
--- where it is known not to be so, no call of it was sent, or the latest undoes it, and its success was heard
-pub known-no : (history : History) (thing : Thing) → known history thing ≡ No → (find (touches thing) (issued_in history.items) ≡ None) ⊎ ((call : Issued) × IsLatest history.items thing call false)
-known-no history thing h = by (find (touches thing) (issued_in history.items)) refl h
+-- where it is known not to be so, no call of it was sent since, or the latest undoes it, and its success was heard
+pub known-no : (history : History) (thing : Thing) → known history thing ≡ No → (find (touches thing) (calls_for thing history.items) ≡ None) ⊎ ((call : Issued) × IsLatest history.items thing call false)
+known-no history thing h = by (find (touches thing) (calls_for thing history.items)) refl h
   where
-    by : (o : Option Issued) → find (touches thing) (issued_in history.items) ≡ o → known_by history.items thing o ≡ No → (o ≡ None) ⊎ ((call : Issued) × IsLatest history.items thing call false)
+    by : (o : Option Issued) → find (touches thing) (calls_for thing history.items) ≡ o → known_by history.items thing o ≡ No → (o ≡ None) ⊎ ((call : Issued) × IsLatest history.items thing call false)
     by None e h = inl refl
-    by (Some call) e h = inr (at (has_success history.items call.number) (is_doing call.call) refl refl (rw (find-passes (touches thing) (issued_in history.items) call e) at h))
+    by (Some call) e h = inr (at (has_success history.items call.number) (is_doing call.call) refl refl (rw (find-passes (touches thing) (calls_for thing history.items) call e) at h))
       where
         at : (s d : Bool) → has_success history.items call.number ≡ s → is_doing call.call ≡ d → cond (not s) Maybe (cond d Yes No) ≡ No → (call : Issued) × IsLatest history.items thing call false
         at true true p q h = absurd (false≢true (ap is_no h))
@@ -142,5 +147,5 @@ known-no history thing h = by (find (touches thing) (issued_in history.items)) r
 -- where the latest call does it, and its success was heard, it is known to be so
 pub latest-known : (history : History) (thing : Thing) (call : Issued) → IsLatest history.items thing call true → known history thing ≡ Yes
 latest-known history thing call latest =
-    let passes : touches thing call ≡ true = find-passes (touches thing) (issued_in history.items) call latest.found in
+    let passes : touches thing call ≡ true = find-passes (touches thing) (calls_for thing history.items) call latest.found in
     ap (known_by history.items thing) latest.found ∙ rw (latest.success, passes, latest.is_so) refl

@@ -16,7 +16,8 @@ use Rattle.csi_orchestrator.specs.declared.thing.Known.TheVariants.{Yes}
 use Rattle.csi_orchestrator.specs.Public.Listing.{IsInOrder}
 use Rattle.csi_orchestrator.specs.Model.Thing.{same_thing}
 use Rattle.csi_world.specs.Private.Listed.{is_entry_listed, is_entry_of, is_noted}
-use Rattle.csi_world.proofs.MarksTold.{same-itself, same-tells}
+use Rattle.csi_world.proofs.MarksTold.{same-itself}
+use Rattle.csi_world.proofs.NamedCalls.{same-tells}
 use Rattle.csi_world.proofs.FoundByHalving.{at-place, later-other}
 
 -- before any thing none is marked

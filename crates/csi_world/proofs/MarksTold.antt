@@ -1,10 +1,9 @@
 -- What is known to be so is so, and what is known not to be so isn't, by the list of what holds; and what an audit finds then.
-use Rattle.std.proofs.Common.{◌≡◌, ◌≢◌, ◌↔◌, List, Bool, true, IsTrue, ◌&&◌, refl, sym, ◌∙◌, ap, subst}
+use Rattle.std.proofs.Common.{◌≡◌, ◌≢◌, ◌↔◌, List, Bool, true, IsTrue, ◌&&◌, refl, sym, ◌∙◌, subst}
 use Rattle.std.specs.List.{list_all}
 use Rattle.std.proofs.lemmas.Bool.{and_parts, and_from, false≢true, false_from_ne_true}
 use Rattle.csi_lists.specs.Model.Members.{IsAmong}
 use Rattle.csi_lists.proofs.Tests.{all-then, then-all, any-then, then-any}
-use Rattle.csi_types.specs.Model.Same.{same_text}
 use Rattle.csi_types.proofs.Equality.{same_text-tells}
 use Rattle.csi_orchestrator.specs.declared.thing.Thing.{Thing}
 use Rattle.csi_orchestrator.specs.declared.thing.Thing.TheVariants.{Exists, Attached, Staged, Published}
@@ -16,6 +15,7 @@ use Rattle.csi_world.specs.Model.World.{World}
 use Rattle.csi_world.specs.Model.Safe.{holds}
 use Rattle.csi_world.specs.Public.Audited.{AreMarkedRight}
 use Rattle.csi_world.specs.Private.Listed.{is_listed, is_noted, is_affirmed}
+use Rattle.csi_world.proofs.NamedCalls.{same-tells}
 
 -- Yes isn't No
 yes_not_no : Yes ≢ No
@@ -30,28 +30,6 @@ same-itself (Attached name node) = and_from _ _ ((same_text-tells name name).1 r
 same-itself (Staged name node) = and_from _ _ ((same_text-tells name name).1 refl) ((same_text-tells node node).1 refl)
 same-itself (Published name node target) =
     and_from _ _ (and_from _ _ ((same_text-tells name name).1 refl) ((same_text-tells node node).1 refl)) ((same_text-tells target target).1 refl)
-
--- things that the test takes as the same are one
-pub same-tells : (a b : Thing) → same_thing a b ≡ true → a ≡ b
-same-tells (Exists name) (Exists other) e = ap Exists ((same_text-tells name other).0 e)
-same-tells (Attached name node) (Attached other there) e =
-    let parts = and_parts (same_text name other) (same_text node there) e in
-    let n = (same_text-tells name other).0 parts.0 in
-    let p = (same_text-tells node there).0 parts.1 in
-    λ i. Attached (n i) (p i)
-same-tells (Staged name node) (Staged other there) e =
-    let parts = and_parts (same_text name other) (same_text node there) e in
-    let n = (same_text-tells name other).0 parts.0 in
-    let p = (same_text-tells node there).0 parts.1 in
-    λ i. Staged (n i) (p i)
-same-tells (Published name node target) (Published other there aim) e =
-    let parts = and_parts (same_text name other && same_text node there) (same_text target aim) e in
-    let first = and_parts (same_text name other) (same_text node there) parts.0 in
-    let n = (same_text-tells name other).0 first.0 in
-    let p = (same_text-tells node there).0 first.1 in
-    let t = (same_text-tells target aim).0 parts.1 in
-    λ i. Published (n i) (p i) (t i)
-same-tells a b e = absurd (false≢true e)
 
 -- ---- what holds, and what is noted
 

@@ -2,7 +2,6 @@
 use Rattle.std.proofs.Common.{◌≡◌, ℕ, true, Some, find, ◌==◌, sym, subst}
 use Rattle.std.proofs.lemmas.Bool.{eqb-true}
 use Rattle.csi_types.specs.declared.capability.Capability.{Capability}
-use Rattle.csi_types.specs.Model.Config.{Config}
 use Rattle.csi_lists.specs.Model.Members.{IsAmong}
 use Rattle.csi_lists.proofs.Members.{each_of, among-find}
 use Rattle.csi_lists.proofs.Options.{some-from_map}
@@ -15,8 +14,8 @@ use Rattle.csi_world.specs.Model.Safe.{IsPublishedWhereStaged}
 use Rattle.csi_world.proofs.PluginsReached.{IsReached, IsNodeOfFrames}
 
 -- any two holdings of one volume are apart, and what is attached wasn't deleted
-pub exclusive : ControllerSafetyLaw → (config : Config) (world : World) → IsReached config world → IsExclusiveState world.controller
-exclusive law config world reached = let of = reached.controller in subst IsExclusiveState (sym of.1) (law config of.0)
+pub exclusive : ControllerSafetyLaw → (world : World) → IsReached world → IsExclusiveState world.controller
+exclusive law world reached = let of = reached.controller in subst IsExclusiveState (sym of.1) (law of.0)
 
 -- the capability in which a volume is staged stands in the list
 pub staged_there : (state : NodeState) (id : ℕ) (capability : Capability) → staged_of id state ≡ Some capability → IsAmong {X = StagedVolume} (record { volume = id; capability = capability }) state.staged
@@ -30,8 +29,8 @@ staged_there state id capability h =
     subst (λ (x : StagedVolume). IsAmong x state.staged) equal (among-find (λ (s : StagedVolume). s.volume == id) state.staged s found.1)
 
 -- what is published at a node is staged there, in the same capability
-pub published-staged : NodeSafetyLaw → (config : Config) (world : World) → IsReached config world → IsPublishedWhereStaged world
-published-staged law config world reached at published there among =
+pub published-staged : NodeSafetyLaw → (world : World) → IsReached world → IsPublishedWhereStaged world
+published-staged law world reached at published there among =
     let of = each_of IsNodeOfFrames world.nodes at reached.nodes there in
-    let right : IsPublishedRight at.state = subst IsPublishedRight (sym of.1) (law at.id 0 of.0) in
+    let right : IsPublishedRight at.state = subst IsPublishedRight (sym of.2) (law at.id of.0 of.1) in
     staged_there at.state published.volume published.capability (right.staged published among)

@@ -1,57 +1,60 @@
 -- The plugins of a world are in states that frames lead to, and nodes of one id are alike.
-use Rattle.std.proofs.Common.{◌≡◌, ℕ, List, [], ◌∷◌, ◌++◌, map, Bool, true, false, cond, Option, Some, None, option_map, find, refl, sym, ◌∙◌, ap}
+use Rattle.std.proofs.Common.{◌≡◌, ◌⊎◌, ℕ, List, [], ◌∷◌, ◌++◌, map, Bool, true, false, cond, not, Option, Some, None, option_map, find, refl, sym, ◌∙◌, ap, inl, inr}
+use Rattle.std.proofs.lemmas.Bool.{false≢true}
 use Rattle.std.specs.List.{AllByRecursion}
 use Rattle.std.proofs.lemmas.Option.{none-some, same_Some}
-use Rattle.csi_types.specs.declared.config.NodeSlots.{NodeSlots}
 use Rattle.csi_types.specs.declared.call.Party.{Party}
 use Rattle.csi_types.specs.declared.call.Party.TheVariants.{Controller, Node}
 use Rattle.csi_types.specs.Model.Config.{Config}
 use Rattle.csi_types.specs.Model.Frame.{Frame}
 use Rattle.csi_lists.specs.Model.Members.{IsAmong}
-use Rattle.csi_lists.proofs.Members.{each_of, among-find, among-map, some-found}
-use Rattle.csi_lists.proofs.Options.{some-from_map}
-use Rattle.csi_lists.proofs.Searches.{find-map, find-passes}
+use Rattle.csi_lists.proofs.Members.{each_of, among-either, among-find, among-kept, among-map, some-found}
+use Rattle.csi_lists.proofs.Each.{each-append_one, each-filter}
+use Rattle.csi_lists.proofs.Options.{none-from_map, some-from_map}
+use Rattle.csi_lists.proofs.Searches.{find-filter, find-filter_not, find-map, find-passes}
 use Rattle.csi_lists.proofs.Maps.{map-same}
 use Rattle.csi_types.specs.Model.Same.{same_text}
 use Rattle.csi_types.proofs.Equality.{same_text-tells}
 use Rattle.csi_controller.specs.Model.State.{ControllerState, empty_controller}
 use Rattle.csi_controller.specs.Model.Fenced as controller
-use Rattle.csi_controller.specs.Public.Fenced as public_controller
-use Rattle.csi_node.specs.Model.State.{NodeState, empty_node}
+use Rattle.csi_controller.specs.Public.Fenced.{ConfiguredFrame, after_configured}
+use Rattle.csi_node.specs.Model.State.{NodeState, joined_node}
 use Rattle.csi_node.specs.Model.Fenced as node
-use Rattle.csi_node.specs.Public.Fenced as public_node
+use Rattle.csi_node.specs.Public.Fenced.{after_frames}
 use Rattle.csi_orchestrator.specs.Model.History.{History}
-use Rattle.csi_world.specs.Model.World.{NodeAt, World, new_node, empty_world, node_state, with_state, with_node, with_frame}
+use Rattle.csi_world.specs.Model.World.{NodeAt, World, new_node, node_id, empty_world, node_state, with_state, with_node, with_new_node, without_node, with_frame}
 use Rattle.csi_world.specs.Model.Step.{answered_by_node, answered_by, answered_by_plugin}
+use Rattle.csi_world.proofs.Lifetimes.{find-first_part, find-in_first}
 
--- a controller's state, and a node's, to which frames lead
-abbrev pub IsOfFrames : Config → ControllerState → Type 0
-IsOfFrames config state = (frames : List Frame) × (state ≡ public_controller.after_frames config empty_controller frames)
+-- a controller's state to which frames lead, each under the configuration of its time
+abbrev pub IsOfFrames : ControllerState → Type 0
+IsOfFrames state = (came : List ConfiguredFrame) × (state ≡ after_configured empty_controller came)
 
--- a node's state is one to which frames lead
+-- a node's state is one to which frames lead, whichever session it joined with
 abbrev pub IsNodeOfFrames : NodeAt → Type 0
-IsNodeOfFrames at = (frames : List Frame) × (at.state ≡ public_node.after_frames at.id empty_node frames)
+IsNodeOfFrames at = (session : ℕ) × (frames : List Frame) × (at.state ≡ after_frames at.id (joined_node session) frames)
 
 -- the plugins are in such states, and each node is as the one that is found by its id
-pub record IsReached (config : Config) (world : World) : Type 0 where
-  pub controller : IsOfFrames config world.controller
+pub record IsReached (world : World) : Type 0 where
+  pub controller : IsOfFrames world.controller
   pub nodes : AllByRecursion IsNodeOfFrames world.nodes
   pub alike : (at : NodeAt) → IsAmong at world.nodes → node_state at.id world ≡ Some at.state
 
 -- one frame more
-controller-more : (config : Config) (state : ControllerState) (frames : List Frame) (frame : Frame) → public_controller.after_frames config state (frames ++ frame ∷ []) ≡ (controller.fenced config (public_controller.after_frames config state frames) frame).state
-controller-more config state [] frame = refl
-controller-more config state (f ∷ fs) frame = controller-more config (controller.fenced config state f).state fs frame
+controller-more : (state : ControllerState) (came : List ConfiguredFrame) (one : ConfiguredFrame) → after_configured state (came ++ one ∷ []) ≡ (controller.fenced one.config (after_configured state came) one.frame).state
+controller-more state [] one = refl
+controller-more state (f ∷ fs) one = controller-more (controller.fenced f.config state f.frame).state fs one
 
 -- the same of a node
-node-more : (id : List ℕ) (state : NodeState) (frames : List Frame) (frame : Frame) → public_node.after_frames id state (frames ++ frame ∷ []) ≡ (node.fenced id (public_node.after_frames id state frames) frame).state
+node-more : (id : List ℕ) (state : NodeState) (frames : List Frame) (frame : Frame) → after_frames id state (frames ++ frame ∷ []) ≡ (node.fenced id (after_frames id state frames) frame).state
 node-more id state [] frame = refl
 node-more id state (f ∷ fs) frame = node-more id (node.fenced id state f).state fs frame
 
 -- from a state to which frames lead, one more frame leads to another
-pub controller-next : (config : Config) (state : ControllerState) (frame : Frame) → IsOfFrames config state → IsOfFrames config (controller.fenced config state frame).state
+pub controller-next : (config : Config) (state : ControllerState) (frame : Frame) → IsOfFrames state → IsOfFrames (controller.fenced config state frame).state
 controller-next config state frame of =
-    (of.0 ++ frame ∷ [], ap (λ (s : ControllerState). (controller.fenced config s frame).state) of.1 ∙ sym (controller-more config empty_controller of.0 frame))
+    let one : ConfiguredFrame = record { config = config; frame = frame } in
+    (of.0 ++ one ∷ [], ap (λ (s : ControllerState). (controller.fenced config s frame).state) of.1 ∙ sym (controller-more empty_controller of.0 one))
 
 -- the node that is found
 pub found-at : (id : List ℕ) (world : World) (state : NodeState) → node_state id world ≡ Some state → (at : NodeAt) × IsAmong at world.nodes × (at.id ≡ id) × (at.state ≡ state)
@@ -61,11 +64,12 @@ found-at id world state h =
     (found.0, among-find p world.nodes found.0 found.1, (same_text-tells (found.0).id id).0 (find-passes p world.nodes found.0 found.1), found.2)
 
 -- the node of an id is in a state that frames lead to
-pub node-of-frames : (config : Config) (world : World) (id : List ℕ) (state : NodeState) → IsReached config world → node_state id world ≡ Some state → (frames : List Frame) × (state ≡ public_node.after_frames id empty_node frames)
-node-of-frames config world id state reached h =
+pub node-of-frames : (world : World) (id : List ℕ) (state : NodeState) → IsReached world → node_state id world ≡ Some state
+    → (session : ℕ) × (frames : List Frame) × (state ≡ after_frames id (joined_node session) frames)
+node-of-frames world id state reached h =
     let found = found-at id world state h in
     let of = each_of IsNodeOfFrames world.nodes found.0 reached.nodes found.1 in
-    (of.0, sym found.3 ∙ of.1 ∙ ap (λ i. public_node.after_frames i empty_node of.0) found.2)
+    (of.0, of.1, sym found.3 ∙ of.2 ∙ ap (λ i. after_frames i (joined_node of.0) of.1) found.2)
 
 -- a node after another state of one node
 with_state-id : (id other : List ℕ) (state : NodeState) (at : NodeAt) → same_text (with_state id state at).id other ≡ same_text at.id other
@@ -102,23 +106,23 @@ node_state-same id old state world h =
     ∙ state-same id old state (find (λ (n : NodeAt). same_text n.id id) world.nodes) h (λ at e. find-passes (λ (n : NodeAt). same_text n.id id) world.nodes at e)
 
 -- a node's answer to a frame
-with_states : (id : List ℕ) (state : NodeState) (ns : List NodeAt) → ((frames : List Frame) × (state ≡ public_node.after_frames id empty_node frames)) → AllByRecursion IsNodeOfFrames ns → AllByRecursion IsNodeOfFrames (map (with_state id state) ns)
+with_states : (id : List ℕ) (state : NodeState) (ns : List NodeAt) → ((session : ℕ) × (frames : List Frame) × (state ≡ after_frames id (joined_node session) frames)) → AllByRecursion IsNodeOfFrames ns → AllByRecursion IsNodeOfFrames (map (with_state id state) ns)
 with_states id state [] of all = tt
 with_states id state (n ∷ ns) of all = (by (same_text n.id id) refl, with_states id state ns of all.1)
   where
     by : (b : Bool) → same_text n.id id ≡ b → IsNodeOfFrames (cond b (record n { state = state }) n)
-    by true e = (of.0, of.1 ∙ ap (λ i. public_node.after_frames i empty_node of.0) (sym ((same_text-tells n.id id).0 e)))
+    by true e = (of.0, of.1, of.2 ∙ ap (λ i. after_frames i (joined_node of.0) of.1) (sym ((same_text-tells n.id id).0 e)))
     by false e = all.0
 
 -- the plugins of a world are in such states after a node got a frame
-pub node-next : (config : Config) (world : World) (id : List ℕ) (state : NodeState) (frame : Frame) → IsReached config world → node_state id world ≡ Some state
-    → IsReached config (with_node id (node.fenced id state frame).state world)
-node-next config world id state frame reached h =
-    let of = node-of-frames config world id state reached h in
+pub node-next : (world : World) (id : List ℕ) (state : NodeState) (frame : Frame) → IsReached world → node_state id world ≡ Some state
+    → IsReached (with_node id (node.fenced id state frame).state world)
+node-next world id state frame reached h =
+    let of = node-of-frames world id state reached h in
     let next : NodeState = (node.fenced id state frame).state in
     record {
       controller = reached.controller;
-      nodes = with_states id next world.nodes (of.0 ++ frame ∷ [], ap (λ (s : NodeState). (node.fenced id s frame).state) of.1 ∙ sym (node-more id empty_node of.0 frame)) reached.nodes;
+      nodes = with_states id next world.nodes (of.0, of.1 ++ frame ∷ [], ap (λ (s : NodeState). (node.fenced id s frame).state) of.2 ∙ sym (node-more id (joined_node of.0) of.1 frame)) reached.nodes;
       alike = λ at among. let from = among-map (with_state id next) world.nodes at among in alike next at from.0 from.1 from.2 (same_text (from.0).id id) refl;
     }
   where
@@ -133,8 +137,8 @@ node-next config world id state frame reached h =
         node_state-other id at.id next world differs ∙ ap (λ (n : NodeAt). node_state n.id world) now ∙ reached.alike old among ∙ ap Some (sym (ap (λ (n : NodeAt). n.state) now))
 
 -- a node that stays as it is
-pub with_node-same : (config : Config) (world : World) (id : List ℕ) (state : NodeState) → IsReached config world → node_state id world ≡ Some state → with_node id state world ≡ world
-with_node-same config world id state reached h =
+pub with_node-same : (world : World) (id : List ℕ) (state : NodeState) → IsReached world → node_state id world ≡ Some state → with_node id state world ≡ world
+with_node-same world id state reached h =
     ap (λ (ns : List NodeAt). record world { nodes = ns }) (map-same (with_state id state) world.nodes (λ at among. by at among (same_text at.id id) refl))
   where
     by : (at : NodeAt) → IsAmong at world.nodes → (b : Bool) → same_text at.id id ≡ b → cond b (let n : NodeAt = record at { state = state } in n) at ≡ at
@@ -144,28 +148,93 @@ with_node-same config world id state reached h =
     by at among false e = refl
 
 -- at first
-new_nodes : (entries : List NodeSlots) → AllByRecursion IsNodeOfFrames (map new_node entries)
+new_nodes : (ids : List (List ℕ)) → AllByRecursion IsNodeOfFrames (map (new_node 0) ids)
 new_nodes [] = tt
-new_nodes (entry ∷ entries) = (([], refl), new_nodes entries)
+new_nodes (id ∷ ids) = ((0, [], refl), new_nodes ids)
 
 -- a new node knows nothing
-pub knows-nothing : (entries : List NodeSlots) (at : NodeAt) → IsAmong at (map new_node entries) → at.state ≡ empty_node
-knows-nothing entries at among = let from = among-map new_node entries at among in ap (λ (n : NodeAt). n.state) from.2
+pub knows-nothing : (ids : List (List ℕ)) (at : NodeAt) → IsAmong at (map (new_node 0) ids) → at.state ≡ joined_node 0
+knows-nothing ids at among = let from = among-map (new_node 0) ids at among in ap (λ (n : NodeAt). n.state) from.2
 
 -- and so does the first of its id
-new_alike : (entries : List NodeSlots) (at : NodeAt) → IsAmong at (map new_node entries) → option_map (λ (n : NodeAt). n.state) (find (λ (n : NodeAt). same_text n.id at.id) (map new_node entries)) ≡ Some at.state
-new_alike entries at among =
+new_alike : (ids : List (List ℕ)) (at : NodeAt) → IsAmong at (map (new_node 0) ids) → option_map (λ (n : NodeAt). n.state) (find (λ (n : NodeAt). same_text n.id at.id) (map (new_node 0) ids)) ≡ Some at.state
+new_alike ids at among =
     let p : NodeAt → Bool = λ n. same_text n.id at.id in
-    let first = some-found p (map new_node entries) at among ((same_text-tells at.id at.id).1 refl) in
-    ap (option_map (λ (n : NodeAt). n.state)) first.1 ∙ ap Some (knows-nothing entries first.0 (among-find p (map new_node entries) first.0 first.1) ∙ sym (knows-nothing entries at among))
+    let first = some-found p (map (new_node 0) ids) at among ((same_text-tells at.id at.id).1 refl) in
+    ap (option_map (λ (n : NodeAt). n.state)) first.1 ∙ ap Some (knows-nothing ids first.0 (among-find p (map (new_node 0) ids) first.0 first.1) ∙ sym (knows-nothing ids at among))
 
 -- the plugins of the empty world are in such states
-pub empty-reached : (config : Config) → IsReached config (empty_world config)
-empty-reached config = record { controller = ([], refl); nodes = new_nodes config.nodes; alike = λ at among. new_alike config.nodes at among }
+pub empty-reached : (config : Config) → IsReached (empty_world config)
+empty-reached config =
+    record { controller = ([], refl); nodes = new_nodes (map node_id config.nodes); alike = λ at among. new_alike (map node_id config.nodes) at among }
 
--- what an orchestrator does changes no plugin
-pub still-reached : (config : Config) (world : World) (frames : List Frame) (history : History) → IsReached config world → IsReached config (record world { frames = frames; history = history })
-still-reached config world frames history reached = record { controller = reached.controller; nodes = reached.nodes; alike = reached.alike }
+-- what an orchestrator does changes no plugin, nor does a configuration
+pub still-reached : (world : World) (config : Config) (frames : List Frame) (history : History) → IsReached world → IsReached (record world { config = config; frames = frames; history = history })
+still-reached world config frames history reached = record { controller = reached.controller; nodes = reached.nodes; alike = reached.alike }
+
+-- ---- nodes that join
+
+-- what the nodes that were there know
+pub joined-other : (session : ℕ) (id other : List ℕ) (world : World) (state : NodeState) → node_state other world ≡ Some state → node_state other (with_new_node session id world) ≡ Some state
+joined-other session id other world state h =
+    let p : NodeAt → Bool = λ n. same_text n.id other in
+    let found = some-from_map (λ (n : NodeAt). n.state) (find p world.nodes) state h in
+    ap (option_map (λ (n : NodeAt). n.state)) (find-in_first p world.nodes (new_node session id ∷ []) found.0 found.1) ∙ ap Some found.2
+
+-- where a node isn't there, and doesn't join, it isn't there then
+pub joined-none : (session : ℕ) (id other : List ℕ) (world : World) → node_state other world ≡ None → node_state other (with_new_node session id world) ≡ cond (same_text id other) (Some (joined_node session)) None
+joined-none session id other world none =
+    let p : NodeAt → Bool = λ n. same_text n.id other in
+    ap (option_map (λ (n : NodeAt). n.state)) (find-first_part p world.nodes (new_node session id ∷ []) (none-from_map (λ (n : NodeAt). n.state) (find p world.nodes) none)) ∙ by (same_text id other)
+  where
+    by : (b : Bool) → option_map (λ (n : NodeAt). n.state) (cond b (Some (new_node session id)) None) ≡ cond b (Some (joined_node session)) None
+    by true = refl
+    by false = refl
+
+-- the node that joins has done nothing
+pub joined-same : (session : ℕ) (id : List ℕ) (world : World) → node_state id world ≡ None → node_state id (with_new_node session id world) ≡ Some (joined_node session)
+joined-same session id world none = joined-none session id id world none ∙ ap (λ b. cond b (Some (joined_node session)) None) ((same_text-tells id id).1 refl)
+
+-- the plugins are in such states then
+pub joined-reached : (session : ℕ) (id : List ℕ) (world : World) → node_state id world ≡ None → IsReached world → IsReached (with_new_node session id world)
+joined-reached session id world none reached =
+    record {
+      controller = reached.controller;
+      nodes = each-append_one IsNodeOfFrames world.nodes (new_node session id) reached.nodes (session, [], refl);
+      alike = λ at among. by at (among-either world.nodes (new_node session id) at among);
+    }
+  where
+    by : (at : NodeAt) → IsAmong at world.nodes ⊎ (at ≡ new_node session id) → node_state at.id (with_new_node session id world) ≡ Some at.state
+    by at (inl there) = joined-other session id at.id world at.state (reached.alike at there)
+    by at (inr e) = ap (λ (n : NodeAt). node_state n.id (with_new_node session id world)) e ∙ joined-same session id world none ∙ ap (λ (n : NodeAt). Some n.state) (sym e)
+
+-- ---- nodes that are lost
+
+-- what the other nodes know
+pub lost-other : (id other : List ℕ) (world : World) → same_text other id ≡ false → node_state other (without_node id world) ≡ node_state other world
+lost-other id other world differs =
+    ap (option_map (λ (n : NodeAt). n.state))
+    (find-filter (λ (n : NodeAt). same_text n.id other) (λ (n : NodeAt). not (same_text n.id id)) world.nodes
+    (λ n is. ap (λ i. not (same_text i id)) ((same_text-tells n.id other).0 is) ∙ ap not differs))
+
+-- the lost one isn't there
+pub lost-same : (id : List ℕ) (world : World) → node_state id (without_node id world) ≡ None
+lost-same id world = ap (option_map (λ (n : NodeAt). n.state)) (find-filter_not (λ (n : NodeAt). same_text n.id id) world.nodes)
+
+-- the plugins are in such states then
+pub lost-reached : (id : List ℕ) (world : World) → IsReached world → IsReached (without_node id world)
+lost-reached id world reached =
+    record {
+      controller = reached.controller;
+      nodes = each-filter IsNodeOfFrames (λ (n : NodeAt). not (same_text n.id id)) world.nodes reached.nodes;
+      alike = λ at among.
+          let kept = among-kept (λ (n : NodeAt). not (same_text n.id id)) world.nodes at among in
+          lost-other id at.id world (not-true (same_text at.id id) kept.1) ∙ reached.alike at kept.0;
+    }
+  where
+    not-true : (b : Bool) → not b ≡ true → b ≡ false
+    not-true true h = absurd (false≢true h)
+    not-true false h = refl
 
 -- what a plugin does is none of the orchestrator's
 with_frame-history : (reply : Option Frame) (world : World) → (with_frame reply world).history ≡ world.history
@@ -173,13 +242,13 @@ with_frame-history None world = refl
 with_frame-history (Some frame) world = refl
 
 -- a plugin's answer leaves the orchestrator's history
-pub answered-history : (config : Config) (world : World) (frame : Frame) → (answered_by_plugin config world frame).history ≡ world.history
-answered-history config world frame = by frame.party
+pub answered-history : (world : World) (frame : Frame) → (answered_by_plugin world frame).history ≡ world.history
+answered-history world frame = by frame.party
   where
     at_node : (id : List ℕ) (o : Option NodeState) → (answered_by_node id world frame o).history ≡ world.history
     at_node id None = refl
     at_node id (Some state) = with_frame-history (node.fenced id state frame).reply (with_node id (node.fenced id state frame).state world)
 
-    by : (party : Party) → (answered_by config world frame party).history ≡ world.history
-    by Controller = with_frame-history (controller.fenced config world.controller frame).reply (record world { controller = (controller.fenced config world.controller frame).state })
+    by : (party : Party) → (answered_by world frame party).history ≡ world.history
+    by Controller = with_frame-history (controller.fenced world.config world.controller frame).reply (record world { controller = (controller.fenced world.config world.controller frame).state })
     by (Node id) = at_node id (node_state id world)

@@ -1,8 +1,8 @@
 -- What the replies that were sent tell of the things: the latest call of a thing, if it was answered OK, left the thing
 -- as it asks, and its number is spent. It is kept by a call that is sent, and by one that a plugin gets.
-use Rattle.std.proofs.Common.{◌≡◌, ◌⊎◌, List, [], ◌∷◌, ◌++◌, Bool, true, false, cond, Option, Some, None, find, is_some, IsTrue, refl, sym, ◌∙◌, ap, subst, inl, inr, ⊎_elim}
+use Rattle.std.proofs.Common.{◌≡◌, ◌⊎◌, List, [], ◌∷◌, ◌++◌, Bool, true, false, cond, Option, Some, None, is_some, IsTrue, refl, sym, ◌∙◌, ap, subst, inl, inr, ⊎_elim}
 use Rattle.std.proofs.lemmas.Bool.{false≢true}
-use Rattle.std.proofs.lemmas.Option.{same_Some}
+use Rattle.std.proofs.lemmas.Option.{none-some, same_Some}
 use Rattle.csi_lists.proofs.Options.{some_is_not_none, is_some-map}
 use Rattle.csi_types.specs.declared.number.Number.{Number}
 use Rattle.csi_types.specs.declared.call.Call.{Call}
@@ -18,8 +18,7 @@ use Rattle.csi_fence.specs.Model.Fence.{Kept}
 use Rattle.csi_types.specs.Model.Frame.{Frame}
 use Rattle.csi_types.specs.Public.PluginThing.{PluginThing, HasId, same_plugin_thing, asked}
 use Rattle.csi_lists.specs.Model.Members.{IsAmong, EachTwo}
-use Rattle.csi_lists.proofs.Members.{all_of, among-append, among-either, among-find, none_passes}
-use Rattle.csi_lists.proofs.Searches.{find-passes}
+use Rattle.csi_lists.proofs.Members.{all_of, among-append, among-either}
 use Rattle.csi_types.specs.Model.Number.{IsBefore}
 use Rattle.csi_types.specs.Model.Reply.{is_ok_status}
 use Rattle.csi_types.specs.Public.Reply.{has_id_by_rule}
@@ -27,9 +26,9 @@ use Rattle.csi_types.specs.Model.Replies.{reply_frame}
 use Rattle.csi_types.proofs.Equality.{same_plugin_thing-tells}
 use Rattle.csi_orchestrator.specs.Model.Thing.{Issued, is_doing}
 use Rattle.csi_orchestrator.specs.Public.Steps.{frame_of}
-use Rattle.csi_world.proofs.WorldView.{party_of}
+use Rattle.csi_world.proofs.Parties.{party_of}
 use Rattle.csi_world.proofs.HeardReplies.{is_ok-then}
-use Rattle.csi_world.proofs.CallThings.{is_of, is_plugin_thing, plugin_thing_at, IsAnsweredOk, ComesAfter, before-irreflexive, one-number, latest-last}
+use Rattle.csi_world.proofs.CallThings.{is_of, is_plugin_thing, plugin_thing_at, IsAnsweredOk, ComesAfter, before-irreflexive, one-number}
 
 -- a call with this number was sent
 pub record IsSent (issued : List Issued) (number : Number) : Type 0 where
@@ -43,8 +42,12 @@ pub record IsFrameOf (issued : List Issued) (frame : Frame) : Type 0 where
   pub among : IsAmong call issued
   pub is : frame ≡ frame_of call
 
--- what is so of the calls that were sent, of all frames, and of the things
-pub record Truth (issued : List Issued) (frames : List Frame) (view : PluginView) : Type 0 where
+-- a call is the latest one of its thing, or was sent before it
+abbrev pub IsNoLater : (PluginThing → Option Issued) → PluginThing → Issued → Type 0
+IsNoLater latest thing call = (last : Issued) × (latest thing ≡ Some last) × ((call ≡ last) ⊎ IsBefore call.number last.number)
+
+-- what is so of the calls that were sent, of the latest one of each thing, of all frames, and of the things
+pub record Truth (issued : List Issued) (latest : PluginThing → Option Issued) (frames : List Frame) (view : PluginView) : Type 0 where
   -- what was sent: calls that were issued, and replies to their numbers, an OK with an id where it must, what is kept
   -- among them
   pub calls : (frame : Frame) (call : Call) → IsAmong frame frames → frame.body ≡ bodies.Call call → IsFrameOf issued frame
@@ -52,10 +55,13 @@ pub record Truth (issued : List Issued) (frames : List Frame) (view : PluginView
   pub ids : (number : Number) (party : Party) (kind : Kind) (reply : Reply) → IsAmong (reply_frame number party kind reply) frames → reply.status ≡ Ok → IsTrue (has_id_by_rule kind reply)
   pub kept : (thing : PluginThing) (kept : Kept) → view.kept thing ≡ Some kept → IsAmong (reply_frame kept.number (party_of thing) kept.kind kept.reply) frames
   pub numbers : EachTwo ComesAfter issued
+  -- the latest call of a thing was sent for it, and each other call of it was sent before that, or is spent
+  pub found : (thing : PluginThing) (call : Issued) → latest thing ≡ Some call → IsAmong call issued × (is_of thing call ≡ true)
+  pub order : (call : Issued) (thing : PluginThing) → IsAmong call issued → is_of thing call ≡ true → IsNoLater latest thing call ⊎ IsTrue (view.is_spent thing call.number)
   -- what was answered OK is spent; the latest call of a thing left it as it asks; a thing without one isn't there
   pub spent : (call : Issued) (thing : PluginThing) (reply : Reply) → IsAmong call issued → is_of thing call ≡ true → IsAnsweredOk frames call reply → IsTrue (view.is_spent thing call.number)
-  pub told : (call : Issued) (thing : PluginThing) (reply : Reply) → find (is_of thing) issued ≡ Some call → IsAnsweredOk frames call reply → view.held thing ≡ asked call.call reply
-  pub untouched : (thing : PluginThing) → find (is_of thing) issued ≡ None → view.held thing ≡ None
+  pub told : (call : Issued) (thing : PluginThing) (reply : Reply) → latest thing ≡ Some call → IsAnsweredOk frames call reply → view.held thing ≡ asked call.call reply
+  pub untouched : (thing : PluginThing) → latest thing ≡ None → view.held thing ≡ None
 
 -- no reply is the frame of a call
 reply_is_call : (number : Number) (party : Party) (kind : Kind) (reply : Reply) (call : Issued) → reply_frame number party kind reply ≡ frame_of call → ⊥
@@ -69,17 +75,16 @@ pub before_call : (frames : List Frame) (call : Issued) (number : Number) (party
 before_call frames call number party kind reply among = ⊎_elim (λ there. there) (λ e. absurd (reply_is_call number party kind reply call e)) (among-either frames (frame_of call) _ among)
 
 -- a new number has no reply
-pub unanswered : (issued : List Issued) (frames : List Frame) (view : PluginView) (call : Issued) (reply : Reply) → Truth issued frames view → ((older : Issued) → IsAmong older issued → IsBefore older.number call.number)
+pub unanswered : (issued : List Issued) (latest : PluginThing → Option Issued) (frames : List Frame) (view : PluginView) (call : Issued) (reply : Reply) → Truth issued latest frames view → ((older : Issued) → IsAmong older issued → IsBefore older.number call.number)
     → IsAnsweredOk (frames ++ frame_of call ∷ []) call reply → ⊥
-unanswered issued frames view call reply truth later ok =
+unanswered issued latest frames view call reply truth later ok =
     let sent = truth.replies call.number call.party (kind_of call.call) reply (before_call frames call call.number call.party (kind_of call.call) reply ok.0) in
     before-irreflexive call.number (subst (λ n. IsBefore n call.number) sent.has_number (later sent.call sent.among))
 
 -- a call is sent
-pub truth-sent : (issued : List Issued) (frames : List Frame) (view : PluginView) (call : Issued) → Truth issued frames view → ((older : Issued) → IsAmong older issued → IsBefore older.number call.number)
-    → Truth (call ∷ issued) (frames ++ frame_of call ∷ []) view
-truth-sent issued frames view call truth later =
-    let nobody = unanswered issued frames view call in
+pub truth-sent : (issued : List Issued) (latest : PluginThing → Option Issued) (frames : List Frame) (view : PluginView) (call : Issued) → Truth issued latest frames view
+    → ((older : Issued) → IsAmong older issued → IsBefore older.number call.number) → Truth (call ∷ issued) (λ thing. cond (is_of thing call) (Some call) (latest thing)) (frames ++ frame_of call ∷ []) view
+truth-sent issued latest frames view call truth later =
     record {
       calls = λ frame c among is.
           ⊎_elim (λ there. let old = truth.calls frame c there is in record { call = old.call; among = inr old.among; is = old.is }) (λ e. record { call = call; among = inl refl; is = e })
@@ -90,6 +95,8 @@ truth-sent issued frames view call truth later =
       ids = λ number party kind reply among. truth.ids number party kind reply (before_call frames call number party kind reply among);
       kept = λ thing kept is. among-append frames (frame_of call ∷ []) _ (truth.kept thing kept is);
       numbers = (all_of (ComesAfter call) issued later, truth.numbers);
+      found = λ thing other is. found thing other (is_of thing call) refl is;
+      order = λ other thing among of. order other thing among of (is_of thing call) refl;
       spent = λ other thing reply among of ok. spent other thing reply among of ok;
       told = λ other thing reply found ok. told other thing reply (is_of thing call) refl found ok;
       untouched = λ thing none. untouched thing (is_of thing call) refl none;
@@ -98,16 +105,27 @@ truth-sent issued frames view call truth later =
     older_ok : (other : Issued) (reply : Reply) → IsAnsweredOk (frames ++ frame_of call ∷ []) other reply → IsAnsweredOk frames other reply
     older_ok other reply ok = (before_call frames call other.number other.party (kind_of other.call) reply ok.0, ok.1)
 
+    found : (thing : PluginThing) (other : Issued) (b : Bool) → is_of thing call ≡ b → cond b (Some call) (latest thing) ≡ Some other → IsAmong other (call ∷ issued) × (is_of thing other ≡ true)
+    found thing other true of e = let same : other ≡ call = sym (same_Some call other e) in (inl same, ap (is_of thing) same ∙ of)
+    found thing other false of e = let old = truth.found thing other e in (inr old.0, old.1)
+
+    order : (other : Issued) (thing : PluginThing) → IsAmong other (call ∷ issued) → is_of thing other ≡ true → (b : Bool) → is_of thing call ≡ b
+        → ((last : Issued) × (cond b (Some call) (latest thing) ≡ Some last) × ((other ≡ last) ⊎ IsBefore other.number last.number)) ⊎ IsTrue (view.is_spent thing other.number)
+    order other thing (inl e) of true is = inl (call, refl, inl e)
+    order other thing (inr there) of true is = inl (call, refl, inr (later other there))
+    order other thing (inl e) of false is = absurd (false≢true (sym is ∙ ap (is_of thing) (sym e) ∙ of))
+    order other thing (inr there) of false is = truth.order other thing there of
+
     spent : (other : Issued) (thing : PluginThing) (reply : Reply) → IsAmong other (call ∷ issued) → is_of thing other ≡ true → IsAnsweredOk (frames ++ frame_of call ∷ []) other reply → IsTrue (view.is_spent thing other.number)
-    spent other thing reply (inl e) of ok = absurd (unanswered issued frames view call reply truth later (subst (λ (x : Issued). IsAnsweredOk (frames ++ frame_of call ∷ []) x reply) e ok))
+    spent other thing reply (inl e) of ok = absurd (unanswered issued latest frames view call reply truth later (subst (λ (x : Issued). IsAnsweredOk (frames ++ frame_of call ∷ []) x reply) e ok))
     spent other thing reply (inr there) of ok = truth.spent other thing reply there of (older_ok other reply ok)
 
-    told : (other : Issued) (thing : PluginThing) (reply : Reply) (b : Bool) → is_of thing call ≡ b → cond b (Some call) (find (is_of thing) issued) ≡ Some other → IsAnsweredOk (frames ++ frame_of call ∷ []) other reply
+    told : (other : Issued) (thing : PluginThing) (reply : Reply) (b : Bool) → is_of thing call ≡ b → cond b (Some call) (latest thing) ≡ Some other → IsAnsweredOk (frames ++ frame_of call ∷ []) other reply
         → view.held thing ≡ asked other.call reply
-    told other thing reply true of e ok = absurd (unanswered issued frames view call reply truth later (subst (λ (x : Issued). IsAnsweredOk (frames ++ frame_of call ∷ []) x reply) (sym (same_Some call other e)) ok))
+    told other thing reply true of e ok = absurd (unanswered issued latest frames view call reply truth later (subst (λ (x : Issued). IsAnsweredOk (frames ++ frame_of call ∷ []) x reply) (sym (same_Some call other e)) ok))
     told other thing reply false of e ok = truth.told other thing reply e (older_ok other reply ok)
 
-    untouched : (thing : PluginThing) (b : Bool) → is_of thing call ≡ b → cond b (Some call) (find (is_of thing) issued) ≡ None → view.held thing ≡ None
+    untouched : (thing : PluginThing) (b : Bool) → is_of thing call ≡ b → cond b (Some call) (latest thing) ≡ None → view.held thing ≡ None
     untouched thing true of e = absurd (some_is_not_none call e)
     untouched thing false of e = truth.untouched thing e
 
@@ -165,9 +183,9 @@ module _ (issued : List Issued) (frames : List Frame) (old new : PluginView) (ca
     pub spent : (other : PluginThing) (number : Number) → IsTrue (old.is_spent other number) → IsTrue (new.is_spent other number)
     pub held : (k : PluginThing) → (new.held k ≡ old.held k) ⊎ IsChanged k
 
-  -- an OK was sent before, or the call's thing is as it asks, and its number is spent
-  abbrev pub IsMet : Type 0
-  IsMet = reply.status ≡ Ok → IsAmong (answer_to call kind reply) frames ⊎ ((new.held thing ≡ asked call.call reply) × IsTrue (new.is_spent thing call.number))
+  -- an OK was sent before, or the call's number is spent, and its thing is as it asks where the call was sent since that ended last
+  abbrev pub IsMet : Type 0 → Type 0
+  IsMet here = reply.status ≡ Ok → IsAmong (answer_to call kind reply) frames ⊎ ((here → new.held thing ≡ asked call.call reply) × IsTrue (new.is_spent thing call.number))
 
   -- what was kept was sent
   abbrev pub WasKept : Type 0
@@ -229,9 +247,9 @@ module _ (issued : List Issued) (frames : List Frame) (old new : PluginView) (ca
       }
 
   -- an OK is an old one, or the answer, and then the call's thing is as it asks
-  pub ok-either : Truth issued frames old → IsEffect → IsMet → (other : Issued) (r : Reply) → IsAmong other issued → IsAnsweredOk (frames ++ answer_to call kind reply ∷ []) other r
-      → IsAnsweredOk frames other r ⊎ ((other ≡ call) × (r ≡ reply) × (new.held thing ≡ asked call.call reply) × IsTrue (new.is_spent thing call.number))
-  ok-either truth effect met other r among ok =
+  pub ok-either : (here : Type 0) (latest : PluginThing → Option Issued) → Truth issued latest frames old → IsEffect → IsMet here → (other : Issued) (r : Reply) → IsAmong other issued → IsAnsweredOk (frames ++ answer_to call kind reply ∷ []) other r
+      → IsAnsweredOk frames other r ⊎ ((other ≡ call) × (r ≡ reply) × (here → new.held thing ≡ asked call.call reply) × IsTrue (new.is_spent thing call.number))
+  ok-either here latest truth effect met other r among ok =
       ⊎_elim (λ there. inl (there, ok.1)) (λ e.
       let says : r ≡ reply = (reply-parts _ _ _ _ (kind_of other.call) kind r reply e).1 in
       let one : other ≡ call = one-number issued truth.numbers other call among effect.among (ap (λ (f : Frame). f.number) e) in
@@ -240,8 +258,8 @@ module _ (issued : List Issued) (frames : List Frame) (old new : PluginView) (ca
       (among-either frames (answer_to call kind reply) (reply_frame other.number other.party (kind_of other.call) r) ok.0)
 
   -- after a plugin answered a sent call
-  pub truth-answered : Truth issued frames old → IsClosed old → IsEffect → IsMet → Truth issued (frames ++ answer_to call kind reply ∷ []) new
-  truth-answered truth closed effect met =
+  pub truth-answered : (here : Type 0) (latest : PluginThing → Option Issued) → (latest thing ≡ Some call → here) → Truth issued latest frames old → IsClosed old → IsEffect → IsMet here → Truth issued latest (frames ++ answer_to call kind reply ∷ []) new
+  truth-answered here latest since truth closed effect met =
       record {
         calls = λ frame c among is. ⊎_elim (λ there. truth.calls frame c there is) (λ e. absurd (no_call c (sym (ap (λ (f : Frame). f.body) e) ∙ is))) (among-either frames _ frame among);
         replies = λ number party k r among.
@@ -250,22 +268,35 @@ module _ (issued : List Issued) (frames : List Frame) (old new : PluginView) (ca
             ⊎_elim (λ there. truth.ids number party k r there ok) (λ e. rule k r (reply-parts number call.number party call.party k kind r reply e) ok) (among-either frames _ _ among);
         kept = effect.kept;
         numbers = truth.numbers;
+        found = truth.found;
+        order = λ other k among of. ⊎_elim (λ no_later. inl no_later) (λ spent. inr (effect.spent k other.number spent)) (truth.order other k among of);
         spent = λ other k r among of ok.
             ⊎_elim (λ was. effect.spent k other.number (truth.spent other k r among of was))
-            (λ now. ap (λ (x : Issued). new.is_spent k x.number) now.0 ∙ ap (λ x. new.is_spent x call.number) (its_thing k other now.0 of) ∙ now.3) (ok-either truth effect met other r among ok);
+            (λ now. ap (λ (x : Issued). new.is_spent k x.number) now.0 ∙ ap (λ x. new.is_spent x call.number) (its_thing k other now.0 of) ∙ now.3) (ok-either here latest truth effect met other r among ok);
         told = λ other k r found ok.
-            ⊎_elim (λ was. stays k (λ same fresh. overtaken other r (subst (λ x. find (is_of x) issued ≡ Some other) same found) was fresh) ∙ truth.told other k r found was)
-            (λ now. ap new.held (its_thing k other now.0 (find-passes (is_of k) issued other found)) ∙ now.2 ∙ ap (asked call.call) (sym now.1) ∙ ap (λ (x : Issued). asked x.call r) (sym now.0))
-            (ok-either truth effect met other r (among-find (is_of k) issued other found) ok);
-        untouched = λ k none. stays k (λ same fresh. false≢true (sym (none_passes (is_of k) issued call none effect.among) ∙ ap (λ x. is_of x call) same ∙ effect.of)) ∙ truth.untouched k none;
+            ⊎_elim (λ was. stays k (λ same fresh. overtaken other r (subst (λ x. latest x ≡ Some other) same found) was fresh) ∙ truth.told other k r found was)
+            (λ now.
+            let same : k ≡ thing = its_thing k other now.0 (truth.found k other found).1 in
+            ap new.held same ∙ now.2 (since (ap latest (sym same) ∙ found ∙ ap Some now.0)) ∙ ap (asked call.call) (sym now.1) ∙ ap (λ (x : Issued). asked x.call r) (sym now.0))
+            (ok-either here latest truth effect met other r (truth.found k other found).0 ok);
+        untouched = λ k none. stays k (λ same fresh. never (subst (λ x. latest x ≡ None) same none) fresh) ∙ truth.untouched k none;
       }
     where
       -- the latest call of a thing was answered OK, so an earlier one wasn't carried out
-      overtaken : (other : Issued) (r : Reply) → find (is_of thing) issued ≡ Some other → IsAnsweredOk frames other r → old.is_spent thing call.number ≡ false → ⊥
+      overtaken : (other : Issued) (r : Reply) → latest thing ≡ Some other → IsAnsweredOk frames other r → old.is_spent thing call.number ≡ false → ⊥
       overtaken other r found ok fresh =
-          let latest : IsTrue (old.is_spent thing other.number) = truth.spent other thing r (among-find (is_of thing) issued other found) (find-passes (is_of thing) issued other found) ok in
-          false≢true (sym fresh ∙ ⊎_elim (λ e. ap (λ (x : Issued). old.is_spent thing x.number) e ∙ latest) (λ before. closed thing call.number other.number before latest)
-          (latest-last thing issued other call truth.numbers found effect.among effect.of))
+          let there = truth.found thing other found in
+          let last_spent : IsTrue (old.is_spent thing other.number) = truth.spent other thing r there.0 there.1 ok in
+          false≢true (sym fresh
+          ∙ ⊎_elim (λ no_later.
+          let same : no_later.0 ≡ other = same_Some no_later.0 other (sym no_later.1 ∙ found) in
+          ⊎_elim (λ e. ap (λ (x : Issued). old.is_spent thing x.number) (e ∙ same) ∙ last_spent)
+          (λ before. closed thing call.number other.number (subst (λ (x : Issued). IsBefore call.number x.number) same before) last_spent) no_later.2) (λ spent. spent) (truth.order call thing effect.among effect.of))
+
+      -- where a thing has no latest call, each of it is spent
+      never : latest thing ≡ None → old.is_spent thing call.number ≡ false → ⊥
+      never none fresh =
+          ⊎_elim (λ no_later. none-some no_later.0 (sym none ∙ no_later.1)) (λ spent. false≢true (sym fresh ∙ spent)) (truth.order call thing effect.among effect.of)
 
       stays : (k : PluginThing) → (k ≡ thing → old.is_spent thing call.number ≡ false → ⊥) → new.held k ≡ old.held k
       stays k differs = ⊎_elim (λ same. same) (λ now. absurd (differs now.same now.fresh)) (effect.held k)
@@ -278,3 +309,45 @@ module _ (issued : List Issued) (frames : List Frame) (old new : PluginView) (ca
 
       its_thing : (k : PluginThing) (other : Issued) → other ≡ call → is_of k other ≡ true → k ≡ thing
       its_thing k other same of = one-thing call k thing (subst (λ (x : Issued). is_of k x ≡ true) same of) effect.of
+
+-- ---- where things end without a call, or a plugin knows more
+
+-- nothing changes of a thing but that more numbers are spent
+pub record IsSameThing (issued : List Issued) (before after : PluginThing → Option Issued) (old new : PluginView) (k : PluginThing) : Type 0 where
+  pub latest : after k ≡ before k
+  pub held : new.held k ≡ old.held k
+  pub spent : (call : Issued) → IsAmong call issued → is_of k call ≡ true → IsTrue (old.is_spent k call.number) → IsTrue (new.is_spent k call.number)
+  pub kept : (x : Kept) → new.kept k ≡ Some x → old.kept k ≡ Some x
+
+-- the thing has ended: it isn't there, and each call of it is spent
+pub record IsOver (issued : List Issued) (after : PluginThing → Option Issued) (old new : PluginView) (k : PluginThing) : Type 0 where
+  pub latest : after k ≡ None
+  pub held : new.held k ≡ None
+  pub spent : (call : Issued) → IsAmong call issued → is_of k call ≡ true → IsTrue (new.is_spent k call.number)
+  pub kept : (x : Kept) → new.kept k ≡ Some x → old.kept k ≡ Some x
+
+-- each thing is as it was, or has ended
+abbrev pub AreEnding : List Issued → (PluginThing → Option Issued) → (PluginThing → Option Issued) → PluginView → PluginView → Type 0
+AreEnding issued before after old new = (k : PluginThing) → IsSameThing issued before after old new k ⊎ IsOver issued after old new k
+
+-- what was kept was kept before
+kept-before : (issued : List Issued) (before after : PluginThing → Option Issued) (old new : PluginView) → AreEnding issued before after old new → (k : PluginThing) (x : Kept) → new.kept k ≡ Some x → old.kept k ≡ Some x
+kept-before issued before after old new ending k x is = ⊎_elim (λ same. same.kept x is) (λ over. over.kept x is) (ending k)
+
+-- what is so of the replies is so then
+pub truth-ended : (issued : List Issued) (before after : PluginThing → Option Issued) (frames : List Frame) (old new : PluginView) → AreEnding issued before after old new → Truth issued before frames old → Truth issued after frames new
+truth-ended issued before after frames old new ending truth =
+    record {
+      calls = truth.calls;
+      replies = truth.replies;
+      ids = truth.ids;
+      kept = λ k x is. truth.kept k x (kept-before issued before after old new ending k x is);
+      numbers = truth.numbers;
+      found = λ k call is. ⊎_elim (λ same. truth.found k call (sym same.latest ∙ is)) (λ over. absurd (none-some call (sym over.latest ∙ is))) (ending k);
+      order = λ call k among of.
+          ⊎_elim (λ same. ⊎_elim (λ no_later. inl (no_later.0, same.latest ∙ no_later.1, no_later.2)) (λ spent. inr (same.spent call among of spent)) (truth.order call k among of))
+          (λ over. inr (over.spent call among of)) (ending k);
+      spent = λ call k reply among of ok. ⊎_elim (λ same. same.spent call among of (truth.spent call k reply among of ok)) (λ over. over.spent call among of) (ending k);
+      told = λ call k reply is ok. ⊎_elim (λ same. same.held ∙ truth.told call k reply (sym same.latest ∙ is) ok) (λ over. absurd (none-some call (sym over.latest ∙ is))) (ending k);
+      untouched = λ k none. ⊎_elim (λ same. same.held ∙ truth.untouched k (sym same.latest ∙ none)) (λ over. over.held) (ending k);
+    }

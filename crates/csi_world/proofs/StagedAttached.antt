@@ -1,7 +1,7 @@
 -- What stands staged at a node, or may still come to: while anything does, the volume is known to be attached there, in
 -- that capability.
-use Rattle.std.proofs.Common.{◌≡◌, ◌⊎◌, ℕ, List, ◌∷◌, Bool, true, false, cond, Some, find, ◌==◌, sym, ◌∙◌, ap, subst, inl, inr, ⊎_elim}
-use Rattle.std.proofs.lemmas.Bool.{and_parts, or_right, eqb-true, false≢true, false_from_ne_true}
+use Rattle.std.proofs.Common.{◌≡◌, ◌⊎◌, ℕ, List, ◌∷◌, Bool, true, false, cond, Option, Some, ◌==◌, refl, sym, ◌∙◌, ap, subst, inl, inr, ⊎_elim}
+use Rattle.std.proofs.lemmas.Bool.{and_parts, and_from, or_right, eqb-true, eq-eqb, false≢true, false_from_ne_true}
 use Rattle.std.proofs.lemmas.Option.{none-some}
 use Rattle.csi_types.specs.declared.capability.Capability.{Capability}
 use Rattle.csi_types.specs.declared.call.Call.{Call}
@@ -19,13 +19,18 @@ use Rattle.csi_orchestrator.specs.Model.Thing.{Issued}
 use Rattle.csi_orchestrator.specs.Model.History.{Item, Sent}
 use Rattle.csi_orchestrator.specs.Model.Readings.{issued_in, is_success_of, has_success, held}
 use Rattle.csi_world.proofs.CallThings.{plugin_thing_at, is_plugin_thing, is_of}
-use Rattle.csi_world.proofs.RepliesTold.{IsEffect}
+use Rattle.csi_world.proofs.Lifetimes.{latest}
+use Rattle.csi_world.proofs.RepliesTold.{IsEffect, IsSameThing, IsOver, AreEnding}
 use Rattle.csi_types.specs.declared.number.Number.{Number}
 use Rattle.csi_types.specs.Model.Frame.{Frame}
 
 -- a NodeStageVolume that was sent
 abbrev pub staging : List ℕ → Number → ℕ → List ℕ → Capability → Issued
 staging name number id node capability = record { name = name; number = number; party = Node node; call = calls.NodeStageVolume id capability }
+
+-- it is of what it stages
+pub stages-own : (name : List ℕ) (number : Number) (id : ℕ) (node : List ℕ) (capability : Capability) → is_of (Staged id node) (staging name number id node capability) ≡ true
+stages-own name number id node capability = and_from (id == id) (same_text node node) (eq-eqb id id refl) ((same_text-tells node node).1 refl)
 
 -- one that may still be carried out
 pub record MayStage (issued : List Issued) (view : PluginView) (id : ℕ) (node : List ℕ) (capability : Capability) : Type 0 where
@@ -42,7 +47,7 @@ IsStanding issued view id node capability = (view.held (Staged id node) ≡ Some
 pub record IsAttachedSo (items : List Item) (id : ℕ) (node : List ℕ) (capability : Capability) : Type 0 where
   pub call : Issued
   pub readonly : Bool
-  pub found : find (is_of (Attached id node)) (issued_in items) ≡ Some call
+  pub found : latest items (Attached id node) ≡ Some call
   pub publishes : call.call ≡ calls.ControllerPublishVolume id node capability readonly
   pub success : has_success items call.number ≡ true
 
@@ -85,16 +90,34 @@ stands-answered items frames old new call thing kind reply effect stands id node
         inr (record { name = may.name; number = may.number; among = may.among; unspent = unspent })
 
 -- an item that sends nothing
-pub stands-noted : (items : List Item) (item : Item) (view : PluginView) → issued_in (item ∷ items) ≡ issued_in items → Stands items view → Stands (item ∷ items) view
-stands-noted items item view same stands id node capability standing =
+pub stands-noted : (items : List Item) (item : Item) (view : PluginView) → issued_in (item ∷ items) ≡ issued_in items
+    → ((id : ℕ) (node : List ℕ) → latest (item ∷ items) (Attached id node) ≡ latest items (Attached id node)) → Stands items view → Stands (item ∷ items) view
+stands-noted items item view same same_latest stands id node capability standing =
     let so = stands id node capability (subst (λ (list : List Issued). IsStanding list view id node capability) same standing) in
     record {
       call = so.call;
       readonly = so.readonly;
-      found = ap (find (is_of (Attached id node))) same ∙ so.found;
+      found = same_latest id node ∙ so.found;
       publishes = so.publishes;
       success = or_right (is_success_of so.call.number item) (has_success items so.call.number) so.success;
     }
+
+-- what stands where things ended stood before
+pub stands-ended : (items : List Item) (before after : PluginThing → Option Issued) (old new : PluginView) → AreEnding (issued_in items) before after old new → Stands items old → Stands items new
+stands-ended items before after old new ending stands id node capability standing = stands id node capability (stood standing (ending (Staged id node)))
+  where
+    stood : IsStanding (issued_in items) new id node capability → IsSameThing (issued_in items) before after old new (Staged id node) ⊎ IsOver (issued_in items) after old new (Staged id node)
+        → IsStanding (issued_in items) old id node capability
+    stood (inl held) (inl same) = inl (sym same.held ∙ held)
+    stood (inl held) (inr over) = absurd (none-some (StagedAs capability) (sym over.held ∙ held))
+    stood (inr may) (inl same) =
+        inr (record {
+          name = may.name;
+          number = may.number;
+          among = may.among;
+          unspent = false_from_ne_true (old.is_spent (Staged id node) may.number) (λ e. false≢true (sym may.unspent ∙ same.spent (staging may.name may.number id node capability) may.among (stages-own may.name may.number id node capability) e));
+        })
+    stood (inr may) (inr over) = absurd (false≢true (sym may.unspent ∙ over.spent (staging may.name may.number id node capability) may.among (stages-own may.name may.number id node capability)))
 
 -- a call is sent: it isn't of where a standing volume is attached, and stages only what is attached so
 pub stands-sent : (items : List Item) (call : Issued) (view : PluginView) → Stands items view
@@ -108,7 +131,7 @@ stands-sent items call view stands leaves stages id node capability standing =
   where
     later : IsAttachedSo items id node capability → is_of (Attached id node) call ≡ false → IsAttachedSo (Sent call ∷ items) id node capability
     later so other =
-        let found = ap (λ b. cond b (Some call) (find (is_of (Attached id node)) (issued_in items))) other ∙ so.found in
+        let found = ap (λ b. cond b (Some call) (latest items (Attached id node))) other ∙ so.found in
         record { call = so.call; readonly = so.readonly; found = found; publishes = so.publishes; success = so.success }
 
     stood : IsStanding (issued_in items) view id node capability → IsAttachedSo (Sent call ∷ items) id node capability

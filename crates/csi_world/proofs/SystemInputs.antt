@@ -1,5 +1,5 @@
 -- The world after an input of the orchestrator, by what its calls promise.
-use Rattle.std.proofs.Common.{◌≡◌, List, map, Result, Ok, Err, IfOk, IfErr, OnErr, refl, sym, ◌∙◌, ap, subst}
+use Rattle.std.proofs.Common.{◌≡◌, List, Result, Ok, Err, IfOk, IfErr, OnErr, refl, sym, ◌∙◌, ap, subst}
 use Rattle.std.proofs.lemmas.Result.{IfOk-weaker}
 use Rattle.csi_types.specs.Model.Frame.{Frame}
 use Rattle.csi_orchestrator.specs.declared.fault.OrchFault.{OrchFault}
@@ -14,9 +14,9 @@ use Rattle.csi_orchestrator.specs.Model.Shown.{Shows as OrchestratorShows, Orche
 use Rattle.csi_world.specs.declared.outcomes.Outcome.{Outcome}
 use Rattle.csi_world.specs.declared.outcomes.Outcome.TheVariants as outcomes
 use Rattle.csi_world.specs.Model.World.{World, with_history}
-use Rattle.csi_world.specs.Model.After.{Occurred, by_answer, by_result, node_id, orchestrated}
+use Rattle.csi_world.specs.Model.After.{Occurred, by_answer, by_result, orchestrated}
 use Rattle.csi_world.specs.Model.Simulated.{WorldParts}
-use Rattle.csi_world.specs.Private.Simulating.{IsPosted, IsInputRefused, IsInputSettled, Does}
+use Rattle.csi_world.specs.Private.Simulating.{IsPosted, IsInputRefused, IsInputSettled, IsWorldAfter, Does}
 use Rattle.csi_world.proofs.SystemCalls.{at-world}
 
 -- the world after the orchestrator's move
@@ -56,30 +56,33 @@ settled-comes answer world old new posted outcome (Err fault) result agrees ok e
 
 -- what comes of an event or of a delivery that is this input
 pub input-becomes : MovesKeepForm → {X E : Type 0} (answer : X → Answer) (shown : WorldParts) (new : OrchestratorParts) (posted : List Frame) (input : Input) (occurs : World → Occurred) (answered : Result X OrchFault) (result : Result Outcome E)
-    → ((world : World) → occurs world ≡ orchestrated shown.config world input)
-    → ((history : History) → IsWellFormed history → OrchestratorShows shown.orchestrator history → IfOk answered (λ x. FollowsUnrefused history (moves (shown.orchestrator).nodes history input) (answer x) new))
-    → ((history : History) → IsWellFormed history → OrchestratorShows shown.orchestrator history → IfErr answered (λ fault. IsRefusal (moves (shown.orchestrator).nodes history input) fault))
-    → OnErr answered (new ≡ shown.orchestrator) → new.nodes ≡ (shown.orchestrator).nodes → IfOk result (λ outcome. IsInputSettled answer shown.frames posted answered outcome)
+    → ((world : World) → OrchestratorShows shown.orchestrator world.history → occurs world ≡ orchestrated world input)
+    → ((history : History) → IsWellFormed history → OrchestratorShows shown.orchestrator history → IfOk answered (λ x. FollowsUnrefused history (moves history input) (answer x) new))
+    → ((history : History) → IsWellFormed history → OrchestratorShows shown.orchestrator history → IfErr answered (λ fault. IsRefusal (moves history input) fault))
+    → OnErr answered (new ≡ shown.orchestrator) → IfOk result (λ outcome. IsInputSettled answer shown.frames posted answered outcome)
     → Does shown (record shown { orchestrator = new; frames = posted }) result occurs
 unfolding after_move
-input-becomes law answer shown new posted input occurs answered result is ok err stays nodes sent = λ world own shows.
+input-becomes law answer shown new posted input occurs answered result is ok err stays sent = λ world own shows.
     IfOk-weaker result _ _
     (λ outcome settled.
     let history : History = world.history in
-    let comes : ComesTo world new posted outcome (moves (map node_id (shown.config).nodes) history input)
-    = subst (λ ids. ComesTo world new posted outcome (moves ids history input)) shows.own_nodes
-    (settled-comes answer world shown.orchestrator new posted outcome answered (moves (shown.orchestrator).nodes history input) shows.orchestrator
-    (ok history shows.form shows.orchestrator) (err history shows.form shows.orchestrator) stays (subst (λ (fs : List Frame). IsInputSettled answer fs posted answered outcome) shows.frames settled))
+    let comes : ComesTo world new posted outcome (moves history input)
+    = settled-comes answer world shown.orchestrator new posted outcome answered (moves history input) shows.orchestrator
+    (ok history shows.form shows.orchestrator) (err history shows.form shows.orchestrator) stays (subst (λ (fs : List Frame). IsInputSettled answer fs posted answered outcome) shows.frames settled)
     in
-    at-world shown (record shown { orchestrator = new; frames = posted }) outcome (occurs world) (after_move world posted (moves (map node_id (shown.config).nodes) history input)) refl refl (record { ids = own.ids; fit = own.fit })
+    at-world shown (record shown { orchestrator = new; frames = posted }) outcome (occurs world) (after_move world posted (moves history input)) refl (record { apart = own.apart; fit = own.fit })
     (record {
+      config = shows.config;
       frames = refl;
       controller = shows.controller;
       nodes = shows.nodes;
       orchestrator = comes.agrees;
-      form = law.then (map node_id (shown.config).nodes) history input shows.form;
+      form = law.then history input shows.form;
       own_config = shows.own_config;
-      own_nodes = nodes ∙ shows.own_nodes;
     })
-    (is world ∙ comes.occurs))
+    (is world shows.orchestrator ∙ comes.occurs))
     sent
+
+-- what comes of an event that is one that came of it
+pub restarted-with : {E : Type 0} (old new : WorldParts) {was is : Occurred} (result : Result Outcome E) → was ≡ is → IfOk result (λ outcome. IsWorldAfter old new outcome was) → IfOk result (λ outcome. IsWorldAfter old new outcome is)
+restarted-with old new result same came = IfOk-weaker result _ _ (λ outcome after. subst (IsWorldAfter old new outcome) same after) came

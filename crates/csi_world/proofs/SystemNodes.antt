@@ -1,11 +1,16 @@
 -- The nodes of a world: the one of an id, where it stands, and what follows where another is put there.
-use Rattle.std.proofs.Common.{◌≡◌, ℕ, zero, suc, Bool, true, false, cond, List, [], ◌∷◌, length, map, set, Option, Some, None, is_some, find, option_map, ◌||◌, nat_lt, refl, sym, ◌∙◌, ap, subst}
-use Rattle.std.specs.List.{list_any}
+use Rattle.std.proofs.Common.{◌≡◌, ℕ, zero, suc, Bool, true, false, cond, not, List, [], ◌∷◌, ◌++◌, length, map, filter, take, drop, Option, Some, None, find, option_map, nat_lt, refl, sym, ◌∙◌, ap, subst, inr, ⊎_elim}
+use Rattle.std.proofs.Common.{set}
+use Rattle.std.specs.List.{list_any, remove}
 use Rattle.std.proofs.lemmas.Bool.{or_parts, false≢true}
+use Rattle.std.proofs.lemmas.List.{take-append-drop}
+use Rattle.csi_lists.specs.Model.Members.{IsAmong}
 use Rattle.csi_lists.specs.Public.Places.{FirstAt}
+use Rattle.csi_lists.proofs.Members.{among-append, among-either, among-joined, among-right, none_passes}
 use Rattle.csi_lists.proofs.Options.{some_is_not_none}
 use Rattle.csi_lists.proofs.Places.{FirstAt-find}
-use Rattle.csi_lists.proofs.Tests.{alike, any-of_map, any-find}
+use Rattle.csi_lists.proofs.Searches.{find-missed}
+use Rattle.csi_lists.proofs.Tests.{alike, any-of_map, any-none, none-among}
 use Rattle.csi_types.specs.declared.config.NodeSlots.{NodeSlots}
 use Rattle.csi_types.specs.declared.config.ConfigFault.TheVariants.{BadGreatest, TooManyNodes, SameNode, BadSlots}
 use Rattle.csi_types.specs.Model.Config.{Config, has_node}
@@ -15,11 +20,10 @@ use Rattle.csi_types.proofs.Equality.{same_text-tells}
 use Rattle.csi_node.specs.Model.Record.{NodeParts}
 use Rattle.csi_node.specs.Model.Record.{Shows as NodeShows}
 use Rattle.csi_node.specs.Model.State.{NodeState}
-use Rattle.csi_world.specs.Model.World.{NodeAt, new_node, with_state}
-use Rattle.csi_world.specs.Model.After.{node_id}
+use Rattle.csi_world.specs.Model.World.{NodeAt, new_node, node_id, with_state}
 use Rattle.csi_world.specs.Model.Simulated.{AreNodesShown}
 use Rattle.csi_world.specs.Private.Simulating.{IsSameNode, new_node_parts}
-use Rattle.csi_world.specs.Public.Simulating.{ShowsNode}
+use Rattle.csi_world.specs.Public.Simulating.{has_same_id, ShowsNode}
 use Rattle.csi_world.specs.Private.Listed.{AreDistinctTexts}
 
 -- is this node the one of the id
@@ -71,16 +75,32 @@ ids-put p (x ∷ xs) zero old new first same = ap (λ (t : List ℕ). t ∷ map 
 ids-put p (x ∷ xs) (suc i) old new first same = ap (λ (ts : List (List ℕ)). x.id ∷ ts) (ids-put p xs i old new (first.1) same)
 
 -- ---- ids that differ
-pub any-ids : (id : List ℕ) (nodes : List NodeSlots) → has_node id nodes ≡ list_any (same_text id) (map node_id nodes)
-any-ids id [] = refl
-any-ids id (n ∷ ns) = ap (λ b. same_text id n.id || b) (any-ids id ns)
 
--- where no two nodes have one id, their ids are distinct
-apart-from : (nodes : List NodeSlots) → has_same_node nodes ≡ false → AreDistinctTexts (map node_id nodes)
-apart-from [] h = tt
-apart-from (n ∷ ns) h =
+-- where no two nodes are of one id, their ids are distinct
+pub apart-texts : (nodes : List NodeParts) → has_same_id nodes ≡ false → AreDistinctTexts (map (λ (m : NodeParts). m.id) nodes)
+apart-texts [] h = tt
+apart-texts (n ∷ ns) h =
+    let both = or_parts (list_any (λ (other : NodeParts). same_text n.id other.id) ns) (has_same_id ns) h in
+    (any-of_map (same_text n.id) (λ (m : NodeParts). m.id) ns ∙ both.0, apart-texts ns both.1)
+
+-- and the other way round
+pub texts-apart : (nodes : List NodeParts) → AreDistinctTexts (map (λ (m : NodeParts). m.id) nodes) → has_same_id nodes ≡ false
+texts-apart [] h = refl
+texts-apart (n ∷ ns) h = rw (sym (any-of_map (same_text n.id) (λ (m : NodeParts). m.id) ns) ∙ h.0) (texts-apart ns h.1)
+
+-- what is shown of a world's nodes has their ids
+pub same-ids : (shown : List NodeParts) (nodes : List NodeAt) → AreNodesShown shown nodes → map (λ (m : NodeParts). m.id) shown ≡ map (λ (n : NodeAt). n.id) nodes
+same-ids [] [] are = refl
+same-ids [] (n ∷ ns) are = absurd are
+same-ids (x ∷ xs) [] are = absurd are
+same-ids (x ∷ xs) (n ∷ ns) are = λ i. are.0 i ∷ same-ids xs ns are.2 i
+
+-- the nodes of a configuration without a fault have distinct ids
+none-same : (nodes : List NodeSlots) → has_same_node nodes ≡ false → has_same_id (map (new_node_parts 0) (map node_id nodes)) ≡ false
+none-same [] h = refl
+none-same (n ∷ ns) h =
     let both = or_parts (has_node n.id ns) (has_same_node ns) h in
-    (sym (any-ids n.id ns) ∙ both.0, apart-from ns (both.1))
+    rw (any-of_map (λ (other : NodeParts). same_text n.id other.id) (new_node_parts 0) (map node_id ns) ∙ any-of_map (same_text n.id) node_id ns ∙ both.0) (none-same ns both.1)
 
 -- where none of four faults is found, the third isn't there
 fault-none : (a b c d : Bool) → cond a (Some BadGreatest) (cond b (Some TooManyNodes) (cond c (Some SameNode) (cond d (Some BadSlots) None))) ≡ None → c ≡ false
@@ -89,10 +109,10 @@ fault-none false true c d h = absurd (some_is_not_none TooManyNodes h)
 fault-none false false true d h = absurd (some_is_not_none SameNode h)
 fault-none false false false d h = refl
 
--- the nodes of a configuration without a fault have distinct ids
-pub fit-apart : (config : Config) → config_fault config.greatest config.nodes ≡ None → AreDistinctTexts (map node_id config.nodes)
-fit-apart config h =
-    apart-from config.nodes (fault-none (is_bad_greatest config.greatest) (nat_lt 64 (length config.nodes)) (has_same_node config.nodes) (has_bad_slots config.nodes) h)
+-- so do its new nodes
+pub new-apart : (config : Config) → config_fault config.greatest config.nodes ≡ None → has_same_id (map (new_node_parts 0) (map node_id config.nodes)) ≡ false
+new-apart config h =
+    none-same config.nodes (fault-none (is_bad_greatest config.greatest) (nat_lt 64 (length config.nodes)) (has_same_node config.nodes) (has_bad_slots config.nodes) h)
 
 -- a text is the same both ways
 pub same-symmetric : (a b : List ℕ) → same_text a b ≡ same_text b a
@@ -108,6 +128,26 @@ none-changed id state (x ∷ xs) (n ∷ ns) are none =
     let other : same_text n.id id ≡ false = ap (λ t. same_text t id) (sym (are.0)) ∙ same-symmetric x.id id ∙ both.0 in
     let here : with_state id state n ≡ n = rw other refl in
     λ i. here i ∷ none-changed id state xs ns (are.2) (both.1) i
+
+-- where none has the id, none is taken out
+none-taken : (id : List ℕ) (shown : List NodeParts) (nodes : List NodeAt) → AreNodesShown shown nodes → list_any (same_text id) (map (λ (m : NodeParts). m.id) shown) ≡ false → filter (λ (n : NodeAt). not (same_text n.id id)) nodes ≡ nodes
+none-taken id [] [] are none = refl
+none-taken id [] (n ∷ ns) are none = absurd are
+none-taken id (x ∷ xs) [] are none = absurd are
+none-taken id (x ∷ xs) (n ∷ ns) are none =
+    let both = or_parts (same_text id x.id) (list_any (same_text id) (map (λ (m : NodeParts). m.id) xs)) none in
+    let other : same_text n.id id ≡ false = ap (λ t. same_text t id) (sym are.0) ∙ same-symmetric x.id id ∙ both.0 in
+    rw other (ap (λ (ms : List NodeAt). n ∷ ms) (none-taken id xs ns are.2 both.1))
+
+-- what is left once one is taken out was there
+removed-among : {X : Type 0} (xs : List X) (i : ℕ) (x : X) → IsAmong x (remove xs i) → IsAmong x xs
+removed-among xs i x among = subst (IsAmong x) (take-append-drop i xs) (⊎_elim (among-append (take i xs) (drop i xs) x) (λ there. among-right (take i xs) (drop i xs) x (later xs i x there)) (among-joined (take i xs) (drop (suc i) xs) x among))
+  where
+    later : {X : Type 0} (xs : List X) (i : ℕ) (x : X) → IsAmong x (drop (suc i) xs) → IsAmong x (drop i xs)
+    later [] zero x among = among
+    later [] (suc i) x among = among
+    later (y ∷ ys) zero x among = inr among
+    later (y ∷ ys) (suc i) x among = later ys i x among
 
 -- where a node is put that shows this state
 pub state-put : (id : List ℕ) (state : NodeState) (shown : List NodeParts) (nodes : List NodeAt) (i : ℕ) (old new : NodeParts) → AreNodesShown shown nodes → AreDistinctTexts (map (λ (m : NodeParts). m.id) shown)
@@ -127,18 +167,64 @@ state-put id state (x ∷ xs) (n ∷ ns) (suc i) old new are apart first same sh
     let rest = state-put id state xs ns i old new (are.2) (apart.1) (first.1) same shows in
     subst (λ (m : NodeAt). AreNodesShown (x ∷ set xs i new) (m ∷ map (with_state id state) ns)) (sym here) (are.0, are.1, rest)
 
--- a node is configured where one of its id is shown, which has the ids of the configuration
-pub node-there : (id : List ℕ) (shown : List NodeParts) (nodes : List NodeSlots) → map (λ (m : NodeParts). m.id) shown ≡ map node_id nodes → has_node id nodes ≡ is_some (find (is_shown_node id) shown)
-node-there id shown nodes ids =
-    any-ids id nodes ∙ ap (list_any (same_text id)) (sym ids) ∙ any-of_map (same_text id) (λ (m : NodeParts). m.id) shown
-    ∙ (λ i. list_any (λ (m : NodeParts). same-symmetric id m.id i) shown) ∙ any-find (is_shown_node id) shown
+-- ---- nodes that join
 
 -- nodes that answered nothing
-pub new-shown : (nodes : List NodeSlots) → AreNodesShown (map new_node_parts nodes) (map new_node nodes)
+pub new-shown : (ids : List (List ℕ)) → AreNodesShown (map (new_node_parts 0) ids) (map (new_node 0) ids)
 new-shown [] = tt
-new-shown (n ∷ ns) = (refl, record { shows = record { count = refl; kept = λ id. refl; staged = λ id. refl; published = λ id. refl }; session = refl }, new-shown ns)
+new-shown (id ∷ ids) = (refl, record { shows = record { count = refl; kept = λ i. refl; staged = λ i. refl; published = λ i. refl }; session = refl }, new-shown ids)
 
--- nodes that answered nothing have the ids of the configuration
-pub new-ids : (nodes : List NodeSlots) → map (λ (m : NodeParts). m.id) (map new_node_parts nodes) ≡ map node_id nodes
-new-ids [] = refl
-new-ids (n ∷ ns) = ap (λ (ids : List (List ℕ)). n.id ∷ ids) (new-ids ns)
+-- a node that joins is shown after the others
+pub joined-shown : (session : ℕ) (id : List ℕ) (shown : List NodeParts) (nodes : List NodeAt) → AreNodesShown shown nodes → AreNodesShown (shown ++ new_node_parts session id ∷ []) (nodes ++ new_node session id ∷ [])
+joined-shown session id [] [] are = (refl, record { shows = record { count = refl; kept = λ i. refl; staged = λ i. refl; published = λ i. refl }; session = refl }, tt)
+joined-shown session id [] (n ∷ ns) are = absurd are
+joined-shown session id (x ∷ xs) [] are = absurd are
+joined-shown session id (x ∷ xs) (n ∷ ns) are = (are.0, are.1, joined-shown session id xs ns are.2)
+
+-- no two are of one id then, where none had that id
+pub joined-apart : (session : ℕ) (id : List ℕ) (shown : List NodeParts) → has_same_id shown ≡ false → find (is_shown_node id) shown ≡ None → has_same_id (shown ++ new_node_parts session id ∷ []) ≡ false
+joined-apart session id [] apart none = refl
+joined-apart session id (x ∷ xs) apart none =
+    let both = or_parts (list_any (λ (other : NodeParts). same_text x.id other.id) xs) (has_same_id xs) apart in
+    let missed = find-missed (same_text x.id id) x (find (is_shown_node id) xs) none in
+    let new : NodeParts = new_node_parts session id in
+    let first : list_any (λ (other : NodeParts). same_text x.id other.id) (xs ++ new ∷ []) ≡ false
+    = any-none (λ (other : NodeParts). same_text x.id other.id) (xs ++ new ∷ []) (λ y among.
+    ⊎_elim (λ there. none-among (λ (other : NodeParts). same_text x.id other.id) xs y both.0 there) (λ e. ap (λ (other : NodeParts). same_text x.id other.id) e ∙ missed.0) (among-either xs new y among)) in
+    rw first (joined-apart session id xs both.1 missed.1)
+
+-- ---- nodes that are lost
+
+-- the node at the first place of an id is taken out, and so is each of the id in the world
+pub lost-shown : (id : List ℕ) (shown : List NodeParts) (nodes : List NodeAt) (i : ℕ) (old : NodeParts) → AreNodesShown shown nodes → AreDistinctTexts (map (λ (m : NodeParts). m.id) shown) → FirstAt (is_shown_node id) shown i old
+    → AreNodesShown (remove shown i) (filter (λ (n : NodeAt). not (same_text n.id id)) nodes)
+lost-shown id [] nodes i old are apart first = absurd first
+lost-shown id (x ∷ xs) [] i old are apart first = absurd are
+lost-shown id (x ∷ xs) (n ∷ ns) zero old are apart first =
+    let passes : same_text n.id id ≡ true = ap (λ t. same_text t id) (sym are.0) ∙ first.0 in
+    let own : x.id ≡ id = (same_text-tells x.id id).0 first.0 in
+    let none = subst (λ t. list_any (same_text t) (map (λ (m : NodeParts). m.id) xs) ≡ false) own apart.0 in
+    rw passes (subst (AreNodesShown xs) (sym (none-taken id xs ns are.2 none)) are.2)
+lost-shown id (x ∷ xs) (n ∷ ns) (suc i) old are apart first =
+    let other : same_text n.id id ≡ false = ap (λ t. same_text t id) (sym are.0) ∙ first.0 in
+    rw other (are.0, are.1, lost-shown id xs ns i old are.2 apart.1 first.1)
+
+-- where none is of the id, none is taken out
+pub none-taken_of : (id : List ℕ) (shown : List NodeParts) (nodes : List NodeAt) → AreNodesShown shown nodes → find (is_shown_node id) shown ≡ None → filter (λ (n : NodeAt). not (same_text n.id id)) nodes ≡ nodes
+none-taken_of id shown nodes are none =
+    none-taken id shown nodes are
+    (any-of_map (same_text id) (λ (m : NodeParts). m.id) shown ∙ any-none (λ (m : NodeParts). same_text id m.id) shown (λ m among. same-symmetric id m.id ∙ none_passes (is_shown_node id) shown m none among))
+
+-- no two are of one id still
+pub lost-apart : (shown : List NodeParts) (i : ℕ) → has_same_id shown ≡ false → has_same_id (remove shown i) ≡ false
+lost-apart [] i apart = by i
+  where
+    by : (i : ℕ) → has_same_id (remove {X = NodeParts} [] i) ≡ false
+    by zero = refl
+    by (suc i) = refl
+lost-apart (x ∷ xs) zero apart = (or_parts (list_any (λ (other : NodeParts). same_text x.id other.id) xs) (has_same_id xs) apart).1
+lost-apart (x ∷ xs) (suc i) apart =
+    let both = or_parts (list_any (λ (other : NodeParts). same_text x.id other.id) xs) (has_same_id xs) apart in
+    let first : list_any (λ (other : NodeParts). same_text x.id other.id) (remove xs i) ≡ false
+    = any-none (λ (other : NodeParts). same_text x.id other.id) (remove xs i) (λ y among. none-among (λ (other : NodeParts). same_text x.id other.id) xs y both.0 (removed-among xs i y among)) in
+    rw first (lost-apart xs i both.1)

@@ -17,13 +17,13 @@ use Rattle.csi_orchestrator.specs.Model.Readings.{issued_in}
 use Rattle.csi_world.specs.Model.World.{NodeAt, World, empty_world}
 use Rattle.csi_world.specs.Public.Step.{Choice, MayChooseAll, chosen_all}
 use Rattle.csi_world.specs.Model.Safe.{IsAttachedAs, IsStagedWhereAttached, Safe}
-use Rattle.csi_world.proofs.WorldView.{node_view, view_of}
-use Rattle.csi_world.proofs.CallThings.{is_of}
+use Rattle.csi_world.proofs.WorldView.{node_view, over_at, view_of}
 use Rattle.csi_world.proofs.HeardReplies.{success-ok}
 use Rattle.csi_world.proofs.RecordedRight.{recorded}
 use Rattle.csi_world.proofs.PluginsReached.{IsNodeOfFrames}
 use Rattle.csi_world.proofs.Deliveries.{PluginLaws}
-use Rattle.csi_world.proofs.ChoicesRight.{IsRight, empty-right, all-right}
+use Rattle.csi_world.proofs.RightWorlds.{IsRight}
+use Rattle.csi_world.proofs.ChoicesRight.{empty-right, all-right}
 use Rattle.csi_world.proofs.PluginSafety.{exclusive, published-staged}
 
 -- what the controller holds so is in its list
@@ -41,33 +41,32 @@ held-there world id at capability readonly h =
     }
 
 -- what is staged in a node's list is staged as its view has it
-staged-seen : PluginLaws → (config : Config) (world : World) (at : NodeAt) (staged : StagedVolume) → IsRight config world → IsAmong at world.nodes → IsAmong staged at.state.staged
+staged-seen : PluginLaws → (world : World) (at : NodeAt) (staged : StagedVolume) → IsRight world → IsAmong at world.nodes → IsAmong staged at.state.staged
     → (view_of world).held (Staged staged.volume at.id) ≡ Some (StagedAs staged.capability)
-staged-seen laws config world at staged right there among =
+staged-seen laws world at staged right there among =
     let of = each_of IsNodeOfFrames world.nodes at right.good.reached.nodes there in
     let found : staged_of staged.volume at.state ≡ Some staged.capability
-    = subst (λ (s : NodeState). staged_of staged.volume s ≡ Some staged.capability) (sym of.1) (laws.node.found at.id 0 of.0 staged (subst (λ (s : NodeState). IsAmong staged s.staged) of.1 among)) in
-    ap (λ o. (node_view at.id o).held (Staged staged.volume at.id)) (right.good.reached.alike at there)
+    = subst (λ (s : NodeState). staged_of staged.volume s ≡ Some staged.capability) (sym of.2) (laws.node.found at.id of.0 of.1 staged (subst (λ (s : NodeState). IsAmong staged s.staged) of.2 among)) in
+    ap (λ o. (node_view at.id (over_at world) o).held (Staged staged.volume at.id)) (right.good.reached.alike at there)
     ∙ ap (λ b. cond b (option_map StagedAs (staged_of staged.volume at.state)) None) ((same_text-tells at.id at.id).1 refl)
     ∙ ap (option_map StagedAs) found
 
 -- what is staged at a node is attached there, in the same capability
-staged-attached : PluginLaws → (config : Config) (world : World) → IsRight config world → IsStagedWhereAttached world
-staged-attached laws config world right at staged there among =
+staged-attached : PluginLaws → (world : World) → IsRight world → IsStagedWhereAttached world
+staged-attached laws world right at staged there among =
     let well = right.good.well.so_far in
-    let attached = well.stands staged.volume at.id staged.capability (inl (staged-seen laws config world at staged right there among)) in
-    let ok = success-ok world.history.items (issued_in world.history.items) world.frames attached.call well.heard well.truth.numbers (among-find (is_of (Attached staged.volume at.id)) (issued_in world.history.items) attached.call attached.found) attached.success in
+    let attached = well.stands staged.volume at.id staged.capability (inl (staged-seen laws world at staged right there among)) in
+    let sent = (well.truth.found (Attached staged.volume at.id) attached.call attached.found).0 in
+    let ok = success-ok world.history.items (issued_in world.history.items) world.frames attached.call well.heard well.truth.numbers sent attached.success in
     held-there world staged.volume at.id staged.capability attached.readonly
     (well.truth.told attached.call (Attached staged.volume at.id) ok.0 attached.found ok.1 ∙ ap (λ c. asked c ok.0) attached.publishes)
 
--- every world to which choices lead that may be made is safe
-pub worlds_are_safe : PluginLaws → (config : Config) (choices : List Choice) → MayChooseAll config (empty_world config) choices → Safe (chosen_all config (empty_world config) choices)
-worlds_are_safe laws config choices may =
-    let world : World = chosen_all config (empty_world config) choices in
-    let right = all-right laws config (empty_world config) choices (empty-right laws config) may in
-    let plugin = exclusive laws.exclusive config world right.good.reached in
-    let staged = staged-attached laws config world right in
-    let published = published-staged laws.publishing config world right.good.reached in
+-- a world of which all is so that is kept of every world is safe
+pub right-safe : PluginLaws → (world : World) → IsRight world → Safe world
+right-safe laws world right =
+    let plugin = exclusive laws.exclusive world right.good.reached in
+    let staged = staged-attached laws world right in
+    let published = published-staged laws.publishing world right.good.reached in
     record {
       exclusive = plugin.exclusive;
       staged_where_attached = staged;
@@ -75,3 +74,7 @@ worlds_are_safe laws config choices may =
       attached_while_live = plugin.attached_while_live;
       recorded_right = recorded world right.good.given right.good.well (record { staged = staged; published = published; live = plugin.attached_while_live });
     }
+
+-- so every world to which choices lead that may be made is safe
+pub worlds_are_safe : PluginLaws → (config : Config) (choices : List Choice) → MayChooseAll (empty_world config) choices → Safe (chosen_all (empty_world config) choices)
+worlds_are_safe laws config choices may = right-safe laws (chosen_all (empty_world config) choices) (all-right laws (empty_world config) choices (empty-right laws config) may)

@@ -5,44 +5,52 @@ use Rattle.csi_types.specs.declared.number.Number.{Number}
 use Rattle.csi_types.specs.declared.call.Party.{Party}
 use Rattle.csi_types.specs.declared.call.Party.TheVariants.{Controller, Node}
 use Rattle.csi_fence.specs.Public.Delivery.{PluginView, Delivery, Acts, Rests, Misses, IsSameView, IsClosed, kept_of}
-use Rattle.csi_types.specs.Public.PluginThing.{PluginThing, Exists, Attached, Staged, Published}
+use Rattle.csi_types.specs.Public.PluginThing.{PluginThing}
 use Rattle.csi_types.specs.Model.Number.{IsBefore}
 use Rattle.csi_types.specs.Model.Same.{same_party}
 use Rattle.csi_types.proofs.Equality.{same_party-tells}
 use Rattle.csi_controller.specs.Public.View as controllers
 use Rattle.csi_node.specs.Model.State.{NodeState}
 use Rattle.csi_node.specs.Public.View as nodes
+use Rattle.csi_fence.specs.Model.Fence.{is_over}
 use Rattle.csi_world.specs.Model.World.{World, node_state}
+pub use Rattle.csi_world.proofs.Parties.{party_of}
+use Rattle.csi_world.proofs.Lifetimes.{over_in, over-before}
 
--- the plugin that has a thing
-abbrev pub party_of : PluginThing → Party
-party_of (Exists name) = Controller
-party_of (Attached id node) = Controller
-party_of (Staged id node) = Node node
-party_of (Published id node target) = Node node
-
--- a node that isn't there
-abbrev pub no_view : PluginView
-no_view = record { held = λ thing. None; is_spent = λ thing number. false; kept = λ thing. None }
+-- a node that isn't there: no call of a session before the one in which it was lost will be carried out at one that joins
+abbrev pub no_view : (PluginThing → ℕ) → PluginView
+no_view over = record { held = λ thing. None; is_spent = λ thing number. is_over (over thing) number; kept = λ thing. None }
 
 -- a node by its things, if it is there
-abbrev pub node_view : List ℕ → Option NodeState → PluginView
-node_view node None = no_view
-node_view node (Some state) = nodes.view_of node state
+abbrev pub node_view : List ℕ → (PluginThing → ℕ) → Option NodeState → PluginView
+node_view node over None = no_view over
+node_view node over (Some state) = nodes.view_of node state
+
+-- the sessions in which things ended
+abbrev pub over_at : World → PluginThing → ℕ
+over_at world thing = over_in world.history.began world.history.items thing
+
+-- a plugin by its things, where these ended in these sessions
+abbrev pub plugin_with : World → (PluginThing → ℕ) → Party → PluginView
+plugin_with world over Controller = controllers.view_of world.controller
+plugin_with world over (Node id) = node_view id over (node_state id world)
 
 -- a plugin by its things
 abbrev pub plugin_view : World → Party → PluginView
-plugin_view world Controller = controllers.view_of world.controller
-plugin_view world (Node id) = node_view id (node_state id world)
+plugin_view world = plugin_with world (over_at world)
+
+-- the world by its things, where these ended in these sessions
+abbrev pub view_with : World → (PluginThing → ℕ) → PluginView
+view_with world over =
+    record {
+      held = λ thing. (plugin_with world over (party_of thing)).held thing;
+      is_spent = λ thing number. (plugin_with world over (party_of thing)).is_spent thing number;
+      kept = λ thing. (plugin_with world over (party_of thing)).kept thing;
+    }
 
 -- the world by its things
 abbrev pub view_of : World → PluginView
-view_of world =
-    record {
-      held = λ thing. (plugin_view world (party_of thing)).held thing;
-      is_spent = λ thing number. (plugin_view world (party_of thing)).is_spent thing number;
-      kept = λ thing. (plugin_view world (party_of thing)).kept thing;
-    }
+view_of world = view_with world (over_at world)
 
 -- the other plugins are as they were
 abbrev pub ChangesOnly : Party → World → World → Type 0
@@ -111,6 +119,6 @@ closed-all controller node world = λ thing earlier later before. by (party_of t
     by Controller thing earlier later before = controller world thing earlier later before
     by (Node id) thing earlier later before = at (node_state id world)
       where
-        at : (o : Option NodeState) → IsTrue ((node_view id o).is_spent thing later) → IsTrue ((node_view id o).is_spent thing earlier)
-        at None h = h
+        at : (o : Option NodeState) → IsTrue ((node_view id (over_at world) o).is_spent thing later) → IsTrue ((node_view id (over_at world) o).is_spent thing earlier)
+        at None h = over-before (over_at world thing) earlier later before h
         at (Some state) h = node id state thing earlier later before h

@@ -1,6 +1,9 @@
 //! Worlds that are made of their parts.
-ghost use Rattle.std.specs.Prelude.{◌≡◌, ◌↔◌, IfOk, IsTrue, Err};
-ghost use Rattle.csi_world.specs.Public.Assembled.{AreOfNodes, assembled};
+ghost use Rattle.std.specs.Prelude.{◌≡◌, ◌↔◌, IfOk, OnOk, true, false, Err};
+ghost use Rattle.std.specs.List.{list_any};
+ghost use Rattle.csi_types.specs.Model.Same.{same_text};
+ghost use Rattle.csi_world.specs.Public.Assembled.{assembled};
+ghost use Rattle.csi_world.specs.Public.Simulating.{has_same_id};
 ghost use Rattle.csi_world.specs.declared.assembling.AssembleFault.TheVariants.{OtherNodes};
 
 use crate::plugins::controller_of_record;
@@ -9,47 +12,47 @@ use crate::world::World;
 use csi_controller::{Controller, ControllerRecord};
 use csi_node::{Node, NodeRecord};
 use csi_orchestrator::Orchestrator;
-use csi_types::{Config, NoMemory, NodeSlots};
+use csi_types::{Config, NoMemory, NodeId};
 use std::alloc::Global;
 use thiserror::Error;
 
 /// Why a world can't be made of its parts (this profile's own).
 #[derive(Clone, Copy, Debug, PartialEq, Eq, Error)]
 pub enum AssembleFault {
-    /// The node records aren't those of the configuration's nodes, in its order.
-    #[error("the node records are of other nodes")]
+    /// Two of the node records are of one node.
+    #[error("two node records are of one node")]
     OtherNodes = 1,
     /// An allocation was refused.
     #[error("out of memory")]
     NoMemory = 2,
 }
 
-// Whether the records are those of these nodes, in their order.
-fn are_of_nodes(kept: &[NodeRecord], nodes: &[NodeSlots]) -> bool
-    ensures { IsTrue result ↔ AreOfNodes kept.now nodes.now }
+// Whether one of the records is of this node.
+fn has_record(id: &NodeId, kept: &[NodeRecord]) -> bool
+    ensures { result ≡ list_any (λ one. same_text id.now one.id) kept.now }
 {
-    if kept.len() != nodes.len() {
-        return false;
-    }
-    for (place, slots) in nodes.iter().enumerate() {
-        if *kept[place].id() != slots.id {
-            return false;
-        }
-    }
-    true
+    kept.iter().any(|one| *id == *one.id())
 }
 
-// The nodes of these records, which must be of these nodes, in their order.
-fn nodes_as_configured(
-    alloc: Global,
-    nodes: &[NodeSlots],
-    kept: Vec<NodeRecord>,
-) -> Result<Vec<Node>, AssembleFault>
-    ensures ok { IfOk result (λ made. made.items ≡ kept.items) }
-    ensures own { IfOk result (λ made. AreOfNodes kept.items nodes.now) }
-    ensures other { (result ≡ Err OtherNodes) ↔ (AreOfNodes kept.items nodes.now → ⊥) }
+// Whether two of the records are of one node.
+fn has_same_node(kept: &[NodeRecord]) -> bool
+    ensures { result ≡ has_same_id kept.now }
 {
-    if !are_of_nodes(&kept, nodes) {
+    for (place, one) in kept.iter().enumerate() {
+        if has_record(one.id(), &kept[place + 1..]) {
+            return true;
+        }
+    }
+    false
+}
+
+// The nodes of these records, no two of which may be of one node.
+fn nodes_of_records(alloc: Global, kept: Vec<NodeRecord>) -> Result<Vec<Node>, AssembleFault>
+    ensures ok { IfOk result (λ made. made.items ≡ kept.items) }
+    ensures apart { OnOk result (has_same_id kept.items ≡ false) }
+    ensures other { (result ≡ Err OtherNodes) ↔ (has_same_id kept.items ≡ true) }
+{
+    if has_same_node(&kept) {
         return Err(AssembleFault::OtherNodes);
     }
     let mut made = Vec::new(alloc);
@@ -75,10 +78,10 @@ fn plugins_of_records(
       rows = controller.rows;
     }) }
     ensures nodes { IfOk result (λ made. made.1.items ≡ nodes.items) }
-    ensures own { IfOk result (λ made. AreOfNodes nodes.items config.now.nodes) }
-    ensures other { (result ≡ Err OtherNodes) ↔ (AreOfNodes nodes.items config.now.nodes → ⊥) }
+    ensures apart { OnOk result (has_same_id nodes.items ≡ false) }
+    ensures other { (result ≡ Err OtherNodes) ↔ (has_same_id nodes.items ≡ true) }
 {
-    match nodes_as_configured(alloc, config.nodes(), nodes) {
+    match nodes_of_records(alloc, nodes) {
         Ok(nodes) => match controller_of_record(alloc, config, controller) {
             Ok(controller) => Ok((controller, nodes)),
             Err(NoMemory) => Err(AssembleFault::NoMemory),
@@ -90,9 +93,9 @@ fn plugins_of_records(
 impl World {
     /// The world of these parts, in which no frame was sent and no event came: the controller and the nodes are those of the
     /// records, and the orchestrator is the one that is given. It may be any orchestrator, so that the world need not be one
-    /// to which events lead, nor a safe one: `audit` tells. It is refused with `OtherNodes` exactly where the node records
-    /// aren't those of the configuration's nodes, in its order, and else with `NoMemory` where an allocation was refused.
-    /// This profile's own.
+    /// to which events lead, nor a safe one: `audit` tells. The nodes are those that are there, whichever the configuration and the
+    /// orchestrator's list have. It is refused with `OtherNodes` exactly where two of the node records are of one node, and else
+    /// with `NoMemory` where an allocation was refused. This profile's own.
     pub fn assemble(
         alloc: Global,
         config: Config,
@@ -101,7 +104,7 @@ impl World {
         orchestrator: Orchestrator,
     ) -> Result<World, AssembleFault>
         ensures ok { IfOk result (λ world. world ≡ assembled config controller nodes.items orchestrator) }
-        ensures other { (result ≡ Err OtherNodes) ↔ (AreOfNodes nodes.items config.nodes → ⊥) }
+        ensures other { (result ≡ Err OtherNodes) ↔ (has_same_id nodes.items ≡ true) }
     {
         match plugins_of_records(alloc, &config, controller, nodes) {
             Ok((controller, nodes)) => Ok(World::of(System {

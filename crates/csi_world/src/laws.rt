@@ -1,7 +1,7 @@
 //! Laws of worlds. Each function proves a statement, and does nothing.
 ghost use Rattle.csi_world.specs.Public.Audited.{AuditsTellSafety};
 ghost use Rattle.csi_world.specs.Private.Laws.{ChoicesAreSteps, EmptyIsSafe, RunsAreSteps};
-ghost use Rattle.csi_world.specs.Public.Laws.{RunsAreSafe, SafetyLaw, TableLaws};
+ghost use Rattle.csi_world.specs.Public.Laws.{RunsAreSafe, RunsSettle, SafetyLaw, TableLaws};
 
 fn choices_are_steps()
     ensures { ChoicesAreSteps }
@@ -18,14 +18,33 @@ pub(crate) fn runs_are_steps()
     csi_orchestrator::moves_law();
 }
 
-/// A law, and nothing that runs: after every beginning of every list of commands, deliveries, repeats, timeouts and restarts
-/// the world is safe, as `safety_law` says it, for every configuration. What isn't delivered is lost, and frames may come
-/// again and out of order.
+/// A law, and nothing that runs: after every beginning of every list of commands, deliveries, repeats, timeouts, restarts, joins and
+/// losses of nodes the world is safe, as `safety_law` says it, whatever the configuration is first. What isn't delivered is lost, and
+/// frames may come again and out of order. By the loss of a node the operator promises that its machine is off for good, and that its
+/// store never comes back; an emptied store is a lost node.
 pub fn runs_law()
     ensures { RunsAreSafe }
 {
     runs_are_steps();
     safety_law();
+}
+
+/// A law, and nothing that runs: after every list of events, one timeout and at most twelve deliveries of frames that are sent from
+/// there on bring any volume to rest, so that nothing is wanted of it any more, if six numbers are left in the session, and the node
+/// of its use or its stop is there, where the orchestrator's list has it. A use came about then; or it is stopped, since a call was
+/// refused, or it had been tried three times. A stop came about: the volume isn't published at the target, and if that was the
+/// node's last, it isn't staged or attached there. What was to be deleted isn't there, and what was to be made has an id, or was
+/// refused. So no lost frame, restart, refusal or lost node leaves a volume in a corner. This profile's own.
+pub fn settling_law()
+    ensures { RunsSettle }
+{
+    csi_controller::delivery_law();
+    csi_controller::names_law();
+    csi_controller::safety_law();
+    csi_node::delivery_law();
+    csi_node::safety_law();
+    csi_orchestrator::moves_law();
+    csi_orchestrator::form_law();
 }
 
 /// A law, and nothing that runs: in every state of a controller or of a node that frames lead to, and for
@@ -44,7 +63,8 @@ pub fn table_law()
 /// write where one of their modes has a single writer; what is staged at a node is attached there, and what is
 /// published is staged there, in the same capability; what is attached wasn't deleted; and what the
 /// orchestrator's history tells as done or undone is so. It holds whichever guarded calls are sent, given up
-/// and sent again, whichever frames are lost, late, repeated or out of order, and wherever sessions start anew
+/// and sent again, whichever frames are lost, late, repeated or out of order, and wherever sessions start anew, with
+/// whichever list of nodes, names are forgotten, the controller has another configuration, nodes join and nodes are lost
 /// (CSI's spec.md, "CreateVolume", `AccessMode`, and "Volume Lifecycle"; the guards are those of
 /// `csi_orchestrator`).
 pub fn safety_law()

@@ -1,17 +1,17 @@
 //! What happens in a world.
-ghost use Rattle.std.specs.Prelude.{◌≡◌, ◌<◌, Option, Some, None, IfOk, OnOk, if◌then◌else◌};
-ghost use Rattle.csi_types.specs.Model.Config.{has_node};
+ghost use Rattle.std.specs.Prelude.{◌≡◌, ◌<◌, Option, Some, None, IfOk, OnOk};
+ghost use Rattle.csi_orchestrator.specs.Model.Moves.{Restarts};
 ghost use Rattle.csi_world.specs.Model.World.{World};
-ghost use Rattle.csi_world.specs.Model.After.{called, delivered, delivered_body, frame_numbered, occurs};
+ghost use Rattle.csi_world.specs.Model.After.{orchestrated, called, delivered, delivered_body, frame_numbered, occurs};
 ghost use Rattle.csi_world.specs.Model.Simulated.{ShowsWorld};
 ghost use Rattle.csi_world.specs.Public.Simulating.{IsSoundWorld};
+ghost use Rattle.csi_world.specs.Private.Settling.{IsOfOneMake};
 ghost use Rattle.csi_world.specs.Private.Simulating.{Does, IsLogged};
 ghost use Rattle.csi_world.specs.Public.System.{world_parts};
-ghost use Rattle.csi_world.specs.declared.outcomes.Outcome.TheVariants as outcomes;
 
 use crate::carrying::carried;
 use crate::outcomes::Outcome;
-use crate::plugins::{place_of, restarted_controller, restarted_node, step_controller, step_node};
+use crate::plugins::{copied_ids, place_of, step_controller, step_node};
 use crate::sending::{answered, frame_of, settled, settled_reply, settled_restart};
 use crate::system::System;
 use csi_types::{Body, CapabilityList, Event, Frame, NoMemory, NodeId, Party};
@@ -26,7 +26,8 @@ fn copied(capabilities: &CapabilityList) -> Result<CapabilityList, NoMemory>
 impl System {
     // A call comes to its plugin.
     fn call(&mut self, frame: &Frame) -> Result<Outcome, NoMemory>
-        ensures { Does (world_parts self.old) (world_parts self.new) result (λ world. called self.old.config world frame.now frame.now.party) }
+        ensures does { Does (world_parts self.old) (world_parts self.new) result (λ world. called world frame.now frame.now.party) }
+        ensures make { OnOk result (IsOfOneMake (world_parts self.old) (world_parts self.new)) }
     {
         match frame.party() {
             Party::Controller => {
@@ -45,7 +46,8 @@ impl System {
 
     // A frame comes to its plugin or to the orchestrator.
     fn take(&mut self, frame: &Frame) -> Result<Outcome, NoMemory>
-        ensures { Does (world_parts self.old) (world_parts self.new) result (λ world. delivered_body self.old.config world frame.now frame.now.body) }
+        ensures does { Does (world_parts self.old) (world_parts self.new) result (λ world. delivered_body world frame.now frame.now.body) }
+        ensures make { OnOk result (IsOfOneMake (world_parts self.old) (world_parts self.new)) }
     {
         csi_orchestrator::form_law();
         match frame.body() {
@@ -54,9 +56,10 @@ impl System {
         }
     }
 
-    // The frame of this number is delivered, if it is there.
-    fn deliver(&mut self, bytes: &mut Vec<u8>, number: u64) -> Result<Outcome, NoMemory>
-        ensures { Does (world_parts self.old) (world_parts self.new) result (λ world. delivered self.old.config world (frame_numbered world number)) }
+    /// The frame of this number is delivered, if it is there. A frame that is delivered is written in place of the bytes.
+    pub(crate) fn deliver(&mut self, bytes: &mut Vec<u8>, number: u64) -> Result<Outcome, NoMemory>
+        ensures does { Does (world_parts self.old) (world_parts self.new) result (λ world. delivered world (frame_numbered world number)) }
+        ensures make { OnOk result (IsOfOneMake (world_parts self.old) (world_parts self.new)) }
     {
         match frame_of(&self.frames, number) {
             Some(sent) => {
@@ -69,33 +72,17 @@ impl System {
         }
     }
 
-    // The controller restarts, from its record.
-    fn restart_controller(&mut self) -> Result<Outcome, NoMemory>
-        ensures { Does (world_parts self.old) (world_parts self.new) result (λ world. record { world = world; outcome = outcomes.Restarted }) }
+    // The orchestrator restarts with these nodes.
+    fn restart_orchestrator(&mut self, nodes: Vec<NodeId>) -> Result<Outcome, NoMemory>
+        ensures { Does (world_parts self.old) (world_parts self.new) result (λ world. orchestrated world (Restarts nodes.items)) }
     {
-        let controller = restarted_controller(self.alloc, &self.controller, &self.config)?;
-        self.controller = controller;
-        Ok(Outcome::Restarted)
-    }
-
-    // The node of this id restarts, from its record.
-    fn restart_node(&mut self, id: &NodeId) -> Result<Outcome, NoMemory>
-        ensures { Does (world_parts self.old) (world_parts self.new) result (λ world.
-            record { world = world; outcome = if has_node id.now self.old.config.nodes then outcomes.Restarted else outcomes.NoSuchNode }) }
-    {
-        match place_of(&self.nodes, id) {
-            Some(place) => {
-                let node = restarted_node(self.alloc, &self.nodes[place])?;
-                self.nodes[place] = node;
-                Ok(Outcome::Restarted)
-            }
-            None => Ok(Outcome::NoSuchNode),
-        }
+        csi_orchestrator::form_law();
+        settled_restart(self.orchestrator.restart(nodes))
     }
 
     // What comes of an event, which isn't logged yet. Only what the orchestrator keeps of it is copied.
     fn outcome_of(&mut self, bytes: &mut Vec<u8>, event: &Event) -> Result<Outcome, NoMemory>
-        ensures { Does (world_parts self.old) (world_parts self.new) result (λ world. occurs self.old.config world event.now) }
+        ensures { Does (world_parts self.old) (world_parts self.new) result (λ world. occurs world event.now) }
     {
         csi_orchestrator::form_law();
         let orchestrator = &mut self.orchestrator;
@@ -133,9 +120,20 @@ impl System {
             Event::Delete(name) => settled(frames, orchestrator.delete(name)),
             Event::Timeout(name) => settled(frames, orchestrator.timeout(name)),
             Event::Deliver(number) => self.deliver(bytes, *number),
-            Event::RestartOrchestrator => settled_restart(orchestrator.restart()),
+            Event::RestartOrchestrator => {
+                let nodes = copied_ids(self.alloc, self.orchestrator.nodes())?;
+                self.restart_orchestrator(nodes)
+            }
+            Event::RestartOrchestratorWith(nodes) => {
+                let nodes = copied_ids(self.alloc, nodes.as_slice())?;
+                self.restart_orchestrator(nodes)
+            }
             Event::RestartController => self.restart_controller(),
+            Event::RestartControllerWith(config) => self.restart_controller_with(config),
             Event::RestartNode(id) => self.restart_node(id),
+            Event::Join(id) => self.join(id),
+            Event::Lose(id) => self.lose(id),
+            Event::Settle(name) => self.bring_to_rest(bytes, name),
         }
     }
 
@@ -143,7 +141,7 @@ impl System {
     /// allocation that was refused; the system is of no use then.
     pub(crate) fn occur(&mut self, bytes: &mut Vec<u8>, event: &Event) -> Result<(), NoMemory>
         ensures { (world : World) → IsSoundWorld (world_parts self.old) → ShowsWorld (world_parts self.old) world →
-            OnOk result (IsLogged (world_parts self.old) (world_parts self.new) (occurs self.old.config world event.now)) }
+            OnOk result (IsLogged (world_parts self.old) (world_parts self.new) (occurs world event.now)) }
     {
         let outcome = self.outcome_of(bytes, event)?;
         self.outcomes.push(outcome)?;

@@ -26,6 +26,16 @@ pub enum Outcome {
     Restarted,
     /// There is no node of that id.
     NoSuchNode,
+    /// A node joined.
+    Joined,
+    /// There is a node of that id, so none joined.
+    NodeThere,
+    /// A node was lost.
+    Lost,
+    /// A volume is at rest, after so many events: its timeout, and deliveries.
+    Settled(u64),
+    /// It isn't, after so many.
+    NotSettled(u64),
 }
 
 fn refused_text(alloc: Global, fault: OrchFault) -> Result<String, AllocError>
@@ -53,5 +63,10 @@ pub fn text_of(alloc: Global, outcome: Outcome) -> Result<String, AllocError>
         Outcome::NoSuchFrame => String::from_str(alloc, "no such frame"),
         Outcome::Restarted => String::from_str(alloc, "restarted"),
         Outcome::NoSuchNode => String::from_str(alloc, "no such node"),
+        Outcome::Joined => String::from_str(alloc, "joined"),
+        Outcome::NodeThere => String::from_str(alloc, "node there"),
+        Outcome::Lost => String::from_str(alloc, "lost"),
+        Outcome::Settled(count) => format!(in alloc; "settled {count}"),
+        Outcome::NotSettled(count) => format!(in alloc; "not settled {count}"),
     }
 }

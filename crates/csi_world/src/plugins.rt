@@ -2,7 +2,7 @@
 ghost use Rattle.std.specs.Prelude.{◌≡◌, find, map, position, IfOk};
 ghost use Rattle.std.specs.Option.{option_copied};
 ghost use Rattle.csi_types.specs.Model.Same.{same_text};
-ghost use Rattle.csi_world.specs.Model.After.{node_id};
+ghost use Rattle.csi_world.specs.Model.World.{node_id};
 ghost use Rattle.csi_world.specs.Private.Simulating.{ControllerDoes, NodeDoes, IsSameController, IsSameNode, new_node_parts};
 
 use csi_controller::{Controller, ControllerRecord};
@@ -29,9 +29,21 @@ pub(crate) fn ids_of(alloc: Global, nodes: &[NodeSlots]) -> Result<Vec<NodeId>, 
     Ok(ids)
 }
 
-/// Nodes that answered nothing, one for each, in order.
+/// A copy of these ids.
+pub(crate) fn copied_ids(alloc: Global, nodes: &[NodeId]) -> Result<Vec<NodeId>, NoMemory>
+    ensures { IfOk result (λ ids. ids.items ≡ nodes.now) }
+{
+    let mut ids = Vec::new(alloc);
+    for node in nodes {
+        let id = node.clone()?;
+        ids.push(id)?;
+    }
+    Ok(ids)
+}
+
+/// Nodes that answered nothing and heard of no session, one for each, in order.
 pub(crate) fn new_nodes(alloc: Global, slots: &[NodeSlots]) -> Result<Vec<Node>, NoMemory>
-    ensures { IfOk result (λ nodes. nodes.items ≡ map new_node_parts slots.now) }
+    ensures { IfOk result (λ nodes. nodes.items ≡ map (new_node_parts 0) (map node_id slots.now)) }
 {
     let mut nodes = Vec::new(alloc);
     for one in slots {
@@ -98,13 +110,13 @@ pub(crate) fn controller_of_record(
     Ok(Controller::from_record(alloc, own, kept).unwrap())
 }
 
-/// The controller that has the record of this one.
+/// The controller that has the record of this one, under a copy of the configuration.
 pub(crate) fn restarted_controller(
     alloc: Global,
     controller: &Controller,
     config: &Config,
 ) -> Result<Controller, NoMemory>
-    ensures { config.now ≡ controller.now.config → IfOk result (IsSameController controller.now) }
+    ensures { IfOk result (IsSameController config.now controller.now) }
 {
     match controller.record() {
         Ok(kept) => controller_of_record(alloc, config, kept),

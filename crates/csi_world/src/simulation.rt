@@ -1,5 +1,5 @@
 //! Runs of events.
-ghost use Rattle.std.specs.Prelude.{◌≡◌, ℕ, [], take, IfOk, OnOk};
+ghost use Rattle.std.specs.Prelude.{ℕ, [], take, IfOk, OnOk};
 ghost use Rattle.csi_types.specs.Model.Config.{Config};
 ghost use Rattle.csi_world.specs.Model.Safe.{Safe};
 ghost use Rattle.csi_world.specs.Model.After.{after};
@@ -16,8 +16,8 @@ use csi_orchestrator::Orchestrator;
 use csi_types::{Config, Event, NoMemory};
 use std::alloc::Global;
 
-// A system in which nothing happened.
-fn new_system(alloc: Global, config: &Config) -> Result<System, NoMemory>
+/// A system in which nothing happened.
+pub(crate) fn new_system(alloc: Global, config: &Config) -> Result<System, NoMemory>
     ensures { IfOk result (λ system. IsRun config.now [] (world_parts system)) }
 {
     config.fit_law();
@@ -49,13 +49,12 @@ fn occur_all(alloc: Global, system: &mut System, events: &[Event]) -> Result<(),
     Ok(())
 }
 
-/// The world after these events, one after another, from an empty one of this configuration. An event that can't happen
-/// changes nothing, and its outcome says so. Each frame that is delivered is written as bytes and read from them. An
-/// `Err` is an allocation that was refused. The run is the definition's, the world has this configuration, and it is safe
-/// after every beginning of the events, as `safety_law` says it. This profile's own.
+/// The world after these events, one after another, from an empty one whose controller has this configuration, and whose nodes are
+/// there and in the orchestrator's list. An event that can't happen changes nothing, and its outcome says so. Each frame that is
+/// delivered is written as bytes and read from them. An `Err` is an allocation that was refused. The run is the definition's, and the
+/// world is safe after every beginning of the events, as `safety_law` says it. This profile's own.
 pub fn simulate(alloc: Global, config: &Config, events: &[Event]) -> Result<World, NoMemory>
     ensures run { IfOk result (λ world. ShowsRun world (after config.now events.now)) }
-    ensures config { IfOk result (λ world. world.config ≡ config.now) }
     ensures safe { (count : ℕ) → Safe (after config.now (take count events.now)).world }
 {
     runs_law();

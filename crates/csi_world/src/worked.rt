@@ -1,6 +1,7 @@
 //! Worked runs of events. Each function proves a statement, and does nothing.
 ghost use Rattle.csi_world.specs.Private.Worked.{WorkedUse, UseIsSafe, UseIsMadeOfSteps};
 ghost use Rattle.csi_world.specs.Private.Worked.{WorkedLateStage, WorkedLateDetach, WorkedLateReply, WorkedRestart, WorkedUndone, WorkedNothing};
+ghost use Rattle.csi_world.specs.Private.Worked.{WorkedLostNode, WorkedMadeAgain, WorkedRefusedChanges, WorkedSettling};
 
 use crate::laws::{runs_are_steps, runs_law};
 
@@ -32,6 +33,22 @@ fn restart()
 
 fn undone()
     ensures { WorkedUndone }
+{}
+
+fn lost_node()
+    ensures { WorkedLostNode }
+{}
+
+fn made_again()
+    ensures { WorkedMadeAgain }
+{}
+
+fn refused_changes()
+    ensures { WorkedRefusedChanges }
+{}
+
+fn comes_to_rest()
+    ensures { WorkedSettling }
 {}
 
 fn nothing()

@@ -53,7 +53,16 @@ impl World {
         World { system }
     }
 
-    /// The configuration. It takes no memory.
+    // The system of a world.
+    pub(crate) fn into_system(self) -> System
+        ensures parts { world_parts result ≡ self }
+        ensures sound { IsSoundWorld (world_parts result) }
+    {
+        let World { system } = self;
+        system
+    }
+
+    /// The controller's configuration. It takes no memory.
     pub fn config(&self) -> &Config
         ensures { result.now ≡ self.now.config }
     {
@@ -97,22 +106,21 @@ impl World {
         &self.system.controller
     }
 
-    /// The nodes of the configuration, in its order. It takes no memory.
+    /// The nodes that are there, in the order in which they joined. It takes no memory.
     pub fn nodes(&self) -> &[Node]
         ensures { result.now ≡ self.now.nodes }
     {
         self.system.nodes.as_slice()
     }
 
-    /// A law, and nothing that runs: the nodes are those of the configuration, in its order, and the configuration has no
-    /// fault, so that no id comes twice.
+    /// A law, and nothing that runs: no two nodes are of one id, and the configuration has no fault.
     pub fn nodes_law(&self)
         ensures { IsSoundWorld self.now }
     {
         let _system = &self.system;
     }
 
-    /// The node of this id, if it is configured. It takes no memory.
+    /// The node of this id, if it is there. It takes no memory.
     pub fn node(&self, id: &NodeId) -> Option<&Node>
         ensures value { option_copied result ≡ find (λ node. same_text node.id id.now) self.now.nodes }
         ensures world { (world : Shown) → ShowsWorld self.now world → ShowsNode (option_copied result) (node_state id.now world) }

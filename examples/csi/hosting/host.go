@@ -6,6 +6,7 @@ import (
 	"encoding/json"
 	"fmt"
 	"io"
+	"sort"
 	"time"
 
 	"tufayon/csi/lines"
@@ -18,14 +19,20 @@ type host struct {
 	carrier      *carrier
 	output       io.Writer
 	came         chan event
-	waiting      map[string]int // how many calls and timeouts are under way, of each volume of which there is one
+	wanted       map[string]bool // the volumes of which something is wanted
+	waiting      map[string]int  // how many calls and timeouts are under way, of each volume of which there is one
+	losses       int             // how often a node was lost: each began a session
+	calls        context.Context // of the calls that are under way, until a node is lost
+	giveUp       context.CancelFunc
 }
 
 // An event is what came of a call, or that it is time to try again: a line for the orchestrator.
 type event struct {
-	name string
-	line []byte
-	err  error
+	name      string
+	line      []byte
+	err       error
+	isTimeout bool
+	losses    int // how often a node had been lost when the call was made
 }
 
 // Serve has each line of the input, a command, answered by an orchestrator that has just been made, whose first line this is, and prints its answers
@@ -36,7 +43,10 @@ func Serve(ctx context.Context, config Config, orchestrator Orchestrator, first 
 	carrier, err := connect(config)
 	if err == nil {
 		defer carrier.close()
-		host := &host{config, orchestrator, carrier, output, make(chan event), map[string]int{}}
+		host := &host{config: config, orchestrator: orchestrator, carrier: carrier, output: output, came: make(chan event),
+			wanted: map[string]bool{}, waiting: map[string]int{}}
+		host.calls, host.giveUp = context.WithCancel(ctx)
+		defer func() { host.giveUp() }()
 		err = host.serve(ctx, first, read(ctx, input))
 	}
 	if closed := orchestrator.Close(); err == nil {
@@ -50,9 +60,10 @@ func (host *host) serve(ctx context.Context, first Answer, input *reading) error
 		return err
 	}
 	for _, name := range first.Wanted {
-		if err := host.ask(ctx, timeoutOf(name)); err != nil {
-			return err
-		}
+		host.wanted[name] = true
+	}
+	if err := host.tellAll(ctx); err != nil {
+		return err
 	}
 	for lines := input.lines; lines != nil || len(host.waiting) > 0; {
 		select {
@@ -68,13 +79,7 @@ func (host *host) serve(ctx context.Context, first Answer, input *reading) error
 				return err
 			}
 		case event := <-host.came:
-			if host.waiting[event.name]--; host.waiting[event.name] == 0 {
-				delete(host.waiting, event.name)
-			}
-			if event.err != nil {
-				return event.err
-			}
-			if err := host.ask(ctx, event.line); err != nil {
+			if err := host.hear(ctx, event); err != nil {
 				return err
 			}
 		case <-ctx.Done():
@@ -84,8 +89,40 @@ func (host *host) serve(ctx context.Context, first Answer, input *reading) error
 	return nil
 }
 
-// ask asks the orchestrator, prints its answer, and has done what it says: a call made, or a timeout told after a while where something is
-// wanted and no call is under way.
+// tellAll tells the timeout of each volume of which something is wanted: no call is open then.
+func (host *host) tellAll(ctx context.Context) error {
+	names := make([]string, 0, len(host.wanted))
+	for name := range host.wanted {
+		names = append(names, name)
+	}
+	sort.Strings(names)
+	for _, name := range names {
+		if err := host.ask(ctx, timeoutOf(name)); err != nil {
+			return err
+		}
+	}
+	return nil
+}
+
+// hear tells the orchestrator what came. A call that was given up at a loss has timed out already.
+func (host *host) hear(ctx context.Context, came event) error {
+	if host.waiting[came.name]--; host.waiting[came.name] == 0 {
+		delete(host.waiting, came.name)
+	}
+	if came.err != nil {
+		return came.err
+	}
+	if !came.isTimeout || came.losses == host.losses {
+		if err := host.ask(ctx, came.line); err != nil {
+			return err
+		}
+	}
+	host.goOn(ctx, came.name)
+	return nil
+}
+
+// ask asks the orchestrator, prints its answer, and has done what it says: a call made; or a timeout told after a while where something is
+// wanted and no call is under way; or, where a node was lost, the timeouts of all of which something is wanted.
 func (host *host) ask(ctx context.Context, line []byte) error {
 	answer, err := host.orchestrator.Answer(line)
 	if err != nil {
@@ -94,25 +131,46 @@ func (host *host) ask(ctx context.Context, line []byte) error {
 	if _, err := host.output.Write(answer.Line); err != nil {
 		return err
 	}
-	switch {
-	case answer.Send != nil:
-		host.waiting[answer.Name]++
-		go host.call(ctx, answer.Name, *answer.Send)
-	case answer.HasGoal() && host.waiting[answer.Name] == 0:
-		host.waiting[answer.Name]++
-		time.AfterFunc(seconds(host.config.RetrySeconds), func() { host.tell(ctx, event{name: answer.Name, line: timeoutOf(answer.Name)}) })
+	if answer.IsLoss() {
+		host.losses++
+		host.giveUp()
+		host.calls, host.giveUp = context.WithCancel(ctx)
+		return host.tellAll(ctx)
 	}
+	if answer.Name == "" {
+		return nil
+	}
+	delete(host.wanted, answer.Name)
+	if answer.HasGoal() {
+		host.wanted[answer.Name] = true
+	}
+	if answer.Send != nil {
+		host.waiting[answer.Name]++
+		go host.call(ctx, host.calls, event{name: answer.Name, losses: host.losses}, *answer.Send)
+	}
+	host.goOn(ctx, answer.Name)
 	return nil
 }
 
-func (host *host) call(ctx context.Context, name string, send Sending) {
-	reply, err := host.carrier.carry(ctx, send)
-	came := event{name: name, line: timeoutOf(name), err: err}
-	if reply != nil {
-		came.line = lineOf("reply", hex.EncodeToString(reply))
+// goOn has a timeout of the volume told after a while, where something is wanted of it and nothing is under way.
+func (host *host) goOn(ctx context.Context, name string) {
+	if !host.wanted[name] || host.waiting[name] > 0 {
+		return
 	}
+	host.waiting[name]++
+	again := event{name: name, line: timeoutOf(name), isTimeout: true, losses: host.losses}
+	time.AfterFunc(seconds(host.config.RetrySeconds), func() { host.tell(ctx, again) })
+}
+
+// call makes a call, and tells what came of it: the reply, or that none did.
+func (host *host) call(ctx, calls context.Context, came event, send Sending) {
+	reply, err := host.carrier.carry(calls, send)
 	if err != nil {
-		came.err = fmt.Errorf("a call of %s: %w", name, err)
+		came.err = fmt.Errorf("a call of %s: %w", came.name, err)
+	}
+	came.line, came.isTimeout = timeoutOf(came.name), true
+	if reply != nil {
+		came.line, came.isTimeout = lineOf("reply", hex.EncodeToString(reply)), false
 	}
 	host.tell(ctx, came)
 }

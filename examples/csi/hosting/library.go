@@ -18,7 +18,8 @@ type library struct {
 	store        store.Store
 	orchestrator *plugin.Orchestrator
 	session      uint64
-	wanted       map[string]records.Wanted // what is wanted of each volume, by its name, as was committed last
+	rows         map[uint64]records.Wanted // what each volume's row says, by its key, as was committed last
+	keys         map[string]uint64         // of the rows, by the volumes' names
 }
 
 // Open opens the file of an orchestrator's store under a configuration, the JSON of a CONFIG file, begins the next session, and gives the first line
@@ -44,7 +45,7 @@ func open(ctx context.Context, database string, config []byte) (*library, error)
 	if err != nil {
 		return nil, err
 	}
-	opened := &library{store: kept, wanted: map[string]records.Wanted{}}
+	opened := &library{store: kept, rows: map[uint64]records.Wanted{}, keys: map[string]uint64{}}
 	if err := opened.load(ctx, config); err != nil {
 		opened.free()
 		kept.Close()
@@ -71,7 +72,7 @@ func (library *library) load(ctx context.Context, config []byte) error {
 	return err
 }
 
-// commit puts what was changed into the store, and gives what its row says then, if one was changed.
+// commit puts what was changed into the store, and gives what the row says that was put in last, if one was.
 func (library *library) commit() (wanted records.Wanted, err error) {
 	changes, err := library.orchestrator.Changes()
 	if err != nil {
@@ -80,33 +81,55 @@ func (library *library) commit() (wanted records.Wanted, err error) {
 	if err := library.store.Commit(context.Background(), false, changes); err != nil {
 		return wanted, err
 	}
+	began := false
 	for _, change := range changes {
+		began = began || change.Key == records.HeadKey
 		if wanted, err = library.note(change); err != nil {
 			return wanted, err
 		}
 	}
+	if began {
+		library.index() // names may be forgotten, and rows have other keys
+	}
 	return wanted, nil
 }
 
-// note keeps what a part of the record says: the session, or what is wanted of a volume. No part of an orchestrator's is taken out.
+// note keeps what a part of the record says: the session, or what is wanted of a volume.
 func (library *library) note(change store.Change) (wanted records.Wanted, err error) {
+	if change.Out {
+		delete(library.rows, change.Key)
+		return wanted, nil
+	}
 	if change.Key == records.HeadKey {
 		library.session, err = records.OrchestratorSession(change.Value)
 		return wanted, err
 	}
 	wanted, err = records.ReadWanted(change.Value)
 	if err == nil {
-		library.wanted[wanted.Name] = wanted
+		library.rows[change.Key], library.keys[wanted.Name] = wanted, change.Key
 	}
 	return wanted, err
+}
+
+// index finds the rows' keys anew, by the names that they have now.
+func (library *library) index() {
+	library.keys = make(map[string]uint64, len(library.rows))
+	for key, wanted := range library.rows {
+		library.keys[wanted.Name] = key
+	}
+}
+
+// wanted is what is wanted of the volume of a name; nothing where it has no row.
+func (library *library) wanted(name string) records.Wanted {
+	return library.rows[library.keys[name]] // no row has the key 0
 }
 
 // first is the first line.
 func (library *library) first() []byte {
 	var names []string
-	for name, wanted := range library.wanted {
+	for _, wanted := range library.rows {
 		if wanted.Goal != records.None {
-			names = append(names, name)
+			names = append(names, wanted.Name)
 		}
 	}
 	sort.Strings(names)
@@ -142,10 +165,12 @@ func (library *library) say(line []byte) ([]byte, error) {
 	switch {
 	case err != nil:
 		return nil, err
+	case request.Key == lines.Lose:
+		return lines.AboutLoss(request.Node, lines.HasLost, library.session), nil
 	case outcome.IsIgnored:
 		return lines.Ignored(), nil
 	case outcome.IsMet:
-		return lines.About(request.Name, library.wanted[request.Name], lines.Met, nil)
+		return lines.About(request.Name, library.wanted(request.Name), lines.Met, nil)
 	case request.Key == lines.Reply:
 		return lines.About(wanted.Name, wanted, lines.Taken, outcome.Frame)
 	}
@@ -155,10 +180,13 @@ func (library *library) say(line []byte) ([]byte, error) {
 // refused answers what was refused, which changed nothing. A reply is refused only where the session has no number left: then another session is
 // to be begun.
 func (library *library) refused(request lines.Request, why uint32) ([]byte, error) {
-	if request.Key == lines.Reply {
+	switch request.Key {
+	case lines.Reply:
 		return nil, numbers.ErrSpent
+	case lines.Lose:
+		return lines.AboutLoss(request.Node, lines.Refused(why), library.session), nil
 	}
-	return lines.About(request.Name, library.wanted[request.Name], lines.Refused(why), nil)
+	return lines.About(request.Name, library.wanted(request.Name), lines.Refused(why), nil)
 }
 
 // ask asks the orchestrator what a line asks.
@@ -175,6 +203,8 @@ func (library *library) ask(request lines.Request) (outcome plugin.Outcome, err 
 		return orchestrator.Delete(request.Name)
 	case lines.Timeout:
 		return orchestrator.Timeout(request.Name)
+	case lines.Lose:
+		return orchestrator.Lose(request.Node)
 	}
 	outcome, err = orchestrator.Deliver(request.Frame)
 	if errors.Is(err, plugin.Short) || errors.Is(err, plugin.BadFrame) {

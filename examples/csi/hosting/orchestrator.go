@@ -31,6 +31,7 @@ type Answer struct {
 	Outcome string          `json:"outcome"`
 	Send    *Sending        `json:"send"`
 	Wanted  []string        `json:"wanted"` // of the first line
+	Node    string          `json:"node"`   // of an answer about a loss
 }
 
 // A Sending is a call to be sent.
@@ -41,6 +42,9 @@ type Sending struct {
 
 // HasGoal says whether something is wanted of the volume now.
 func (answer Answer) HasGoal() bool { return len(answer.Goal) > 0 && string(answer.Goal) != "null" }
+
+// IsLoss says whether a node was lost: a session began, and every call under way was given up.
+func (answer Answer) IsLoss() bool { return answer.Node != "" && answer.Outcome == lines.HasLost }
 
 // answerOf reads what a line says, which ends with its newline.
 func answerOf(line []byte) (Answer, error) {
@@ -56,7 +60,8 @@ func StatusOf(err error) int {
 	switch {
 	case err == nil:
 		return 0
-	case errors.Is(err, plugin.BadName), errors.Is(err, plugin.BadRecord), errors.Is(err, numbers.ErrSpent), errors.Is(err, lines.ErrLong):
+	case errors.Is(err, plugin.BadName), errors.Is(err, plugin.BadRecord), errors.Is(err, plugin.NodeInUse), errors.Is(err, numbers.ErrSpent),
+		errors.Is(err, lines.ErrLong):
 		return 1
 	}
 	return 3

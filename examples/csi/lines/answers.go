@@ -9,16 +9,18 @@ import (
 	"tufayon/csi/records"
 )
 
-// What became of a request about a volume, unless it was refused.
+// What became of a request about a volume, or of a node's loss, unless it was refused.
 const (
-	Sent  = "sent"
-	Met   = "met"
-	Taken = "taken"
+	Sent    = "sent"
+	Met     = "met"
+	Taken   = "taken"
+	HasLost = "lost"
 )
 
 var refusals = [...]string{
 	1: "NameUsed", 2: "NoSuchVolume", 3: "NotCreated", 4: "Busy", 5: "NoSuchNode", 6: "NotCapable", 7: "HeldElsewhere", 8: "WriterElsewhere",
 	9: "HeldOtherwise", 10: "TargetTaken", 11: "NoSuchTarget", 12: "InUse", 13: "Idle", 14: "NumbersSpent", 15: "Full", 16: "NoMemory",
+	17: "NodeInUse",
 }
 
 // Refused is the outcome of a request that was refused with this number.
@@ -55,6 +57,11 @@ func About(name string, wanted records.Wanted, outcome string, frame []byte) ([]
 			call.Number.Call, hex.EncodeToString(frame), call.Kind(), quoted(plugin), call.Number.Session)
 	}
 	return line(`{"goal":%s,"name":%s,"outcome":"%s"%s}`, goal(wanted), quoted(name), outcome, send), nil
+}
+
+// AboutLoss is the answer about a node that was to be lost: what became of that, and the present session.
+func AboutLoss(node, outcome string, session uint64) []byte {
+	return line(`{"node":%s,"outcome":"%s","session":%d}`, quoted(node), outcome, session)
 }
 
 // Ignored is the answer to a reply that is ignored.

@@ -33,6 +33,7 @@ const (
 	Stop    Key = "stop"
 	Delete  Key = "delete"
 	Timeout Key = "timeout"
+	Lose    Key = "lose"
 	Reply   Key = "reply"
 )
 
@@ -42,7 +43,7 @@ type Request struct {
 	Name            string
 	Required, Limit uint64              // of a create
 	Capabilities    []frames.Capability // of a create, or the one of a use
-	Node, Target    string              // of a use or a stop
+	Node, Target    string              // of a use or a stop; the node alone of a loss, which has no name
 	Readonly        bool                // of a use
 	Frame           []byte              // of a reply: the bytes that came
 }
@@ -96,6 +97,8 @@ func readCommand(key Key, value any) (Request, error) {
 		request.Name, request.Node, request.Target = judged.place(judged.object(value, 3))
 	case Delete, Timeout:
 		request.Name = judged.text(value, 1, frames.MaxName)
+	case Lose:
+		request.Node = judged.text(value, 1, frames.MaxNode)
 	default:
 		judged.isBad = true
 	}

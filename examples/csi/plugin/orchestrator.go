@@ -23,7 +23,8 @@ type Outcome struct {
 }
 
 // MakeOrchestrator makes the orchestrator of a configuration, the JSON of a CONFIG file, and of a whole record, or a new one where the record has
-// no bytes. It begins a session: Changes are what the store has to be given before any frame is sent.
+// no bytes. It begins a session with the configuration's nodes, and forgets names: Changes are what the store has to be given before any frame is
+// sent. NodeInUse says that the configuration leaves out a node of the record where a volume may be attached.
 func MakeOrchestrator(config, record []byte) (*Orchestrator, error) {
 	made := &Orchestrator{held: nothing(), frame: make([]byte, C.TUFAYON_FRAME_ROOM)}
 	bytes, size := in(config), C.size_t(len(config))
@@ -107,6 +108,15 @@ func (made *Orchestrator) Delete(name string) (Outcome, error) {
 func (made *Orchestrator) Timeout(name string) (Outcome, error) {
 	bytes, size := given(name)
 	ending := C.tufayon_timeout(made.handle, bytes, size, in(made.frame), C.size_t(len(made.frame)), &made.written, &made.fault)
+	return made.asked(ending)
+}
+
+// Lose says that the node is lost: who says so promises that its machine is off for good, and that its store never comes back; an emptied store is a
+// lost node. A session begins without it, in which what was wanted goes on by timeouts; Changes are the whole record.
+func (made *Orchestrator) Lose(node string) (Outcome, error) {
+	bytes, size := given(node)
+	made.written = 0
+	ending := C.tufayon_orchestrator_lose(made.handle, bytes, size, &made.fault)
 	return made.asked(ending)
 }
 

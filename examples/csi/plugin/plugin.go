@@ -21,6 +21,7 @@ const (
 	Short          Ending = C.TUFAYON_SHORT
 	BadFrame       Ending = C.TUFAYON_BAD_FRAME
 	EarlierSession Ending = C.TUFAYON_EARLIER_SESSION
+	NodeInUse      Ending = C.TUFAYON_NODE_IN_USE
 )
 
 func (ending Ending) Error() string {
@@ -33,6 +34,8 @@ func (ending Ending) Error() string {
 		return "record fault"
 	case EarlierSession:
 		return "store of an earlier session"
+	case NodeInUse:
+		return "node in use"
 	}
 	return fmt.Sprintf("ending %d", uint32(ending))
 }

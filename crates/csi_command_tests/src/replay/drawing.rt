@@ -3,7 +3,7 @@ ghost use Rattle.csi_pictures.specs.Public.Picture.{IsPicture};
 
 use csi_commands::Draws;
 use csi_pictures::draw;
-use csi_types::NoMemory;
+use csi_types::{Config, NoMemory};
 use csi_world::{Event, World};
 use std::alloc::Global;
 
@@ -13,7 +13,12 @@ pub(super) struct Pictures;
 impl Draws for Pictures {
     ghost draws = { IsPicture };
 
-    fn draw(alloc: Global, world: &World, events: &[Event]) -> Result<Vec<u8>, NoMemory> {
-        draw(alloc, world, events)
+    fn draw(
+        alloc: Global,
+        config: &Config,
+        world: &World,
+        events: &[Event],
+    ) -> Result<Vec<u8>, NoMemory> {
+        draw(alloc, config, world, events)
     }
 }

@@ -1,7 +1,7 @@
 //! Events that are read from a schedule.
 use super::schedules::with_events;
 use csi_json::read_schedule;
-use csi_types::{Access, Capability, Mode, Name, NodeId, Target};
+use csi_types::{Access, Capability, Config, Mode, Name, NodeId, Target};
 use csi_world::Event;
 use std::alloc::Global;
 use std::process::Abort;
@@ -18,6 +18,11 @@ enum Wanted {
     RestartOrchestrator,
     RestartController,
     RestartNode,
+    RestartControllerWith,
+    RestartOrchestratorWith(&'static [&'static str]),
+    Join,
+    Lose,
+    Settle,
 }
 
 fn is_device(found: &Capability) -> bool {
@@ -84,7 +89,23 @@ fn is_stop(event: &Event) -> bool {
     }
 }
 
-// Whether it is this event, where that has one text or none.
+fn is_config(config: &Config) -> bool {
+    match config.nodes() {
+        [node] => config.greatest() == 5 && node.id.as_str() == "n1" && node.slots == 2,
+        _ => false,
+    }
+}
+
+fn are_ids(found: &[NodeId], ids: &[&str]) -> bool {
+    let are_as_many = found.len() == ids.len();
+    are_as_many
+        && found
+            .iter()
+            .zip(ids)
+            .all(|(id, wanted)| id.as_str() == *wanted)
+}
+
+// Whether it is this event, where that is no command of a use.
 fn is_short(event: &Event, wanted: Wanted) -> bool {
     match (event, wanted) {
         (Event::Delete(name), Wanted::Delete) => name.as_str() == "v",
@@ -93,6 +114,13 @@ fn is_short(event: &Event, wanted: Wanted) -> bool {
         (Event::RestartOrchestrator, Wanted::RestartOrchestrator) => true,
         (Event::RestartController, Wanted::RestartController) => true,
         (Event::RestartNode(id), Wanted::RestartNode) => id.as_str() == "n1",
+        (Event::RestartControllerWith(config), Wanted::RestartControllerWith) => is_config(config),
+        (Event::RestartOrchestratorWith(nodes), Wanted::RestartOrchestratorWith(ids)) => {
+            are_ids(nodes.as_slice(), ids)
+        }
+        (Event::Join(id), Wanted::Join) => id.as_str() == "n1",
+        (Event::Lose(id), Wanted::Lose) => id.as_str() == "n1",
+        (Event::Settle(name), Wanted::Settle) => name.as_str() == "v",
         _ => false,
     }
 }
@@ -164,6 +192,9 @@ const OF_ONE_TEXT: &[(&str, Wanted)] = &[
     ("[{\"delete\":\"v\"}]", Wanted::Delete),
     ("[{\"timeout\":\"v\"}]", Wanted::Timeout),
     ("[{\"restart_node\":\"n1\"}]", Wanted::RestartNode),
+    ("[{\"join\":\"n1\"}]", Wanted::Join),
+    ("[{\"lose\":\"n1\"}]", Wanted::Lose),
+    ("[{\"settle\":\"v\"}]", Wanted::Settle),
 ];
 
 #[test]
@@ -178,6 +209,18 @@ const OTHERS: &[(&str, Wanted)] = &[
         Wanted::RestartOrchestrator,
     ),
     ("[{\"restart\":\"controller\"}]", Wanted::RestartController),
+    (
+        "[{\"restart_controller\":{\"greatest\":5,\"nodes\":[{\"id\":\"n1\",\"slots\":2}]}}]",
+        Wanted::RestartControllerWith,
+    ),
+    (
+        "[{\"restart_orchestrator\":[]}]",
+        Wanted::RestartOrchestratorWith(&[]),
+    ),
+    (
+        "[{\"restart_orchestrator\":[\"n2\",\"n1\",\"n2\"]}]",
+        Wanted::RestartOrchestratorWith(&["n2", "n1", "n2"]),
+    ),
 ];
 
 #[test]

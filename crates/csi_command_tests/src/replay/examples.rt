@@ -278,7 +278,7 @@ const FORGETTING: &str = "{\"config\":{\"greatest\":1000,\"nodes\":[{\"id\":\"n1
 ";
 
 const FORGETTING_REPORT: &str =
-    "{\"attached\":[{\"id\":11,\"mode\":1,\"node\":\"n1\",\"readonly\":false}],\"events\":[\"sent 1\",\"answered 2\",\"taken\",\"sent 3\",\"answered 4\",\"taken, sent 5\",\"answered 6\",\"taken, sent 7\",\"answered 8\",\"taken\",\"sent 9\",\"answered 10\",\"taken, sent 11\",\"answered 12\",\"taken, sent 13\",\"answered 14\",\"taken\",\"sent 15\",\"answered 16\",\"taken\",\"restarted\",\"sent 17\",\"answered 18\",\"taken\",\"sent 19\",\"answered 20\",\"taken\",\"restarted\",\"sent 21\",\"answered 22\",\"taken\",\"sent 23\",\"answered 24\",\"taken\",\"restarted\",\"sent 25\",\"answered 26\",\"taken\",\"sent 27\",\"answered 28\",\"taken\",\"restarted\",\"sent 29\",\"answered 30\",\"taken\",\"sent 31\",\"answered 32\",\"taken\",\"restarted\",\"sent 33\",\"answered 34\",\"taken\",\"sent 35\",\"answered 36\",\"taken\",\"restarted\",\"sent 37\",\"answered 38\",\"taken\",\"sent 39\",\"answered 40\",\"taken\",\"restarted\",\"sent 41\",\"answered 42\",\"taken\",\"sent 43\",\"answered 44\",\"taken\",\"restarted\",\"sent 45\",\"answered 46\",\"taken\",\"sent 47\",\"answered 48\",\"taken\",\"restarted\",\"sent 49\",\"answered 50\",\"taken\",\"sent 51\",\"answered 52\",\"taken\",\"restarted\",\"sent 53\",\"answered 54\",\"taken\",\"sent 55\",\"answered 56\",\"taken, sent 57\",\"answered 58\",\"taken, sent 59\",\"answered 60\",\"taken\",\"refused 1 NameUsed\",\"answered 61\",\"answered 62\",\"answered 63\",\"answered 64\",\"answered 65\",\"answered 66\",\"answered 67\",\"answered 68\",\"answered 69\",\"answered 70\",\"answered 71\",\"answered 72\",\"answered 73\",\"answered 74\",\"answered 75\",\"answered 76\",\"answered 77\",\"answered 78\",\"answered 79\",\"answered 80\",\"answered 81\",\"answered 82\",\"answered 83\",\"answered 84\",\"answered 85\",\"answered 86\",\"ignored\"],\"frames\":86,\"known\":[{\"known\":\"yes\",\"name\":\"w\",\"thing\":\"exists\"},{\"known\":\"yes\",\"name\":\"w\",\"node\":\"n1\",\"thing\":\"attached\"},{\"known\":\"yes\",\"name\":\"w\",\"node\":\"n1\",\"thing\":\"staged\"},{\"known\":\"yes\",\"name\":\"w\",\"node\":\"n1\",\"target\":\"/a\",\"thing\":\"published\"}],\"published\":[{\"id\":11,\"node\":\"n1\",\"readonly\":false,\"target\":\"/a\"}],\"safe\":true,\"session\":11,\"staged\":[{\"id\":11,\"mode\":1,\"node\":\"n1\"}],\"volumes\":[{\"capacity\":10,\"id\":11,\"name\":\"w\"}]}\n";
+    "{\"attached\":[{\"id\":11,\"mode\":1,\"node\":\"n1\",\"readonly\":false}],\"events\":[\"sent 1\",\"answered 2\",\"taken\",\"sent 3\",\"answered 4\",\"taken, sent 5\",\"answered 6\",\"taken, sent 7\",\"answered 8\",\"taken\",\"sent 9\",\"answered 10\",\"taken, sent 11\",\"answered 12\",\"taken, sent 13\",\"answered 14\",\"taken\",\"sent 15\",\"answered 16\",\"taken\",\"restarted\",\"sent 17\",\"answered 18\",\"taken\",\"sent 19\",\"answered 20\",\"taken\",\"restarted\",\"sent 21\",\"answered 22\",\"taken\",\"sent 23\",\"answered 24\",\"taken\",\"restarted\",\"sent 25\",\"answered 26\",\"taken\",\"sent 27\",\"answered 28\",\"taken\",\"restarted\",\"sent 29\",\"answered 30\",\"taken\",\"sent 31\",\"answered 32\",\"taken\",\"restarted\",\"sent 33\",\"answered 34\",\"taken\",\"sent 35\",\"answered 36\",\"taken\",\"restarted\",\"sent 37\",\"answered 38\",\"taken\",\"sent 39\",\"answered 40\",\"taken\",\"restarted\",\"sent 41\",\"answered 42\",\"taken\",\"sent 43\",\"answered 44\",\"taken\",\"restarted\",\"sent 45\",\"answered 46\",\"taken\",\"sent 47\",\"answered 48\",\"taken\",\"restarted\",\"sent 49\",\"answered 50\",\"taken\",\"sent 51\",\"answered 52\",\"taken\",\"restarted\",\"sent 53\",\"answered 54\",\"taken\",\"sent 55\",\"answered 56\",\"taken, sent 57\",\"answered 58\",\"taken, sent 59\",\"answered 60\",\"taken\",\"sent 61\",\"answered 62\",\"answered 63\",\"answered 64\",\"answered 65\",\"answered 66\",\"answered 67\",\"answered 68\",\"answered 69\",\"answered 70\",\"answered 71\",\"answered 72\",\"answered 73\",\"answered 74\",\"answered 75\",\"answered 76\",\"answered 77\",\"answered 78\",\"answered 79\",\"answered 80\",\"answered 81\",\"answered 82\",\"answered 83\",\"answered 84\",\"answered 85\",\"answered 86\",\"answered 87\",\"answered 88\"],\"frames\":88,\"known\":[{\"known\":\"maybe\",\"name\":\"v1\",\"thing\":\"exists\"},{\"known\":\"yes\",\"name\":\"w\",\"thing\":\"exists\"},{\"known\":\"yes\",\"name\":\"w\",\"node\":\"n1\",\"thing\":\"attached\"},{\"known\":\"yes\",\"name\":\"w\",\"node\":\"n1\",\"thing\":\"staged\"},{\"known\":\"yes\",\"name\":\"w\",\"node\":\"n1\",\"target\":\"/a\",\"thing\":\"published\"}],\"published\":[{\"id\":11,\"node\":\"n1\",\"readonly\":false,\"target\":\"/a\"}],\"safe\":true,\"session\":11,\"staged\":[{\"id\":11,\"mode\":1,\"node\":\"n1\"}],\"volumes\":[{\"capacity\":10,\"id\":11,\"name\":\"w\"},{\"capacity\":10,\"id\":12,\"name\":\"v1\"}]}\n";
 
 const REFUSALS: &str =
     "{\"config\":{\"greatest\":1000,\"nodes\":[{\"id\":\"n1\",\"slots\":4},{\"id\":\"n2\",\"slots\":4}]},
@@ -325,6 +325,42 @@ const REFUSALS: &str =
 
 const REFUSALS_REPORT: &str =
     "{\"attached\":[{\"id\":1,\"mode\":1,\"node\":\"n1\",\"readonly\":false},{\"id\":2,\"mode\":4,\"node\":\"n1\",\"readonly\":false}],\"events\":[\"refused 2 NoSuchVolume\",\"sent 1\",\"refused 1 NameUsed\",\"refused 3 NotCreated\",\"answered 2\",\"taken\",\"refused 13 Idle\",\"refused 5 NoSuchNode\",\"refused 6 NotCapable\",\"sent 3\",\"refused 4 Busy\",\"answered 4\",\"taken, sent 5\",\"answered 6\",\"taken, sent 7\",\"answered 8\",\"taken\",\"met\",\"refused 7 HeldElsewhere\",\"refused 9 HeldOtherwise\",\"refused 10 TargetTaken\",\"refused 11 NoSuchTarget\",\"refused 12 InUse\",\"sent 9\",\"answered 10\",\"taken\",\"sent 11\",\"answered 12\",\"taken, sent 13\",\"answered 14\",\"taken, sent 15\",\"answered 16\",\"taken\",\"refused 8 WriterElsewhere\",\"no such frame\",\"restarted\",\"no such node\"],\"frames\":16,\"known\":[{\"known\":\"yes\",\"name\":\"v\",\"thing\":\"exists\"},{\"known\":\"yes\",\"name\":\"v\",\"node\":\"n1\",\"thing\":\"attached\"},{\"known\":\"yes\",\"name\":\"v\",\"node\":\"n1\",\"thing\":\"staged\"},{\"known\":\"yes\",\"name\":\"v\",\"node\":\"n1\",\"target\":\"/a\",\"thing\":\"published\"},{\"known\":\"yes\",\"name\":\"w\",\"thing\":\"exists\"},{\"known\":\"yes\",\"name\":\"w\",\"node\":\"n1\",\"thing\":\"attached\"},{\"known\":\"yes\",\"name\":\"w\",\"node\":\"n1\",\"thing\":\"staged\"},{\"known\":\"yes\",\"name\":\"w\",\"node\":\"n1\",\"target\":\"/a\",\"thing\":\"published\"}],\"published\":[{\"id\":1,\"node\":\"n1\",\"readonly\":false,\"target\":\"/a\"},{\"id\":2,\"node\":\"n1\",\"readonly\":false,\"target\":\"/a\"}],\"safe\":true,\"session\":1,\"staged\":[{\"id\":1,\"mode\":1,\"node\":\"n1\"},{\"id\":2,\"mode\":4,\"node\":\"n1\"}],\"volumes\":[{\"capacity\":10,\"id\":1,\"name\":\"v\"},{\"capacity\":10,\"id\":2,\"name\":\"w\"}]}\n";
+
+pub(super) const LOST_NODE: &str =
+    "{\"config\":{\"greatest\":1000,\"nodes\":[{\"id\":\"n1\",\"slots\":4},{\"id\":\"n2\",\"slots\":4}]},
+ \"events\":[
+  {\"create\":{\"capabilities\":[{\"access\":\"block\",\"mode\":1}],\"limit\":0,\"name\":\"v\",\"required\":10}},
+  {\"deliver\":1},
+  {\"deliver\":2},
+  {\"use\":{\"capability\":{\"access\":\"block\",\"mode\":1},\"name\":\"v\",\"node\":\"n1\",\"readonly\":false,\"target\":\"/a\"}},
+  {\"deliver\":3},
+  {\"deliver\":4},
+  {\"deliver\":5},
+  {\"deliver\":6},
+  {\"deliver\":7},
+  {\"deliver\":8},
+  {\"use\":{\"capability\":{\"access\":\"block\",\"mode\":1},\"name\":\"v\",\"node\":\"n2\",\"readonly\":false,\"target\":\"/a\"}},
+  {\"lose\":\"n1\"},
+  {\"deliver\":7},
+  {\"use\":{\"capability\":{\"access\":\"block\",\"mode\":1},\"name\":\"v\",\"node\":\"n2\",\"readonly\":false,\"target\":\"/a\"}},
+  {\"stop\":{\"name\":\"v\",\"node\":\"n1\",\"target\":\"/a\"}},
+  {\"deliver\":9},
+  {\"deliver\":10},
+  {\"use\":{\"capability\":{\"access\":\"block\",\"mode\":1},\"name\":\"v\",\"node\":\"n2\",\"readonly\":false,\"target\":\"/a\"}},
+  {\"deliver\":11},
+  {\"deliver\":12},
+  {\"deliver\":13},
+  {\"deliver\":14},
+  {\"deliver\":15},
+  {\"deliver\":16},
+  {\"join\":\"n1\"},
+  {\"deliver\":7},
+  {\"deliver\":17}
+]}
+";
+
+const LOST_NODE_REPORT: &str =
+    "{\"attached\":[{\"id\":1,\"mode\":1,\"node\":\"n2\",\"readonly\":false}],\"events\":[\"sent 1\",\"answered 2\",\"taken\",\"sent 3\",\"answered 4\",\"taken, sent 5\",\"answered 6\",\"taken, sent 7\",\"answered 8\",\"taken\",\"refused 7 HeldElsewhere\",\"lost\",\"no such node\",\"refused 7 HeldElsewhere\",\"sent 9\",\"answered 10\",\"taken\",\"sent 11\",\"answered 12\",\"taken, sent 13\",\"answered 14\",\"taken, sent 15\",\"answered 16\",\"taken\",\"joined\",\"answered 17\",\"ignored\"],\"frames\":17,\"known\":[{\"known\":\"yes\",\"name\":\"v\",\"thing\":\"exists\"},{\"known\":\"yes\",\"name\":\"v\",\"node\":\"n2\",\"thing\":\"attached\"},{\"known\":\"yes\",\"name\":\"v\",\"node\":\"n2\",\"thing\":\"staged\"},{\"known\":\"yes\",\"name\":\"v\",\"node\":\"n2\",\"target\":\"/a\",\"thing\":\"published\"}],\"published\":[{\"id\":1,\"node\":\"n2\",\"readonly\":false,\"target\":\"/a\"}],\"safe\":true,\"session\":2,\"staged\":[{\"id\":1,\"mode\":1,\"node\":\"n2\"}],\"volumes\":[{\"capacity\":10,\"id\":1,\"name\":\"v\"}]}\n";
 
 #[test]
 fn late_publish_has_its_report(rt: HostRuntime) {
@@ -382,4 +418,12 @@ fn forgetting_has_its_report(rt: HostRuntime) {
 #[test]
 fn refusals_has_its_report(rt: HostRuntime) {
     run_all(&rt, &[Case::Runs(REFUSALS, REFUSALS_REPORT, Ending::Done)]);
+}
+
+#[test]
+fn lost_node_has_its_report(rt: HostRuntime) {
+    run_all(
+        &rt,
+        &[Case::Runs(LOST_NODE, LOST_NODE_REPORT, Ending::Done)],
+    );
 }

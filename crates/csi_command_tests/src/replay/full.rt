@@ -3,6 +3,7 @@
 mod configs;
 mod drawn;
 mod frames;
+mod joining;
 mod lanes;
 mod pictures;
 mod requests;

@@ -3,7 +3,7 @@ use csi_json::{Request, RequestFault, read_request};
 use csi_types::{Event, Mode};
 use std::alloc::Global;
 
-// What a line is to be read as: the command of the volume `v` that stands in the table, the bytes of a frame, or a fault.
+// What a line is to be read as: the command of the volume `v` that stands in the table, the loss of `n1`, the bytes of a frame, or a fault.
 #[derive(Clone, Copy)]
 enum Read {
     Create,
@@ -11,6 +11,7 @@ enum Read {
     Stop,
     Delete,
     Timeout,
+    Lose,
     Bytes(&'static [u8]),
     Fault(RequestFault),
 }
@@ -52,6 +53,7 @@ fn is_command(event: &Event, read: Read) -> bool {
         }
         Event::Delete(name) => matches!(read, Read::Delete) && name.as_str() == "v",
         Event::Timeout(name) => matches!(read, Read::Timeout) && name.as_str() == "v",
+        Event::Lose(node) => matches!(read, Read::Lose) && node.as_str() == "n1",
         _ => false,
     }
 }
@@ -90,6 +92,7 @@ const LINES: &[(&str, Read)] = &[
     ),
     ("{\"delete\":\"v\"}", Read::Delete),
     ("{\"timeout\":\"v\"}", Read::Timeout),
+    ("{\"lose\":\"n1\"}", Read::Lose),
     ("{\"delete\":\"w\",\"delete\":\"v\"}", Read::Delete),
     ("{\"reply\":\"\"}", Read::Bytes(&[])),
     ("{\"reply\":\"00\"}", Read::Bytes(&[0])),
@@ -121,6 +124,16 @@ const LINES: &[(&str, Read)] = &[
     ("{\"deliver\":1}", BAD_LINE),
     ("{\"restart\":\"orchestrator\"}", BAD_LINE),
     ("{\"restart_node\":\"n1\"}", BAD_LINE),
+    ("{\"restart_orchestrator\":[]}", BAD_LINE),
+    ("{\"join\":\"n1\"}", BAD_LINE),
+    (
+        "{\"restart_controller\":{\"greatest\":1,\"nodes\":[]}}",
+        BAD_LINE,
+    ),
+    ("{\"lose\":\"\"}", BAD_LINE),
+    ("{\"settle\":\"v\"}", BAD_LINE),
+    ("{\"lose\":[\"n1\"]}", BAD_LINE),
+    ("{\"lose\":\"n1\",\"timeout\":\"v\"}", BAD_LINE),
     ("{\"Delete\":\"v\"}", BAD_LINE),
 ];
 

@@ -39,12 +39,29 @@ const ESCAPED: &str =
 const ESCAPED_REPORT: &str =
     "{\"attached\":[],\"events\":[\"sent 1\"],\"frames\":1,\"known\":[{\"known\":\"maybe\",\"name\":\"\\\"\\\\\\n\\u0001\u{e9}/\",\"thing\":\"exists\"}],\"published\":[],\"safe\":true,\"session\":1,\"staged\":[],\"volumes\":[]}\n";
 
+// Nodes that join, are there, are lost, and aren't there.
+const COME_AND_GO: &str =
+    "{\"config\":{\"greatest\":1000,\"nodes\":[]},\"events\":[{\"join\":\"n1\"},{\"join\":\"n1\"},{\"lose\":\"n2\"},{\"lose\":\"n1\"},{\"restart_node\":\"n1\"},{\"restart_controller\":{\"greatest\":5,\"nodes\":[{\"id\":\"n3\",\"slots\":0}]}},{\"restart_orchestrator\":[\"n1\",\"n2\"]},{\"lose\":\"n2\"}]}";
+
+const COME_AND_GO_REPORT: &str =
+    "{\"attached\":[],\"events\":[\"joined\",\"node there\",\"no such node\",\"lost\",\"no such node\",\"restarted\",\"restarted\",\"lost\"],\"frames\":0,\"known\":[],\"published\":[],\"safe\":true,\"session\":4,\"staged\":[],\"volumes\":[]}\n";
+
+// A node in use stays listed, and nothing is attached that isn't configured any more. Then it is left out, and the volume deleted, whose name is free
+// in the next session.
+const TAKEN_OUT: &str =
+    "{\"config\":{\"greatest\":1000,\"nodes\":[{\"id\":\"n1\",\"slots\":4}]},\"events\":[{\"create\":{\"capabilities\":[{\"access\":\"block\",\"mode\":1}],\"limit\":0,\"name\":\"v\",\"required\":10}},{\"deliver\":1},{\"deliver\":2},{\"use\":{\"capability\":{\"access\":\"block\",\"mode\":1},\"name\":\"v\",\"node\":\"n1\",\"readonly\":false,\"target\":\"/a\"}},{\"restart_orchestrator\":[]},{\"restart_controller\":{\"greatest\":1000,\"nodes\":[]}},{\"deliver\":3},{\"deliver\":4},{\"deliver\":5},{\"deliver\":6},{\"restart_orchestrator\":[]},{\"delete\":\"v\"},{\"deliver\":7},{\"deliver\":8},{\"create\":{\"capabilities\":[{\"access\":\"block\",\"mode\":1}],\"limit\":0,\"name\":\"v\",\"required\":10}},{\"restart\":\"orchestrator\"},{\"create\":{\"capabilities\":[{\"access\":\"block\",\"mode\":1}],\"limit\":0,\"name\":\"v\",\"required\":10}}]}";
+
+const TAKEN_OUT_REPORT: &str =
+    "{\"attached\":[],\"events\":[\"sent 1\",\"answered 2\",\"taken\",\"sent 3\",\"refused 17 NodeInUse\",\"restarted\",\"answered 4\",\"taken, sent 5\",\"answered 6\",\"taken\",\"restarted\",\"sent 7\",\"answered 8\",\"taken\",\"refused 1 NameUsed\",\"restarted\",\"sent 9\"],\"frames\":9,\"known\":[{\"known\":\"maybe\",\"name\":\"v\",\"thing\":\"exists\"}],\"published\":[],\"safe\":true,\"session\":3,\"staged\":[],\"volumes\":[]}\n";
+
 const RUNS: &[Case] = &[
     Case::Runs(USED, USED_REPORT, DONE),
     Case::Runs(ALONE, ALONE_REPORT, DONE),
     Case::Runs(NO_FRAME, NO_FRAME_REPORT, DONE),
     Case::Runs(NO_EVENT, NO_EVENT_REPORT, DONE),
     Case::Runs(ESCAPED, ESCAPED_REPORT, DONE),
+    Case::Runs(COME_AND_GO, COME_AND_GO_REPORT, DONE),
+    Case::Runs(TAKEN_OUT, TAKEN_OUT_REPORT, DONE),
 ];
 
 #[test]

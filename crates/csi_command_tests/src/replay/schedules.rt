@@ -176,6 +176,67 @@ fn the_first_bad_event_has_a_place(rt: HostRuntime) {
     all_judged(&rt, EVENTS);
 }
 
+// Events of nodes that come and go. A list of ids may have any length, and an id may stand there twice; a configuration is judged as the first one.
+const NODES: &[(Text, Fault)] = &[
+    (
+        Text::Events(
+            "[{\"join\":\"n1\"},{\"lose\":\"n1\"},{\"restart_orchestrator\":[\"n1\",\"n1\"]},{\"restart_controller\":{\"nodes\":[],\"greatest\":1}}]",
+        ),
+        NONE,
+    ),
+    (Text::Events("[{\"join\":\"\"}]"), (2, 1)),
+    (Text::Events("[{\"join\":1}]"), (2, 1)),
+    (
+        Text::Events("[{\"join\":{\"id\":\"n1\",\"slots\":4}}]"),
+        (2, 1),
+    ),
+    (
+        Text::Events("[{\"join\":\"n1\"},{\"lose\":[\"n1\"]}]"),
+        (2, 2),
+    ),
+    (Text::Events("[{\"join\":\"n1\"},{\"lose\":\"\"}]"), (2, 2)),
+    (Text::Events("[{\"join\":\"n1\",\"lose\":\"n1\"}]"), (2, 1)),
+    (Text::Events("[{\"restart_orchestrator\":\"n1\"}]"), (2, 1)),
+    (
+        Text::Events("[{\"restart_orchestrator\":[\"n1\",\"\"]}]"),
+        (2, 1),
+    ),
+    (
+        Text::Events("[{\"restart_orchestrator\":[\"n1\",2]}]"),
+        (2, 1),
+    ),
+    (
+        Text::Events("[{\"restart_orchestrator\":{\"nodes\":[\"n1\"]}}]"),
+        (2, 1),
+    ),
+    (Text::Events("[{\"restart_controller\":[\"n1\"]}]"), (2, 1)),
+    (
+        Text::Events("[{\"restart_controller\":{\"nodes\":[]}}]"),
+        (2, 1),
+    ),
+    (
+        Text::Events("[{\"restart_controller\":{\"greatest\":0,\"nodes\":[]}}]"),
+        (2, 1),
+    ),
+    (
+        Text::Events(
+            "[{\"deliver\":1},{\"restart_controller\":{\"greatest\":1,\"nodes\":[{\"id\":\"a\",\"slots\":1},{\"id\":\"a\",\"slots\":2}]}}]",
+        ),
+        (2, 2),
+    ),
+    (
+        Text::Events(
+            "[{\"restart_controller\":{\"greatest\":1,\"nodes\":[{\"id\":\"a\",\"slots\":4097}]}}]",
+        ),
+        (2, 1),
+    ),
+];
+
+#[test]
+fn events_of_nodes_are_judged(rt: HostRuntime) {
+    all_judged(&rt, NODES);
+}
+
 // A list of so many empty objects, if there is memory for it.
 fn try_objects(alloc: Global, count: usize) -> Result<String, AllocError> {
     let mut text = String::from_str(alloc, "[{}")?;

@@ -3,10 +3,8 @@
 use Rattle.std.specs.Prelude.{◌≡◌, ◌⊎◌, ◌≤◌, ◌+◌, ◌==◌, List, length, count_by, true, IsSome}
 use Rattle.csi_lists.specs.Model.Members.{EachTwo, IsAmong}
 use Rattle.csi_types.specs.declared.holding.Holding.{Holding}
-use Rattle.csi_types.specs.Model.Config.{Config}
-use Rattle.csi_types.specs.Model.Frame.{Frame}
 use Rattle.csi_controller.specs.Model.State.{Volume, ControllerState, empty_controller, live_volume}
-use Rattle.csi_controller.specs.Public.Fenced.{after_frames}
+use Rattle.csi_controller.specs.Public.Fenced.{ConfiguredFrame, after_configured}
 use Rattle.csi_controller.specs.Model.Safe.{AreExclusive}
 
 -- any two holdings of one volume are apart, and what is attached wasn't deleted
@@ -21,10 +19,10 @@ pub record Remembers (state : ControllerState) : Type 0 where
   pub before : (volume : Volume) → IsAmong volume state.volumes → volume.kept.number.session ≤ state.session
   pub few : length state.volumes ≤ count_by (λ volume. volume.is_live) state.volumes + count_by (λ volume. volume.kept.number.session == state.session) state.volumes
 
--- in every state that frames lead to, under any configuration
+-- in every state that frames lead to, under whatever configuration each comes
 abbrev pub ControllerSessionsLaw : Type 0
-ControllerSessionsLaw = (config : Config) (frames : List Frame) → Remembers (after_frames config empty_controller frames)
+ControllerSessionsLaw = (came : List ConfiguredFrame) → Remembers (after_configured empty_controller came)
 
--- in every state that frames lead to, under any configuration
+-- in every state that frames lead to, under whatever configuration each comes
 abbrev pub ControllerSafetyLaw : Type 0
-ControllerSafetyLaw = (config : Config) (frames : List Frame) → IsExclusiveState (after_frames config empty_controller frames)
+ControllerSafetyLaw = (came : List ConfiguredFrame) → IsExclusiveState (after_configured empty_controller came)

@@ -14,10 +14,10 @@ use Rattle.csi_types.specs.Model.Frame.{Frame}
 use Rattle.csi_types.specs.Public.PluginThing.{PluginThing, Exists, Attached, Staged, Published, ThingForm, HasId, AttachedAs}
 use Rattle.csi_types.specs.Model.Replies.{call_frame}
 use Rattle.csi_types.specs.Model.Same.{same_text}
-use Rattle.csi_controller.specs.Model.State.{Volume, ControllerState, empty_controller, volume_named, holding_at}
+use Rattle.csi_controller.specs.Model.State.{Volume, ControllerState, empty_controller, volume_named, live_volume, holding_at}
 use Rattle.csi_controller.specs.Public.State.{volume_with_id}
 use Rattle.csi_controller.specs.Model.Fenced.{fenced}
-use Rattle.csi_controller.specs.Public.Fenced.{after_frames}
+use Rattle.csi_controller.specs.Public.Fenced.{ConfiguredFrame, after_configured}
 
 -- the live volume of a name
 abbrev pub live_named : List ℕ → ControllerState → Option Volume
@@ -63,19 +63,20 @@ pub record IsDeliveredTo (config : Config) (state : ControllerState) (number : N
   pub is_delivered : IsDelivered Controller number call thing (view_of state) (view_of (fenced config state (call_frame number Controller call)).state)
       (fenced config state (call_frame number Controller call)).reply
 
--- in every state that frames lead to, whichever call comes next: it is delivered as the laws say; and a new
--- controller has nothing, and what came before a spent number is spent
+-- in every state that frames lead to, under whatever configuration each comes, whichever call comes next: it is delivered as the laws
+-- say; and a new controller has nothing, and what came before a spent number is spent
 pub record ControllerDeliveryLaw : Type 0 where
   pub empty : IsEmpty (view_of empty_controller)
   pub closed : (state : ControllerState) → IsClosed (view_of state)
-  pub delivered : (config : Config) (frames : List Frame) (number : Number) (call : Call) → IsTrue (is_party_of (kind_of call) Controller)
-      → IsDeliveredTo config (after_frames config empty_controller frames) number call
+  pub delivered : (config : Config) (came : List ConfiguredFrame) (number : Number) (call : Call) → IsTrue (is_party_of (kind_of call) Controller)
+      → IsDeliveredTo config (after_configured empty_controller came) number call
 
--- a volume that is found by its name is found by its id, and the other way round, and its id was given
+-- a volume that is found by its name, or live, is found by its id, and the other way round, and its id was given
 pub record AreNamed (state : ControllerState) : Type 0 where
   pub by_id : (name : List ℕ) (volume : Volume) → volume_named name state ≡ Some volume → volume_with_id volume.id state ≡ Some volume
   pub by_name : (id : ℕ) (volume : Volume) → volume_with_id id state ≡ Some volume → volume_named volume.name state ≡ Some volume
   pub live : (name : List ℕ) (volume : Volume) → live_named name state ≡ Some volume → volume_named name state ≡ Some volume
+  pub live_id : (id : ℕ) (volume : Volume) → live_volume id state ≡ Some volume → volume_with_id id state ≡ Some volume
   pub given : (id : ℕ) (volume : Volume) → volume_with_id id state ≡ Some volume → id < state.next_id
 
 -- a volume of this id and name is there
@@ -90,15 +91,17 @@ pub record WasMade (old : ControllerState) (volume : Volume) : Type 0 where
   pub is_live : volume.is_live ≡ true
   pub was_free : live_named volume.name old ≡ None
 
--- the next id only grows; each volume was there under its id and name, or was made; and one that was live stays under them, if
--- only as one that is deleted now
+-- the next id only grows; each volume was there under its id and name, or was made; one that was live stays under them, if only as one
+-- that is deleted now; and an id that was given and has no live volume never has one again
 pub record KeepsNames (old new : ControllerState) : Type 0 where
   pub grows : old.next_id ≤ new.next_id
   pub comes : (id : ℕ) (volume : Volume) → volume_with_id id new ≡ Some volume → HasVolume old volume ⊎ WasMade old volume
   pub stays : (id : ℕ) (volume : Volume) → volume_with_id id old ≡ Some volume → volume.is_live ≡ true → HasVolume new volume
+  pub stays_ended : (id : ℕ) → id < old.next_id → live_volume id old ≡ None → live_volume id new ≡ None
 
--- in every state that frames lead to, names and ids belong together; and they do so as before, whatever frame comes
+-- in every state that frames lead to, under whatever configuration each comes, names and ids belong together; and they do so as
+-- before, whatever frame comes
 pub record ControllerNamesLaw : Type 0 where
-  pub named : (config : Config) (frames : List Frame) → AreNamed (after_frames config empty_controller frames)
-  pub keeps_names : (config : Config) (frames : List Frame) (frame : Frame)
-      → KeepsNames (after_frames config empty_controller frames) (fenced config (after_frames config empty_controller frames) frame).state
+  pub named : (came : List ConfiguredFrame) → AreNamed (after_configured empty_controller came)
+  pub keeps_names : (config : Config) (came : List ConfiguredFrame) (frame : Frame)
+      → KeepsNames (after_configured empty_controller came) (fenced config (after_configured empty_controller came) frame).state

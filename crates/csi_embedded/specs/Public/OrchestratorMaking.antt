@@ -1,9 +1,11 @@
 -- Orchestrators that are made: a new one, and that of a record's bytes; and what the store has to be given of them. This profile's own.
-use Rattle.std.specs.Prelude.{◌≡◌, ◌≢◌, ◌⊎◌, ◌+◌, ◌^◌, ℕ, List, [], ◌∷◌, map, Ok}
+use Rattle.std.specs.Prelude.{◌≡◌, ℕ, List, [], ◌∷◌, length, map, None, Some, Ok}
 use Rattle.std.specs.Str.{IsUtf8}
 use Rattle.csi_types.specs.declared.config.NodeSlots.{NodeSlots}
 use Rattle.csi_types.specs.Model.Config.{Config}
 use Rattle.csi_json.specs.Public.Configs.{text_config}
+use Rattle.csi_orchestrator.specs.declared.fault.OrchFault.{OrchFault}
+use Rattle.csi_orchestrator.specs.declared.fault.OrchFault.TheVariants as refusals
 use Rattle.csi_orchestrator.specs.Model.History.{new_history}
 use Rattle.csi_orchestrator.specs.Model.Shown.{Shows}
 use Rattle.csi_orchestrator.specs.Public.Laws.{opened_parts}
@@ -15,10 +17,10 @@ use Rattle.csi_records.specs.Public.OrchestratorSpelling.{orchestrator_head}
 use Rattle.csi_records.specs.Public.Places.{AreBytesOf, IsBadAt}
 use Rattle.csi_records.specs.Public.Records.{IsRecordOf}
 use Rattle.csi_records.specs.Public.Spelling.{present}
-use Rattle.csi_service.specs.Public.OrchestratorOpening.{new_record}
-use Rattle.csi_service.specs.Public.OrchestratorServices.{ServedOrchestrator}
+use Rattle.csi_service.specs.Public.OrchestratorOpening.{new_record, opening_refusal}
+use Rattle.csi_service.specs.Public.OrchestratorServices.{ServedOrchestrator, session_changes}
 use Rattle.csi_embedded.specs.declared.ending.Ending.{Ending}
-use Rattle.csi_embedded.specs.declared.ending.Ending.TheVariants.{NoMemory, BadName, BadRecord, Refused}
+use Rattle.csi_embedded.specs.declared.ending.Ending.TheVariants.{NoMemory, BadName, BadRecord, Refused, NodeInUse}
 use Rattle.csi_embedded.specs.declared.embedded.Embedded.{Embedded}
 use Rattle.csi_embedded.specs.declared.plugin.Plugin.TheVariants.{Orchestrator}
 use Rattle.csi_embedded.specs.Public.Calls.{told_changes}
@@ -37,8 +39,8 @@ pub record IsNewOrchestrator (text : List ℕ) (made : Embedded) : Type 0 where
   pub is : made.plugin ≡ Orchestrator service
   pub nodes : List (List ℕ)
   pub said : AreNodesOf text nodes
-  pub has : service.orchestrator ≡ opened_parts (new_record nodes)
-  pub shows : Shows service.orchestrator new_history
+  pub has : service.orchestrator ≡ opened_parts new_record nodes
+  pub shows : Shows service.orchestrator (new_history nodes)
   pub told : told_changes made ≡ put_all (orchestrator_head present 1 nodes ∷ [])
 
 -- the bytes are those of this orchestrator's record, in some version
@@ -46,19 +48,22 @@ abbrev pub IsOrchestratorRecord : List ℕ → RecordParts → Type 0
 IsOrchestratorRecord bytes kept =
     (version : RecordVersion) × AreBytesOf (λ v. IsRecordOf (orchestrator_layout v)) (λ v. IsOrchestratorOf v) version bytes kept
 
--- the orchestrator of a record, as a restart leaves it: in the next session. The store has to be given its head, which has that session.
-pub record IsReopened (kept : RecordParts) (made : Embedded) : Type 0 where
+-- the orchestrator of a record, as a restart with these nodes leaves it: in the next session, without the names that are forgotten. The store has to
+-- be given its head, or, where names were forgotten, the whole record.
+pub record IsReopened (kept : RecordParts) (nodes : List (List ℕ)) (made : Embedded) : Type 0 where
   pub service : ServedOrchestrator
   pub is : made.plugin ≡ Orchestrator service
-  pub has : service.orchestrator ≡ opened_parts kept
-  pub told : told_changes made ≡ put_all (orchestrator_head present (kept.session + 1) kept.nodes ∷ [])
+  pub has : service.orchestrator ≡ opened_parts kept nodes
+  pub unrefused : opening_refusal kept nodes ≡ None
+  pub told : told_changes made ≡ session_changes (length kept.rows) (opened_parts kept nodes)
 
--- that of the record whose bytes these are, which has the nodes that the text says
+-- that of the record whose bytes these are, with the nodes that the text says
 pub record IsReadOrchestrator (text bytes : List ℕ) (made : Embedded) : Type 0 where
   pub kept : RecordParts
   pub read : IsOrchestratorRecord bytes kept
-  pub said : AreNodesOf text kept.nodes
-  pub reopened : IsReopened kept made
+  pub nodes : List (List ℕ)
+  pub said : AreNodesOf text nodes
+  pub reopened : IsReopened kept nodes made
 
 -- why no nodes are said
 abbrev pub IsNoNodes : List ℕ → Ending → Type 0
@@ -72,25 +77,20 @@ IsNoOrchestrator text NoMemory = Unit {0}
 IsNoOrchestrator text BadName = IsUtf8 text → (nodes : List (List ℕ)) → AreNodesOf text nodes → AreNodesFit nodes → ⊥
 IsNoOrchestrator text _ = ⊥
 
--- a record of other nodes
-pub record IsOfOtherNodes (text bytes : List ℕ) : Type 0 where
+-- a record after which no session begins with the nodes that the text says, for this reason
+pub record IsRefusedAfter (fault : OrchFault) (text bytes : List ℕ) : Type 0 where
   pub nodes : List (List ℕ)
   pub said : AreNodesOf text nodes
   pub kept : RecordParts
   pub read : IsOrchestratorRecord bytes kept
-  pub others : kept.nodes ≢ nodes
+  pub refused : opening_refusal kept nodes ≡ Some fault
 
--- a record of the last session
-pub record IsOfLastSession (bytes : List ℕ) : Type 0 where
-  pub kept : RecordParts
-  pub read : IsOrchestratorRecord bytes kept
-  pub spent : kept.session + 1 ≡ 2 ^ 64
-
--- why there is none of a record: no nodes are said; or the bytes are no orchestrator's record in any version, or one of other nodes; or no session
--- is left
+-- why there is none of a record: no nodes are said that an orchestrator has; or the bytes are no orchestrator's record in any version; or no session is
+-- left; or a volume may be attached at a node that the text leaves out
 abbrev pub IsNoReadOrchestrator : List ℕ → List ℕ → Ending → Type 0
 IsNoReadOrchestrator text bytes NoMemory = Unit {0}
-IsNoReadOrchestrator text bytes BadName = IsNoNodes text BadName
-IsNoReadOrchestrator text bytes BadRecord = ((place : ℕ) × IsBadAt (λ v. IsRecordOf (orchestrator_layout v)) bytes place) ⊎ IsOfOtherNodes text bytes
-IsNoReadOrchestrator text bytes Refused = IsOfLastSession bytes
+IsNoReadOrchestrator text bytes BadName = IsNoOrchestrator text BadName
+IsNoReadOrchestrator text bytes BadRecord = (place : ℕ) × IsBadAt (λ v. IsRecordOf (orchestrator_layout v)) bytes place
+IsNoReadOrchestrator text bytes Refused = IsRefusedAfter refusals.NumbersSpent text bytes
+IsNoReadOrchestrator text bytes NodeInUse = IsRefusedAfter refusals.NodeInUse text bytes
 IsNoReadOrchestrator text bytes _ = ⊥

@@ -4,8 +4,9 @@ use Rattle.serde_json.specs.Data.{Data}
 use Rattle.serde_json.specs.Find.{get, as_str, as_bool}
 use Rattle.csi_types.specs.declared.event.Event.{Event}
 use Rattle.csi_types.specs.declared.event.Event.TheVariants as events
-use Rattle.csi_json.specs.Public.Json.{◌>>=◌, number_of, name_of, node_id_of, target_of, sized_object, only_member}
+use Rattle.csi_json.specs.Public.Json.{◌>>=◌, number_of, name_of, node_id_of, target_of, sized_object, only_member, all_of}
 use Rattle.csi_json.specs.Public.Capabilities.{capability_of, capabilities_of}
+use Rattle.csi_json.specs.Public.Configs.{config_of}
 
 -- a volume is asked for
 unfoldable pub create_of : Data → Option Event
@@ -55,7 +56,7 @@ deliver_of d = do
   number ← number_of d
   Some (events.Deliver number)
 
--- the orchestrator or the controller restarts
+-- the orchestrator or the controller restarts, and keeps what it was given
 unfoldable pub restart_of : Data → Option Event
 restart_of d = do
   part ← as_str d
@@ -69,6 +70,36 @@ restart_node_of d = do
   node ← node_id_of d
   Some (events.RestartNode node)
 
+-- the controller restarts with a configuration
+unfoldable pub restart_controller_of : Data → Option Event
+restart_controller_of d = do
+  config ← config_of d
+  Some (events.RestartControllerWith config)
+
+-- the orchestrator restarts with a list of nodes
+unfoldable pub restart_orchestrator_of : Data → Option Event
+restart_orchestrator_of d = do
+  nodes ← all_of node_id_of d
+  Some (events.RestartOrchestratorWith nodes)
+
+-- a node joins
+unfoldable pub join_of : Data → Option Event
+join_of d = do
+  node ← node_id_of d
+  Some (events.Join node)
+
+-- a node is lost: the operator promises that the machine is off for good, and that its store never comes back
+unfoldable pub lose_of : Data → Option Event
+lose_of d = do
+  node ← node_id_of d
+  Some (events.Lose node)
+
+-- a volume is brought to rest, as far as deliveries do that
+unfoldable pub settle_of : Data → Option Event
+settle_of d = do
+  name ← name_of d
+  Some (events.Settle name)
+
 -- an event by the key that it stands at
 unfoldable pub event_at : List ℕ → Data → Option Event
 event_at key d =
@@ -80,6 +111,11 @@ event_at key d =
     else if bytes_eq key (codes "deliver") then deliver_of d
     else if bytes_eq key (codes "restart") then restart_of d
     else if bytes_eq key (codes "restart_node") then restart_node_of d
+    else if bytes_eq key (codes "restart_controller") then restart_controller_of d
+    else if bytes_eq key (codes "restart_orchestrator") then restart_orchestrator_of d
+    else if bytes_eq key (codes "join") then join_of d
+    else if bytes_eq key (codes "lose") then lose_of d
+    else if bytes_eq key (codes "settle") then settle_of d
     else None
 
 -- an event: an object of one member, whose key says which

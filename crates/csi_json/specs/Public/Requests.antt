@@ -14,7 +14,7 @@ use Rattle.csi_json.specs.Public.Json.{◌>>=◌, only_member}
 use Rattle.csi_json.specs.Public.Events.{event_at}
 use Rattle.csi_json.specs.Public.Hexadecimal.{hex_bytes}
 
--- a request to its readers: a command or a timeout, or the bytes of a frame that came
+-- a request to its readers: a command, a timeout or a loss, or the bytes of a frame that came
 pub data RequestShown : Type 0 where
   Command : (event : Event) → RequestShown
   Reply : (bytes : List ℕ) → RequestShown
@@ -24,18 +24,18 @@ abbrev pub request_shown : Request → RequestShown
 request_shown (requests.Command event) = Command event
 request_shown (requests.Reply bytes) = Reply bytes.items
 
--- the keys of a schedule's commands and timeouts
+-- the keys of a schedule's commands, timeouts and losses
 abbrev pub is_command_key : List ℕ → Bool
 is_command_key key =
     bytes_eq key (codes "create") || bytes_eq key (codes "use") || bytes_eq key (codes "stop")
-    || bytes_eq key (codes "delete") || bytes_eq key (codes "timeout")
+    || bytes_eq key (codes "delete") || bytes_eq key (codes "timeout") || bytes_eq key (codes "lose")
 
--- a command or a timeout, or the fault that it is none
+-- a command, a timeout or a loss, or the fault that it is none
 abbrev pub command_or_fault : Option Event → Result RequestShown RequestFault
 command_or_fault (Some event) = Ok (Command event)
 command_or_fault None = Err BadLine
 
--- an event is a command or a timeout
+-- an event is a command, a timeout, or the loss of a node
 abbrev pub IsCommand : Event → Type 0
 IsCommand (events.Create name required limit capabilities) = Unit {0}
 IsCommand (events.Use name node target capability readonly) = Unit {0}
@@ -44,8 +44,13 @@ IsCommand (events.Delete name) = Unit {0}
 IsCommand (events.Timeout name) = Unit {0}
 IsCommand (events.Deliver number) = ⊥
 IsCommand events.RestartOrchestrator = ⊥
+IsCommand (events.RestartOrchestratorWith nodes) = ⊥
 IsCommand events.RestartController = ⊥
+IsCommand (events.RestartControllerWith config) = ⊥
 IsCommand (events.RestartNode node) = ⊥
+IsCommand (events.Join node) = ⊥
+IsCommand (events.Lose node) = Unit {0}
+IsCommand (events.Settle name) = ⊥
 
 -- what is asked is one of these, or to take bytes
 abbrev pub IsAsked : RequestShown → Type 0

@@ -36,10 +36,6 @@ pub record NodeState : Type 0 where
 abbrev pub joined_node : ℕ → NodeState
 joined_node session = record { rows = []; session = session; staged = []; published = [] }
 
--- a node that has answered nothing, and heard of no session
-abbrev pub empty_node : NodeState
-empty_node = joined_node 0
-
 -- a volume's row, if it has one
 abbrev pub row_with_id : ℕ → NodeState → Option AnsweredVolume
 row_with_id id state = find (λ row. row.id == id) state.rows

@@ -18,7 +18,8 @@ use Rattle.csi_types.specs.declared.frame.Body.TheVariants as bodies
 use Rattle.csi_types.specs.Model.Call.{kind_of}
 use Rattle.csi_types.specs.Model.Frame.{Frame}
 use Rattle.csi_types.specs.Model.Replies.{plain_reply, ok_reply, call_frame, reply_frame}
-use Rattle.csi_node.specs.Model.State.{NodeState, AnsweredVolume, empty_node, joined_node, staged_of, published_at, row_for}
+use Rattle.csi_node.specs.Model.State.{NodeState, AnsweredVolume, joined_node, staged_of, published_at, row_for}
+use Rattle.csi_node.specs.Public.View.{empty_node}
 use Rattle.csi_node.specs.Model.Fenced.{fenced}
 use Rattle.csi_node.specs.Public.Fenced.{after_frames}
 use Rattle.csi_node.specs.Model.Shown.{RowsShow}

@@ -14,7 +14,7 @@ use Rattle.csi_types.specs.Public.PluginThing.{PluginThing, Exists, Attached, St
 use Rattle.csi_lists.specs.Model.Members.{IsAmong}
 use Rattle.csi_types.specs.Model.Replies.{call_frame}
 use Rattle.csi_types.specs.Model.Same.{same_text}
-use Rattle.csi_node.specs.Model.State.{NodeState, StagedVolume, empty_node, joined_node, row_with_id, staged_of, published_at}
+use Rattle.csi_node.specs.Model.State.{NodeState, StagedVolume, joined_node, row_with_id, staged_of, published_at}
 use Rattle.csi_node.specs.Model.Fenced.{fenced}
 use Rattle.csi_node.specs.Public.Fenced.{after_frames}
 
@@ -57,6 +57,10 @@ abbrev pub IsDeliveredTo : List ℕ → NodeState → Number → Call → Type 0
 IsDeliveredTo node state number call =
     IsDelivered (Node node) number call (thing_of node call) (view_of node state) (view_of node (fenced node state (call_frame number (Node node) call)).state)
     (fenced node state (call_frame number (Node node) call)).reply
+
+-- a node that has answered nothing, and heard of no session
+abbrev pub empty_node : NodeState
+empty_node = joined_node 0
 
 -- in every state that frames lead to, whichever call comes next: it is delivered as the laws say, and each staged volume
 -- is found as it is staged; and a node that has heard of nothing has nothing, and what came before a spent number is spent

@@ -5,7 +5,7 @@ use Rattle.csi_endings.specs.declared.ending.Ending.TheVariants as endings
 use Rattle.csi_stores.specs.declared.keep.KeepFault.{KeepFault}
 use Rattle.csi_stores.specs.declared.keep.KeepFault.TheVariants.{Device, NoMemory, BadRecord, Full}
 use Rattle.csi_service.specs.declared.orchestrator_unopened.OrchestratorUnopened.{OrchestratorUnopened}
-use Rattle.csi_service.specs.declared.orchestrator_unopened.OrchestratorUnopened.TheVariants.{Keep, BadNodes, OtherNodes, NumbersSpent}
+use Rattle.csi_service.specs.declared.orchestrator_unopened.OrchestratorUnopened.TheVariants.{Keep, BadNodes, NumbersSpent, NodeInUse}
 use Rattle.csi_orchestration.specs.declared.lines_serving.fault.ServedLines.{ServedLines}
 use Rattle.csi_orchestration.specs.declared.lines_serving.fault.LinesServeFault.{LinesServeFault}
 use Rattle.csi_orchestration.specs.declared.lines_serving.fault.LinesServeFaultKind.{LinesServeFaultKind}
@@ -29,8 +29,8 @@ EndsAt place _ = ⊥
 abbrev pub ending_unopened : OrchestratorUnopened → Ending
 ending_unopened (Keep fault) = ending_of_store fault
 ending_unopened BadNodes = endings.ConfigRefused
-ending_unopened OtherNodes = endings.ConfigRefused
 ending_unopened NumbersSpent = endings.NumbersSpent
+ending_unopened NodeInUse = endings.NodeInUse
 
 -- by why serving stopped
 abbrev pub ending_of_kind : LinesServeFaultKind → Ending

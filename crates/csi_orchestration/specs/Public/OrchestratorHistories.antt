@@ -11,8 +11,8 @@ use Rattle.csi_orchestrator.specs.declared.fault.Heard.TheVariants as heards
 use Rattle.csi_orchestrator.specs.declared.fault.OrchFault.{OrchFault}
 use Rattle.csi_orchestrator.specs.Model.History.{History, new_history, with_items}
 use Rattle.csi_orchestrator.specs.Model.Thing.{Issued}
-use Rattle.csi_orchestrator.specs.Model.Moves.{Input, Comes, Restarts, Answer, Sends, Hears, Restarted, Moved, call_replied, moves}
-use Rattle.csi_orchestrator.specs.Model.Readings.{goal_of}
+use Rattle.csi_orchestrator.specs.Model.Moves.{Input, Comes, Restarts, Loses, Answer, Sends, Hears, Restarted, GivenUp, Moved, call_replied, moves}
+use Rattle.csi_orchestrator.specs.Model.Readings.{goal_of, last_number}
 use Rattle.csi_orchestrator.specs.Model.Shown.{Shows}
 use Rattle.csi_orchestrator.specs.Model.WellFormed.{IsWellFormed}
 use Rattle.csi_orchestrator.specs.Public.Sound.{HasHistory}
@@ -28,20 +28,20 @@ use Rattle.csi_orchestration.specs.declared.lines_serving.fault.LinesServeFault.
 use Rattle.csi_orchestration.specs.declared.orchestrator_responder.OrchestratorResponder.{OrchestratorResponder}
 use Rattle.csi_orchestration.specs.Public.LinesRuns.{RunSetting, Ran, Reopens, AreOneRun}
 use Rattle.csi_orchestration.specs.Public.LinesServing.{AnswersEach, lines_counted}
-use Rattle.csi_orchestration.specs.Public.OrchestratorLines.{LineJudge, RequestBy, with_bytes, command_entry}
+use Rattle.csi_orchestration.specs.Public.OrchestratorLines.{LineJudge, RequestBy, with_bytes, command_entry, lost_entry}
 use Rattle.csi_orchestration.specs.Public.Running.{orchestrator_setting}
 
 -- ---- a line
 
 -- `moves` answers an input so, and the history goes on by it; or it refuses it so, and the history stays
-abbrev pub IsMoved : {A : Type 0} → (A → Answer) → List (List ℕ) → History → Input → Result A OrchFault → History → Type 0
-IsMoved told nodes history input (Ok answer) next = (moved : Moved) × (moves nodes history input ≡ Ok moved) × (moved.answer ≡ told answer) × (next ≡ with_items history moved.items)
-IsMoved told nodes history input (Err fault) next = (moves nodes history input ≡ Err fault) × (next ≡ history)
+abbrev pub IsMoved : {A : Type 0} → (A → Answer) → History → Input → Result A OrchFault → History → Type 0
+IsMoved told history input (Ok answer) next = (moved : Moved) × (moves history input ≡ Ok moved) × (moved.answer ≡ told answer) × (next ≡ with_items history moved.items)
+IsMoved told history input (Err fault) next = (moves history input ≡ Err fault) × (next ≡ history)
 
 -- a command or a timeout about the volume of a name: what `moves` says is told, and what is wanted of the volume then
-pub record MovesCommand (nodes : List (List ℕ)) (input : Input) (name : List ℕ) (history : History) (answer : List ℕ) (next : History) : Type 0 where
+pub record MovesCommand (input : Input) (name : List ℕ) (history : History) (answer : List ℕ) (next : History) : Type 0 where
   pub told : Result (Option Frame) OrchFault
-  pub moved : IsMoved Sends nodes history input told next
+  pub moved : IsMoved Sends history input told next
   pub line : answer ≡ compact_text (command_entry name (goal_of next name) told)
 
 -- the open call that a frame is a reply to, if it is one to an open call
@@ -59,37 +59,43 @@ TellsHeard history frame (Ok (heards.Taken sent)) answer next =
 TellsHeard history frame (Err fault) answer next = (name : List ℕ) × (answer ≡ compact_text (answer_entry name (goal_of next name) (outcomes.Refused fault) None))
 
 -- a frame that came: what `moves` says is told
-pub record MovesFrame (nodes : List (List ℕ)) (frame : Frame) (history : History) (answer : List ℕ) (next : History) : Type 0 where
+pub record MovesFrame (frame : Frame) (history : History) (answer : List ℕ) (next : History) : Type 0 where
   pub heard : Result Heard OrchFault
-  pub moved : IsMoved Hears nodes history (Comes frame) heard next
+  pub moved : IsMoved Hears history (Comes frame) heard next
   pub line : TellsHeard history frame heard answer next
+
+-- a node that is lost: what `moves` says is told, and the session that there is then
+pub record MovesLoss (node : List ℕ) (history : History) (answer : List ℕ) (next : History) : Type 0 where
+  pub told : Result (Unit {0}) OrchFault
+  pub moved : IsMoved (λ done. GivenUp) history (Loses node) told next
+  pub line : answer ≡ compact_text (lost_entry node told (last_number next).session)
 
 -- a line that is no request
 pub record MovesNothing (fault : RequestFault) (history : History) (answer : List ℕ) (next : History) : Type 0 where
   pub stays : next ≡ history
   pub line : answer ≡ compact_text (fault_entry (request_fault_name fault))
 
--- how an orchestrator of these nodes answers
-abbrev pub moved_lines : List (List ℕ) → LineJudge History
-moved_lines nodes = record { command = MovesCommand nodes; frame = MovesFrame nodes; fault = MovesNothing }
+-- how the stated machine answers
+abbrev pub moved_lines : LineJudge History
+moved_lines = record { command = MovesCommand; frame = MovesFrame; loss = MovesLoss; fault = MovesNothing }
 
 -- a line
-abbrev pub MovesLine : List (List ℕ) → History → List ℕ → List ℕ → History → Type 0
-MovesLine nodes history line answer next = RequestBy (moved_lines nodes) (line_request line) history answer next
+abbrev pub MovesLine : History → List ℕ → List ℕ → History → Type 0
+MovesLine history line answer next = RequestBy moved_lines (line_request line) history answer next
 
 -- ---- two runs
 
--- From a history, the first lines of the first run lead to another one; the orchestrator restarts; and the second run's lines lead on. The answers are
--- those that were given, and of a line whose commit was refused.
+-- From a history, the first lines of the first run lead to another one; the orchestrator restarts with the second run's list of nodes; and the second
+-- run's lines lead on. The answers are those that were given, and of a line whose commit was refused.
 pub record AreOneHistory {K R W : Type 0} (setting : RunSetting OrchestratorResponder K R W) (content : List StoredPart) (before between again after : K) (r r_read s s_read : Counted R) (w w_written v v_written : Counted W) (result result_too : Result ServedLines LinesServeFault)
     (one : Ran setting before between r r_read w w_written result) (two : Ran setting again after s s_read v v_written result_too)
     (run : AreOneRun setting content before between again after r r_read s s_read w w_written v v_written result result_too one two) (history : History) : Type 0 where
   pub came : History
-  pub first : AnswersEach (MovesLine one.responder.service.orchestrator.nodes) history (take run.made one.served.serves.there) (one.served.serves.given ++ run.unwritten) came
+  pub first : AnswersEach MovesLine history (take run.made one.served.serves.there) (one.served.serves.given ++ run.unwritten) came
   pub begun : History
-  pub restarts : IsMoved {A = Unit {0}} (λ done. Restarted) one.responder.service.orchestrator.nodes came Restarts (Ok tt) begun
+  pub restarts : IsMoved {A = Unit {0}} (λ done. Restarted) came (Restarts two.responder.service.orchestrator.nodes) (Ok tt) begun
   pub last : History
-  pub second : AnswersEach (MovesLine one.responder.service.orchestrator.nodes) begun (take (lines_counted result_too) two.served.serves.there) two.served.serves.given last
+  pub second : AnswersEach MovesLine begun (take (lines_counted result_too) two.served.serves.there) two.served.serves.given last
   pub shown : Shows two.served.serves.now.service.orchestrator last
 
 -- Two runs of an orchestrator, the second over what opening the store again found after the first, are one; and from each history that the first one's
@@ -102,6 +108,6 @@ OrchestratorRunsLaw {K} {R} {W} seen remaining contents =
     → (one : Ran (orchestrator_setting seen remaining contents) before between r r_read w w_written result) → Reopens (seen between) (seen again)
     → (two : Ran (orchestrator_setting seen remaining contents) again after s s_read v v_written result_too)
     → (run : AreOneRun (orchestrator_setting seen remaining contents) content before between again after r r_read s s_read w w_written v v_written result result_too one two)
-    × HasHistory one.responder.service.orchestrator × (content ≡ [] → Shows one.responder.service.orchestrator new_history)
+    × HasHistory one.responder.service.orchestrator × (content ≡ [] → Shows one.responder.service.orchestrator (new_history one.responder.service.orchestrator.nodes))
     × ((history : History) → IsWellFormed history → Shows one.responder.service.orchestrator history
     → AreOneHistory (orchestrator_setting seen remaining contents) content before between again after r r_read s s_read w w_written v v_written result result_too one two run history)

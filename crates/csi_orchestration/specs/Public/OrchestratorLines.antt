@@ -1,4 +1,4 @@
--- How an orchestrator answers a line: a command, a timeout, or a frame that came. This profile's own.
+-- How an orchestrator answers a line: a command, a timeout, a frame that came, or a node that is lost. This profile's own.
 use Rattle.std.specs.Prelude.{◌≡◌, ◌⊎◌, ℕ, List, slice_get, Option, Some, None, option_map, option_and_then, Result, Ok, Err, IfOk}
 use Rattle.serde_json.specs.Data.{Data}
 use Rattle.serde_json.specs.Written.{compact_text}
@@ -12,14 +12,14 @@ use Rattle.csi_orchestrator.specs.declared.fault.OrchFault.{OrchFault}
 use Rattle.csi_orchestrator.specs.declared.fault.OrchFault.TheVariants as faults
 use Rattle.csi_orchestrator.specs.Model.History.{Goal}
 use Rattle.csi_orchestrator.specs.Model.Moves.{Input, ToCreate, ToUse, ToStop, ToDelete, TimesOut, Comes, Sends, Hears}
-use Rattle.csi_orchestrator.specs.Model.Shown.{RowShown, OrchestratorParts, goal_in}
+use Rattle.csi_orchestrator.specs.Model.Shown.{RowShown, goal_in}
 use Rattle.csi_orchestrator.specs.Public.Changed.{place_by_name, place_by_call, ChangesAsHeard}
-use Rattle.csi_service.specs.Public.OrchestratorServices.{ServedOrchestrator, OrchestratorAnswers}
+use Rattle.csi_service.specs.Public.OrchestratorServices.{ServedOrchestrator, OrchestratorAnswers, OrchestratorLoses}
 use Rattle.csi_json.specs.declared.request_fault.RequestFault.{RequestFault}
 use Rattle.csi_json.specs.declared.request_fault.RequestFault.TheVariants as no_requests
 use Rattle.csi_json.specs.Public.Requests.{RequestShown, Command, Reply, line_request, request_fault_name}
-use Rattle.csi_reports.specs.declared.responses.RequestOutcome.TheVariants.{Sent, Met, Refused, Taken}
-use Rattle.csi_reports.specs.Public.Responses.{answer_entry, ignored_entry, fault_entry}
+use Rattle.csi_reports.specs.declared.responses.RequestOutcome.TheVariants.{Sent, Met, Refused, Taken, Lost}
+use Rattle.csi_reports.specs.Public.Responses.{answer_entry, loss_entry, ignored_entry, fault_entry}
 
 -- ---- what is told
 
@@ -49,6 +49,11 @@ heard_entry (Some row) (Ok heards.Ignored) = ignored_entry
 heard_entry (Some row) (Ok (heards.Taken sent)) = reply_entry row (Ok sent)
 heard_entry (Some row) (Err fault) = reply_entry row (Err fault)
 
+-- of a node that was to be taken as lost, what became of that, and the session that there is then
+abbrev pub lost_entry : {A : Type 0} → List ℕ → Result A OrchFault → ℕ → Data
+lost_entry node (Ok done) session = loss_entry node Lost session
+lost_entry node (Err fault) session = loss_entry node (Refused fault) session
+
 -- ---- how it is answered
 
 -- A command or a timeout about the volume of a name: the orchestrator answered so, which was no want of memory, and that is told.
@@ -66,6 +71,12 @@ pub record AnswersFrame (frame : Frame) (old : ServedOrchestrator) (answer : Lis
   pub row : IfOk heard (λ what. ChangesAsHeard frame.number what old.orchestrator new.orchestrator)
   pub line : answer ≡ compact_text (heard_entry (row_at new.orchestrator.rows (place_by_call frame.number old.orchestrator.rows)) heard)
 
+-- a node that is lost: the orchestrator answered so, and that is told
+pub record AnswersLoss (node : List ℕ) (old : ServedOrchestrator) (answer : List ℕ) (new : ServedOrchestrator) : Type 0 where
+  pub told : Result (Unit {0}) OrchFault
+  pub answered : OrchestratorLoses old node told new
+  pub line : answer ≡ compact_text (lost_entry node told new.orchestrator.last.session)
+
 -- a line that is no request: its fault is told, and nothing is changed
 pub record AnswersFault (fault : RequestFault) (old : ServedOrchestrator) (answer : List ℕ) (new : ServedOrchestrator) : Type 0 where
   pub stays : new ≡ old
@@ -73,13 +84,14 @@ pub record AnswersFault (fault : RequestFault) (old : ServedOrchestrator) (answe
 
 -- ---- by what it asks
 
--- how what a line asks is answered: a command or a timeout about the volume of a name, a frame that came, or nothing
+-- how what a line asks is answered: a command or a timeout about the volume of a name, a frame that came, a node that is lost, or nothing
 pub record LineJudge (S : Type 0) : Type 1 where
   pub command : Input → List ℕ → S → List ℕ → S → Type 0
   pub frame : Frame → S → List ℕ → S → Type 0
+  pub loss : List ℕ → S → List ℕ → S → Type 0
   pub fault : RequestFault → S → List ℕ → S → Type 0
 
--- by what happens; what is no command and no timeout is no request
+-- by what happens; what is no command, no timeout and no loss is no request
 abbrev pub EventBy : {S : Type 0} → LineJudge S → Event → S → List ℕ → S → Type 0
 EventBy judge (events.Create name required limit capabilities) = judge.command (ToCreate name (record { required = required; limit = limit; capabilities = capabilities })) name
 EventBy judge (events.Use name node target capability readonly) =
@@ -89,8 +101,13 @@ EventBy judge (events.Delete name) = judge.command (ToDelete name) name
 EventBy judge (events.Timeout name) = judge.command (TimesOut name) name
 EventBy judge (events.Deliver number) = judge.fault no_requests.BadLine
 EventBy judge events.RestartOrchestrator = judge.fault no_requests.BadLine
+EventBy judge (events.RestartOrchestratorWith nodes) = judge.fault no_requests.BadLine
 EventBy judge events.RestartController = judge.fault no_requests.BadLine
+EventBy judge (events.RestartControllerWith config) = judge.fault no_requests.BadLine
 EventBy judge (events.RestartNode node) = judge.fault no_requests.BadLine
+EventBy judge (events.Join node) = judge.fault no_requests.BadLine
+EventBy judge (events.Lose node) = judge.loss node
+EventBy judge (events.Settle name) = judge.fault no_requests.BadLine
 
 -- bytes that came: exactly one whole frame, or a fault
 abbrev pub ReplyBy : {S : Type 0} → LineJudge S → List ℕ → S → List ℕ → S → Type 0
@@ -107,7 +124,7 @@ RequestBy judge (Err fault) = judge.fault fault
 
 -- how it answers
 abbrev pub served_lines : LineJudge ServedOrchestrator
-served_lines = record { command = AnswersCommand; frame = AnswersFrame; fault = AnswersFault }
+served_lines = record { command = AnswersCommand; frame = AnswersFrame; loss = AnswersLoss; fault = AnswersFault }
 
 -- this and the next three: by what happens, bytes that came, a request, and a line
 abbrev pub AnswersEvent : Event → ServedOrchestrator → List ℕ → ServedOrchestrator → Type 0

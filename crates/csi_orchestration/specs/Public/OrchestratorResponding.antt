@@ -1,5 +1,6 @@
 -- An orchestrator that answers lines over a store. This profile's own.
 use Rattle.std.specs.Prelude.{ℕ, List, [], if◌then◌else◌, Bool, true, false}
+use Rattle.csi_orchestrator.specs.Public.Laws.{RestartsAreTold}
 use Rattle.csi_orchestrator.specs.Public.Record.{RecordParts}
 use Rattle.csi_stores.specs.Public.Part.{StoredPart, StoredChange}
 use Rattle.csi_records.specs.Public.OrchestratorRecords.{IsOrchestratorOf}
@@ -38,12 +39,15 @@ IsFitResponderChange responder = IsFitWhere responder.has_asked responder
 abbrev pub HasItsRecord : OrchestratorResponder → Type 0
 HasItsRecord responder = SpellsOrchestrator (kept_of responder.service.orchestrator) (responder_parts responder)
 
--- it answers a line so, and then, where all in it is within its limits, its parts are those of its record
+-- it answers a line so, and then, where all in it is within its limits, its parts are those of its record; and a restart is told by each history that
+-- it shows
 abbrev pub ResponderAnswers : OrchestratorResponder → List ℕ → List ℕ → OrchestratorResponder → Type 0
-ResponderAnswers old line answer new = AnswersLine line old.service answer new.service × (IsFitResponder new → HasItsRecord new)
+ResponderAnswers old line answer new =
+    AnswersLine line old.service answer new.service × (IsFitResponder new → HasItsRecord new) × RestartsAreTold new.service.orchestrator
 
 -- opening makes it of a store with this content: the orchestrator in the next session, whose record is within its limits
 pub record OpensResponder (content : List StoredPart) (responder : OrchestratorResponder) : Type 0 where
   pub opened : IsOrchestratorOpened responder.service.orchestrator.nodes content responder.service.orchestrator
   pub fit : IsFitResponder responder
   pub its : HasItsRecord responder
+  pub restarts : RestartsAreTold responder.service.orchestrator

@@ -1,17 +1,16 @@
 -- The lines that an orchestrator answers, in a run of the stated machines: the world goes on as its orchestrator's history does. This profile's own.
-use Rattle.std.specs.Prelude.{◌≡◌, ◌⊎◌, ℕ, List, [], ◌∷◌, ◌++◌, map, Option, Some, None, Result, Ok, Err}
+use Rattle.std.specs.Prelude.{◌≡◌, ◌⊎◌, ℕ, List, [], ◌∷◌, ◌++◌, true, Option, Some, None, Result, Ok, Err}
 use Rattle.std.specs.List.{AllByRecursion}
 use Rattle.csi_types.specs.declared.event.Event.{Event}
 use Rattle.csi_types.specs.declared.event.Event.TheVariants as events
 use Rattle.csi_types.specs.declared.frame.Body.{Body}
 use Rattle.csi_types.specs.declared.frame.Body.TheVariants as bodies
-use Rattle.csi_types.specs.Model.Config.{Config}
 use Rattle.csi_types.specs.Model.Frame.{Frame}
 use Rattle.csi_frames.specs.Public.Spelling.{Spells}
 use Rattle.csi_orchestrator.specs.Model.History.{History}
 use Rattle.csi_orchestrator.specs.Model.Moves.{Restarts, Restarted}
 use Rattle.csi_world.specs.Model.World.{World}
-use Rattle.csi_world.specs.Model.After.{node_id, frame_numbered, occurs, after_from}
+use Rattle.csi_world.specs.Model.After.{frame_numbered, is_node_of, occurs, after_from}
 use Rattle.csi_json.specs.declared.request_fault.RequestFault.{RequestFault}
 use Rattle.csi_json.specs.Public.Requests.{RequestShown, Command, Reply, IsCommand, line_request}
 use Rattle.csi_orchestration.specs.Public.LinesServing.{AnswersEach}
@@ -33,9 +32,14 @@ pub record DeliversReply (world : World) (bytes : List ℕ) (event : Event) : Ty
   pub sent : frame_numbered world number ≡ Some frame
   pub is : event ≡ events.Deliver number
 
--- what is asked comes about by this event: a command or a timeout, or the delivery of a reply
+-- a loss is of a node that is there or listed
+abbrev pub IsOfNode : World → Event → Type 0
+IsOfNode world (events.Lose node) = is_node_of world node ≡ true
+IsOfNode world event = Unit {0}
+
+-- what is asked comes about by this event: a command, a timeout, the loss of a node that is there or listed, or the delivery of a reply
 abbrev pub ComesBy : World → Result RequestShown RequestFault → Event → Type 0
-ComesBy world (Ok (Command asked)) event = IsCommand asked × (event ≡ asked)
+ComesBy world (Ok (Command asked)) event = IsCommand asked × IsOfNode world asked × (event ≡ asked)
 ComesBy world (Ok (Reply bytes)) event = DeliversReply world bytes event
 ComesBy world (Err fault) event = ⊥
 
@@ -56,7 +60,8 @@ abbrev pub IsNoReply : Option Frame → Type 0
 IsNoReply None = Unit {0}
 IsNoReply (Some frame) = IsCallBody frame.body
 
--- an event of the plugins: a call is delivered, or a plugin restarts
+-- An event of the plugins: a call is delivered, a plugin restarts, or a node joins. What settles a volume is a timeout and deliveries, and stands for
+-- these.
 abbrev pub IsElsewhere : World → Event → Type 0
 IsElsewhere world (events.Create name required limit capabilities) = ⊥
 IsElsewhere world (events.Use name node target capability readonly) = ⊥
@@ -65,8 +70,13 @@ IsElsewhere world (events.Delete name) = ⊥
 IsElsewhere world (events.Timeout name) = ⊥
 IsElsewhere world (events.Deliver number) = IsNoReply (frame_numbered world number)
 IsElsewhere world events.RestartOrchestrator = ⊥
+IsElsewhere world (events.RestartOrchestratorWith nodes) = ⊥
 IsElsewhere world events.RestartController = Unit {0}
+IsElsewhere world (events.RestartControllerWith config) = Unit {0}
 IsElsewhere world (events.RestartNode node) = Unit {0}
+IsElsewhere world (events.Join node) = Unit {0}
+IsElsewhere world (events.Lose node) = ⊥
+IsElsewhere world (events.Settle name) = ⊥
 
 -- ---- a run
 
@@ -80,15 +90,16 @@ pub record ComesNext (world : World) (event : Event) (lines : List (List ℕ)) :
   pub comes : ComesBy world (line_request line) event
 
 -- from a world these events bring these lines, one after another, and nothing else, to the orchestrator
-abbrev pub Brings : Config → World → List Event → List (List ℕ) → Type 0
-Brings config world [] lines = AllByRecursion IsIdle lines
-Brings config world (event ∷ others) lines =
-    (IsElsewhere world event × Brings config (occurs config world event).world others lines)
-    ⊎ ((next : ComesNext world event lines) × Brings config (occurs config world event).world others next.rest)
+abbrev pub Brings : World → List Event → List (List ℕ) → Type 0
+Brings world [] lines = AllByRecursion IsIdle lines
+Brings world (event ∷ others) lines =
+    (IsElsewhere world event × Brings (occurs world event).world others lines)
+    ⊎ ((next : ComesNext world event lines) × Brings (occurs world event).world others next.rest)
 
--- Whatever else happens, where lines come to a world's orchestrator, its history goes on as they lead it; and where it restarts, as a restart does.
+-- Whatever else happens, where lines come to a world's orchestrator, its history goes on as they lead it; and where it restarts with a list of nodes, as a
+-- restart does.
 pub record WorldsLaw : Type 0 where
-  pub lines : (config : Config) (world : World) (others : List Event) (lines given : List (List ℕ)) (next : History) → Brings config world others lines
-      → AnswersEach (MovesLine (map node_id config.nodes)) world.history lines given next → (after_from config world others).world.history ≡ next
-  pub restart : (config : Config) (world : World) (next : History) → IsMoved {A = Unit {0}} (λ done. Restarted) (map node_id config.nodes) world.history Restarts (Ok tt) next
-      → (occurs config world events.RestartOrchestrator).world.history ≡ next
+  pub lines : (world : World) (others : List Event) (lines given : List (List ℕ)) (next : History) → Brings world others lines
+      → AnswersEach MovesLine world.history lines given next → (after_from world others).world.history ≡ next
+  pub restart : (world : World) (nodes : List (List ℕ)) (next : History) → IsMoved {A = Unit {0}} (λ done. Restarted) world.history (Restarts nodes) (Ok tt) next
+      → (occurs world (events.RestartOrchestratorWith nodes)).world.history ≡ next

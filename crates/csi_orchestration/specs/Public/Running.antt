@@ -7,6 +7,7 @@ use Rattle.csi_stores.specs.Public.Counting.{HasRisen}
 use Rattle.csi_stores.specs.Public.Stores.{Store}
 use Rattle.csi_stores.specs.Public.Writing.{WritesFront}
 use Rattle.csi_driver.specs.Public.LinesOf.{with_newline}
+use Rattle.csi_orchestrator.specs.Public.Laws.{RestartsAreTold}
 use Rattle.csi_service.specs.declared.orchestrator_unopened.OrchestratorUnopened.{OrchestratorUnopened}
 use Rattle.csi_service.specs.Public.OrchestratorOpening.{HasOrchestrator, IsOrchestratorUnopened, orchestrator_rules}
 use Rattle.csi_service.specs.Public.StoreOpening.{LeavesOpening}
@@ -66,6 +67,7 @@ pub record IsOpened {K R W : Type 0} (setting : RunSetting OrchestratorResponder
   pub asked : responder.service.orchestrator.nodes ≡ nodes
   pub fit : IsFitResponder responder
   pub its : HasItsRecord responder
+  pub restarts : RestartsAreTold responder.service.orchestrator
   pub honest : (setting.seen opened).honest → (setting.seen before).honest
   pub left : LeavesOpening (orchestrator_rules nodes) (setting.seen before) (setting.seen opened)
 

@@ -7,10 +7,11 @@ use Rattle.csi_orchestrator.specs.declared.thing.Known.{Known}
 use Rattle.csi_orchestrator.specs.declared.thing.Known.TheVariants.{No}
 use Rattle.csi_orchestrator.specs.Model.Thing.{Issued}
 use Rattle.csi_orchestrator.specs.Model.History.{Arguments, Held, Goal, History}
-use Rattle.csi_orchestrator.specs.Model.Readings.{known, id_of, goal_of, arguments_of, held, open_call, tries, last_number, has_row}
+use Rattle.csi_orchestrator.specs.Model.Readings.{nodes_of, known, id_of, goal_of, arguments_of, held, open_call, tries, last_number, has_row}
 
 -- what an orchestrator shows of itself, by names
 pub record OrchestratorView : Type 0 where
+  pub nodes : List (List ℕ)
   pub last : Number
   pub rows : List ℕ → Bool
   pub marks : Thing → Known
@@ -23,6 +24,7 @@ pub record OrchestratorView : Type 0 where
 
 -- how a volume is held counts only where it may be attached
 pub record Agrees (view : OrchestratorView) (history : History) : Type 0 where
+  pub same_nodes : view.nodes ≡ nodes_of history
   pub same_last : view.last ≡ last_number history
   pub same_rows : (name : List ℕ) → view.rows name ≡ has_row history name
   pub same_marks : (thing : Thing) → view.marks thing ≡ known history thing

@@ -20,28 +20,31 @@ pub data Goal : Type 0 where
   Stop : (node : List ℕ) (target : List ℕ) → Goal
   Delete : Goal
 
--- one thing that the orchestrator did: it started a session, sent a call, took a reply, gave a call up, or
--- noted what is wanted of a volume now, if anything
+-- one thing that the orchestrator did: it started a session with a list of nodes, gave a node up as lost, forgot a name, sent a
+-- call, took a reply, gave a call up, or noted what is wanted of a volume now, if anything
 pub data Item : Type 0 where
-  Started : (session : ℕ) → Item
+  Started : (session : ℕ) (nodes : List (List ℕ)) → Item
+  Lost : (node : List ℕ) → Item
+  Forgotten : (name : List ℕ) → Item
   Sent : (issued : Issued) → Item
   Accepted : (number : Number) (status : Status) (id : Option ℕ) → Item
   Closed : (number : Number) → Item
   Noted : (name : List ℕ) (goal : Option Goal) → Item
 
--- the number after which its calls are numbered, and what it did since, the newest first
+-- the number after which its calls are numbered, the nodes that it had first, and what it did since, the newest first
 pub record History : Type 0 where
   pub began : Number
+  pub nodes : List (List ℕ)
   pub items : List Item
 
 -- a history that goes on by these items, the newest first
 abbrev pub with_items : History → List Item → History
 with_items history items = record history { items = items ++ history.items }
 
--- the history of an orchestrator that did nothing yet, and numbers its calls after this number
-abbrev pub history_after : Number → History
-history_after last = record { began = last; items = [] }
+-- the history of an orchestrator of these nodes that did nothing yet, and numbers its calls after this number
+abbrev pub history_after : List (List ℕ) → Number → History
+history_after nodes last = record { began = last; nodes = nodes; items = [] }
 
 -- that of a new one
-abbrev pub new_history : History
-new_history = history_after (record { session = 1; call = 0 })
+abbrev pub new_history : List (List ℕ) → History
+new_history nodes = history_after nodes (record { session = 1; call = 0 })

@@ -1,5 +1,5 @@
 -- What an orchestrator answers to each input, and what it does then. This profile's own.
-use Rattle.std.specs.Prelude.{ℕ, ◌+◌, ◌^◌, ◌==◌, List, [], ◌∷◌, find, Bool, true, false, ◌&&◌, nat_lt, Option, Some, None, is_none, if◌then◌else◌, Result, Ok, Err}
+use Rattle.std.specs.Prelude.{ℕ, ◌+◌, ◌==◌, List, [], ◌∷◌, ◌++◌, map, filter, filter_map, find, Bool, true, false, not, ◌&&◌, Option, Some, None, is_none, if◌then◌else◌, Result, Ok, Err}
 use Rattle.csi_types.specs.declared.number.Number.{Number}
 use Rattle.csi_types.specs.declared.call.Call.{Call}
 use Rattle.csi_types.specs.declared.call.Call.TheVariants as calls
@@ -12,19 +12,19 @@ use Rattle.csi_types.specs.Model.Call.{kind_of}
 use Rattle.csi_types.specs.Model.Frame.{Frame}
 use Rattle.csi_types.specs.Model.Replies.{call_frame}
 use Rattle.csi_types.specs.Model.Reply.{is_ok_status}
-use Rattle.csi_types.specs.Model.Same.{same_number, same_party, same_kind}
+use Rattle.csi_types.specs.Model.Same.{same_text, same_number, same_party, same_kind}
 use Rattle.csi_orchestrator.specs.declared.fault.Heard.{Heard}
 use Rattle.csi_orchestrator.specs.declared.fault.Heard.TheVariants.{Ignored, Taken}
 use Rattle.csi_orchestrator.specs.declared.fault.OrchFault.{OrchFault}
 use Rattle.csi_orchestrator.specs.declared.fault.OrchFault.TheVariants.{NumbersSpent}
 use Rattle.csi_orchestrator.specs.declared.thing.Thing.TheVariants.{Exists}
 use Rattle.csi_orchestrator.specs.Model.Thing.{Issued, is_no}
-use Rattle.csi_orchestrator.specs.Model.History.{Arguments, Usage, Goal, Create, Use, Stop, Delete, Item, Started, Sent, Accepted, Closed, Noted, History, with_items}
-use Rattle.csi_orchestrator.specs.Model.Readings.{known, goal_of, open_call, tries, last_number, issued_in}
+use Rattle.csi_orchestrator.specs.Model.History.{Arguments, Usage, Goal, Create, Use, Stop, Delete, Item, Started, Lost, Forgotten, Sent, Accepted, Closed, Noted, History, with_items}
+use Rattle.csi_orchestrator.specs.Model.Readings.{nodes_of, names_of, known, goal_of, open_call, tries, last_number, issued_in}
 use Rattle.csi_orchestrator.specs.Model.Due.{Due, due_for, due_call}
-use Rattle.csi_orchestrator.specs.Model.Commands.{next_number, create_fault, use_fault, use_room_fault, stop_fault, delete_fault, delete_busy_fault, timeout_fault}
+use Rattle.csi_orchestrator.specs.Model.Commands.{next_number, create_fault, use_fault, use_room_fault, stop_fault, delete_fault, delete_busy_fault, timeout_fault, restart_fault, loss_fault}
 
--- a command, a timeout, a frame that comes, or a restart
+-- a command, a timeout, a frame that comes, a restart with a list of nodes, or the loss of a node
 pub data Input : Type 0 where
   ToCreate : (name : List ℕ) (arguments : Arguments) → Input
   ToUse : (name : List ℕ) (usage : Usage) → Input
@@ -32,13 +32,15 @@ pub data Input : Type 0 where
   ToDelete : (name : List ℕ) → Input
   TimesOut : (name : List ℕ) → Input
   Comes : (frame : Frame) → Input
-  Restarts : Input
+  Restarts : (nodes : List (List ℕ)) → Input
+  Loses : (node : List ℕ) → Input
 
--- a command's or timeout's frame to send, if there is one; what became of a frame that came; a restart
+-- a command's or timeout's frame to send, if there is one; what became of a frame that came; a restart; a loss
 pub data Answer : Type 0 where
   Sends : (frame : Option Frame) → Answer
   Hears : (heard : Heard) → Answer
   Restarted : Answer
+  GivenUp : Answer
 
 -- the answer, and the items by which the history goes on, the newest first
 pub record Moved : Type 0 where
@@ -149,18 +151,48 @@ abbrev pub deliver : History → Number → Party → Body → Result Moved Orch
 deliver history number party (bodies.Call call) = Ok (record { answer = Hears Ignored; items = [] })
 deliver history number party (bodies.Reply kind reply) = heard history reply (call_replied history number party kind)
 
--- a session that is one higher starts, if there is one
-abbrev pub restart : Number → Result Moved OrchFault
-restart last =
-    if nat_lt (last.session + 1) (2 ^ 64) then Ok (record { answer = Restarted; items = Started (last.session + 1) ∷ [] })
-    else Err NumbersSpent
+-- where a session begins, a name is forgotten whose volume isn't there and of which nothing is wanted
+abbrev pub is_forgotten : History → List ℕ → Bool
+is_forgotten history name = is_no (known history (Exists name)) && is_none (goal_of history name)
 
--- what an orchestrator of these nodes does; a refusal does nothing
-abbrev pub moves : List (List ℕ) → History → Input → Result Moved OrchFault
-moves nodes history (ToCreate name arguments) = command history name (Create arguments) (create_fault history name)
-moves nodes history (ToUse name usage) = use_when history name usage (use_fault nodes history name usage)
-moves nodes history (ToStop name node target) = command history name (Stop node target) (stop_fault nodes history name node target)
-moves nodes history (ToDelete name) = delete_when history name (delete_fault history name)
-moves nodes history (TimesOut name) = timeout history name (timeout_fault history name)
-moves nodes history (Comes frame) = deliver history frame.number frame.party frame.body
-moves nodes history Restarts = restart (last_number history)
+-- each such name
+abbrev pub forgetting : History → List Item
+forgetting history = map Forgotten (filter (is_forgotten history) (names_of history))
+
+-- a use at a node that is lost becomes its stop
+abbrev pub stopping : List ℕ → List ℕ → Option Goal → Option Item
+stopping node name (Some (Use usage)) = if same_text usage.node node then Some (Noted name (Some (Stop usage.node usage.target))) else None
+stopping node name goal = None
+
+-- each such use
+abbrev pub stopping_all : History → List ℕ → List Item
+stopping_all history node = filter_map (λ name. stopping node name (goal_of history name)) (names_of history)
+
+-- a session that is one higher starts with this list of nodes; names are forgotten
+abbrev pub restart : History → List (List ℕ) → Option OrchFault → Result Moved OrchFault
+restart history nodes (Some fault) = Err fault
+restart history nodes None = Ok (record { answer = Restarted; items = forgetting history ++ Started ((last_number history).session + 1) nodes ∷ [] })
+
+-- the list without the node
+abbrev pub without_node : List ℕ → List (List ℕ) → List (List ℕ)
+without_node node nodes = filter (λ other. not (same_text other node)) nodes
+
+-- a session that is one higher starts without the node, which is lost; its uses are stopped, and names are forgotten
+abbrev pub lose : History → List ℕ → Option OrchFault → Result Moved OrchFault
+lose history node (Some fault) = Err fault
+lose history node None =
+    Ok (record {
+      answer = GivenUp;
+      items = forgetting history ++ stopping_all history node ++ Lost node ∷ Started ((last_number history).session + 1) (without_node node (nodes_of history)) ∷ [];
+    })
+
+-- what an orchestrator does; a refusal does nothing
+abbrev pub moves : History → Input → Result Moved OrchFault
+moves history (ToCreate name arguments) = command history name (Create arguments) (create_fault history name)
+moves history (ToUse name usage) = use_when history name usage (use_fault history name usage)
+moves history (ToStop name node target) = command history name (Stop node target) (stop_fault history name node target)
+moves history (ToDelete name) = delete_when history name (delete_fault history name)
+moves history (TimesOut name) = timeout history name (timeout_fault history name)
+moves history (Comes frame) = deliver history frame.number frame.party frame.body
+moves history (Restarts nodes) = restart history nodes (restart_fault history nodes)
+moves history (Loses node) = lose history node (loss_fault history)

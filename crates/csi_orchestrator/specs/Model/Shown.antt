@@ -107,6 +107,7 @@ tries_in (Some row) = row.tries
 abbrev pub orchestrator_view : OrchestratorParts → OrchestratorView
 orchestrator_view parts =
     record {
+      nodes = parts.nodes;
       last = parts.last;
       rows = λ name. is_some (row_of parts.rows name);
       marks = λ thing. mark_in (mark_of thing) (row_of parts.rows (name_in thing));

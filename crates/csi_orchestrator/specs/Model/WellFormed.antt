@@ -5,7 +5,7 @@ use Rattle.csi_types.specs.declared.call.Call.{Call}
 use Rattle.csi_types.specs.declared.call.Call.TheVariants as calls
 use Rattle.csi_types.specs.Model.Number.{IsBefore}
 use Rattle.csi_orchestrator.specs.Model.Thing.{Issued}
-use Rattle.csi_orchestrator.specs.Model.History.{Item, Started, Sent, Accepted, Closed, Noted, History}
+use Rattle.csi_orchestrator.specs.Model.History.{Item, Started, Lost, Forgotten, Sent, Accepted, Closed, Noted, History}
 use Rattle.csi_orchestrator.specs.Model.Readings.{open_in, last_in}
 
 -- what CreateVolume makes has the name for which it is sent
@@ -25,9 +25,15 @@ pub record IsOpen (items : List Item) (number : Number) : Type 0 where
   pub is_open : open_in name items ≡ Some issued
   pub has_number : issued.number ≡ number
 
--- the item may come after these
+-- nothing was sent in the session of this last number
+abbrev pub IsUnused : Number → Type 0
+IsUnused last = last.call ≡ 0
+
+-- the item may come after these; nodes are lost and names forgotten only where a session begins
 abbrev pub MayFollow : Number → List Item → Item → Type 0
-MayFollow began older (Started session) = (last_in began older).session < session
+MayFollow began older (Started session nodes) = (last_in began older).session < session
+MayFollow began older (Lost node) = IsUnused (last_in began older)
+MayFollow began older (Forgotten name) = IsUnused (last_in began older)
 MayFollow began older (Sent issued) = IsNextNumber (last_in began older) issued.number × IsOfName issued.name issued.call
 MayFollow began older (Accepted number status id) = IsOpen older number
 MayFollow began older (Closed number) = IsOpen older number

@@ -1,5 +1,5 @@
 -- The rows of a catalog, and how its maps belong to them.
-use Rattle.std.specs.Prelude.{◌≡◌, ◌⊎◌, ℕ, ◌+◌, ◌<◌, ◌≤◌, List, length, map, nat_eq, Option, Some, None, option_map}
+use Rattle.std.specs.Prelude.{◌≡◌, ◌⊎◌, ℕ, ◌+◌, ◌<◌, ◌≤◌, List, length, map, set, nat_eq, Option, Some, None, option_map}
 use Rattle.indexmap.specs.IndexMap.{spare, index_map_len, Updates}
 use Rattle.csi_lists.specs.Public.Places.{IsAt}
 use Rattle.csi_orchestrator.specs.declared.sending.Outgoing.{Outgoing}
@@ -7,6 +7,8 @@ use Rattle.csi_orchestrator.specs.declared.row.OpenCall.{OpenCall}
 use Rattle.csi_orchestrator.specs.declared.row.Row.{Row}
 use Rattle.csi_orchestrator.specs.declared.catalog.Catalog.{Catalog}
 use Rattle.csi_orchestrator.specs.Private.Shown.{without_call}
+use Rattle.csi_orchestrator.specs.Public.Beginning.{row_at_loss}
+use Rattle.csi_orchestrator.specs.Public.Shown.{row_shown}
 use Rattle.csi_orchestrator.specs.Public.Catalog.{rows_of, by_name, place_noted, HasRoomForCalls, HasFewNotes}
 
 -- the same, but that this call of the row at this place isn't noted yet
@@ -48,3 +50,9 @@ pub record IsClosedAt (place : ℕ) (old new : List Row) : Type 0 where
   pub long : length new ≡ length old
   pub there : (row : Row) → IsAt old place row → IsAt new place (without_call row)
   pub others : (other : ℕ) (row : Row) → IsAt old other row → (other ≡ place → ⊥) → IsAt new other row
+
+-- the row at the place was changed by the loss of a node, if there is one
+pub record IsLostAt (node : List ℕ) (place : ℕ) (old new : List Row) : Type 0 where
+  pub changed : Row
+  pub new_is : new ≡ set old place changed
+  pub shown : (row : Row) → IsAt old place row → (changed.name ≡ row.name) × (changed.open_call ≡ None) × (row_shown changed ≡ row_at_loss node (row_shown row))

@@ -35,12 +35,12 @@ abbrev pub is_used_at : List ℕ → Option NodeEntryShown → Bool
 is_used_at target entry =
     is_yes (mark_in (λ entry. entry.attached) entry) && is_yes (mark_in (λ entry. entry.staged) entry) && is_yes (mark_in (publication_known target) entry)
 
--- what a use comes to by the entry of its node and the volume's id, where nothing else refuses it
-abbrev pub decided_at : Number → Usage → Option ℕ → Option NodeEntryShown → Decision
-decided_at last usage id entry =
+-- what a use comes to by the other nodes at which the volume may be attached, its id, and the entry of its node, where nothing else refuses it
+abbrev pub decided_at : Number → Usage → ℕ → Option ℕ → Option NodeEntryShown → Decision
+decided_at last usage others id entry =
     if is_entry_otherwise usage entry then Refuse faults.HeldOtherwise
     else if allows_one_target usage.capability.mode && nat_lt 0 (others_count usage.target entry) then Refuse faults.TargetTaken
     else if is_none id || is_used_at usage.target entry then Met
     else if is_last last then Refuse faults.NumbersSpent
-    else if nat_le 16 (others_count usage.target entry) then Refuse faults.Full
+    else if nat_le 16 (others_count usage.target entry) || nat_le 64 others then Refuse faults.Full
     else Send

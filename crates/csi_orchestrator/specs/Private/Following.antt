@@ -11,14 +11,27 @@ use Rattle.csi_orchestrator.specs.declared.thing.Thing.TheVariants.{Attached}
 use Rattle.csi_orchestrator.specs.declared.thing.Known.{Known}
 use Rattle.csi_orchestrator.specs.declared.thing.Known.TheVariants.{Yes, No, Maybe}
 use Rattle.csi_orchestrator.specs.Model.Thing.{Issued, touches, is_doing}
-use Rattle.csi_orchestrator.specs.Model.History.{Goal, Started, Sent, Accepted, Closed, Noted, History, with_items}
-use Rattle.csi_orchestrator.specs.Model.Readings.{arguments_in_goal, held_by_call, known, last_number, open_call}
+use Rattle.csi_orchestrator.specs.Model.History.{Goal, Started, Lost, Forgotten, Sent, Accepted, Closed, Noted, History, with_items}
+use Rattle.csi_orchestrator.specs.Model.Readings.{is_gone_with, arguments_in_goal, held_by_call, known, last_number, open_call}
 use Rattle.csi_orchestrator.specs.Model.WellFormed.{IsNextNumber, IsWellFormed}
 use Rattle.csi_orchestrator.specs.Model.Agrees.{OrchestratorView, Agrees}
 
--- a session started: every call is given up
-abbrev pub after_started : ℕ → OrchestratorView → OrchestratorView
-after_started session view = record view { last = record { session = session; call = 0 }; open_calls = λ name. None }
+-- a session started with a list of nodes: every call is given up
+abbrev pub after_started : ℕ → List (List ℕ) → OrchestratorView → OrchestratorView
+after_started session nodes view = record view { nodes = nodes; last = record { session = session; call = 0 }; open_calls = λ name. None }
+
+-- a node was lost: nothing is staged or published there
+abbrev pub after_lost : List ℕ → OrchestratorView → OrchestratorView
+after_lost node view = record view { marks = λ thing. if is_gone_with node thing then No else view.marks thing }
+
+-- a name was forgotten: what was known of it is known still
+abbrev pub after_forgotten : List ℕ → OrchestratorView → OrchestratorView
+after_forgotten name view =
+    record view {
+      rows = λ other. if same_text name other then false else view.rows other;
+      ids = λ other. if same_text name other then None else view.ids other;
+      arguments = λ other. if same_text name other then None else view.arguments other;
+    }
 
 -- a call was sent: what it does or undoes may be so or not
 abbrev pub after_sent : Issued → OrchestratorView → OrchestratorView
@@ -72,8 +85,12 @@ DetachesSomething history issued =
 
 -- whatever an orchestrator shows, if it agrees with its history, it agrees with the longer one after each item
 pub record ViewFollows : Type 0 where
-  pub started : (view : OrchestratorView) (history : History) (session : ℕ) → Agrees view history → (last_number history).session < session
-      → Agrees (after_started session view) (with_items history (Started session ∷ []))
+  pub started : (view : OrchestratorView) (history : History) (session : ℕ) (nodes : List (List ℕ)) → Agrees view history → (last_number history).session < session
+      → Agrees (after_started session nodes view) (with_items history (Started session nodes ∷ []))
+  pub lost : (view : OrchestratorView) (history : History) (node : List ℕ) → Agrees view history
+      → Agrees (after_lost node view) (with_items history (Lost node ∷ []))
+  pub forgotten : (view : OrchestratorView) (history : History) (name : List ℕ) → Agrees view history
+      → Agrees (after_forgotten name view) (with_items history (Forgotten name ∷ []))
   pub sent : (view : OrchestratorView) (history : History) (issued : Issued) → IsWellFormed history → Agrees view history → IsNextNumber (last_number history) issued.number
       → DetachesSomething history issued → Agrees (after_sent issued view) (with_items history (Sent issued ∷ []))
   pub accepted : (view : OrchestratorView) (history : History) (issued : Issued) (status : Status) (id : Option ℕ) → IsWellFormed history → Agrees view history

@@ -1,5 +1,5 @@
 -- The rules of one row of a record, and of one that follows others, as tests. This profile's own.
-use Rattle.std.specs.Prelude.{ℕ, ◌==◌, List, [], ◌∷◌, length, Bool, true, false, not, ◌&&◌, ◌||◌, nat_le, nat_lt, Option, Some, None, is_some, is_none, if◌then◌else◌}
+use Rattle.std.specs.Prelude.{ℕ, ◌==◌, List, [], ◌∷◌, length, find, Bool, true, false, not, ◌&&◌, ◌||◌, nat_le, nat_lt, Option, Some, None, is_some, is_none, if◌then◌else◌}
 use Rattle.std.specs.List.{list_all, list_any}
 use Rattle.csi_types.specs.declared.rows.TheConstants.{MAX_ROWS}
 use Rattle.csi_types.specs.Model.Same.{same_text, same_flag, same_capability, has_capability}
@@ -13,7 +13,7 @@ use Rattle.csi_orchestrator.specs.declared.thing.Known.{Known}
 use Rattle.csi_orchestrator.specs.declared.thing.Known.TheVariants.{Yes, No, Maybe}
 use Rattle.csi_orchestrator.specs.declared.row.NodeEntry.{NodeEntry}
 use Rattle.csi_orchestrator.specs.declared.row.Row.{Row}
-use Rattle.csi_orchestrator.specs.Model.Thing.{is_yes}
+use Rattle.csi_orchestrator.specs.Model.Thing.{is_yes, is_no}
 
 -- ---- an entry
 
@@ -24,6 +24,14 @@ is_published target_entry = is_yes target_entry.published
 -- it is attached and staged, and published at each target, of which there is one at least
 abbrev pub is_settled : NodeEntry → Bool
 is_settled entry = is_yes entry.attached && (is_yes entry.staged && (nat_le 1 (length entry.target_entries.items) && list_all is_published entry.target_entries.items))
+
+-- it is what is left of a node that was lost
+abbrev pub is_left : NodeEntry → Bool
+is_left entry = not (is_no entry.attached) && (is_no entry.staged && (length entry.target_entries.items == 0))
+
+-- nothing is on the way there
+abbrev pub is_resting : NodeEntry → Bool
+is_resting entry = is_settled entry || is_left entry
 
 -- the target isn't this one
 abbrev pub is_other_target : TargetEntry → TargetEntry → Bool
@@ -39,7 +47,7 @@ abbrev pub is_entry_fit : List (List ℕ) → Arguments → NodeEntry → Bool
 is_entry_fit nodes arguments entry =
     nat_le (length entry.target_entries.items) 16
     && ((not (allows_one_target entry.capability.mode) || nat_le (length entry.target_entries.items) 1)
-    && (list_any (same_text entry.node) nodes && (has_capability arguments.capabilities entry.capability && are_targets_apart entry.target_entries.items)))
+    && ((list_any (same_text entry.node) nodes || (length entry.target_entries.items == 0)) && (has_capability arguments.capabilities entry.capability && are_targets_apart entry.target_entries.items)))
 
 -- the two are of different nodes, and may be held together
 abbrev pub are_beside : NodeEntry → NodeEntry → Bool
@@ -70,40 +78,50 @@ is_at_target must attached staged target first (target_entry ∷ later) =
     if same_text target_entry.target target then is_way (first && (length later == 0)) attached staged target_entry.published && ((not must || (length later == 0)) && list_all is_published later)
     else is_published target_entry && is_at_target must attached staged target false later
 
--- a stop is on its way at this entry
+-- a stop is on its way at this entry, or of what is left there
 abbrev pub stops_here : List ℕ → NodeEntry → Bool
-stops_here target entry = is_at_target false entry.attached entry.staged target true entry.target_entries.items
+stops_here target entry = is_left entry || is_at_target false entry.attached entry.staged target true entry.target_entries.items
 
--- a use is on its way at this entry, which is the last one if it has no other target
-abbrev pub uses_here : Usage → Bool → NodeEntry → Bool
-uses_here usage last entry =
-    (last || nat_le 2 (length entry.target_entries.items))
-    && (same_capability entry.capability usage.capability
+-- a use is on its way at this entry
+abbrev pub uses_here : Usage → NodeEntry → Bool
+uses_here usage entry =
+    same_capability entry.capability usage.capability
     && (same_flag entry.readonly usage.readonly
-    && is_at_target true entry.attached entry.staged usage.target true entry.target_entries.items))
+    && is_at_target true entry.attached entry.staged usage.target true entry.target_entries.items)
 
--- a stop is on its way at this node, and all other entries are settled
+-- a stop is on its way at this node, and nothing at the others
 abbrev pub is_stop_on_the_way : List ℕ → List ℕ → List NodeEntry → Bool
 is_stop_on_the_way node target [] = false
 is_stop_on_the_way node target (entry ∷ later) =
-    if same_text entry.node node then stops_here target entry && list_all is_settled later else is_settled entry && is_stop_on_the_way node target later
+    if same_text entry.node node then stops_here target entry && list_all is_resting later else is_resting entry && is_stop_on_the_way node target later
 
 -- a use is
 abbrev pub is_use_on_the_way : Usage → List NodeEntry → Bool
 is_use_on_the_way usage [] = false
 is_use_on_the_way usage (entry ∷ later) =
-    if same_text entry.node usage.node then uses_here usage (length later == 0) entry && list_all is_settled later else is_settled entry && is_use_on_the_way usage later
+    if same_text entry.node usage.node then uses_here usage entry && list_all is_resting later else is_resting entry && is_use_on_the_way usage later
 
 -- ---- a row
 
--- one to three tries where something is wanted, and else none
+-- one to three tries where something is wanted, or also none where a stop is, and else none
 abbrev pub has_tries : Option Goal → ℕ → Bool
 has_tries None tries = tries == 0
+has_tries (Some (Stop node target)) tries = nat_le tries 3
 has_tries (Some goal) tries = nat_le 1 tries && nat_le tries 3
+
+-- an entry, if there is one, has no targets
+abbrev pub is_untargeted : Option NodeEntry → Bool
+is_untargeted None = true
+is_untargeted (Some entry) = length entry.target_entries.items == 0
+
+-- a stop was tried, or its node has no targets
+abbrev pub is_tried : Option Goal → ℕ → List NodeEntry → Bool
+is_tried (Some (Stop node target)) tries entries = nat_le 1 tries || is_untargeted (find (λ entry. same_text entry.node node) entries)
+is_tried goal tries entries = true
 
 -- where nothing is wanted
 abbrev pub fits_rest : Bool → Known → List NodeEntry → Bool
-fits_rest has_id Yes entries = has_id && list_all is_settled entries
+fits_rest has_id Yes entries = has_id && list_all is_resting entries
 fits_rest has_id No entries = has_id && (length entries == 0)
 fits_rest has_id Maybe entries = not has_id && (length entries == 0)
 
@@ -127,11 +145,12 @@ fits_life (Some goal) has_id exists entries = fits_goal goal has_id exists entri
 -- the row may be one of a record of these nodes, whichever rows are before it
 abbrev pub is_restorable : List (List ℕ) → Row → Bool
 is_restorable nodes row =
-    nat_le (length row.node_entries.items) (length nodes)
+    nat_le (length row.node_entries.items) 64
     && (is_none row.open_call
     && (has_tries row.goal row.tries
+    && (is_tried row.goal row.tries row.node_entries.items
     && (are_entries_fit nodes row.arguments row.node_entries.items
-    && fits_life row.goal (is_some row.id) row.exists row.node_entries.items)))
+    && fits_life row.goal (is_some row.id) row.exists row.node_entries.items))))
 
 -- ---- nodes
 

@@ -1,7 +1,7 @@
 -- What an orchestrator answers to each input, and what it shows then, read from its rows alone: a step of one row
 -- (`RowSteps.antt`), a new row, or a restart. This profile's own. The law `RowsTell` of `Sound.antt` says that this is what
 -- the definitions over histories say.
-use Rattle.std.specs.Prelude.{◌≡◌, ℕ, ◌+◌, ◌^◌, List, find, Bool, false, ◌&&◌, nat_lt, Option, Some, None, if◌then◌else◌, Result, Ok, Err, IfOk, IfErr, OnErr}
+use Rattle.std.specs.Prelude.{◌≡◌, ℕ, List, find, Bool, false, ◌&&◌, Option, Some, None, if◌then◌else◌, Result, Ok, Err, IfOk, IfErr, OnErr}
 use Rattle.csi_types.specs.declared.number.Number.{Number}
 use Rattle.csi_types.specs.declared.call.Kind.{Kind}
 use Rattle.csi_types.specs.declared.call.Party.{Party}
@@ -20,13 +20,13 @@ use Rattle.csi_orchestrator.specs.declared.step.Step.{Step}
 use Rattle.csi_orchestrator.specs.declared.step.Step.TheVariants.{Create, Use, Stop, Delete, TimeOut, Succeed, Fail}
 use Rattle.csi_orchestrator.specs.Model.Thing.{Issued}
 use Rattle.csi_orchestrator.specs.Model.History.{Arguments}
-use Rattle.csi_orchestrator.specs.Model.Moves.{Input, ToCreate, ToUse, ToStop, ToDelete, TimesOut, Comes, Restarts, Answer, Sends, Hears, Restarted, hears}
+use Rattle.csi_orchestrator.specs.Model.Moves.{Input, ToCreate, ToUse, ToStop, ToDelete, TimesOut, Comes, Restarts, Loses, Answer, Sends, Hears, Restarted, GivenUp, hears}
 use Rattle.csi_orchestrator.specs.Private.Keyed.{put_by}
 use Rattle.csi_orchestrator.specs.Private.RowChanges.{new_row}
 use Rattle.csi_orchestrator.specs.Private.RowRefusals.{first_fault}
 use Rattle.csi_orchestrator.specs.Private.RowSteps.{MovedRow, row_sends_due, row_unless, row_step}
 use Rattle.csi_orchestrator.specs.Model.Shown.{RowShown, OrchestratorParts, row_of, open_in_row}
-use Rattle.csi_orchestrator.specs.Private.Shown.{parts_in_session}
+use Rattle.csi_orchestrator.specs.Public.Beginning.{restart_refusal, restarted_parts, loss_refusal, parts_at_loss}
 use Rattle.csi_orchestrator.specs.Public.RowMoves.{MovedRows, moved_rows, IsRefusal}
 
 -- the row in place of its name's, or last
@@ -85,11 +85,18 @@ abbrev pub receives : OrchestratorParts → Number → Party → Body → Result
 receives parts number party (bodies.Call call) = moved_rows parts (Hears Ignored)
 receives parts number party (bodies.Reply kind reply) = hears_reply parts kind reply (row_replied parts.rows number party kind)
 
+-- unless it is refused, these are the parts then
+abbrev pub moved_unless : Option OrchFault → OrchestratorParts → Answer → Result MovedRows OrchFault
+moved_unless (Some fault) parts answer = Err fault
+moved_unless None parts answer = moved_rows parts answer
+
 -- a restart
-abbrev pub starts_again : OrchestratorParts → Result MovedRows OrchFault
-starts_again parts =
-    if nat_lt (parts.last.session + 1) (2 ^ 64) then moved_rows (parts_in_session (parts.last.session + 1) parts) Restarted
-    else Err faults.NumbersSpent
+abbrev pub starts_again : OrchestratorParts → List (List ℕ) → Result MovedRows OrchFault
+starts_again parts nodes = moved_unless (restart_refusal parts.last.session parts.nodes nodes parts.rows) (restarted_parts nodes parts) Restarted
+
+-- the loss of a node
+abbrev pub gives_up : OrchestratorParts → List ℕ → Result MovedRows OrchFault
+gives_up parts node = moved_unless (loss_refusal parts.last.session) (parts_at_loss node parts) GivenUp
 
 -- each input
 abbrev pub row_moves : OrchestratorParts → Input → Result MovedRows OrchFault
@@ -99,7 +106,8 @@ row_moves parts (ToStop name node target) = steps_at parts Sends (Stop node targ
 row_moves parts (ToDelete name) = steps_at parts Sends Delete (row_of parts.rows name)
 row_moves parts (TimesOut name) = steps_at parts Sends TimeOut (row_of parts.rows name)
 row_moves parts (Comes frame) = receives parts frame.number frame.party frame.body
-row_moves parts Restarts = starts_again parts
+row_moves parts (Restarts nodes) = starts_again parts nodes
+row_moves parts (Loses node) = gives_up parts node
 
 -- the input by which a step is asked of the row of a name, if there is one
 abbrev pub input_asking : List ℕ → Step → Option Input

@@ -7,6 +7,7 @@ use Rattle.csi_types.specs.Model.Same.{same_text, has_capability}
 use Rattle.csi_types.specs.Model.Sharing.{allows_one_target}
 use Rattle.csi_orchestrator.specs.declared.fault.OrchFault.{OrchFault}
 use Rattle.csi_orchestrator.specs.declared.fault.OrchFault.TheVariants as faults
+use Rattle.csi_orchestrator.specs.declared.marks.Marks.{Marks}
 use Rattle.csi_orchestrator.specs.declared.row.Goal.{Goal}
 use Rattle.csi_orchestrator.specs.declared.step.Step.{Step}
 use Rattle.csi_orchestrator.specs.declared.step.Step.TheVariants as steps
@@ -14,7 +15,7 @@ use Rattle.csi_orchestrator.specs.Model.Thing.{is_yes, is_no}
 use Rattle.csi_orchestrator.specs.Model.History.{Usage}
 use Rattle.csi_orchestrator.specs.Model.Commands.{next_number, is_for_one_node, uses_as_second_writer, is_otherwise}
 use Rattle.csi_orchestrator.specs.Model.Shown.{NodeEntryShown, RowShown, node_entry_of, mark_in, publication_known, held_at}
-use Rattle.csi_orchestrator.specs.Public.RowDue.{others_in}
+use Rattle.csi_orchestrator.specs.Public.RowDue.{others_in, marks_at}
 use Rattle.csi_orchestrator.specs.Public.RowRefusals.{has_elsewhere}
 
 -- no number is left in the session
@@ -52,20 +53,30 @@ use_refusal nodes usage row =
     else if allows_one_target usage.capability.mode && others_in usage.target (node_entry_of row usage.node) then Some faults.TargetTaken
     else None
 
+-- at how many other nodes the volume may be attached
+abbrev pub others_attached : List ℕ → RowShown → ℕ
+others_attached node row = count_by (λ entry. not (same_text entry.node node) && not (is_no entry.attached)) row.node_entries
+
 -- why one that isn't met yet is
 abbrev pub room_refusal : Number → Usage → RowShown → Option OrchFault
 room_refusal last usage row =
     if is_last last then Some faults.NumbersSpent
-    else if nat_le 16 (others_count usage.target (node_entry_of row usage.node)) then Some faults.Full
+    else if nat_le 16 (others_count usage.target (node_entry_of row usage.node)) || nat_le 64 (others_attached usage.node row) then Some faults.Full
     else None
+
+-- all that is left to be done at the node is to detach the volume
+abbrev pub is_left : List ℕ → List ℕ → RowShown → Bool
+is_left node target row =
+    let marks : Marks = marks_at row node target in
+    not (is_no marks.attached) && (is_no marks.published && not marks.others)
 
 -- a stop
 abbrev pub stop_refusal : List (List ℕ) → Number → List ℕ → List ℕ → RowShown → Option OrchFault
 stop_refusal nodes last node target row =
     if not (is_yes row.exists) then Some faults.NotCreated
     else if is_some row.goal then Some faults.Busy
-    else if not (list_any (same_text node) nodes) then Some faults.NoSuchNode
-    else if is_no (mark_in (publication_known target) (node_entry_of row node)) then Some faults.NoSuchTarget
+    else if not (list_any (same_text node) nodes) && not (is_left node target row) then Some faults.NoSuchNode
+    else if is_no (mark_in (publication_known target) (node_entry_of row node)) && not (is_left node target row) then Some faults.NoSuchTarget
     else if is_last last then Some faults.NumbersSpent
     else None
 

@@ -21,6 +21,7 @@ refusal_number faults.Idle = 13
 refusal_number faults.NumbersSpent = 14
 refusal_number faults.Full = 15
 refusal_number faults.NoMemory = 16
+refusal_number faults.NodeInUse = 17
 
 -- a refusal's name
 abbrev pub fault_name : OrchFault → List ℕ
@@ -40,3 +41,4 @@ fault_name faults.Idle = codes "Idle"
 fault_name faults.NumbersSpent = codes "NumbersSpent"
 fault_name faults.Full = codes "Full"
 fault_name faults.NoMemory = codes "NoMemory"
+fault_name faults.NodeInUse = codes "NodeInUse"

@@ -1,6 +1,6 @@
 -- Which rows an orchestrator has, and may be given back, once its open calls were given up: the rules of such rows. `rows_law` says that
--- each orchestrator keeps them, `records_law` that some orchestrator came to whatever rows keep them. This profile's own.
-use Rattle.std.specs.Prelude.{◌≡◌, ℕ, ◌≤◌, List, [], ◌∷◌, ◌++◌, length, true, false, Option, Some, None}
+-- each orchestrator keeps them, `records_law` that whatever rows keep them are told by a history. This profile's own.
+use Rattle.std.specs.Prelude.{◌≡◌, ◌≢◌, ◌⊎◌, ℕ, ◌≤◌, List, [], ◌∷◌, ◌++◌, length, true, false, Option, Some, None}
 use Rattle.std.specs.List.{AllByRecursion, list_any}
 use Rattle.csi_lists.specs.Model.Members.{EachTwo}
 use Rattle.csi_types.specs.Model.Same.{same_text, has_capability}
@@ -13,10 +13,9 @@ use Rattle.csi_orchestrator.specs.declared.request.Usage.{Usage}
 use Rattle.csi_orchestrator.specs.declared.thing.Known.{Known}
 use Rattle.csi_orchestrator.specs.declared.thing.Known.TheVariants.{Yes, No, Maybe}
 use Rattle.csi_orchestrator.specs.Model.Commands.{is_for_one_node, uses_as_second_writer}
-use Rattle.csi_orchestrator.specs.Model.Shown.{NodeEntryShown, RowShown, held_at}
-use Rattle.csi_orchestrator.specs.Public.Shown.{AreTargetsApart}
-use Rattle.csi_orchestrator.specs.Public.Sound.{AreNodesApart}
-use Rattle.csi_orchestrator.specs.Public.Steady.{HasTries}
+use Rattle.csi_orchestrator.specs.Model.Shown.{NodeEntryShown, RowShown, node_entry_of, held_at}
+use Rattle.csi_orchestrator.specs.Public.Shown.{AreTargetsApart, AreNodesApart}
+use Rattle.csi_orchestrator.specs.Public.Steady.{HasTries, IsUntried, IsLeft, IsLast}
 
 -- ---- the rules of a node's entry
 
@@ -34,9 +33,10 @@ pub record AreHeldTogether (a b : NodeEntryShown) : Type 0 where
   pub then : IsHeldBeside a b
   pub before : IsHeldBeside b a
 
--- the node is listed, the volume was to be created with the capability, and the node has few targets, one where the mode allows one
+-- with targets the node is listed (without, the entry is what is left of one that was lost); the volume was to be created with the
+-- capability, and the node has few targets, one where the mode allows one
 pub record IsEntryFit (nodes : List (List ℕ)) (arguments : Arguments) (entry : NodeEntryShown) : Type 0 where
-  pub listed : list_any (same_text entry.node) nodes ≡ true
+  pub among : entry.target_entries ≢ [] → list_any (same_text entry.node) nodes ≡ true
   pub capable : has_capability arguments.capabilities entry.capability ≡ true
   pub few : length entry.target_entries ≤ 16
   pub apart : AreTargetsApart entry
@@ -61,9 +61,13 @@ pub record IsSettled (entry : NodeEntryShown) : Type 0 where
   pub published : AllByRecursion IsPublished entry.target_entries
   pub some : 1 ≤ length entry.target_entries
 
+-- nothing is on the way at the node: the entry is settled, or what is left of a node that was lost
+abbrev pub IsResting : NodeEntryShown → Type 0
+IsResting entry = IsSettled entry ⊎ IsLeft entry
+
 -- ---- what is known where a use or a stop is on the way
 
--- the entries of a goal's node and target: all others are settled
+-- the entries of a goal's node and target: nothing is on the way at the others
 pub record HasPlace (entries : List NodeEntryShown) (node target : List ℕ) : Type 0 where
   pub front : List NodeEntryShown
   pub entry : NodeEntryShown
@@ -75,8 +79,8 @@ pub record HasPlace (entries : List NodeEntryShown) (node target : List ℕ) : T
   pub targets_are : entry.target_entries ≡ first ++ target_entry ∷ last
   pub of_node : entry.node ≡ node
   pub of_target : target_entry.target ≡ target
-  pub settled_front : AllByRecursion IsSettled front
-  pub settled_rear : AllByRecursion IsSettled rear
+  pub resting_front : AllByRecursion IsResting front
+  pub resting_rear : AllByRecursion IsResting rear
   pub published_first : AllByRecursion IsPublished first
   pub published_last : AllByRecursion IsPublished last
 
@@ -93,14 +97,24 @@ pub record IsStopOnTheWay (entries : List NodeEntryShown) (node target : List �
   pub place : HasPlace entries node target
   pub way : IsOnTheWay place.first place.last place.entry.attached place.entry.staged place.target_entry.published
 
--- a use on the way: its target came last at its node, and its node came last of all if the target is its only one
+-- a stop at a node that was lost: what is left there is to be detached
+pub record IsStopOfLeft (entries : List NodeEntryShown) (node : List ℕ) : Type 0 where
+  pub front : List NodeEntryShown
+  pub entry : NodeEntryShown
+  pub rear : List NodeEntryShown
+  pub entries_are : entries ≡ front ++ entry ∷ rear
+  pub of_node : entry.node ≡ node
+  pub left : IsLeft entry
+  pub resting_front : AllByRecursion IsResting front
+  pub resting_rear : AllByRecursion IsResting rear
+
+-- a use on the way: its target came last at its node
 pub record IsUseOnTheWay (entries : List NodeEntryShown) (usage : Usage) : Type 0 where
   pub place : HasPlace entries usage.node usage.target
   pub way : IsOnTheWay place.first place.last place.entry.attached place.entry.staged place.target_entry.published
   pub as_capable : place.entry.capability ≡ usage.capability
   pub as_flagged : place.entry.readonly ≡ usage.readonly
   pub last_target : place.last ≡ []
-  pub last_node : place.first ≡ [] → place.rear ≡ []
 
 -- ---- the rules of rows
 
@@ -108,9 +122,9 @@ pub record IsUseOnTheWay (entries : List NodeEntryShown) (usage : Usage) : Type 
 abbrev pub FitsLife : List NodeEntryShown → Option ℕ → Known → Option Goal → Type 0
 FitsLife entries None Maybe None = entries ≡ []
 FitsLife entries None Maybe (Some Create) = entries ≡ []
-FitsLife entries (Some id) Yes None = AllByRecursion IsSettled entries
+FitsLife entries (Some id) Yes None = AllByRecursion IsResting entries
 FitsLife entries (Some id) Yes (Some (Use usage)) = IsUseOnTheWay entries usage
-FitsLife entries (Some id) Yes (Some (Stop node target)) = IsStopOnTheWay entries node target
+FitsLife entries (Some id) Yes (Some (Stop node target)) = IsStopOnTheWay entries node target ⊎ IsStopOfLeft entries node
 FitsLife entries (Some id) Maybe (Some Delete) = entries ≡ []
 FitsLife entries (Some id) No None = entries ≡ []
 FitsLife entries id exists goal = ⊥
@@ -119,12 +133,20 @@ FitsLife entries id exists goal = ⊥
 pub record IsRestorable (nodes : List (List ℕ)) (row : RowShown) : Type 0 where
   pub quiet : row.open_call ≡ None
   pub tries : HasTries row.goal row.tries
+  pub untried : row.tries ≡ 0 → IsUntried row.goal row.node_entries
   pub life : FitsLife row.node_entries row.id row.exists row.goal
   pub entries : AreEntriesFit nodes row.arguments row.node_entries
+  pub few : length row.node_entries ≤ 64
 
 -- and of all: few enough, and one for each name
 pub record AreRestorable (nodes : List (List ℕ)) (rows : List RowShown) : Type 0 where
-  pub few_nodes : length nodes ≤ 64
   pub few : length rows ≤ 4096
   pub names : EachTwo (λ (a b : RowShown). same_text a.name b.name ≡ false) rows
   pub each : AllByRecursion (IsRestorable nodes) rows
+
+-- ---- as long as no node was lost
+
+-- no entry is left of a lost node; and none was, and used again: where a use's target is its node's only one, the node came last
+pub record IsUnlost (row : RowShown) : Type 0 where
+  pub targets : AllByRecursion (λ (entry : NodeEntryShown). entry.target_entries ≢ []) row.node_entries
+  pub last : (usage : Usage) (entry : NodeEntryShown) → row.goal ≡ Some (Use usage) → node_entry_of row usage.node ≡ Some entry → length entry.target_entries ≡ 1 → IsLast (λ (e : NodeEntryShown). e.node) usage.node row.node_entries

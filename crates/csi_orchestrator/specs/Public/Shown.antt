@@ -1,5 +1,5 @@
 -- What an orchestrator shows of itself, by its rows. This profile's own.
-use Rattle.std.specs.Prelude.{◌≡◌, map, false, None}
+use Rattle.std.specs.Prelude.{◌≡◌, List, map, false, None}
 use Rattle.csi_lists.specs.Model.Members.{EachTwo}
 use Rattle.csi_types.specs.Model.Same.{same_text}
 use Rattle.csi_orchestrator.specs.declared.row.NodeEntry.{NodeEntry}
@@ -28,6 +28,10 @@ row_shown row =
 -- at each node of each row, a target has one entry
 abbrev pub AreTargetsApart : NodeEntryShown → Type 0
 AreTargetsApart entry = EachTwo (λ (a b : TargetEntry). same_text a.target b.target ≡ false) entry.target_entries
+
+-- a node has one entry
+abbrev pub AreNodesApart : List NodeEntryShown → Type 0
+AreNodesApart entries = EachTwo (λ (a b : NodeEntryShown). same_text a.node b.node ≡ false) entries
 
 -- the row without its open call
 abbrev pub closed : RowShown → RowShown

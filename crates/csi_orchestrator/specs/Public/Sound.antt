@@ -9,21 +9,18 @@ use Rattle.csi_orchestrator.specs.declared.row.TargetEntry.{TargetEntry}
 use Rattle.csi_orchestrator.specs.declared.request.Usage.{Usage}
 use Rattle.csi_orchestrator.specs.declared.thing.Known.TheVariants.{Yes, No}
 use Rattle.csi_orchestrator.specs.Model.Commands.{is_for_one_node, uses_as_second_writer}
-use Rattle.csi_orchestrator.specs.Model.History.{History, with_items, Item, Started, Sent, Accepted, Closed, Noted}
+use Rattle.csi_orchestrator.specs.Model.History.{History, with_items, Item, Started, Lost, Forgotten, Sent, Accepted, Closed, Noted}
 use Rattle.csi_orchestrator.specs.Public.Guards.{MayIssue}
 use Rattle.csi_orchestrator.specs.Model.Due.{Due}
 use Rattle.csi_orchestrator.specs.Model.Shown.{NodeEntryShown, RowShown, OrchestratorParts, node_entry_of, target_entry_of, Shows}
 use Rattle.csi_orchestrator.specs.Public.Shown.{AreTargetsApart}
+pub use Rattle.csi_orchestrator.specs.Public.Shown.{AreNodesApart}
 use Rattle.csi_orchestrator.specs.Public.RowDue.{due_in, due_open}
 use Rattle.csi_orchestrator.specs.Public.RowRefusals.{has_elsewhere}
 use Rattle.csi_orchestrator.specs.Public.Steps.{IsReached}
 use Rattle.csi_orchestrator.specs.Model.WellFormed.{IsWellFormed}
 use Rattle.csi_orchestrator.specs.Public.Bounds.{IsWithin}
 use Rattle.csi_orchestrator.specs.Public.Steady.{AreSteadyRows}
-
--- a node has one entry
-abbrev pub AreNodesApart : List NodeEntryShown → Type 0
-AreNodesApart entries = EachTwo (λ (a b : NodeEntryShown). same_text a.node b.node ≡ false) entries
 
 -- the entries of a use
 pub record HasEntry (row : RowShown) (usage : Usage) : Type 0 where
@@ -71,10 +68,10 @@ pub record AreSoundRows (rows : List RowShown) : Type 0 where
   pub names : EachTwo (λ (a b : RowShown). same_text a.name b.name ≡ false) rows
   pub each : AllByRecursion IsSoundRow rows
 
--- an orchestrator of these nodes came to this history, and they agree with it
+-- an orchestrator came to this history, and they agree with it
 pub record HasHistory (parts : OrchestratorParts) : Type 0 where
   pub history : History
-  pub reached : IsReached parts.nodes history
+  pub reached : IsReached history
   pub form : IsWellFormed history
   pub agrees : Shows parts history
 
@@ -88,7 +85,9 @@ pub record AreSoundParts (parts : OrchestratorParts) : Type 0 where
 -- each call among these items may be sent after what stands before it
 abbrev pub AreGuarded : History → List Item → Type 0
 AreGuarded history [] = Unit {0}
-AreGuarded history (Started session ∷ older) = AreGuarded history older
+AreGuarded history (Started session nodes ∷ older) = AreGuarded history older
+AreGuarded history (Lost node ∷ older) = AreGuarded history older
+AreGuarded history (Forgotten name ∷ older) = AreGuarded history older
 AreGuarded history (Sent issued ∷ older) = MayIssue (with_items history older) issued.name issued.party issued.call × AreGuarded history older
 AreGuarded history (Accepted number status id ∷ older) = AreGuarded history older
 AreGuarded history (Closed number ∷ older) = AreGuarded history older

@@ -26,6 +26,7 @@ impl OrchFault {
             OrchFault::NumbersSpent => 14,
             OrchFault::Full => 15,
             OrchFault::NoMemory => 16,
+            OrchFault::NodeInUse => 17,
         }
     }
 
@@ -50,6 +51,7 @@ impl OrchFault {
             OrchFault::NumbersSpent => "NumbersSpent",
             OrchFault::Full => "Full",
             OrchFault::NoMemory => "NoMemory",
+            OrchFault::NodeInUse => "NodeInUse",
         }
     }
 }

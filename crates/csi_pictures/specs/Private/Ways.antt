@@ -3,9 +3,8 @@ use Rattle.std.specs.Prelude.{◌≡◌, ℕ, ◌≤◌, Bool, false, List, leng
 use Rattle.csi_types.specs.Model.Frame.{Frame}
 use Rattle.csi_types.specs.declared.event.Event.{Event}
 use Rattle.csi_world.specs.declared.outcomes.Outcome.{Outcome}
-use Rattle.csi_world.specs.Model.Simulated.{WorldParts}
 use Rattle.csi_pictures.specs.declared.ways.Ways.{Ways}
-use Rattle.csi_pictures.specs.Public.Scene.{sent_row, came, delivered_from}
+use Rattle.csi_pictures.specs.Public.Scene.{RunParts, sent_row, came, delivered_from}
 
 -- the row where each of the frames was sent, behind the last where none sent it
 abbrev pub AreSentRows : List Outcome → List Frame → List ℕ → Type 0
@@ -20,7 +19,7 @@ came_at (Some outcome) = came outcome
 abbrev pub AreDelivered : List Outcome → List Event → List Frame → List Bool → Type 0
 AreDelivered outcomes events frames marks = (number : ℕ) → number ≤ length frames → get_or marks number false ≡ delivered_from number outcomes 0 events
 
--- both are so, of the frames of this world, to which these events led
-pub record AreWays (world : WorldParts) (events : List Event) (ways : Ways) : Type 0 where
-  pub rows : AreSentRows world.outcomes world.frames ways.rows.items
-  pub marks : AreDelivered world.outcomes events world.frames ways.marks.items
+-- both are so, of the frames of this run, of these events
+pub record AreWays (run : RunParts) (events : List Event) (ways : Ways) : Type 0 where
+  pub rows : AreSentRows run.outcomes run.frames ways.rows.items
+  pub marks : AreDelivered run.outcomes events run.frames ways.marks.items

@@ -1,6 +1,6 @@
--- What is attached, staged and published, as bars: each from the call that was carried out to the one that undid it, in a column of its
--- own. A plugin answers OK to a call exactly where the thing is then as the call asks. This profile's own.
-use Rattle.std.specs.Prelude.{ℕ, zero, suc, ◌+◌, ◌==◌, ◌&&◌, nat_le, nat_lt, Bool, false, List, [], ◌∷◌, ◌++◌, slice_get, codes, decimal, Option, Some, None, if◌then◌else◌}
+-- What is attached, staged and published, as bars: each from the call that was carried out to the one that undid it, or to the loss of its
+-- node, in a column of its own. A plugin answers OK to a call exactly where the thing is then as the call asks. This profile's own.
+use Rattle.std.specs.Prelude.{ℕ, zero, suc, ◌+◌, ◌==◌, ◌&&◌, nat_le, nat_lt, min, Bool, false, List, [], ◌∷◌, ◌++◌, slice_get, codes, decimal, Option, Some, None, if◌then◌else◌}
 use Rattle.std.specs.List.{list_any}
 use Rattle.csi_types.specs.declared.call.Call.{Call}
 use Rattle.csi_types.specs.declared.call.Call.TheVariants as calls
@@ -12,13 +12,12 @@ use Rattle.csi_types.specs.Model.Same.{same_text}
 use Rattle.csi_types.specs.declared.event.Event.{Event}
 use Rattle.csi_types.specs.declared.event.Event.TheVariants as happens
 use Rattle.csi_world.specs.declared.outcomes.Outcome.{Outcome}
-use Rattle.csi_world.specs.Model.Simulated.{WorldParts}
 use Rattle.csi_world.specs.Public.Simulating.{numbered}
 use Rattle.csi_pictures.specs.declared.bars.Bar.{Bar}
 use Rattle.csi_pictures.specs.declared.bars.Lasting.{Lasting}
 use Rattle.csi_pictures.specs.declared.bars.Lasting.TheVariants as lasting
 use Rattle.csi_pictures.specs.Public.Pieces.{pieces}
-use Rattle.csi_pictures.specs.Public.Scene.{lane_of, frame_delivered, was_answered_ok}
+use Rattle.csi_pictures.specs.Public.Scene.{RunParts, lane_of, frame_delivered, was_answered_ok, loses_lane}
 
 -- ---- what undoes what
 
@@ -50,21 +49,32 @@ undoes_at to lane begun (bodies.Call call) = (to == lane) && undoes_call begun c
 undoes_at to lane begun (bodies.Reply kind reply) = false
 
 -- the frame, if there is one, is of such a call to the lane's plugin
-abbrev pub undone_by : WorldParts → ℕ → Call → Option Frame → Bool
-undone_by world lane begun None = false
-undone_by world lane begun (Some frame) = undoes_at (lane_of world.nodes frame.party) lane begun frame.body
+abbrev pub undone_by : RunParts → ℕ → Call → Option Frame → Bool
+undone_by run lane begun None = false
+undone_by run lane begun (Some frame) = undoes_at (lane_of run.nodes frame.party) lane begun frame.body
 
 -- an event was such a call, and the plugin carried it out
-abbrev pub ends : WorldParts → ℕ → Call → Event → Option Outcome → Bool
-ends world lane begun event None = false
-ends world lane begun event (Some outcome) = if was_answered_ok world.frames outcome then undone_by world lane begun (frame_delivered world.frames event) else false
+abbrev pub ends : RunParts → ℕ → Call → Event → Option Outcome → Bool
+ends run lane begun event None = false
+ends run lane begun event (Some outcome) = if was_answered_ok run.frames outcome then undone_by run lane begun (frame_delivered run.frames event) else false
 
 -- of the events from a place on: the row of the first one behind this row that ends the bar; behind the last where none does
-abbrev pub end_row : WorldParts → ℕ → Call → ℕ → ℕ → List Event → ℕ
-end_row world lane begun row place [] = suc place
-end_row world lane begun row place (event ∷ events) =
-    if nat_le row place && ends world lane begun event (slice_get world.outcomes place) then suc place
-    else end_row world lane begun row (suc place) events
+abbrev pub end_row : RunParts → ℕ → Call → ℕ → ℕ → List Event → ℕ
+end_row run lane begun row place [] = suc place
+end_row run lane begun row place (event ∷ events) =
+    if nat_le row place && ends run lane begun event (slice_get run.outcomes place) then suc place
+    else end_row run lane begun row (suc place) events
+
+-- of the events from a place on: the row of the first one behind this row by which the node of the lane is lost; behind the last where none is
+abbrev pub loss_row : RunParts → ℕ → ℕ → ℕ → List Event → ℕ
+loss_row run lane row place [] = suc place
+loss_row run lane row place (event ∷ events) =
+    if nat_le row place && loses_lane run.nodes lane event (slice_get run.outcomes place) then suc place
+    else loss_row run lane row (suc place) events
+
+-- the row of the first event behind this row that ends the bar; what is attached is the controller's, so it stays where a node is lost
+abbrev pub bar_end : RunParts → ℕ → Call → ℕ → List Event → ℕ
+bar_end run lane begun row events = min (end_row run lane begun row 0 events) (loss_row run lane row 0 events)
 
 -- ---- what is the same thing
 
@@ -131,39 +141,39 @@ free_among lane row bars column [] = column
 free_among lane row bars column (bar ∷ others) = if is_taken lane row column bars then free_among lane row bars (suc column) others else column
 
 -- a new bar has the first column that is free, of as many as there are bars, and one more
-abbrev pub bar_of : WorldParts → List Event → List Bar → ℕ → ℕ → ℕ → Call → Lasting → Bar
-bar_of world events bars row number lane call what = record { what = what; number = number; lane = lane; from = row; to = end_row world lane call row 0 events; column = free_among lane row bars 0 bars }
+abbrev pub bar_of : RunParts → List Event → List Bar → ℕ → ℕ → ℕ → Call → Lasting → Bar
+bar_of run events bars row number lane call what = record { what = what; number = number; lane = lane; from = row; to = bar_end run lane call row events; column = free_among lane row bars 0 bars }
 
 -- where the thing is there already, none begins
-abbrev pub with_lasting : WorldParts → List Event → List Bar → ℕ → ℕ → ℕ → Call → Option Lasting → List Bar
-with_lasting world events bars row number lane call None = bars
-with_lasting world events bars row number lane call (Some what) =
-    if is_shown world.frames lane row call bars then bars else bars ++ bar_of world events bars row number lane call what ∷ []
+abbrev pub with_lasting : RunParts → List Event → List Bar → ℕ → ℕ → ℕ → Call → Option Lasting → List Bar
+with_lasting run events bars row number lane call None = bars
+with_lasting run events bars row number lane call (Some what) =
+    if is_shown run.frames lane row call bars then bars else bars ++ bar_of run events bars row number lane call what ∷ []
 
 -- a bar more, where the body is a call that brings something about that lasts
-abbrev pub with_body : WorldParts → List Event → List Bar → ℕ → ℕ → Party → Body → List Bar
-with_body world events bars row number party (bodies.Call call) = with_lasting world events bars row number (lane_of world.nodes party) call (lasting_of call)
-with_body world events bars row number party (bodies.Reply kind reply) = bars
+abbrev pub with_body : RunParts → List Event → List Bar → ℕ → ℕ → Party → Body → List Bar
+with_body run events bars row number party (bodies.Call call) = with_lasting run events bars row number (lane_of run.nodes party) call (lasting_of call)
+with_body run events bars row number party (bodies.Reply kind reply) = bars
 
 -- the same of a frame, if there is one
-abbrev pub bars_with_frame : WorldParts → List Event → List Bar → ℕ → ℕ → Option Frame → List Bar
-bars_with_frame world events bars row number None = bars
-bars_with_frame world events bars row number (Some frame) = with_body world events bars row number frame.party frame.body
+abbrev pub bars_with_frame : RunParts → List Event → List Bar → ℕ → ℕ → Option Frame → List Bar
+bars_with_frame run events bars row number None = bars
+bars_with_frame run events bars row number (Some frame) = with_body run events bars row number frame.party frame.body
 
 -- the bar that begins with an event, if one does, is put behind the others
-abbrev pub with_event : WorldParts → List Event → List Bar → ℕ → Event → Outcome → List Bar
-with_event world events bars row (happens.Deliver number) outcome = if was_answered_ok world.frames outcome then bars_with_frame world events bars row number (numbered world.frames number) else bars
-with_event world events bars row _ outcome = bars
+abbrev pub with_event : RunParts → List Event → List Bar → ℕ → Event → Outcome → List Bar
+with_event run events bars row (happens.Deliver number) outcome = if was_answered_ok run.frames outcome then bars_with_frame run events bars row number (numbered run.frames number) else bars
+with_event run events bars row _ outcome = bars
 
 -- the same of an event and what came of it
-abbrev pub with_both : WorldParts → List Event → List Bar → ℕ → Option Event → Option Outcome → List Bar
-with_both world events bars row (Some event) (Some outcome) = with_event world events bars row event outcome
-with_both world events bars row _ _ = bars
+abbrev pub with_both : RunParts → List Event → List Bar → ℕ → Option Event → Option Outcome → List Bar
+with_both run events bars row (Some event) (Some outcome) = with_event run events bars row event outcome
+with_both run events bars row _ _ = bars
 
 -- those that begin before this place
-abbrev pub bars_to : WorldParts → List Event → ℕ → List Bar
-bars_to world events zero = []
-bars_to world events (suc place) = with_both world events (bars_to world events place) (place + 1) (slice_get events place) (slice_get world.outcomes place)
+abbrev pub bars_to : RunParts → List Event → ℕ → List Bar
+bars_to run events zero = []
+bars_to run events (suc place) = with_both run events (bars_to run events place) (place + 1) (slice_get events place) (slice_get run.outcomes place)
 
 -- ---- as they are drawn
 

@@ -8,7 +8,6 @@ use Rattle.csi_types.specs.declared.reply.Reply.{Reply}
 use Rattle.csi_types.specs.declared.status.Status.{Status}
 use Rattle.csi_types.specs.Model.Call.{kind_of}
 use Rattle.csi_types.specs.Model.Frame.{Frame}
-use Rattle.csi_node.specs.Model.Record.{NodeParts}
 use Rattle.csi_types.specs.declared.event.Event.{Event}
 use Rattle.csi_types.specs.declared.event.Event.TheVariants as events
 use Rattle.csi_world.specs.declared.outcomes.Outcome.{Outcome}
@@ -34,14 +33,21 @@ words (events.Delete name) = codes "delete " ++ escaped name
 words (events.Timeout name) = codes "timeout " ++ escaped name
 words (events.Deliver number) = codes "deliver " ++ decimal number
 words events.RestartOrchestrator = codes "restart orchestrator"
+words (events.RestartOrchestratorWith nodes) = codes "restart orchestrator with a list"
 words events.RestartController = codes "restart controller"
+words (events.RestartControllerWith config) = codes "restart controller with a configuration"
 words (events.RestartNode node) = codes "restart node " ++ escaped node
+words (events.Join node) = codes "join " ++ escaped node
+words (events.Lose node) = codes "lose " ++ escaped node
+words (events.Settle name) = codes "settle " ++ escaped name
 
--- it couldn't happen
+-- it couldn't happen, or didn't bring what it is for
 abbrev pub is_wrong : Outcome → Bool
 is_wrong (outcomes.Refused fault) = true
 is_wrong outcomes.NoSuchFrame = true
 is_wrong outcomes.NoSuchNode = true
+is_wrong outcomes.NodeThere = true
+is_wrong (outcomes.NotSettled count) = true
 is_wrong _ = false
 
 -- how the words of what came of an event are drawn
@@ -49,6 +55,8 @@ abbrev pub outcome_class : Outcome → List ℕ
 outcome_class (outcomes.Refused fault) = codes "wrong"
 outcome_class outcomes.NoSuchFrame = codes "wrong"
 outcome_class outcomes.NoSuchNode = codes "wrong"
+outcome_class outcomes.NodeThere = codes "wrong"
+outcome_class (outcomes.NotSettled count) = codes "wrong"
 outcome_class outcomes.Ignored = codes "odd"
 outcome_class _ = codes "plain"
 
@@ -65,19 +73,27 @@ row_text row event outcome = event_row row (outcome_class outcome) (words event)
 -- the shape of an event's mark
 abbrev pub shape_of : Event → List ℕ
 shape_of (events.Timeout name) = codes "clock"
+shape_of (events.Settle name) = codes "clock"
 shape_of events.RestartOrchestrator = codes "restart"
+shape_of (events.RestartOrchestratorWith nodes) = codes "restart"
 shape_of events.RestartController = codes "restart"
+shape_of (events.RestartControllerWith config) = codes "restart"
 shape_of (events.RestartNode node) = codes "restart"
+shape_of (events.Join node) = codes "restart"
+shape_of (events.Lose node) = codes "restart"
 shape_of _ = codes "command"
 
--- a cross where it couldn't happen, and else that shape
+-- a cross where it couldn't happen or didn't bring what it is for, and else that shape
 abbrev pub mark_shape : Event → Outcome → List ℕ
 mark_shape event outcome = if is_wrong outcome then codes "cross" else shape_of event
 
 -- the lane of the mark
-abbrev pub mark_lane : List NodeParts → Event → ℕ
+abbrev pub mark_lane : List (List ℕ) → Event → ℕ
 mark_lane nodes events.RestartController = 2
+mark_lane nodes (events.RestartControllerWith config) = 2
 mark_lane nodes (events.RestartNode node) = node_lane node nodes
+mark_lane nodes (events.Join node) = node_lane node nodes
+mark_lane nodes (events.Lose node) = node_lane node nodes
 mark_lane nodes _ = 1
 
 -- a mark, by its lane, its row and its shape
@@ -90,7 +106,7 @@ is_delivery (events.Deliver number) = true
 is_delivery _ = false
 
 -- a delivery has none but its arrow
-abbrev pub mark : List NodeParts → ℕ → Event → Outcome → List ℕ
+abbrev pub mark : List (List ℕ) → ℕ → Event → Outcome → List ℕ
 mark nodes row event outcome = if is_delivery event then [] else mark_at (mark_lane nodes event) row (mark_shape event outcome)
 
 -- ---- the frame that it sent
@@ -112,12 +128,12 @@ abbrev pub reply_label : ℕ → ℕ → ℕ → List ℕ → Reply → List ℕ
 reply_label row lane sent name reply = reply_label_at row lane (reply_class reply.status) sent name (status_name reply.status) reply.detail
 
 -- the label of a call or of a reply
-abbrev pub label_of : List NodeParts → ℕ → ℕ → Number → Party → Body → List ℕ
+abbrev pub label_of : List (List ℕ) → ℕ → ℕ → Number → Party → Body → List ℕ
 label_of nodes row sent number party (bodies.Call call) = call_label row sent (kind_name (kind_of call)) number
 label_of nodes row sent number party (bodies.Reply kind reply) = reply_label row (lane_of nodes party) sent (kind_name kind) reply
 
 -- the label of a frame
-abbrev pub label : List NodeParts → ℕ → ℕ → Frame → List ℕ
+abbrev pub label : List (List ℕ) → ℕ → ℕ → Frame → List ℕ
 label nodes row sent frame = label_of nodes row sent frame.number frame.party frame.body
 
 -- a frame that nobody delivers ends in the open

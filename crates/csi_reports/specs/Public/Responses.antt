@@ -19,7 +19,7 @@ use Rattle.csi_orchestrator.specs.declared.row.Row.{Row}
 use Rattle.csi_world.specs.Public.Outcomes.{refused_text}
 use Rattle.csi_reports.specs.declared.responses.Sending.{Sending}
 use Rattle.csi_reports.specs.declared.responses.RequestOutcome.{RequestOutcome}
-use Rattle.csi_reports.specs.declared.responses.RequestOutcome.TheVariants.{Sent, Met, Refused, Taken}
+use Rattle.csi_reports.specs.declared.responses.RequestOutcome.TheVariants.{Sent, Met, Refused, Taken, Lost}
 use Rattle.csi_reports.specs.Public.Entries.{entries, whole_number}
 use Rattle.csi_reports.specs.Public.Order.{IsInPlace}
 use Rattle.csi_reports.specs.Public.Goals.{goal_entry, one_member}
@@ -67,6 +67,7 @@ request_outcome_text Sent = codes "sent"
 request_outcome_text Met = codes "met"
 request_outcome_text (Refused fault) = refused_text fault
 request_outcome_text Taken = codes "taken"
+request_outcome_text Lost = codes "lost"
 
 -- an answer about the volume of a name: what is wanted of it now, and the call that is to be sent, if there is one
 abbrev pub answer_entry : List ℕ → Option Goal → RequestOutcome → Option (Frame × List ℕ) → Data
@@ -74,6 +75,13 @@ answer_entry name goal outcome sent =
     object (member (codes "goal") (goal_entry name goal)
     (member (codes "name") (string name)
     (member (codes "outcome") (string (request_outcome_text outcome)) (send_member sent))))
+
+-- an answer about the loss of a node, with the session that there is then
+abbrev pub loss_entry : List ℕ → RequestOutcome → ℕ → Data
+loss_entry node outcome session =
+    object (member (codes "node") (string node)
+    (member (codes "outcome") (string (request_outcome_text outcome))
+    (member (codes "session") (whole_number session) no_members)))
 
 -- a frame that came was ignored
 abbrev pub ignored_entry : Data

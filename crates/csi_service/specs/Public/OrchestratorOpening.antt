@@ -1,9 +1,12 @@
--- What opening an orchestrator's store finds and leaves: of a record it makes the orchestrator after a restart, in the next session, and of no
--- parts a new one, in session 1; the head is committed before it is given. This profile's own.
-use Rattle.std.specs.Prelude.{◌≡◌, ◌≢◌, ◌⊎◌, ℕ, ◌+◌, ◌<◌, ◌^◌, List, [], Result, Ok, Err}
+-- What opening an orchestrator's store with a list of nodes finds and leaves: of a record it makes the orchestrator after a restart with that
+-- list, in the next session, and of no parts a new one, in session 1; what it changed is committed before it is given. This profile's own.
+use Rattle.std.specs.Prelude.{◌≡◌, ◌⊎◌, ℕ, List, [], Option, Some, None, Result, Ok, Err}
+use Rattle.csi_orchestrator.specs.declared.fault.OrchFault.{OrchFault}
+use Rattle.csi_orchestrator.specs.declared.fault.OrchFault.TheVariants as refusals
 use Rattle.csi_orchestrator.specs.declared.fault.OrchRecordFault.{OrchRecordFault}
 use Rattle.csi_orchestrator.specs.declared.fault.OrchRecordFault.TheVariants as faults
 use Rattle.csi_orchestrator.specs.Model.Shown.{OrchestratorParts}
+use Rattle.csi_orchestrator.specs.Public.Beginning.{restart_refusal}
 use Rattle.csi_orchestrator.specs.Public.Laws.{opened_parts}
 use Rattle.csi_orchestrator.specs.Public.Record.{RecordParts, AreNodesFit}
 use Rattle.csi_stores.specs.Public.Keeping.{IsForeignFault}
@@ -13,26 +16,30 @@ use Rattle.csi_records.specs.Public.OrchestratorRecords.{orchestrator_layout, Is
 use Rattle.csi_records.specs.Public.Records.{IsRecordOf, IsInSome, IsRefusedAt}
 use Rattle.csi_records.specs.Public.Spelling.{present}
 use Rattle.csi_service.specs.declared.orchestrator_unopened.OrchestratorUnopened.{OrchestratorUnopened}
-use Rattle.csi_service.specs.declared.orchestrator_unopened.OrchestratorUnopened.TheVariants.{Keep, BadNodes, OtherNodes, NumbersSpent}
+use Rattle.csi_service.specs.declared.orchestrator_unopened.OrchestratorUnopened.TheVariants.{Keep, BadNodes, NumbersSpent, NodeInUse}
 use Rattle.csi_service.specs.Public.OrchestratorServices.{ServedOrchestrator, parts_of_orchestrator, orchestrator_service_parts}
 use Rattle.csi_service.specs.Public.StoreOpening.{OpeningRules, IsUnopened, StaysFor}
 
 -- ---- what opening makes
 
--- the record of an orchestrator of these nodes before its first session
-abbrev pub new_record : List (List ℕ) → RecordParts
-new_record nodes = record { nodes = nodes; session = 0; rows = [] }
+-- the record of an orchestrator before its first session: without a node, and without a row
+abbrev pub new_record : RecordParts
+new_record = record { nodes = []; session = 0; rows = [] }
 
--- the record of these nodes that a store's parts are opened from: no parts stand for one before the first session
-abbrev pub IsOpenedFrom : List (List ℕ) → List StoredPart → RecordParts → Type 0
-IsOpenedFrom nodes content kept = ((content ≡ []) × (kept ≡ new_record nodes)) ⊎ (IsOrchestratorOf present content kept × (kept.nodes ≡ nodes))
+-- the record that a store's parts are opened from: no parts stand for one before the first session
+abbrev pub IsOpenedFrom : List StoredPart → RecordParts → Type 0
+IsOpenedFrom content kept = ((content ≡ []) × (kept ≡ new_record)) ⊎ IsOrchestratorOf present content kept
 
--- the orchestrator of that record, in the next session
+-- why no session begins with these nodes, after those of a record
+abbrev pub opening_refusal : RecordParts → List (List ℕ) → Option OrchFault
+opening_refusal kept nodes = restart_refusal kept.session kept.nodes nodes kept.rows
+
+-- the orchestrator of that record, in the next session, with these nodes
 pub record IsOrchestratorOpened (nodes : List (List ℕ)) (content : List StoredPart) (orchestrator : OrchestratorParts) : Type 0 where
   pub kept : RecordParts
-  pub from : IsOpenedFrom nodes content kept
-  pub left : kept.session + 1 < 2 ^ 64
-  pub is : orchestrator ≡ opened_parts kept
+  pub from : IsOpenedFrom content kept
+  pub unrefused : opening_refusal kept nodes ≡ None
+  pub is : orchestrator ≡ opened_parts kept nodes
 
 -- the parts of such a one, which the commit of opening makes
 pub record OpensOrchestrator (nodes : List (List ℕ)) (content new : List StoredPart) : Type 0 where
@@ -56,33 +63,33 @@ HasOrchestrator nodes before after service =
     after.honest → (content : List StoredPart) → before.holds content → IsOrchestratorOpened nodes content service.orchestrator
     × IsRecordOf (orchestrator_layout present) (orchestrator_service_parts service) × IsOnly after (Parts (orchestrator_service_parts service))
 
--- the record is one of other nodes
-pub record IsOfOthers (nodes : List (List ℕ)) (content : List StoredPart) : Type 0 where
+-- the parts are a record after which no session begins with these nodes, for this reason
+pub record IsNotBegun (nodes : List (List ℕ)) (fault : OrchFault) (content : List StoredPart) : Type 0 where
   pub kept : RecordParts
   pub was : IsOrchestratorOf present content kept
-  pub others : kept.nodes ≢ nodes
-
--- the record is one in the last session
-pub record IsSpent (nodes : List (List ℕ)) (content : List StoredPart) : Type 0 where
-  pub kept : RecordParts
-  pub was : IsOrchestratorOf present content kept
-  pub same : kept.nodes ≡ nodes
-  pub spent : kept.session + 1 ≡ 2 ^ 64
+  pub refused : opening_refusal kept nodes ≡ Some fault
 
 -- why an orchestrator of these nodes isn't opened from a store
 abbrev pub IsOrchestratorUnopened : List (List ℕ) → Store → Store → OrchestratorUnopened → Type 0
 IsOrchestratorUnopened nodes before after (Keep fault) = IsUnopened (orchestrator_rules nodes) before after fault
 IsOrchestratorUnopened nodes before after BadNodes = (AreNodesFit nodes → ⊥) × StaysFor (λ content. Unit {0}) before after
-IsOrchestratorUnopened nodes before after OtherNodes = StaysFor (IsOfOthers nodes) before after
-IsOrchestratorUnopened nodes before after NumbersSpent = StaysFor (IsSpent nodes) before after
+IsOrchestratorUnopened nodes before after NumbersSpent = StaysFor (IsNotBegun nodes refusals.NumbersSpent) before after
+IsOrchestratorUnopened nodes before after NodeInUse = StaysFor (IsNotBegun nodes refusals.NodeInUse) before after
 
 -- where a store has no list of parts, that is refused
 abbrev pub RefusesForeign : {A : Type 0} → ℕ → Result A OrchestratorUnopened → Type 0
 RefusesForeign place (Ok a) = ⊥
 RefusesForeign place (Err (Keep fault)) = IsForeignFault place fault
 RefusesForeign place (Err BadNodes) = ⊥
-RefusesForeign place (Err OtherNodes) = ⊥
 RefusesForeign place (Err NumbersSpent) = ⊥
+RefusesForeign place (Err NodeInUse) = ⊥
+
+-- why an orchestrator of these nodes isn't made of a record that was read
+abbrev pub IsRecordUnopened : RecordParts → List (List ℕ) → OrchestratorUnopened → Type 0
+IsRecordUnopened kept nodes (Keep fault) = ⊥
+IsRecordUnopened kept nodes BadNodes = AreNodesFit nodes → ⊥
+IsRecordUnopened kept nodes NumbersSpent = opening_refusal kept nodes ≡ Some refusals.NumbersSpent
+IsRecordUnopened kept nodes NodeInUse = opening_refusal kept nodes ≡ Some refusals.NodeInUse
 
 -- why there is no new orchestrator of these nodes
 abbrev pub IsNewRefusal : List (List ℕ) → OrchRecordFault → Type 0

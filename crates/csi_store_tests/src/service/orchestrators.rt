@@ -3,6 +3,7 @@
 mod asking;
 mod files;
 mod full;
+mod losing;
 mod opening;
 pub(super) mod playing;
 pub(super) mod script;
@@ -109,6 +110,50 @@ fn a_record_of_an_orchestrator_is_refused_at_its_first_bad_part(rt: HostRuntime)
         let is_refused = is_orchestrator_refused_at(rt.alloc(), bytes.as_slice(), *place);
         drop(bytes);
         assert!(&rt; is_refused, "{byte} at {at}");
+    }
+}
+
+// The record of an orchestrator of `n2` in session 4 that lost `n1`, where the volume was to be published at `/a`: it is attached there, and to be
+// detached.
+const LEFT_RECORD: &[u8] = &[
+    3, 0, 0, 0, 2, 0, 0, 0, 0, 0, 0, 0, 0, 0, 0, 0, 14, 3, 2, 0, 0, 0, 0, 0, 0, 0, 4, 1, 2, 110,
+    50, 0, 0, 0, 0, 0, 0, 0, 1, 0, 0, 0, 50, 3, 1, 118, 0, 0, 0, 0, 0, 0, 0, 10, 0, 0, 0, 0, 0, 0,
+    0, 0, 1, 0, 1, 1, 0, 0, 0, 0, 0, 0, 0, 1, 1, 3, 2, 110, 49, 2, 47, 97, 0, 1, 2, 110, 49, 0, 1,
+    0, 1, 0, 0,
+];
+
+// A byte of it that is changed, and the part that is refused for it, if one is.
+const LEFT_CHANGES: &[(usize, u8, Option<u64>)] = &[
+    // the lost node is listed again
+    (30, 49, None),
+    // tries of what is to be undone, of which there are three at most
+    (82, 1, None),
+    (82, 3, None),
+    (82, 4, Some(1)),
+    // it may be attached; it isn't; it is staged, or may be
+    (90, 2, None),
+    (90, 0, Some(1)),
+    (91, 1, Some(1)),
+    (91, 2, Some(1)),
+    // the goal's node is another one, and any target will do
+    (78, 50, Some(1)),
+    (81, 98, None),
+    // it is used there without a target, and no goal's bytes
+    (75, 2, Some(1)),
+    (75, 4, Some(1)),
+];
+
+#[test]
+fn a_record_of_what_a_lost_node_left_is_judged(rt: HostRuntime) {
+    assert!(&rt; is_written_as::<OrchestratorRecord>(&rt, LEFT_RECORD, LEFT_RECORD));
+    for (at, byte, place) in LEFT_CHANGES {
+        let bytes = changed(&rt, LEFT_RECORD, *at, *byte);
+        let is_so = match place {
+            None => is_written_as::<OrchestratorRecord>(&rt, &bytes, &bytes),
+            Some(place) => is_orchestrator_refused_at(rt.alloc(), &bytes, *place),
+        };
+        drop(bytes);
+        assert!(&rt; is_so, "{byte} at {at}");
     }
 }
 

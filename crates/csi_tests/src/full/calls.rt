@@ -77,26 +77,21 @@ fn party_of(rt: &(impl Abort + AllocGlobal), kind: Kind, place: Place) -> Party 
     }
 }
 
-// Every call is one of session 1.
-fn number(call: u64) -> Number {
-    Number { session: 1, call }
-}
-
 /// The call of this kind.
 pub(super) fn call_frame(
     rt: &(impl Abort + AllocGlobal),
-    call: u64,
+    number: Number,
     kind: Kind,
     place: Place,
 ) -> Frame {
     let party = party_of(rt, kind, place);
-    Frame::call(number(call), party, call_of(rt, kind, place)).expect(rt, "a call")
+    Frame::call(number, party, call_of(rt, kind, place)).expect(rt, "a call")
 }
 
 /// The reply that says that it was carried out.
 pub(super) fn reply_frame(
     rt: &(impl Abort + AllocGlobal),
-    call: u64,
+    number: Number,
     kind: Kind,
     place: Place,
 ) -> Frame {
@@ -111,5 +106,5 @@ pub(super) fn reply_frame(
         },
         detail: detail(rt, ""),
     };
-    Frame::reply(number(call), party, kind, reply).expect(rt, "a reply")
+    Frame::reply(number, party, kind, reply).expect(rt, "a reply")
 }

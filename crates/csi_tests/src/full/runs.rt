@@ -1,7 +1,7 @@
 //! All volumes are used, and left and deleted. Volume 1 is at sixteen targets of each node, and each other one at a target of four nodes.
 use super::calls::{Place, name_of, node_of, target_of};
 use super::{
-    LEFT, NODES, System, USED, VOLUMES, config_of, create, delete, new_system, stop, use_at,
+    LEFT, NODES, System, USED, VOLUMES, config_from, create, delete, new_system, stop, use_at,
 };
 use crate::values::{blocks, room};
 use csi_controller::ControllerRecord;
@@ -203,7 +203,7 @@ fn is_empty(rt: &(impl Abort + AllocGlobal), system: &mut System) {
 fn all_is_left_and_deleted_after_100_000_calls(rt: HostRuntime) {
     let mut system = used(&rt);
     leave_all(&rt, &mut system);
-    assert_eq!(&rt; system.calls, 4096 * 2 + 4095 * 24 + 64 * 36);
+    assert_eq!(&rt; system.last.call, 4096 * 2 + 4095 * 24 + 64 * 36);
     is_empty(&rt, &mut system);
 }
 
@@ -245,9 +245,9 @@ fn a_world_is_made_of_all_its_parts(rt: HostRuntime) {
         orchestrator,
         controller: _,
         nodes: _,
-        calls: _,
+        last: _,
     } = system;
-    let world = World::assemble(rt.alloc(), config_of(&rt), record, nodes, orchestrator);
+    let world = World::assemble(rt.alloc(), config_from(&rt, 0), record, nodes, orchestrator);
     let world = world.expect(&rt, "memory");
     assert!(&rt; has_rows(&rt, &world, &kept, &records));
     assert!(&rt; matches!(audit(rt.alloc(), &world), Ok(None)));

@@ -1,7 +1,7 @@
 //! What an orchestrator answers when it is asked, and what it is to answer.
 use super::frames::{call_frame, reply_frame};
-use super::{Ask, Gives, Sent};
-use crate::values::{block, blocks, name, node_id, target};
+use super::{Ask, Gives, NODES, Sent};
+use crate::values::{block, blocks, name, node_id, node_ids, target};
 use csi_orchestrator::{Heard, OrchFault, Orchestrator};
 use csi_types::{Frame, Mode, Number, Status};
 use std::alloc::Global;
@@ -58,11 +58,18 @@ fn timeout(rt: &(impl Abort + AllocGlobal), o: &mut Orchestrator) -> Answer {
     told(sent)
 }
 
-fn restart(o: &mut Orchestrator) -> Answer {
-    match o.restart() {
-        Ok(()) => Ok(Heard::Taken(None)),
-        Err(fault) => Err(fault),
-    }
+// It begins a session with this list of nodes.
+fn restart(rt: &(impl Abort + AllocGlobal), o: &mut Orchestrator, texts: &[&str]) -> Answer {
+    o.restart(node_ids(rt, texts))?;
+    Ok(Heard::Taken(None))
+}
+
+fn lose(rt: &(impl Abort + AllocGlobal), o: &mut Orchestrator, text: &str) -> Answer {
+    let node = node_id(rt, text);
+    let lost = o.lose(&node);
+    drop(node);
+    lost?;
+    Ok(Heard::Taken(None))
 }
 
 fn echo(
@@ -98,7 +105,9 @@ pub(super) fn answer(rt: &(impl Abort + AllocGlobal), o: &mut Orchestrator, ask:
         Ask::Stop(at, path) => stop(rt, o, at, path),
         Ask::Delete => delete(rt, o),
         Ask::Timeout => timeout(rt, o),
-        Ask::Restart => restart(o),
+        Ask::Restart => restart(rt, o, NODES),
+        Ask::Lists(texts) => restart(rt, o, texts),
+        Ask::Lose(text) => lose(rt, o, text),
         Ask::Hear(session, call, sent, status) => {
             hear(rt, o, Number { session, call }, sent, status)
         }

@@ -19,6 +19,7 @@ const TEXTS: &[(OrchFault, &str)] = &[
     (OrchFault::NumbersSpent, "refused 14 NumbersSpent"),
     (OrchFault::Full, "refused 15 Full"),
     (OrchFault::NoMemory, "refused 16 NoMemory"),
+    (OrchFault::NodeInUse, "refused 17 NodeInUse"),
 ];
 
 // Whether its number and its name make this text, where there is memory for it.

@@ -39,7 +39,7 @@ fn closed_calls_are_forgotten(rt: HostRuntime) {
         let noted = orchestrator.noted_calls();
         assert!(&rt; noted == 1 || noted == 2 || noted == 3, "{noted}");
     }
-    let restarted = orchestrator.restart().is_ok();
+    let restarted = orchestrator.restart(Vec::new(rt.alloc())).is_ok();
     assert!(&rt; restarted);
     assert_eq!(&rt; orchestrator.noted_calls(), 0);
 }

@@ -2,8 +2,8 @@
 //! answers in full when it is asked again. So each test is one of refused growths too (by `tools/refusals`).
 use super::asking::{answer, is_given};
 use super::things::{knows, listed, lists, lists_again};
-use super::{Ask, Fact, Gives, MANY, OK, Sent, Step};
-use crate::values::{node_id, room};
+use super::{Ask, Fact, Gives, MANY, NODES, OK, Sent, Step};
+use crate::values::node_ids;
 use csi_orchestrator::{Known, OrchFault, Orchestrator, Thing};
 use csi_types::{Mode, Number};
 use std::alloc::Global;
@@ -116,13 +116,9 @@ fn play_all(rt: &(impl Abort + AllocGlobal), o: &mut Orchestrator, steps: &[Step
     }
 }
 
-// An orchestrator of the nodes `n1`, `n10`, `n2`, `n3` and `n4`, with its calls numbered after this number.
+// An orchestrator of the nodes, with its calls numbered after this number.
 fn numbered(rt: &(impl Abort + AllocGlobal), last: Number) -> Orchestrator {
-    let mut nodes = room(rt, 5);
-    for text in ["n1", "n10", "n2", "n3", "n4"] {
-        nodes.push(node_id(rt, text)).expect(rt, "room");
-    }
-    Orchestrator::numbered(rt.alloc(), nodes, last)
+    Orchestrator::numbered(rt.alloc(), node_ids(rt, NODES), last)
 }
 
 // A new one.

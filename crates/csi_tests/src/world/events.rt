@@ -1,7 +1,7 @@
 //! Events, as a table writes them.
 use super::{Does, ONE};
-use crate::values::{block, blocks, name, node_id, target};
-use csi_types::Mode;
+use crate::values::{block, blocks, config, name, node_id, node_ids, target};
+use csi_types::{Mode, NodeList};
 use csi_world::Event;
 use std::alloc::Global;
 use std::process::Abort;
@@ -51,5 +51,9 @@ pub(super) fn event(rt: &(impl Abort + AllocGlobal), does: Does) -> Event {
         Does::RestartOrchestrator => Event::RestartOrchestrator,
         Does::RestartController => Event::RestartController,
         Does::RestartNode(at) => Event::RestartNode(node_id(rt, at)),
+        Does::Configures(nodes) => Event::RestartControllerWith(config(rt, nodes)),
+        Does::Lists(ids) => Event::RestartOrchestratorWith(NodeList::of(node_ids(rt, ids))),
+        Does::Join(at) => Event::Join(node_id(rt, at)),
+        Does::Lose(at) => Event::Lose(node_id(rt, at)),
     }
 }

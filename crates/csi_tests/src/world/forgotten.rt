@@ -1,4 +1,4 @@
-//! What the plugins forget where the orchestrator restarts, and late calls of the sessions before.
+//! What the plugins and the orchestrator forget where it restarts, and late calls of the sessions before.
 use super::playing::plays;
 use super::{ATTACH, CREATE, Does, N1, ONE, Step};
 use crate::orchestrator::Fact;
@@ -6,7 +6,8 @@ use csi_orchestrator::{Known, OrchFault};
 use csi_types::{Kind, Status};
 use csi_world::Outcome;
 
-// `v` is made and deleted, and in the next session `w` is made. The controller forgets `v` then, and the orchestrator doesn't.
+// `v` is made and deleted, and in the next session `w` is made. The controller forgets `v` then, and the
+// orchestrator has forgotten its name, which is free again.
 const DELETED: &[Step] = &[
     Step::Remembers(0, 0),
     Step::Makes(ONE),
@@ -22,28 +23,37 @@ const DELETED: &[Step] = &[
     Step::On(Does::Deliver(5), Outcome::Answered(6)),
     Step::Remembers(2, 1),
     Step::On(Does::Deliver(6), Outcome::Taken(None)),
+    Step::On(Does::Delete, Outcome::Refused(OrchFault::NoSuchVolume)),
+    Step::On(CREATE, Outcome::Sent(7)),
     Step::On(CREATE, Outcome::Refused(OrchFault::NameUsed)),
-    Step::On(Does::Delete, Outcome::Met),
-    Step::Frames(6),
+    Step::Calls(7, (2, 2), Kind::CreateVolume),
+    Step::Frames(7),
 ];
 
 // Its calls come late, and so does the reply that one of them got in time.
 const LATE_CALLS: &[Step] = &[
-    Step::On(Does::Deliver(1), Outcome::Answered(7)),
-    Step::Replies(7, (1, 1), Status::Aborted, "stale"),
-    Step::On(Does::Deliver(3), Outcome::Answered(8)),
-    Step::Replies(8, (1, 2), Status::Aborted, "stale"),
+    Step::On(Does::Deliver(1), Outcome::Answered(8)),
+    Step::Replies(8, (1, 1), Status::Aborted, "stale"),
+    Step::On(Does::Deliver(3), Outcome::Answered(9)),
+    Step::Replies(9, (1, 2), Status::Aborted, "stale"),
     Step::On(Does::Deliver(4), Outcome::Ignored),
     Step::On(Does::RestartController, Outcome::Restarted),
-    Step::On(Does::Deliver(1), Outcome::Answered(9)),
-    Step::Replies(9, (1, 1), Status::Aborted, "stale"),
+    Step::On(Does::Deliver(1), Outcome::Answered(10)),
+    Step::Replies(10, (1, 1), Status::Aborted, "stale"),
     Step::Remembers(2, 1),
-    Step::Knows(Fact::Exists("v"), Known::No),
+    Step::Knows(Fact::Exists("v"), Known::Maybe),
     Step::Knows(Fact::Exists("w"), Known::Yes),
+    Step::On(Does::Deliver(7), Outcome::Answered(11)),
+    Step::Replies(11, (2, 2), Status::Ok, ""),
+    Step::On(Does::Deliver(11), Outcome::Taken(None)),
+    Step::On(Does::Deliver(3), Outcome::Answered(12)),
+    Step::Replies(12, (1, 2), Status::Aborted, "stale"),
+    Step::Remembers(2, 2),
+    Step::Knows(Fact::Exists("v"), Known::Yes),
 ];
 
 #[test]
-fn a_deleted_volume_is_forgotten_and_its_name_is_not(rt: HostRuntime) {
+fn a_deleted_volume_is_forgotten_and_its_name_is_free(rt: HostRuntime) {
     plays(&rt, N1, &[DELETED, LATE_CALLS]);
 }
 

@@ -3,7 +3,6 @@
 use Rattle.std.specs.Prelude.{ℕ, List, Option, Some, None}
 use Rattle.csi_types.specs.declared.call.Party.{Party}
 use Rattle.csi_types.specs.declared.call.Party.TheVariants.{Controller, Node}
-use Rattle.csi_types.specs.Model.Config.{Config}
 use Rattle.csi_types.specs.Model.Frame.{Frame}
 use Rattle.csi_fence.specs.Model.Fenced.{Fenced}
 use Rattle.csi_controller.specs.Model.State.{ControllerState}
@@ -20,12 +19,12 @@ answered_by_node id world frame (Some state) =
     with_frame fenced.reply (with_node id fenced.state world)
 
 -- a plugin's reply to a frame, and what it knows then
-abbrev pub answered_by : Config → World → Frame → Party → World
-answered_by config world frame Controller =
-    let fenced : Fenced ControllerState = controller.fenced config world.controller frame in
+abbrev pub answered_by : World → Frame → Party → World
+answered_by world frame Controller =
+    let fenced : Fenced ControllerState = controller.fenced world.config world.controller frame in
     with_frame fenced.reply (record world { controller = fenced.state })
-answered_by config world frame (Node id) = answered_by_node id world frame (node_state id world)
+answered_by world frame (Node id) = answered_by_node id world frame (node_state id world)
 
 -- the plugin that a frame is for does with it what it does
-abbrev pub answered_by_plugin : Config → World → Frame → World
-answered_by_plugin config world frame = answered_by config world frame frame.party
+abbrev pub answered_by_plugin : World → Frame → World
+answered_by_plugin world frame = answered_by world frame frame.party

@@ -1,7 +1,6 @@
 -- What each part of a simulated world does with an event. This profile's own.
 use Rattle.std.specs.Prelude.{◌≡◌, ℕ, ◌+◌, List, [], ◌∷◌, ◌++◌, length, Option, Result, Ok, Err, IfOk}
 use Rattle.std.specs.Option.{option_to_list}
-use Rattle.csi_types.specs.declared.config.NodeSlots.{NodeSlots}
 use Rattle.csi_types.specs.Model.Config.{Config}
 use Rattle.csi_types.specs.Model.Frame.{Frame}
 use Rattle.csi_node.specs.Model.Record.{NodeParts}
@@ -21,7 +20,7 @@ use Rattle.csi_world.specs.declared.outcomes.Outcome.TheVariants as outcomes
 use Rattle.csi_world.specs.Model.World.{World}
 use Rattle.csi_world.specs.Model.After.{Occurred, by_answer, after}
 use Rattle.csi_world.specs.Model.Simulated.{WorldParts, ShowsWorld, ShowsRun}
-use Rattle.csi_world.specs.Public.Simulating.{numbered, IsSoundWorld}
+use Rattle.csi_world.specs.Public.Simulating.{IsSoundWorld}
 
 -- a frame is sent under the next number
 pub record IsSent (old new : List Frame) (frame : Frame) (number : ℕ) : Type 0 where
@@ -61,9 +60,9 @@ pub record NodeDoes (old new : NodeParts) (frame : Frame) (reply : Option Frame)
   pub replies : (state : NodeState) → NodeShows old state → reply ≡ (node.fenced old.id state frame).reply
   pub state : (state : NodeState) → NodeShows old state → NodeShows new (node.fenced old.id state frame).state
 
--- a plugin is as it was to its callers
-pub record IsSameController (old new : ControllerParts) : Type 0 where
-  pub config : new.config ≡ old.config
+-- a controller is as it was to its callers, but for its configuration, which is this
+pub record IsSameController (given : Config) (old new : ControllerParts) : Type 0 where
+  pub config : new.config ≡ given
   pub shown : (state : ControllerState) → ControllerShows old state → ControllerShows new state
 
 -- a node's plugin is as it was to its callers
@@ -71,13 +70,12 @@ pub record IsSameNode (old new : NodeParts) : Type 0 where
   pub id : new.id ≡ old.id
   pub shown : (state : NodeState) → NodeShows old state → NodeShows new state
 
--- a node that answered nothing
-abbrev pub new_node_parts : NodeSlots → NodeParts
-new_node_parts slots = record { id = slots.id; session = 0; rows = [] }
+-- a node that answered nothing, and was told this session
+abbrev pub new_node_parts : ℕ → List ℕ → NodeParts
+new_node_parts session id = record { id = id; session = session; rows = [] }
 
 -- it is the world after an event of which this came
 pub record IsWorldAfter (old new : WorldParts) (outcome : Outcome) (occurred : Occurred) : Type 0 where
-  pub config : new.config ≡ old.config
   pub outcomes : new.outcomes ≡ old.outcomes
   pub own : IsSoundWorld new
   pub world : ShowsWorld new occurred.world
@@ -89,13 +87,11 @@ Does old new result occurs = (world : World) → IsSoundWorld old → ShowsWorld
 
 -- it is the world after an event, which is logged
 pub record IsLogged (old new : WorldParts) (occurred : Occurred) : Type 0 where
-  pub config : new.config ≡ old.config
   pub outcomes : new.outcomes ≡ old.outcomes ++ occurred.outcome ∷ []
   pub own : IsSoundWorld new
   pub world : ShowsWorld new occurred.world
 
 -- it is the last world of the run of these events
 pub record IsRun (config : Config) (events : List Event) (shown : WorldParts) : Type 0 where
-  pub configured : shown.config ≡ config
   pub own : IsSoundWorld shown
   pub shows : ShowsRun shown (after config events)

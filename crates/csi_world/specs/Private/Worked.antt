@@ -8,20 +8,21 @@ use Rattle.csi_types.specs.declared.call.Call.TheVariants as calls
 use Rattle.csi_types.specs.declared.call.Kind.TheVariants as kinds
 use Rattle.csi_types.specs.declared.call.Party.TheVariants.{Controller, Node}
 use Rattle.csi_types.specs.Model.Config.{Config}
-use Rattle.csi_types.specs.Model.Replies.{ok_reply, stale_reply, call_frame, reply_frame}
-use Rattle.csi_orchestrator.specs.declared.fault.OrchFault.TheVariants.{InUse}
+use Rattle.csi_types.specs.Model.Replies.{ok_reply, ok_reply_with, stale_reply, call_frame, reply_frame}
+use Rattle.csi_orchestrator.specs.declared.fault.OrchFault.TheVariants.{HeldElsewhere, InUse, NodeInUse}
 use Rattle.csi_orchestrator.specs.declared.thing.Thing.{Thing}
 use Rattle.csi_orchestrator.specs.declared.thing.Thing.TheVariants as things
 use Rattle.csi_orchestrator.specs.declared.thing.Known.{Known}
 use Rattle.csi_orchestrator.specs.declared.thing.Known.TheVariants.{Yes, Maybe}
-use Rattle.csi_orchestrator.specs.Model.Readings.{known, last_number}
+use Rattle.csi_orchestrator.specs.Model.Readings.{goal_of, known, last_number}
 use Rattle.csi_types.specs.declared.event.Event.{Event}
-use Rattle.csi_types.specs.declared.event.Event.TheVariants.{Create, Use, Stop, Delete, Timeout, Deliver, RestartOrchestrator}
+use Rattle.csi_types.specs.declared.event.Event.TheVariants.{Create, Use, Stop, Delete, Timeout, Deliver, RestartOrchestrator, RestartOrchestratorWith, RestartControllerWith, Join, Lose}
 use Rattle.csi_world.specs.declared.outcomes.Outcome.{Outcome}
-use Rattle.csi_world.specs.declared.outcomes.Outcome.TheVariants.{Sent, Refused, Answered, Taken, Ignored, NoSuchFrame, Restarted}
+use Rattle.csi_world.specs.declared.outcomes.Outcome.TheVariants.{Sent, Refused, Answered, Taken, Ignored, NoSuchFrame, NoSuchNode, Restarted, Joined, NodeThere, Lost}
 use Rattle.csi_world.specs.Model.World.{World, empty_world}
 use Rattle.csi_world.specs.Model.Safe.{IsExclusive, IsStagedWhereAttached, IsPublishedWhereStaged, IsAttachedWhileLive, IsRecordedRight, holds}
 use Rattle.csi_world.specs.Model.After.{after}
+use Rattle.csi_world.specs.Public.Settling.{settling, settled}
 use Rattle.csi_world.specs.Private.Laws.{IsMadeOfSteps}
 
 -- greatest 1,000, and node n1 with 4 slots
@@ -188,11 +189,80 @@ pub record WorkedUndone : Type 0 where
   pub undo : slice_get (world_of undone).frames 5 ≡ Some (call_frame (number 1 5) Controller (calls.ControllerUnpublishVolume 1 n1))
   pub delete : slice_get (world_of undone).frames 7 ≡ Some (call_frame (number 1 6) Controller (calls.DeleteVolume 1))
 
--- a frame that isn't there changes nothing
+-- two nodes
+abbrev pub two_nodes : Config
+two_nodes = record { greatest = 1000; nodes = (record { id = codes "n1"; slots = 4 }) ∷ (record { id = codes "n2"; slots = 4 }) ∷ [] }
+
+-- the other node's id
+abbrev pub n2 : List ℕ
+n2 = codes "n2"
+
+-- v is to be used at /a of n2
+abbrev pub use_at_n2 : Event
+use_at_n2 = Use v n2 a block false
+
+-- n1 dies with v published there; once it is lost v is detached and used at n2, and n1 joins again, where a NodePublish comes that was under
+-- way all the time
+abbrev pub lost_node : List Event
+lost_node =
+    using ++ use_at_n2 ∷ Lose n1 ∷ use_at_n2 ∷ Stop v n1 a ∷ Deliver 9 ∷ Deliver 10 ∷ use_at_n2 ∷ Deliver 11 ∷ Deliver 12 ∷ Deliver 13 ∷ Deliver 14
+    ∷ Deliver 15 ∷ Deliver 16 ∷ Join n1 ∷ Deliver 7 ∷ []
+
+-- the world after these events, where there are two nodes
+abbrev pub two_world : List Event → World
+two_world events = (after two_nodes events).world
+
+-- so it is: v is detached by force, and used at n2; at the new n1 the call is stale
+pub record WorkedLostNode : Type 0 where
+  pub outcomes : (after two_nodes lost_node).outcomes
+      ≡ using_outcomes ++ Refused HeldElsewhere ∷ Lost ∷ Refused HeldElsewhere ∷ Sent 9 ∷ Answered 10 ∷ Taken None ∷ Sent 11 ∷ Answered 12 ∷ Taken (Some 13) ∷ Answered 14
+      ∷ Taken (Some 15) ∷ Answered 16 ∷ Taken None ∷ Joined ∷ Answered 17 ∷ []
+  pub detach : slice_get (two_world lost_node).frames 8 ≡ Some (call_frame (number 2 1) Controller (calls.ControllerUnpublishVolume 1 n1))
+  pub attach : slice_get (two_world lost_node).frames 10 ≡ Some (call_frame (number 2 2) Controller (calls.ControllerPublishVolume 1 n2 block false))
+  pub late : slice_get (two_world lost_node).frames 6 ≡ Some (call_frame (number 1 4) (Node n1) (calls.NodePublishVolume 1 a block false))
+  pub stale : slice_get (two_world lost_node).frames 16 ≡ Some (reply_frame (number 1 4) (Node n1) kinds.NodePublishVolume stale_reply)
+  pub not_there : holds (two_world lost_node) published ≡ false
+  pub elsewhere : holds (two_world lost_node) (things.Published v n2 a) ≡ true
+
+-- v is deleted, and made again once its name was forgotten
+abbrev pub made_again : List Event
+made_again = Create v 10 0 (block ∷ []) ∷ Deliver 1 ∷ Deliver 2 ∷ Delete v ∷ Deliver 3 ∷ Deliver 4 ∷ RestartOrchestrator ∷ Create v 20 0 (block ∷ []) ∷ Deliver 5 ∷ Deliver 6 ∷ Deliver 1 ∷ []
+
+-- so it is: the volume has another id, and the first call that comes late is stale
+pub record WorkedMadeAgain : Type 0 where
+  pub outcomes : outcomes_of made_again
+      ≡ Sent 1 ∷ Answered 2 ∷ Taken None ∷ Sent 3 ∷ Answered 4 ∷ Taken None ∷ Restarted ∷ Sent 5 ∷ Answered 6 ∷ Taken None ∷ Answered 7 ∷ []
+  pub again : slice_get (world_of made_again).frames 5 ≡ Some (reply_frame (number 2 1) Controller kinds.CreateVolume (ok_reply_with 2))
+  pub stale : slice_get (world_of made_again).frames 6 ≡ Some (reply_frame (number 1 1) Controller kinds.CreateVolume stale_reply)
+
+-- no node
 abbrev pub no_nodes : Config
 no_nodes = record { greatest = 1000; nodes = [] }
 
--- nor does a run of no events
+-- a node that is there doesn't join, one that is nowhere isn't lost, and a node that is in use can't be left out of the list
+abbrev pub refused_changes : List Event
+refused_changes = using ++ Join n1 ∷ Lose n2 ∷ RestartOrchestratorWith [] ∷ RestartControllerWith no_nodes ∷ []
+
+-- so it is: what is attached stays so, also where the controller has no node any more
+pub record WorkedRefusedChanges : Type 0 where
+  pub outcomes : outcomes_of refused_changes ≡ using_outcomes ++ NodeThere ∷ NoSuchNode ∷ Refused NodeInUse ∷ Restarted ∷ []
+  pub still_attached : holds (world_of refused_changes) attached ≡ true
+
+-- v is to be used at a target that is no path from the root
+abbrev pub badly : List Event
+badly = Create v 10 0 (block ∷ []) ∷ Deliver 1 ∷ Deliver 2 ∷ Use v n1 (codes "a") block false ∷ []
+
+-- so it is: an attach that nobody heard of is sent again, and what follows comes about; the node refuses the bad target, and all is undone by
+-- thirteen events; and of what is used nothing is wanted
+pub record WorkedSettling : Type 0 where
+  pub used : settling (world_of attaching) v ≡ Timeout v ∷ Deliver 4 ∷ Deliver 5 ∷ Deliver 6 ∷ Deliver 7 ∷ Deliver 8 ∷ Deliver 9 ∷ []
+  pub published_known : known (settled (world_of attaching) v).history published ≡ Yes
+  pub thirteen : length (settling (world_of badly) v) ≡ 13
+  pub unwanted : goal_of (settled (world_of badly) v).history v ≡ None
+  pub not_attached : holds (settled (world_of badly) v) attached ≡ false
+  pub nothing : settling (world_of using) v ≡ []
+
+-- a frame that isn't there changes nothing, nor does a run of no events
 pub record WorkedNothing : Type 0 where
   pub no_frame : after no_nodes (Deliver 99 ∷ []) ≡ record { world = empty_world no_nodes; outcomes = NoSuchFrame ∷ [] }
   pub no_event : after no_nodes [] ≡ record { world = empty_world no_nodes; outcomes = [] }

@@ -8,11 +8,12 @@ use Rattle.csi_world.specs.Model.World.{World, empty_world}
 use Rattle.csi_world.specs.Public.Step.{Choice, MayChooseAll, chosen_all}
 use Rattle.csi_world.specs.Model.Safe.{Safe}
 use Rattle.csi_world.specs.Model.After.{after}
+use Rattle.csi_world.specs.Public.Settling.{MaySettle, Settles}
 
--- a fact of every world to which steps lead, for every configuration
+-- a fact of every world to which steps lead, whatever the configuration is first
 abbrev pub HoldsInEveryWorld : (World → Type 0) → Type 0
 HoldsInEveryWorld P =
-    (config : Config) (choices : List Choice) → MayChooseAll config (empty_world config) choices → P (chosen_all config (empty_world config) choices)
+    (config : Config) (choices : List Choice) → MayChooseAll (empty_world config) choices → P (chosen_all (empty_world config) choices)
 
 -- every clause of safety, whatever an orchestrator does that keeps the guards, and whatever the network does
 abbrev pub SafetyLaw : Type 0
@@ -26,3 +27,7 @@ pub record TableLaws : Type 0 where
 -- safe after every beginning of every list of events
 abbrev pub RunsAreSafe : Type 0
 RunsAreSafe = (config : Config) (events : List Event) (count : ℕ) → Safe (after config (take count events)).world
+
+-- after every list of events, one timeout and at most twelve deliveries bring a volume to rest
+abbrev pub RunsSettle : Type 0
+RunsSettle = (config : Config) (events : List Event) (name : List ℕ) → MaySettle (after config events).world name → Settles (after config events).world name

@@ -1,12 +1,12 @@
 -- What each part of a simulated world does with an event. This profile's own.
-use Rattle.std.specs.Prelude.{◌≡◌, ℕ, zero, suc, List, map, slice_get, Option, Some, None}
+use Rattle.std.specs.Prelude.{◌≡◌, ℕ, zero, suc, List, [], ◌∷◌, slice_get, Bool, false, ◌||◌, Option, Some, None}
+use Rattle.std.specs.List.{list_any}
 use Rattle.csi_types.specs.Public.Config.{config_fault}
 use Rattle.csi_types.specs.Model.Frame.{Frame}
+use Rattle.csi_types.specs.Model.Same.{same_text}
 use Rattle.csi_node.specs.Model.Record.{NodeParts}
 use Rattle.csi_node.specs.Model.Record.{Shows as NodeShows}
 use Rattle.csi_node.specs.Model.State.{NodeState}
-use Rattle.csi_node.specs.Public.Fenced as node
-use Rattle.csi_world.specs.Model.After.{node_id}
 use Rattle.csi_world.specs.Model.Simulated.{WorldParts}
 
 -- the frame of a number, from 1
@@ -14,9 +14,14 @@ abbrev pub numbered : List Frame → ℕ → Option Frame
 numbered frames zero = None
 numbered frames (suc place) = slice_get frames place
 
--- its nodes are the configuration's, which has no fault
+-- two of the nodes are of one id
+abbrev pub has_same_id : List NodeParts → Bool
+has_same_id [] = false
+has_same_id (node ∷ others) = list_any (λ other. same_text node.id other.id) others || has_same_id others
+
+-- no two of its nodes are of one id, and its configuration has no fault
 pub record IsSoundWorld (shown : WorldParts) : Type 0 where
-  pub ids : map (λ node. node.id) shown.nodes ≡ map node_id (shown.config).nodes
+  pub apart : has_same_id shown.nodes ≡ false
   pub fit : config_fault (shown.config).greatest (shown.config).nodes ≡ None
 
 -- what is shown of a node is this state, if there is one

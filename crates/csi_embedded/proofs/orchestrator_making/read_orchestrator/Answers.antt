@@ -1,32 +1,22 @@
-use Rattle.std.proofs.Common.{◌≡◌, ◌∙◌, sym, subst, refl, inr, true, false, rules}
-use Rattle.std.proofs.lemmas.Bool.{true≢false}
-use Rattle.csi_embedded.specs.Public.OrchestratorMaking.{AreNodesOf}
+use Rattle.std.proofs.Common.{refl, rules}
+use Rattle.csi_embedded.proofs.MadeOrchestrators.{no-nodes-read, none-reopened}
 use Rattle.csi_embedded.proofs.orchestrator_making.read_orchestrator.Goals as goal
 
-pub returns-then-not-same_nodes-clause-refused : goal.returns-then-not-same_nodes-clause-refused
-returns-then-not-same_nodes-clause-refused c =
-    let own : c.nodes.result.now ≡ c.in_ok-kept.kept.nodes = search rules in
-    let asked : c.deref.result.now ≡ c.in_ok-nodes.nodes.items = search rules in
-    let differs : c.same_nodes.result ≡ false = search rules in
-    inr (record {
-      nodes = c.in_ok-nodes.nodes.items;
-      said = c.in_ok-nodes.ensures.made;
-      kept = c.in_ok-kept.kept;
-      read = c.in_ok-kept.ensures.read;
-      others = λ same. true≢false (sym (c.same_nodes.ensures.1 (own ∙ same ∙ sym asked)) ∙ differs);
-    })
-
 pub returns-in-Ok-clause-made : goal.returns-in-Ok-clause-made
-returns-in-Ok-clause-made c =
-    let own : c.nodes.result.now ≡ c.in_ok-kept.kept.nodes = search rules in
-    let asked : c.deref.result.now ≡ c.in_ok-nodes.nodes.items = search rules in
-    let equal : c.same_nodes.result ≡ true = search rules in
-    let same : c.in_ok-kept.kept.nodes ≡ c.in_ok-nodes.nodes.items = sym own ∙ c.same_nodes.ensures.0 equal ∙ asked in (
-      record {
-        kept = c.in_ok-kept.kept;
-        read = c.in_ok-kept.ensures.read;
-        said = subst (AreNodesOf c.args.config.now) (sym same) c.in_ok-nodes.ensures.made;
-        reopened = c.in-Ok.ensures.made;
-      },
-      refl,
-    )
+returns-in-Ok-clause-made c = (
+  record {
+    kept = c.in_ok-kept.kept;
+    read = c.in_ok-kept.ensures.read;
+    nodes = c.in_ok-nodes.nodes.items;
+    said = c.in_ok-nodes.ensures.made;
+    reopened = c.in-Ok.ensures.made;
+  },
+  refl,
+)
+
+pub returns-in-Err-clause-refused : goal.returns-in-Err-clause-refused
+returns-in-Err-clause-refused c =
+    none-reopened c.args.config.now c.args.bytes.now c.in_ok-nodes.nodes.items c.in_ok-kept.kept c.in-Err.ending c.in_ok-nodes.ensures.made c.in_ok-kept.ensures.read c.in-Err.ensures.refused
+
+pub returns-in_err-nodes-clause-refused : goal.returns-in_err-nodes-clause-refused
+returns-in_err-nodes-clause-refused c = let none = no-nodes-read c.args.config.now c.args.bytes.now c.in_err-nodes.field-0.0 c.in_err-nodes.ensures.refused in search rules

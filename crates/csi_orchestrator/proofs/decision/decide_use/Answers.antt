@@ -1,11 +1,23 @@
 -- By the entry of the node.
-use Rattle.std.proofs.Common.{Some, sym, ◌∙◌, rules}
+use Rattle.std.proofs.Common.{◌≡◌, List, map, not, Some, sym, ◌∙◌, ap, rules}
+use Rattle.std.specs.Prelude.{count_by, ◌&&◌}
+use Rattle.csi_types.specs.Model.Same.{same_text}
+use Rattle.csi_orchestrator.specs.declared.row.NodeEntry.{NodeEntry}
+use Rattle.csi_orchestrator.specs.Model.Shown.{NodeEntryShown}
+use Rattle.csi_orchestrator.specs.Model.Thing.{is_no}
+use Rattle.csi_orchestrator.specs.Private.RowRefusals.{others_attached}
+use Rattle.csi_orchestrator.specs.Private.Decisions.{decided_at}
 use Rattle.csi_orchestrator.specs.Public.Shown.{row_shown, node_entry_shown}
 use Rattle.csi_orchestrator.proofs.DecisionsTold.{use-decided}
 use Rattle.csi_orchestrator.proofs.decision.decide_use.Goals as goal
 
 pub returns-in-Some : goal.returns-in-Some
 returns-in-Some c =
+    let same : c.deref-3.result.now ≡ c.args.row.now.node_entries.items = search rules in
+    let counted : c.others_attached-others.result ≡ others_attached c.args.usage.now.node (row_shown c.args.row.now) =
+    c.others_attached-others.ensures
+    ∙ ap (λ (es : List NodeEntry). count_by (λ (entry : NodeEntryShown). not (same_text entry.node c.args.usage.now.node) && not (is_no entry.attached)) (map node_entry_shown es)) same in
     c.decide_at.ensures
+    ∙ ap (λ n. decided_at c.args.last c.args.usage.now n (row_shown c.args.row.now).id (Some (node_entry_shown c.in-Some.entry.now))) counted
     ∙ use-decided c.args.nodes.now c.args.last c.args.usage.now (row_shown c.args.row.now) (Some (node_entry_shown c.in-Some.entry.now)) (search rules) (search rules) (search rules) (search rules) (search rules) (search rules)
     (sym c.in-Some.ensures)

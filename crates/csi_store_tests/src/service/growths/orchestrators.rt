@@ -1,6 +1,6 @@
 //! Refused growths of an orchestrator over a store: it is opened again, asked again, and what it changed is committed again.
 use super::super::orchestrators::playing::{
-    End, Talk, goes_on, has_after, has_nothing, opened, puts,
+    End, Talk, goes_on, has_after, has_nothing, kept, opened, puts,
 };
 use super::super::orchestrators::script::WHOLE;
 use csi_service::{Keep, KeepFault, MemoryKeep, OrchestratorUnopened};
@@ -36,6 +36,7 @@ fn lives(rt: &(impl Abort + AllocGlobal), keep: &mut MemoryKeep, session: u64, f
         Some((session, from))
     };
     let next = session.saturating_add(1);
+    let from = kept(from);
     let mut talk = opened_again(rt, keep, before);
     assert!(rt; has_after(rt, keep, next, (from, 0)));
     let end = goes_on(rt, &mut talk, keep, (from, WHOLE));

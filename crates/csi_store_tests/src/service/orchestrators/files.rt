@@ -1,6 +1,7 @@
 //! What is done over an orchestrator's store in files. One function has the store in SQLite as its type, which costs much to prove; all others are for
 //! any store.
 use super::super::stops::{Image, NO_STOP, Stop, left_by, left_closed, opened};
+use super::full::losing::{is_forgotten, puts_deleted};
 use super::full::{creates, has_created, is_whole, puts_record, serves};
 use super::playing::{End, puts};
 use super::stops::{has_newer, is_begun, is_opened, is_played, lives_on, plays};
@@ -17,8 +18,8 @@ pub(super) enum Work {
     LiveOn(End),
     /// The orchestrator is opened.
     Open,
-    /// It is seen whether that began a session.
-    Begin,
+    /// It is seen whether that began a session, after so many steps.
+    Begin(usize),
     /// The rows after so many steps are put in, from the first to the last, one after another.
     Put(usize, usize),
     /// It is seen whether the row is the newer one.
@@ -30,6 +31,9 @@ pub(super) enum Work {
     /// The volumes from one place to another are created, and all are looked at.
     Create(u64, u64),
     SeeCreated,
+    /// As many deleted volumes are put in, and forgotten where a session begins.
+    PutDeleted,
+    Forget,
 }
 
 // Puts rows in.
@@ -45,7 +49,7 @@ fn is_done<K: Keep>(rt: &(impl Abort + AllocGlobal), keep: &mut K, work: Work) -
         Work::Play => false,
         Work::LiveOn(end) => lives_on(rt, keep, end),
         Work::Open => is_opened(rt, keep),
-        Work::Begin => is_begun(rt, keep),
+        Work::Begin(steps) => is_begun(rt, keep, steps),
         Work::Put(first, last) => {
             puts_all(rt, keep, first, last);
             true
@@ -65,6 +69,11 @@ fn is_done<K: Keep>(rt: &(impl Abort + AllocGlobal), keep: &mut K, work: Work) -
             true
         }
         Work::SeeCreated => has_created(rt, keep),
+        Work::PutDeleted => {
+            puts_deleted(rt, keep);
+            true
+        }
+        Work::Forget => is_forgotten(rt, keep),
     }
 }
 

@@ -2,6 +2,7 @@
 //! Their records are written, read and told, and stores of them opened, served, and opened again. What is compared is spelled here, by the format.
 mod content;
 mod line;
+pub(super) mod losing;
 
 use super::super::is_part;
 use super::super::records::is_written_as;

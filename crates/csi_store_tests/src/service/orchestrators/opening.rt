@@ -1,4 +1,4 @@
-//! Orchestrators, opened from stores: of nothing, of each row of a volume's life, in the last session, of other nodes, of other records and of
+//! Orchestrators, opened from stores: of nothing, of each row of a volume's life, in the last session, with other nodes, of other records and of
 //! damaged ones; and over stores that fail once. What isn't opened changes nothing.
 use super::super::{
     AT_HEAD, CONTROLLER_HEAD, NEW_NODE_HEAD, controller_fault, has_head, node_fault, part,
@@ -6,7 +6,7 @@ use super::super::{
 use super::asking::{is_unchanged, nodes};
 use super::playing::{
     End, NODES, Talk, ask, ask_again, changed_is, goes_on, has_after, has_nothing, is_refused,
-    opened, opened_of, puts, talk_with,
+    kept, opened, opened_of, puts, talk_with,
 };
 use super::script::{Ask, LIFE, NONE, WHOLE, head, row_after};
 use csi_orchestrator::{OrchFault, OrchRecordFault};
@@ -47,6 +47,7 @@ fn is_played(end: End, steps: usize) -> bool {
 // Plays the life from after so many steps on, in the session after this one, and looks at the store before and behind.
 fn lives<K: Keep>(rt: &(impl Abort + AllocGlobal), keep: &mut K, session: u64, from: usize) {
     let next = session.saturating_add(1);
+    let from = kept(from);
     let mut talk = opened(rt, keep).ok().expect(rt, "an orchestrator");
     assert!(rt; is_unchanged(rt, &talk.service) && has_after(rt, keep, next, (from, 0)));
     assert!(rt; is_played(goes_on(rt, &mut talk, keep, (from, WHOLE)), WHOLE));
@@ -54,7 +55,7 @@ fn lives<K: Keep>(rt: &(impl Abort + AllocGlobal), keep: &mut K, session: u64, f
     assert!(rt; has_after(rt, keep, next, (WHOLE, 0)) && keep.faults() == 0);
 }
 
-// From nothing; and then once more, in session 2, where nothing is wanted any more.
+// From nothing; and then once more, in session 2, where the name is free again.
 fn lives_from_nothing<K: Keep>(rt: &(impl Abort + AllocGlobal), keep: &mut K) {
     assert!(rt; has_nothing(keep));
     lives(rt, keep, 0, 0);
@@ -96,7 +97,7 @@ fn is_sent_again<K: Keep>(rt: &(impl Abort + AllocGlobal), keep: &mut K, steps: 
     assert!(rt; is_played(goes_on(rt, &mut talk, keep, (steps, steps)), steps));
     drop(talk);
     let more = if kind == NONE { 0 } else { 1 };
-    assert!(rt; has_after(rt, keep, 2, (steps, more)));
+    assert!(rt; has_after(rt, keep, 2, (kept(steps), more)));
 }
 
 #[test]
@@ -119,7 +120,7 @@ fn ends_at_last<K: Keep>(rt: &(impl Abort + AllocGlobal), keep: &mut K, steps: u
     for _ in 0..2 {
         let fault = fault_of(rt, keep, NODES);
         assert!(rt; fault == Some(OrchestratorUnopened::NumbersSpent));
-        assert!(rt; has_after(rt, keep, LAST, (steps, 0)));
+        assert!(rt; has_after(rt, keep, LAST, (kept(steps), 0)));
     }
     assert!(rt; keep.faults() == 0);
 }
@@ -133,23 +134,28 @@ fn the_last_session_is_begun_and_none_after_it(rt: HostRuntime) {
     drop(keep);
 }
 
-// Other nodes than `n1` and `n2`, and why no orchestrator of these is opened.
-const OTHERS: &[(&[&str], OrchestratorUnopened)] = &[
-    (&[], OrchestratorUnopened::OtherNodes),
-    (&["n1"], OrchestratorUnopened::OtherNodes),
-    (&["n1", "n3"], OrchestratorUnopened::OtherNodes),
-    (&["n2", "n1"], OrchestratorUnopened::OtherNodes),
-    (&["n1", "n2", "n3"], OrchestratorUnopened::OtherNodes),
+// Other nodes than `n1` and `n2`, where a volume is attached to `n1`, and why no orchestrator of these is opened.
+const REFUSED: &[(&[&str], OrchestratorUnopened)] = &[
+    (&[], OrchestratorUnopened::NodeInUse),
+    (&["n2"], OrchestratorUnopened::NodeInUse),
+    (&["n3", "n2"], OrchestratorUnopened::NodeInUse),
     (&["n1", "n1"], OrchestratorUnopened::BadNodes),
 ];
 
-// A store of the record refuses other nodes, and changes nothing.
-fn refuses_others<K: Keep>(rt: &(impl Abort + AllocGlobal), keep: &mut K) {
+// Lists that have `n1`.
+const OTHERS: &[&[&str]] = &[&["n1"], &["n1", "n3"], &["n2", "n1"], &["n1", "n2", "n3"]];
+
+// A store of the record refuses nodes that leave out the one in use, and changes nothing. It takes others.
+fn takes_others<K: Keep>(rt: &(impl Abort + AllocGlobal), keep: &mut K) {
     puts(rt, keep, 5, 4);
-    for (texts, why) in OTHERS {
+    for (texts, why) in REFUSED {
         assert!(rt; fault_of(rt, keep, texts) == Some(*why));
         assert!(rt; has_after(rt, keep, 5, (4, 0)));
     }
+    for texts in OTHERS {
+        assert!(rt; fault_of(rt, keep, texts).is_none());
+    }
+    assert!(rt; fault_of(rt, keep, NODES).is_none() && has_after(rt, keep, 10, (4, 0)));
     assert!(rt; keep.faults() == 0);
 }
 
@@ -161,9 +167,9 @@ fn is_made_of_none<K: Keep>(rt: &(impl Abort + AllocGlobal), keep: &mut K) -> bo
 }
 
 #[test]
-fn a_record_of_other_nodes_is_not_opened(rt: HostRuntime) {
+fn a_record_is_opened_with_other_nodes_unless_one_is_in_use(rt: HostRuntime) {
     let mut keep = MemoryKeep::new(rt.alloc(), 1000);
-    refuses_others(&rt, &mut keep);
+    takes_others(&rt, &mut keep);
     drop(keep);
     let mut empty = MemoryKeep::new(rt.alloc(), 1000);
     assert!(&rt; is_made_of_none(&rt, &mut empty));
@@ -396,16 +402,19 @@ fn an_orchestrator_without_a_store_tells_what_it_changed(rt: HostRuntime) {
     drop(talk);
 }
 
-// The orchestrator of its record is in the next session, and goes on with what is wanted.
+// The orchestrator of its record is in the next session, and goes on with what is wanted, until the volume is deleted (`losing.rt`).
 #[test]
 fn from_record_succeeds_with_memory(rt: HostRuntime) {
     let new = OrchestratorService::new(rt.alloc(), nodes(&rt, NODES)).ok();
     let mut talk = talk_with(new.expect(&rt, "an orchestrator"));
     for (at, (what, kind, _)) in LIFE.iter().enumerate() {
+        if at.saturating_add(1) == WHOLE {
+            break;
+        }
         ask(&rt, &mut talk, (*what, *kind));
         let Talk { service, .. } = talk;
         let kept = service.into_record();
-        let again = OrchestratorService::from_record(rt.alloc(), kept).ok();
+        let again = OrchestratorService::from_record(rt.alloc(), kept, nodes(&rt, NODES)).ok();
         talk = talk_with(again.expect(&rt, "an orchestrator"));
         let steps = at.saturating_add(1);
         assert!(&rt; changed_is(&rt, &talk, 0, steps.saturating_add(1) as u64, 0));

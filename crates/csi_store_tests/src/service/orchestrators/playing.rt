@@ -1,7 +1,7 @@
 //! How the life is played over a store, also from the middle on, in a later session.
 use super::super::{is_part, room};
 use super::asking::{asked, changed, list, nodes};
-use super::script::{Ask, LIFE, NONE, Sent, call_of, head, row_after, value};
+use super::script::{Ask, LIFE, NONE, Sent, WHOLE, call_of, head, row_after, value};
 use csi_frames::encode;
 use csi_orchestrator::OrchFault;
 use csi_service::{Keep, KeepFault, OrchestratorService, OrchestratorUnopened, Part};
@@ -160,6 +160,11 @@ pub(crate) fn goes_on<K: Keep>(
 }
 
 // ---- what a store has
+
+/// After how many steps a restart finds the volume: one that was deleted is forgotten.
+pub(crate) fn kept(steps: usize) -> usize {
+    if steps == WHOLE { 0 } else { steps }
+}
 
 // What the store has. Where memory is refused it is asked again.
 fn loaded<K: Keep>(keep: &mut K) -> Result<Vec<Part>, KeepFault> {

@@ -28,7 +28,7 @@ pub(crate) type Step = (Ask, u8, Row);
 pub(crate) const NONE: u8 = 0;
 
 // Behind the id: it exists and nothing is wanted; it is to be published at `/a` of `n1`, and isn't to be.
-const AT_REST: &[u8] = &[1, 0, 0, 0, 0, 0, 0, 0, 1, 1, 0];
+pub(crate) const AT_REST: &[u8] = &[1, 0, 0, 0, 0, 0, 0, 0, 1, 1, 0];
 
 const USED: &[u8] = &[
     1, 0, 0, 0, 0, 0, 0, 0, 1, 1, 2, 2, 110, 49, 2, 47, 97, 0, 1, 0,
@@ -84,13 +84,18 @@ fn put(rt: &impl Abort, out: &mut Vec<u8>, bytes: &[u8]) {
     out.extend_from_slice(bytes).expect(rt, "room");
 }
 
-/// The head of the orchestrator's record in this session.
-pub(crate) fn head(rt: &(impl Abort + AllocGlobal), session: u64) -> Vec<u8> {
+/// The head of the orchestrator's record in this session, with these nodes.
+pub(crate) fn head_of(rt: &(impl Abort + AllocGlobal), session: u64, nodes: &[u8]) -> Vec<u8> {
     let mut out = room(rt, 17);
     put(rt, &mut out, &[3, 2]);
     put(rt, &mut out, &session.to_be_bytes());
-    put(rt, &mut out, &[2, 2, 110, 49, 2, 110, 50]);
+    put(rt, &mut out, nodes);
     out
+}
+
+/// The same, with the script's nodes.
+pub(crate) fn head(rt: &(impl Abort + AllocGlobal), session: u64) -> Vec<u8> {
+    head_of(rt, session, &[2, 2, 110, 49, 2, 110, 50])
 }
 
 /// A row's value, with so many tries more.

@@ -5,7 +5,7 @@ use super::super::stops::{
     torn,
 };
 use super::files::{Work, after, over_files};
-use super::playing::{End, goes_on, has_after, has_nothing, opened};
+use super::playing::{End, goes_on, has_after, has_nothing, kept, opened};
 use super::script::WHOLE;
 use csi_service::Keep;
 use std::alloc::Global;
@@ -154,17 +154,21 @@ pub(super) fn is_opened<K: Keep>(rt: &(impl Abort + AllocGlobal), keep: &mut K) 
     is_opened
 }
 
-// Whether the store has session 6, or still 5, and the same row.
-pub(super) fn is_begun<K: Keep>(rt: &(impl Abort + AllocGlobal), keep: &mut K) -> bool {
-    let is_next = has_after(rt, keep, 6, (STEPS, 0));
-    assert!(rt; is_next || has_after(rt, keep, 5, (STEPS, 0)));
+// Whether the store has session 6, or still 5, and the row after so many steps, which isn't there in session 6 if it is forgotten.
+pub(super) fn is_begun<K: Keep>(
+    rt: &(impl Abort + AllocGlobal),
+    keep: &mut K,
+    steps: usize,
+) -> bool {
+    let is_next = has_after(rt, keep, 6, (kept(steps), 0));
+    assert!(rt; is_next || has_after(rt, keep, 5, (steps, 0)));
     is_next
 }
 
 // Opens the orchestrator of a used store whose files stop so: it has one session or the next; whether no file stopped.
-fn begins(rt: &(impl Abort + AllocGlobal), image: &Image, stop: Stop) -> bool {
+fn begins(rt: &(impl Abort + AllocGlobal), image: &Image, steps: usize, stop: Stop) -> bool {
     let (_end, is_whole, left) = over_files(rt, image, (stop, false), Work::Open);
-    let (_end, is_begun, seen) = over_files(rt, &left, (NO_STOP, false), Work::Begin);
+    let (_end, is_begun, seen) = over_files(rt, &left, (NO_STOP, false), Work::Begin(steps));
     drop((left, seen));
     assert!(rt; is_begun || !is_whole);
     is_whole
@@ -178,17 +182,28 @@ fn used_image(rt: &(impl Abort + AllocGlobal), steps: usize) -> Image {
     image
 }
 
-#[test]
-fn stops_of_an_opening_leave_one_session_or_the_next(rt: HostRuntime) {
-    let image = used_image(&rt, STEPS);
+// Each stop of the opening of such files.
+fn begins_at_each(rt: &(impl Abort + AllocGlobal), steps: usize) {
+    let image = used_image(rt, steps);
     for way in [LOG, DATABASE, LOST_LOG, LOST_DATABASE] {
         let mut is_whole = false;
         for calls in 0..MANY {
-            is_whole = is_whole || begins(&rt, &image, stop_of(way, calls));
+            is_whole = is_whole || begins(rt, &image, steps, stop_of(way, calls));
         }
-        assert!(&rt; is_whole);
+        assert!(rt; is_whole);
     }
     drop(image);
+}
+
+#[test]
+fn stops_of_an_opening_leave_one_session_or_the_next(rt: HostRuntime) {
+    begins_at_each(&rt, STEPS);
+}
+
+// The head changes, and the row is taken out, both or neither.
+#[test]
+fn stops_of_an_opening_that_forgets_leave_one_session_or_the_next(rt: HostRuntime) {
+    begins_at_each(&rt, WHOLE);
 }
 
 // ---- torn writes

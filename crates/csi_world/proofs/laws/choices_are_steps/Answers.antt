@@ -3,4 +3,4 @@ use Rattle.std.proofs.Common.{refl}
 use Rattle.csi_world.proofs.laws.choices_are_steps.Goals as goal
 
 pub returns : goal.returns
-returns c config world choice may = record { choice = choice; may = may; becomes = refl }
+returns c world choice may = record { choice = choice; may = may; becomes = refl }

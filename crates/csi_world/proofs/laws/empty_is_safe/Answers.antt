@@ -1,5 +1,5 @@
 -- Nothing is staged or published at any node, nothing is held, and nothing is known or so.
-use Rattle.std.proofs.Common.{◌≡◌, false, refl, ap, subst}
+use Rattle.std.proofs.Common.{◌≡◌, map, false, refl, ap, subst}
 use Rattle.std.proofs.lemmas.Bool.{false≢true}
 use Rattle.csi_node.specs.Model.State.{NodeState}
 use Rattle.csi_orchestrator.specs.declared.thing.Thing.{Thing}
@@ -7,7 +7,7 @@ use Rattle.csi_orchestrator.specs.declared.thing.Thing.TheVariants.{Exists, Atta
 use Rattle.csi_orchestrator.specs.Model.Thing.{is_yes}
 use Rattle.csi_types.specs.Model.Config.{Config}
 use Rattle.csi_lists.specs.Model.Members.{IsAmong}
-use Rattle.csi_world.specs.Model.World.{empty_world}
+use Rattle.csi_world.specs.Model.World.{node_id, empty_world}
 use Rattle.csi_world.specs.Model.Safe.{holds}
 use Rattle.csi_world.proofs.PluginsReached.{knows-nothing}
 use Rattle.csi_world.proofs.laws.empty_is_safe.Goals as goal
@@ -23,8 +23,8 @@ pub returns : goal.returns
 returns c config =
     record {
       exclusive = tt;
-      staged_where_attached = λ node staged here there. absurd (let e = knows-nothing config.nodes node here in subst (λ (s : NodeState). IsAmong staged s.staged) e there);
-      published_where_staged = λ node published here there. absurd (let e = knows-nothing config.nodes node here in subst (λ (s : NodeState). IsAmong published s.published) e there);
+      staged_where_attached = λ node staged here there. absurd (let e = knows-nothing (map node_id config.nodes) node here in subst (λ (s : NodeState). IsAmong staged s.staged) e there);
+      published_where_staged = λ node published here there. absurd (let e = knows-nothing (map node_id config.nodes) node here in subst (λ (s : NodeState). IsAmong published s.published) e there);
       attached_while_live = λ holding among. absurd among;
       recorded_right = λ thing. record { yes = λ h. absurd (false≢true (ap is_yes h)); no = λ h. nothing_holds config thing };
     }

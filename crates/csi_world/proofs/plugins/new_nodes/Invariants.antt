@@ -1,7 +1,8 @@
 -- The first nodes were made.
 use Rattle.std.proofs.Common.{◌≡◌, map, take}
+use Rattle.csi_world.specs.Model.World.{node_id}
 use Rattle.csi_world.specs.Private.Simulating.{new_node_parts}
 use Rattle.csi_world.proofs.plugins.new_nodes.Given as goal
 
 abbrev pub invariant-loop-one : goal.invariant-loop-one
-invariant-loop-one l = l.nodes.items ≡ map new_node_parts (take l.one-index l.fn.slots)
+invariant-loop-one l = l.nodes.items ≡ map (new_node_parts 0) (map node_id (take l.one-index l.fn.slots))

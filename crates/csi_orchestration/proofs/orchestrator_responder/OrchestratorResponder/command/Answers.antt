@@ -34,5 +34,20 @@ returns-in-RestartOrchestrator c = subst (λ (event : Event). IfOk c.refuse-in-R
 pub returns-in-RestartController : goal.returns-in-RestartController
 returns-in-RestartController c = subst (λ (event : Event). IfOk c.refuse-in-RestartController.result (λ text. IsTold (AnswersEvent event) c.args.self.now (string_bytes text) c.refuse-in-RestartController.new.self)) (sym c.in-RestartController.is) c.refuse-in-RestartController.ensures
 
+pub returns-in-RestartOrchestratorWith : goal.returns-in-RestartOrchestratorWith
+returns-in-RestartOrchestratorWith c = subst (λ (event : Event). IfOk c.refuse-in-RestartOrchestratorWith.result (λ text. IsTold (AnswersEvent event) c.args.self.now (string_bytes text) c.refuse-in-RestartOrchestratorWith.new.self)) (sym c.in-RestartOrchestratorWith.is) c.refuse-in-RestartOrchestratorWith.ensures
+
+pub returns-in-RestartControllerWith : goal.returns-in-RestartControllerWith
+returns-in-RestartControllerWith c = subst (λ (event : Event). IfOk c.refuse-in-RestartControllerWith.result (λ text. IsTold (AnswersEvent event) c.args.self.now (string_bytes text) c.refuse-in-RestartControllerWith.new.self)) (sym c.in-RestartControllerWith.is) c.refuse-in-RestartControllerWith.ensures
+
+pub returns-in-RestartNode : goal.returns-in-RestartNode
+returns-in-RestartNode c = subst (λ (event : Event). IfOk c.refuse-in-RestartNode.result (λ text. IsTold (AnswersEvent event) c.args.self.now (string_bytes text) c.refuse-in-RestartNode.new.self)) (sym c.in-RestartNode.is) c.refuse-in-RestartNode.ensures
+
+pub returns-in-Join : goal.returns-in-Join
+returns-in-Join c = subst (λ (event : Event). IfOk c.refuse-in-Join.result (λ text. IsTold (AnswersEvent event) c.args.self.now (string_bytes text) c.refuse-in-Join.new.self)) (sym c.in-Join.is) c.refuse-in-Join.ensures
+
+pub returns-in-Settle : goal.returns-in-Settle
+returns-in-Settle c = subst (λ (event : Event). IfOk c.refuse-in-Settle.result (λ text. IsTold (AnswersEvent event) c.args.self.now (string_bytes text) c.refuse-in-Settle.new.self)) (sym c.in-Settle.is) c.refuse-in-Settle.ensures
+
 pub returns : goal.returns
-returns c = subst (λ (event : Event). IfOk c.refuse-in-RestartNode.result (λ text. IsTold (AnswersEvent event) c.args.self.now (string_bytes text) c.refuse-in-RestartNode.new.self)) (sym c.in-RestartNode.is) c.refuse-in-RestartNode.ensures
+returns c = subst (λ (event : Event). IfOk c.lose.result (λ text. IsTold (AnswersEvent event) c.args.self.now (string_bytes text) c.lose.new.self)) (sym c.in-Lose.is) c.lose.ensures

@@ -8,13 +8,13 @@ pub invariant_of-self : goal.invariant_of-self
 invariant_of-self c = (kept-promised c.self.invariant.0 c.create.ensures.told tt, c.create.ensures.filed)
 
 pub returns-clause-ok : goal.returns-clause-ok
-returns-clause-ok c = ok-promised c.self.view_is c.self.invariant.0.sound c.create.ensures.told
+returns-clause-ok c = ok-promised c.self.view_is c.self.invariant.0 c.create.ensures.told
 
 pub returns-clause-err : goal.returns-clause-err
-returns-clause-err c = err-promised c.self.view_is c.self.invariant.0.sound c.create.ensures.told
+returns-clause-err c = err-promised c.self.view_is c.self.invariant.0 c.create.ensures.told
 
 pub returns-clause-nodes : goal.returns-clause-nodes
-returns-clause-nodes c = nodes-promised c.self.view_is c.self.invariant.0.sound c.create.ensures.told
+returns-clause-nodes c = nodes-promised c.self.view_is c.create.ensures.told tt
 
 pub returns-clause-changed : goal.returns-clause-changed
 returns-clause-changed c = changed-promised c.args.name c.self.view_is refl c.create.ensures.told

@@ -1,22 +1,24 @@
 -- What is opened keeps what its type keeps.
-use Rattle.std.proofs.Common.{rules, ◌≡◌, ◌∙◌, ◌+◌, ◌^◌, ◌<◌, sym, subst}
+use Rattle.std.proofs.Common.{◌≡◌, ◌∙◌, ◌+◌, ℕ, List, None, map, sym, ap, subst}
+use Rattle.csi_orchestrator.specs.Model.Shown.{RowShown}
+use Rattle.csi_orchestrator.specs.Public.Beginning.{remembered, restart_refusal}
 use Rattle.csi_orchestrator.specs.Public.CoreParts.{orchestrator_parts_shown}
+use Rattle.csi_orchestrator.specs.Public.Laws.{opened_parts}
+use Rattle.csi_orchestrator.specs.Public.Shown.{row_shown}
 use Rattle.csi_orchestrator.specs.Public.Sound.{AreSoundParts}
-use Rattle.csi_orchestrator.specs.Private.Restored.{restored_parts}
 use Rattle.csi_orchestrator.proofs.Opened.{opened}
 use Rattle.csi_orchestrator.proofs.orchestrator.Orchestrator.from_record.Goals as goal
 
 pub invariant_of-result : goal.invariant_of-result
 invariant_of-result c =
     let kept = c.args.kept in
-    let room : kept.session + 1 < 2 ^ 64 = search rules in
-    let next : c.in-Some.session ≡ kept.session + 1 = search rules in
-    let parts : orchestrator_parts_shown c.opened.result ≡ restored_parts kept.nodes kept.session kept.rows
-    = c.opened.ensures.parts ∙ (λ i. record { nodes = kept.nodes; last = record { session = next i; call = 0 }; rows = kept.rows }) in
-    (subst AreSoundParts (sym parts) (opened kept.nodes kept.session kept.rows c.opened.ensures.kept room), c.opened.ensures.filed)
-
-pub returns-in-Some-clause-value : goal.returns-in-Some-clause-value
-returns-in-Some-clause-value c = search rules
-
-pub returns-in-Some-clause-left : goal.returns-in-Some-clause-left
-returns-in-Some-clause-left c = search rules
+    let nodes = c.args.nodes.items in
+    let next : c.in-Ok.session ≡ kept.session + 1 = c.in-Ok.ensures.next ∙ ap (λ s. s + 1) c.session.ensures in
+    let unrefused : restart_refusal kept.session kept.nodes nodes kept.rows ≡ None
+    = subst (λ (rows : List RowShown). restart_refusal kept.session kept.nodes nodes rows ≡ None) c.rows.ensures.value
+    (subst (λ (ns : List (List ℕ)). restart_refusal kept.session kept.nodes ns (map row_shown c.rows.result.now) ≡ None) c.as_slice.ensures.value
+    (subst (λ (ns : List (List ℕ)). restart_refusal kept.session ns c.as_slice.result.now (map row_shown c.rows.result.now) ≡ None) c.nodes.ensures.value
+    (subst (λ s. restart_refusal s c.nodes.result.now c.as_slice.result.now (map row_shown c.rows.result.now) ≡ None) c.session.ensures c.in-Ok.ensures.ok))) in
+    let parts : orchestrator_parts_shown c.opened.result ≡ opened_parts kept nodes
+    = c.opened.ensures.parts ∙ (λ i. record { nodes = nodes; last = record { session = next i; call = 0 }; rows = remembered kept.rows }) in
+    (subst AreSoundParts (sym parts) (opened kept nodes c.opened.ensures.kept unrefused), c.opened.ensures.filed)

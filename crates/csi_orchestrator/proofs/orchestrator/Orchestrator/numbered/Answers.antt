@@ -17,10 +17,10 @@ invariant_of-result c =
         within = record { rows = omega arith; entries = tt };
         told =
             record {
-              history = history_after c.args.last;
-              reached = Begins c.args.last;
+              history = history_after c.args.nodes.items c.args.last;
+              reached = Begins c.args.nodes.items c.args.last;
               form = tt;
-              agrees = record { same_last = refl; same_rows = λ name. refl; same_marks = λ thing. refl; same_ids = λ name. refl; same_goals = λ name. refl; same_arguments = λ name. refl; same_holdings = λ name node may. refl; same_open_calls = λ name. refl; same_counts = λ name. refl };
+              agrees = record { same_nodes = refl; same_last = refl; same_rows = λ name. refl; same_marks = λ thing. refl; same_ids = λ name. refl; same_goals = λ name. refl; same_arguments = λ name. refl; same_holdings = λ name node may. refl; same_open_calls = λ name. refl; same_counts = λ name. refl };
             };
       }),
       record { indexed = c.new.ensures.indexed; known = c.new.ensures.known c.args.last.call },

@@ -1,5 +1,5 @@
 -- The rows of the catalog, by what the type keeps of them.
-use Rattle.std.proofs.Common.{◌≤◌, length, map, refl, sym, ◌∙◌, ap, subst}
+use Rattle.std.proofs.Common.{map, refl, sym, ◌∙◌, ap, subst}
 use Rattle.std.specs.List.{AllByRecursion}
 use Rattle.csi_orchestrator.specs.Model.Shown.{OrchestratorParts}
 use Rattle.csi_orchestrator.specs.Public.Bounds.{IsRowFew}
@@ -12,6 +12,4 @@ pub returns-clause-value : goal.returns-clause-value
 returns-clause-value c = ap (map row_shown) c.rows.ensures ∙ ap (λ (p : OrchestratorParts). p.rows) c.self.view_is
 
 pub returns-clause-few : goal.returns-clause-few
-returns-clause-few c = λ most.
-    subst (AllByRecursion IsRowFew) (sym c.rows.ensures)
-    (rows-few (orchestrator_parts_shown c.self.inside.core) _ c.self.invariant.0 refl (subst (λ (p : OrchestratorParts). length p.nodes ≤ 64) (sym c.self.view_is) most))
+returns-clause-few c = subst (AllByRecursion IsRowFew) (sym c.rows.ensures) (rows-few (orchestrator_parts_shown c.self.inside.core) _ c.self.invariant.0 refl)

@@ -10,18 +10,18 @@ pub invariant_of-self : goal.invariant_of-self
 invariant_of-self c = (kept-promised c.self.invariant.0 (c.ask.ensures.told _ refl) tt, c.ask.ensures.filed)
 
 pub returns-clause-ok : goal.returns-clause-ok
-returns-clause-ok c = ok-promised c.self.view_is c.self.invariant.0.sound (c.ask.ensures.told _ refl)
+returns-clause-ok c = ok-promised c.self.view_is c.self.invariant.0 (c.ask.ensures.told _ refl)
 
 pub returns-clause-err : goal.returns-clause-err
-returns-clause-err c = err-promised c.self.view_is c.self.invariant.0.sound (c.ask.ensures.told _ refl)
+returns-clause-err c = err-promised c.self.view_is c.self.invariant.0 (c.ask.ensures.told _ refl)
 
 pub returns-clause-nodes : goal.returns-clause-nodes
-returns-clause-nodes c = nodes-promised c.self.view_is c.self.invariant.0.sound (c.ask.ensures.told _ refl)
+returns-clause-nodes c = nodes-promised c.self.view_is (c.ask.ensures.told _ refl) tt
 
 pub returns-clause-met : goal.returns-clause-met
 returns-clause-met c = λ history form agrees answered. c.ask.ensures.quiet _ refl
     (answered-promised (ToUse c.args.name.now (record { node = c.args.node; target = c.args.target; capability = c.args.capability; readonly = c.args.readonly }))
-    (Sends None) c.self.view_is c.self.invariant.0.sound history form agrees answered)
+    (Sends None) c.self.view_is c.self.invariant.0 history form agrees answered)
 
 pub returns-clause-changed : goal.returns-clause-changed
 returns-clause-changed c = changed-promised c.args.name.now c.self.view_is refl (c.ask.ensures.told _ refl)

@@ -15,7 +15,7 @@ invariant_of-result c =
     let fit : AreNodesFit core.nodes.items = subst AreNodesFit c.as_slice.ensures.value (c.are_nodes_fit.ensures.fit c.if-not-are_nodes_fit.false) in
     let rows : map row_shown (rows_of c.close_all.new.self) ≡ map closed (map row_shown (rows_of core.catalog)) = ap (map row_shown) c.close_all.ensures.rows ∙ shown-closed (rows_of core.catalog) in (
       fit,
-      subst (AreRestorable core.nodes.items) (sym rows) (steady-restorable (orchestrator_parts_shown core) c.requires.kept fit.few),
+      subst (AreRestorable core.nodes.items) (sym rows) (steady-restorable (orchestrator_parts_shown core) c.requires.kept),
       c.close_all.ensures.indexed,
       c.close_all.ensures.known 0,
     )

@@ -18,7 +18,7 @@ pub returns-clause-there : goal.returns-clause-there
 returns-clause-there c = λ fit.
     let kept = c.self.inside.orchestrator in
     let same : kept ≡ c.args.self.now.orchestrator = ap (λ (service : ServedOrchestrator). service.orchestrator) c.self.view_is in
-    let rules = c.rows_law.ensures c.self.invariant.few in
+    let rules = c.rows_law.ensures in
     subst (λ (o : OrchestratorParts). IsOrchestratorOf present (parts_of_orchestrator o) (kept_of o)) same
     (is-its-record kept (omega (arith, c.session-session.ensures.value)) c.self.invariant (subst (AllByRecursion IsNodeId) c.nodes.ensures c.nodes_law.ensures) rules
     (omega (arith, rules.few, length-map kept.rows closed)) (subst (λ (o : OrchestratorParts). AreFitOrchestratorRows o.rows) (sym same) fit))

@@ -10,18 +10,18 @@ use Rattle.csi_world.specs.Public.System.{world_parts}
 use Rattle.csi_world.proofs.CarriedFrames.{frame-numbered}
 use Rattle.csi_world.proofs.system.System.deliver.Goals as goal
 
-pub returns-in_ok-frame-in-Some : goal.returns-in_ok-frame-in-Some
-returns-in_ok-frame-in-Some c = λ world own shows.
+pub returns-in_ok-frame-in-Some-clause-does : goal.returns-in_ok-frame-in-Some-clause-does
+returns-in_ok-frame-in-Some-clause-does c = λ world own shows.
     let there : Some c.in_ok-frame-in-Some.frame ≡ frame_numbered world c.args.number
     = ap Some c.in_ok-frame-in-Some.ensures ∙ sym (ap option_copied c.in-Some.is) ∙ c.frame_of.ensures ∙ ap (λ frames. numbered frames c.args.number) c.deref.ensures.value
     ∙ frame-numbered c.args.self.now.frames.items world c.args.number shows.frames
     in
-    subst (λ (o : Option Frame). IfOk c.take-outcome.result (λ outcome. IsWorldAfter (world_parts c.args.self.now) (world_parts c.take-outcome.new.self) outcome (delivered c.args.self.now.config world o))) there (c.take-outcome.ensures world own shows)
+    subst (λ (o : Option Frame). IfOk c.take-outcome.result (λ outcome. IsWorldAfter (world_parts c.args.self.now) (world_parts c.take-outcome.new.self) outcome (delivered world o))) there (c.take-outcome.ensures.does world own shows)
 
-pub returns-in-None : goal.returns-in-None
-returns-in-None c = λ world own shows.
+pub returns-in-None-clause-does : goal.returns-in-None-clause-does
+returns-in-None-clause-does c = λ world own shows.
     let there : None ≡ frame_numbered world c.args.number
     = sym (ap option_copied c.in-None.is) ∙ c.frame_of.ensures ∙ ap (λ frames. numbered frames c.args.number) c.deref.ensures.value ∙ frame-numbered c.args.self.now.frames.items world c.args.number shows.frames
     in
-    subst (λ (o : Option Frame). IsWorldAfter (world_parts c.args.self.now) (world_parts c.args.self.now) outcomes.NoSuchFrame (delivered c.args.self.now.config world o)) there
-    (record { config = refl; outcomes = refl; own = own; world = shows; came = refl })
+    subst (λ (o : Option Frame). IsWorldAfter (world_parts c.args.self.now) (world_parts c.args.self.now) outcomes.NoSuchFrame (delivered world o)) there
+    (record { outcomes = refl; own = own; world = shows; came = refl })

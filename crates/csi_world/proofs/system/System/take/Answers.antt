@@ -6,7 +6,7 @@ use Rattle.csi_world.specs.Public.System.{world_parts}
 use Rattle.csi_world.proofs.SystemInputs.{input-becomes}
 use Rattle.csi_world.proofs.system.System.take.Goals as goal
 
-pub returns-in-Reply : goal.returns-in-Reply
-returns-in-Reply c =
+pub returns-in-Reply-clause-does : goal.returns-in-Reply-clause-does
+returns-in-Reply-clause-does c =
     input-becomes c.form_law.ensures Hears (world_parts c.args.self.now) c.deliver.new.self c.settled_reply.new.frames.items (Comes c.args.frame.now) _ c.deliver.result c.settled_reply.result
-    (λ world. ap (delivered_body c.args.self.now.config world c.args.frame.now) (sym c.body.ensures.value ∙ c.in-Reply.is)) c.deliver.ensures.ok c.deliver.ensures.err c.deliver.ensures.stays c.deliver.ensures.nodes c.settled_reply.ensures
+    (λ world agrees. ap (delivered_body world c.args.frame.now) (sym c.body.ensures.value ∙ c.in-Reply.is)) c.deliver.ensures.ok c.deliver.ensures.err c.deliver.ensures.stays c.settled_reply.ensures

@@ -1,0 +1,330 @@
+-- What the rows show where a session begins is what the history tells: rows that are forgotten, and those that stay.
+use Rattle.std.proofs.Common.{◌≡◌, ◌≢◌, ℕ, List, [], ◌∷◌, map, Bool, true, false, cond, not, refl, sym, ◌∙◌, ap, subst}
+use Rattle.std.specs.Prelude.{Option, Some, None, find, filter, is_some, is_none, option_map, option_and_then, ◌&&◌}
+use Rattle.std.specs.List.{list_any}
+use Rattle.std.proofs.lemmas.Bool.{false≢true, and_parts}
+use Rattle.csi_lists.proofs.Members.{each_of, among-find, among-kept, in_filter}
+use Rattle.csi_lists.proofs.Searches.{find-map, find-none}
+use Rattle.csi_lists.proofs.Tests.{alike, any-then, then-any}
+use Rattle.csi_types.specs.declared.number.Number.{Number}
+use Rattle.csi_types.specs.Model.Same.{same_text}
+use Rattle.csi_types.proofs.Equality.{same_text-tells}
+use Rattle.csi_orchestrator.specs.declared.row.Goal.{Goal as KeptGoal}
+use Rattle.csi_orchestrator.specs.declared.thing.Thing.{Thing}
+use Rattle.csi_orchestrator.specs.declared.thing.Thing.TheVariants.{Exists, Attached, Staged, Published}
+use Rattle.csi_orchestrator.specs.declared.thing.Known.{Known}
+use Rattle.csi_orchestrator.specs.declared.thing.Known.TheVariants.{Yes, No, Maybe}
+use Rattle.csi_orchestrator.specs.Model.Thing.{name_in, is_no}
+use Rattle.csi_orchestrator.specs.Model.History.{History}
+use Rattle.csi_orchestrator.specs.Model.Readings.{is_gone_with, goal_of, names_of, has_row}
+use Rattle.csi_orchestrator.specs.Model.Moves.{is_forgotten}
+use Rattle.csi_orchestrator.specs.Model.Agrees.{OrchestratorView, Agrees}
+use Rattle.csi_orchestrator.specs.Model.Shown.{RowShown, OrchestratorParts, row_of, mark_in, publication_known, mark_of, goal_shown, goal_in, held_on_node, open_in_row, tries_in, Shows}
+use Rattle.csi_orchestrator.specs.Public.Beginning.{is_row_forgotten, remembered, row_at_loss}
+use Rattle.csi_orchestrator.specs.Public.Shown.{closed}
+use Rattle.csi_orchestrator.specs.Public.Sound.{AreSoundRows}
+use Rattle.csi_orchestrator.specs.Public.Steady.{HasTries, IsSteadyRowIf, AreSteadyRowsIf}
+use Rattle.csi_orchestrator.proofs.EntryRules.{AreApart}
+use Rattle.csi_orchestrator.proofs.LossViews.{after_forgetting, forgetting-shows, IsForgotten, stopped, is_stopped}
+use Rattle.csi_orchestrator.proofs.RowsAfterSending.{mark-same}
+use Rattle.csi_orchestrator.proofs.RowsLost.{with_lost, row-by, lost-mark, lost-goal, lost-tries}
+use Rattle.csi_orchestrator.proofs.TextLists.{same_text-flip}
+
+-- ---- the rows that are remembered
+
+-- the row, unless it is forgotten
+abbrev pub unless_forgotten : RowShown → Option RowShown
+unless_forgotten row = cond (is_row_forgotten row) None (Some row)
+
+-- the row of a name among those that are remembered
+pub remembered-of : (rows : List RowShown) (name : List ℕ) → AreApart (λ (r : RowShown). r.name) rows → row_of (remembered rows) name ≡ option_and_then unless_forgotten (row_of rows name)
+remembered-of [] name apart = refl
+remembered-of (row ∷ rows) name apart = by (same_text row.name name) refl (is_row_forgotten row) refl (remembered-of rows name apart.1)
+  where
+    -- no other row is of the name
+    gone : same_text row.name name ≡ true → row_of (remembered rows) name ≡ None
+    gone e =
+        find-none (λ (r : RowShown). same_text r.name name) (remembered rows)
+        (λ other among.
+        let there = among-kept (λ (r : RowShown). not (is_row_forgotten r)) rows other among in
+        subst (λ n. same_text other.name n ≡ false) ((same_text-tells row.name name).0 e) (flip row.name other.name (each_of (λ (r : RowShown). same_text row.name r.name ≡ false) rows other apart.0 there.0)))
+      where
+        flip : (a b : List ℕ) → same_text a b ≡ false → same_text b a ≡ false
+        flip a b f = same_text-flip b a ∙ f
+
+    by : (n : Bool) → same_text row.name name ≡ n → (f : Bool) → is_row_forgotten row ≡ f → row_of (remembered rows) name ≡ option_and_then unless_forgotten (row_of rows name)
+        → row_of (cond (not f) (row ∷ remembered rows) (remembered rows)) name ≡ option_and_then unless_forgotten (cond n (Some row) (row_of rows name))
+    by true e true f rest = gone e ∙ sym (ap (λ b. cond b None (Some row)) f)
+    by true e false f rest = ap (λ b. cond b (Some row) (row_of (remembered rows) name)) e ∙ sym (ap (λ b. cond b None (Some row)) f)
+    by false e true f rest = rest
+    by false e false f rest = ap (λ b. cond b (Some row) (row_of (remembered rows) name)) e ∙ rest
+
+-- ---- the names that are forgotten
+
+-- each has a row that is forgotten, and so does no other
+forgotten-alike : (parts : OrchestratorParts) (history : History) → Shows parts history → (name : List ℕ)
+    → list_any (same_text name) (filter (is_forgotten history) (names_of history)) ≡ is_some (row_of parts.rows name) && is_forgotten history name
+forgotten-alike parts history agrees name =
+    alike _ _ there back ∙ ap (λ b. b && is_forgotten history name) (sym (agrees.same_rows name))
+  where
+    there : list_any (same_text name) (filter (is_forgotten history) (names_of history)) ≡ true → (has_row history name && is_forgotten history name) ≡ true
+    there e =
+        let found = any-then (same_text name) (filter (is_forgotten history) (names_of history)) e in
+        let kept = among-kept (is_forgotten history) (names_of history) found.0 found.1 in
+        let is = (same_text-tells name found.0).0 found.2 in
+        ap (λ b. b && is_forgotten history name) (then-any (same_text name) (names_of history) found.0 kept.0 found.2) ∙ ap (is_forgotten history) is ∙ kept.1
+
+    back : (has_row history name && is_forgotten history name) ≡ true → list_any (same_text name) (filter (is_forgotten history) (names_of history)) ≡ true
+    back e =
+        let both = and_parts (has_row history name) (is_forgotten history name) e in
+        let found = any-then (same_text name) (names_of history) both.0 in
+        let is = (same_text-tells name found.0).0 found.2 in
+        then-any (same_text name) (filter (is_forgotten history) (names_of history)) found.0 (in_filter (is_forgotten history) (names_of history) found.0 found.1 (ap (is_forgotten history) (sym is) ∙ both.1)) found.2
+
+-- the row says it alike
+row-forgotten : (parts : OrchestratorParts) (history : History) (name : List ℕ) (row : RowShown) → Shows parts history → row_of parts.rows name ≡ Some row → is_forgotten history name ≡ is_row_forgotten row
+row-forgotten parts history name row agrees e =
+    ap (λ k. is_no k && is_none (goal_of history name)) (sym (agrees.same_marks (Exists name)) ∙ ap (mark_in (mark_of (Exists name))) e)
+    ∙ ap (λ g. is_no row.exists && is_none g) (sym (agrees.same_goals name) ∙ ap (option_and_then goal_in) e)
+    ∙ ap (λ b. is_no row.exists && b) (none-alike row.goal)
+  where
+    none-alike : (g : Option KeptGoal) → is_none (option_map (goal_shown row.arguments) g) ≡ is_none g
+    none-alike None = refl
+    none-alike (Some goal) = refl
+
+-- ---- what is shown then
+
+-- what a row that isn't forgotten becomes tells what is shown of its name, holdings only where it may be attached
+pub record Tells-At (row : RowShown) (view : OrchestratorView) (name : List ℕ) : Type 0 where
+  pub rows : view.rows name ≡ true
+  pub marks : (thing : Thing) → name_in thing ≡ name → mark_of thing row ≡ view.marks thing
+  pub ids : row.id ≡ view.ids name
+  pub goals : goal_in row ≡ view.goals name
+  pub arguments : Some row.arguments ≡ view.arguments name
+  pub holdings : (node : List ℕ) → held_on_node row node ≡ view.holdings name node
+  pub open_calls : open_in_row row ≡ view.open_calls name
+  pub counts : row.tries ≡ view.counts name
+
+-- of a name without a row nothing is shown
+pub record Nothing-At (view : OrchestratorView) (name : List ℕ) : Type 0 where
+  pub rows : view.rows name ≡ false
+  pub marks : (thing : Thing) → name_in thing ≡ name → view.marks thing ≡ No
+  pub ids : view.ids name ≡ None
+  pub goals : view.goals name ≡ None
+  pub arguments : view.arguments name ≡ None
+  pub holdings : (node : List ℕ) → view.holdings name node ≡ None
+  pub open_calls : view.open_calls name ≡ None
+  pub counts : view.counts name ≡ 0
+
+-- a row of which nothing is known or wanted
+pub record IsBlank (row : RowShown) : Type 0 where
+  pub marks : (thing : Thing) → mark_of thing row ≡ No
+  pub goal : goal_in row ≡ None
+  pub calls : open_in_row row ≡ None
+  pub tries : row.tries ≡ 0
+
+-- the parts whose rows became so agree with a history with which what is shown of them does, once names were forgotten
+pub begun-agrees : (parts : OrchestratorParts) (was : History) (change : RowShown → RowShown) (nodes : List (List ℕ)) (last : Number) (view : OrchestratorView) (history : History)
+    → AreSoundRows parts.rows → AreSteadyRowsIf (Unit {0}) parts.rows → Shows parts was → nodes ≡ view.nodes → last ≡ view.last → ((row : RowShown) → (change row).name ≡ row.name)
+    → ((row : RowShown) → is_row_forgotten row ≡ true → IsSteadyRowIf (Unit {0}) row → IsBlank (change row))
+    → ((name : List ℕ) (row : RowShown) → row_of parts.rows name ≡ Some row → Tells-At (change row) view name) → ((name : List ℕ) → row_of parts.rows name ≡ None → Nothing-At view name)
+    → Agrees (after_forgetting (filter (is_forgotten was) (names_of was)) view) history
+    → Shows (record { nodes = nodes; last = last; rows = map change (remembered parts.rows) }) history
+begun-agrees parts was change nodes last view history sound steady shows is_nodes is_last named blank some none agrees =
+    record {
+      same_nodes = is_nodes ∙ sym showing.beside.nodes ∙ agrees.same_nodes;
+      same_last = is_last ∙ sym showing.beside.last ∙ agrees.same_last;
+      same_rows = λ name. row name (row_of parts.rows name) refl ∙ agrees.same_rows name;
+      same_marks = λ thing. mark thing (row_of parts.rows (name_in thing)) refl ∙ agrees.same_marks thing;
+      same_ids = λ name. an_id name (row_of parts.rows name) refl ∙ agrees.same_ids name;
+      same_goals = λ name. goal name (row_of parts.rows name) refl ∙ agrees.same_goals name;
+      same_arguments = λ name. argument name (row_of parts.rows name) refl ∙ agrees.same_arguments name;
+      same_holdings = λ name node there. holding name node (row_of parts.rows name) refl (λ e. there (sym (mark (Attached name node) (row_of parts.rows name) refl ∙ agrees.same_marks (Attached name node)) ∙ e)) ∙ agrees.same_holdings name node there;
+      same_open_calls = λ name. call name (row_of parts.rows name) refl ∙ agrees.same_open_calls name;
+      same_counts = λ name. count name (row_of parts.rows name) refl ∙ agrees.same_counts name;
+    }
+  where
+    names : List (List ℕ)
+    names = filter (is_forgotten was) (names_of was)
+
+    after : OrchestratorView
+    after = after_forgetting (filter (is_forgotten was) (names_of was)) view
+
+    showing : IsForgotten (filter (is_forgotten was) (names_of was)) (after_forgetting (filter (is_forgotten was) (names_of was)) view) view
+    showing = forgetting-shows (filter (is_forgotten was) (names_of was)) view
+
+    -- the row of a name then
+    of : (name : List ℕ) (o : Option RowShown) → row_of parts.rows name ≡ o → row_of (map change (remembered parts.rows)) name ≡ option_map change (option_and_then unless_forgotten o)
+    of name o e =
+        find-map (λ (r : RowShown). same_text r.name name) change (remembered parts.rows) (λ r. ap (λ n. same_text n name) (named r))
+        ∙ ap (option_map change) (remembered-of parts.rows name sound.names ∙ ap (option_and_then unless_forgotten) e)
+
+    -- whether it is forgotten
+    test : (name : List ℕ) (o : Option RowShown) → row_of parts.rows name ≡ o → list_any (same_text name) (filter (is_forgotten was) (names_of was)) ≡ is_some o && is_forgotten was name
+    test name o e = forgotten-alike parts was shows name ∙ ap (λ x. is_some x && is_forgotten was name) e
+
+    gone : (name : List ℕ) (r : RowShown) → row_of parts.rows name ≡ Some r → (b : Bool) → is_row_forgotten r ≡ b → list_any (same_text name) (filter (is_forgotten was) (names_of was)) ≡ b
+    gone name r e b f = test name (Some r) e ∙ row-forgotten parts was name r shows e ∙ f
+
+    own : (name : List ℕ) (r : RowShown) → row_of parts.rows name ≡ Some r → IsSteadyRowIf (Unit {0}) r
+    own name r e = each_of (IsSteadyRowIf (Unit {0})) parts.rows r steady (among-find (λ (x : RowShown). same_text x.name name) parts.rows r e)
+
+    kept : (r : RowShown) (b : Bool) → is_row_forgotten r ≡ b → option_map change (unless_forgotten r) ≡ cond b None (Some (change r))
+    kept r true f = ap (λ b. option_map change (cond b None (Some r))) f
+    kept r false f = ap (λ b. option_map change (cond b None (Some r))) f
+
+    -- what is read of a row that isn't forgotten, and of none
+    reads : {Y : Type 0} (read : Option RowShown → Y) (name : List ℕ) (o : Option RowShown) → row_of parts.rows name ≡ o → (told : Y) → (o ≡ None → read None ≡ told)
+        → ((r : RowShown) → o ≡ Some r → is_row_forgotten r ≡ true → read None ≡ told) → ((r : RowShown) → o ≡ Some r → is_row_forgotten r ≡ false → read (Some (change r)) ≡ told)
+        → read (row_of (map change (remembered parts.rows)) name) ≡ told
+    reads read name None e told empty forgotten there = ap read (of name None e) ∙ empty refl
+    reads read name (Some r) e told empty forgotten there = ap read (of name (Some r) e) ∙ by (is_row_forgotten r) refl
+      where
+        by : (b : Bool) → is_row_forgotten r ≡ b → read (option_map change (unless_forgotten r)) ≡ told
+        by true f = ap read (kept r true f) ∙ forgotten r refl f
+        by false f = ap read (kept r false f) ∙ there r refl f
+
+    row : (name : List ℕ) (o : Option RowShown) → row_of parts.rows name ≡ o → is_some (row_of (map change (remembered parts.rows)) name) ≡ (after_forgetting (filter (is_forgotten was) (names_of was)) view).rows name
+    row name o e =
+        reads is_some name o e ((after_forgetting (filter (is_forgotten was) (names_of was)) view).rows name)
+        (λ f. sym (showing.rows name ∙ ap (λ b. cond b false (view.rows name)) (test name o e ∙ ap (λ x. is_some x && is_forgotten was name) f) ∙ (none name (e ∙ f)).rows))
+        (λ r f g. sym (showing.rows name ∙ ap (λ b. cond b false (view.rows name)) (gone name r (e ∙ f) true g)))
+        (λ r f g. sym (showing.rows name ∙ ap (λ b. cond b false (view.rows name)) (gone name r (e ∙ f) false g) ∙ (some name r (e ∙ f)).rows))
+
+    mark : (thing : Thing) (o : Option RowShown) → row_of parts.rows (name_in thing) ≡ o
+        → mark_in (mark_of thing) (row_of (map change (remembered parts.rows)) (name_in thing)) ≡ (after_forgetting (filter (is_forgotten was) (names_of was)) view).marks thing
+    mark thing o e =
+        reads (mark_in (mark_of thing)) (name_in thing) o e ((after_forgetting (filter (is_forgotten was) (names_of was)) view).marks thing)
+        (λ f. sym (showing.beside.marks thing ∙ (none (name_in thing) (e ∙ f)).marks thing refl))
+        (λ r f g. sym (showing.beside.marks thing ∙ sym ((some (name_in thing) r (e ∙ f)).marks thing refl) ∙ (blank r g (own (name_in thing) r (e ∙ f))).marks thing))
+        (λ r f g. (some (name_in thing) r (e ∙ f)).marks thing refl ∙ sym (showing.beside.marks thing))
+
+    an_id : (name : List ℕ) (o : Option RowShown) → row_of parts.rows name ≡ o
+        → option_and_then (λ (r : RowShown). r.id) (row_of (map change (remembered parts.rows)) name) ≡ (after_forgetting (filter (is_forgotten was) (names_of was)) view).ids name
+    an_id name o e =
+        reads (option_and_then (λ (r : RowShown). r.id)) name o e ((after_forgetting (filter (is_forgotten was) (names_of was)) view).ids name)
+        (λ f. sym (showing.ids name ∙ ap (λ b. cond b None (view.ids name)) (test name o e ∙ ap (λ x. is_some x && is_forgotten was name) f) ∙ (none name (e ∙ f)).ids))
+        (λ r f g. sym (showing.ids name ∙ ap (λ b. cond b None (view.ids name)) (gone name r (e ∙ f) true g)))
+        (λ r f g. (some name r (e ∙ f)).ids ∙ sym (showing.ids name ∙ ap (λ b. cond b None (view.ids name)) (gone name r (e ∙ f) false g)))
+
+    argument : (name : List ℕ) (o : Option RowShown) → row_of parts.rows name ≡ o
+        → option_map (λ (r : RowShown). r.arguments) (row_of (map change (remembered parts.rows)) name) ≡ (after_forgetting (filter (is_forgotten was) (names_of was)) view).arguments name
+    argument name o e =
+        reads (option_map (λ (r : RowShown). r.arguments)) name o e ((after_forgetting (filter (is_forgotten was) (names_of was)) view).arguments name)
+        (λ f. sym (showing.arguments name ∙ ap (λ b. cond b None (view.arguments name)) (test name o e ∙ ap (λ x. is_some x && is_forgotten was name) f) ∙ (none name (e ∙ f)).arguments))
+        (λ r f g. sym (showing.arguments name ∙ ap (λ b. cond b None (view.arguments name)) (gone name r (e ∙ f) true g)))
+        (λ r f g. (some name r (e ∙ f)).arguments ∙ sym (showing.arguments name ∙ ap (λ b. cond b None (view.arguments name)) (gone name r (e ∙ f) false g)))
+
+    goal : (name : List ℕ) (o : Option RowShown) → row_of parts.rows name ≡ o
+        → option_and_then goal_in (row_of (map change (remembered parts.rows)) name) ≡ (after_forgetting (filter (is_forgotten was) (names_of was)) view).goals name
+    goal name o e =
+        reads (option_and_then goal_in) name o e ((after_forgetting (filter (is_forgotten was) (names_of was)) view).goals name)
+        (λ f. sym (showing.goals name ∙ (none name (e ∙ f)).goals))
+        (λ r f g. sym (showing.goals name ∙ sym (some name r (e ∙ f)).goals ∙ (blank r g (own name r (e ∙ f))).goal))
+        (λ r f g. (some name r (e ∙ f)).goals ∙ sym (showing.goals name))
+
+    -- a name that is forgotten isn't attached anywhere
+    holding : (name node : List ℕ) (o : Option RowShown) → row_of parts.rows name ≡ o → mark_in (mark_of (Attached name node)) (row_of (map change (remembered parts.rows)) name) ≢ No
+        → option_and_then (λ (r : RowShown). held_on_node r node) (row_of (map change (remembered parts.rows)) name) ≡ (after_forgetting (filter (is_forgotten was) (names_of was)) view).holdings name node
+    holding name node o e there =
+        reads (option_and_then (λ (r : RowShown). held_on_node r node)) name o e ((after_forgetting (filter (is_forgotten was) (names_of was)) view).holdings name node)
+        (λ f. sym (showing.beside.holdings name node ∙ (none name (e ∙ f)).holdings node))
+        (λ r f g. absurd (there (ap (mark_in (mark_of (Attached name node))) (of name (Some r) (e ∙ f) ∙ kept r true g))))
+        (λ r f g. (some name r (e ∙ f)).holdings node ∙ sym (showing.beside.holdings name node))
+
+    call : (name : List ℕ) (o : Option RowShown) → row_of parts.rows name ≡ o
+        → option_and_then open_in_row (row_of (map change (remembered parts.rows)) name) ≡ (after_forgetting (filter (is_forgotten was) (names_of was)) view).open_calls name
+    call name o e =
+        reads (option_and_then open_in_row) name o e ((after_forgetting (filter (is_forgotten was) (names_of was)) view).open_calls name)
+        (λ f. sym (showing.beside.open_calls name ∙ (none name (e ∙ f)).open_calls))
+        (λ r f g. sym (showing.beside.open_calls name ∙ sym (some name r (e ∙ f)).open_calls ∙ (blank r g (own name r (e ∙ f))).calls))
+        (λ r f g. (some name r (e ∙ f)).open_calls ∙ sym (showing.beside.open_calls name))
+
+    count : (name : List ℕ) (o : Option RowShown) → row_of parts.rows name ≡ o
+        → tries_in (row_of (map change (remembered parts.rows)) name) ≡ (after_forgetting (filter (is_forgotten was) (names_of was)) view).counts name
+    count name o e =
+        reads tries_in name o e ((after_forgetting (filter (is_forgotten was) (names_of was)) view).counts name)
+        (λ f. sym (showing.counts name ∙ (none name (e ∙ f)).counts))
+        (λ r f g. sym (showing.counts name ∙ sym (some name r (e ∙ f)).counts ∙ (blank r g (own name r (e ∙ f))).tries))
+        (λ r f g. (some name r (e ∙ f)).counts ∙ sym (showing.counts name))
+
+-- ---- rows that are forgotten are blank
+
+-- what a forgotten row is
+record IsGone (row : RowShown) : Type 0 where
+  exists : row.exists ≡ No
+  goal : row.goal ≡ None
+  entries : row.node_entries ≡ []
+  tries : row.tries ≡ 0
+
+-- where it is steady
+gone-row : (row : RowShown) → is_row_forgotten row ≡ true → IsSteadyRowIf (Unit {0}) row → IsGone row
+gone-row row e steady =
+    let both = and_parts (is_no row.exists) (is_none row.goal) e in
+    let no = no-is row.exists both.0 in
+    let idle = none-is row.goal both.1 in
+    record {
+      exists = no;
+      goal = idle;
+      entries = steady.empty (λ yes. clash (sym no ∙ yes));
+      tries = subst (λ g. HasTries g row.tries) idle steady.tries;
+    }
+  where
+    no-is : (k : Known) → is_no k ≡ true → k ≡ No
+    no-is No h = refl
+    no-is Yes h = absurd (false≢true h)
+    no-is Maybe h = absurd (false≢true h)
+
+    none-is : (g : Option KeptGoal) → is_none g ≡ true → g ≡ None
+    none-is None h = refl
+    none-is (Some goal) h = absurd (false≢true h)
+
+    clash : No ≡ Yes → ⊥
+    clash h = cc
+
+-- nothing is known of it
+gone-mark : (row : RowShown) → IsGone row → (thing : Thing) → mark_of thing row ≡ No
+gone-mark row gone (Exists name) = gone.exists
+gone-mark row gone (Attached name node) = ap (λ es. mark_in (λ e. e.attached) (find (λ e. same_text e.node node) es)) gone.entries
+gone-mark row gone (Staged name node) = ap (λ es. mark_in (λ e. e.staged) (find (λ e. same_text e.node node) es)) gone.entries
+gone-mark row gone (Published name node target) = ap (λ es. mark_in (publication_known target) (find (λ e. same_text e.node node) es)) gone.entries
+
+-- its goal is none, with which it has no open call
+gone-goal : (row : RowShown) → IsGone row → goal_in row ≡ None
+gone-goal row gone = ap (option_map (goal_shown row.arguments)) gone.goal
+
+-- its open call is given up
+pub closed-blank : (row : RowShown) → is_row_forgotten row ≡ true → IsSteadyRowIf (Unit {0}) row → IsBlank (closed row)
+closed-blank row e steady =
+    let gone = gone-row row e steady in
+    record { marks = λ thing. mark-same thing (closed row) row refl refl ∙ gone-mark row gone thing; goal = gone-goal row gone; calls = refl; tries = gone.tries }
+
+-- what is known of a row's thing once a node was lost
+pub lost-row-mark : (node : List ℕ) (row : RowShown) (thing : Thing) → mark_of thing (row_at_loss node row) ≡ cond (is_gone_with node thing) No (mark_of thing row)
+lost-row-mark node row thing =
+    row-by (λ (r : RowShown). mark_of thing r ≡ cond (is_gone_with node thing) No (mark_of thing row)) node row row.goal
+    (λ e. mark-same thing (closed (with_lost node row)) (with_lost node row) refl refl ∙ lost-mark node row thing)
+    (λ usage e f. mark-same thing _ (with_lost node row) refl refl ∙ lost-mark node row thing)
+
+-- no call is open then
+pub lost-calls : (node : List ℕ) (row : RowShown) → open_in_row (row_at_loss node row) ≡ None
+lost-calls node row = row-by (λ (r : RowShown). open_in_row r ≡ None) node row row.goal (λ e. refl) (λ usage e f. refl)
+
+-- a row that is forgotten is blank once a node was lost
+pub lost-blank : (node : List ℕ) (row : RowShown) → is_row_forgotten row ≡ true → IsSteadyRowIf (Unit {0}) row → IsBlank (row_at_loss node row)
+lost-blank node row e steady =
+    let gone = gone-row row e steady in
+    record {
+      marks = λ thing. lost-row-mark node row thing ∙ either (is_gone_with node thing) (mark_of thing row) (gone-mark row gone thing);
+      goal = lost-goal node row ∙ ap (stopped node) (gone-goal row gone);
+      calls = lost-calls node row;
+      tries = lost-tries node row ∙ zero (is_stopped node (goal_in row)) row.tries gone.tries;
+    }
+  where
+    either : (b : Bool) (k : Known) → k ≡ No → cond b No k ≡ No
+    either true k h = refl
+    either false k h = h
+
+    zero : (b : Bool) (n : ℕ) → n ≡ 0 → cond b 0 n ≡ 0
+    zero true n h = refl
+    zero false n h = h

@@ -1,0 +1,133 @@
+-- What the beginning of a session adds to a history: beside its start, and the loss of a node, names are forgotten and uses stopped.
+use Rattle.std.proofs.Common.{◌≡◌, ◌+◌, ◌≤◌, ℕ, List, [], ◌∷◌, ◌++◌, length, map, Bool, true, false, cond, refl, sym, ◌∙◌, ap, arith}
+use Rattle.std.specs.Prelude.{Option, Some, None, filter, filter_map, is_none, ◌&&◌}
+use Rattle.std.specs.List.{AllByRecursion, cons_option}
+use Rattle.std.proofs.lemmas.Bool.{false≢true}
+use Rattle.std.proofs.lemmas.List.{length-map}
+use Rattle.csi_lists.proofs.Each.{each-append}
+use Rattle.csi_types.specs.declared.number.Number.{Number}
+use Rattle.csi_types.specs.Model.Same.{same_text}
+use Rattle.csi_orchestrator.specs.declared.thing.Thing.TheVariants.{Exists}
+use Rattle.csi_orchestrator.specs.Model.Thing.{is_no}
+use Rattle.csi_orchestrator.specs.Model.History.{Goal, Create, Use, Stop, Delete, Item, Forgotten, Noted, History}
+use Rattle.csi_orchestrator.specs.Model.Readings.{known, goal_of, issued_in, last_in, nodes_in, names_of}
+use Rattle.csi_orchestrator.specs.Model.WellFormed.{IsUnused, AreWellFormed}
+use Rattle.csi_orchestrator.specs.Model.Moves.{is_forgotten, forgetting, stopping, stopping_all}
+
+-- a name is forgotten, or something is noted
+abbrev pub IsAside : Item → Type 0
+IsAside (Noted name goal) = Unit {0}
+IsAside (Forgotten name) = Unit {0}
+IsAside item = ⊥
+
+-- so it is of each
+abbrev pub AreAside : List Item → Type 0
+AreAside items = AllByRecursion IsAside items
+
+-- the names that are forgotten
+forgotten-aside : (names : List (List ℕ)) → AreAside (map Forgotten names)
+forgotten-aside [] = tt
+forgotten-aside (name ∷ names) = (tt, forgotten-aside names)
+
+-- a use that is stopped
+stop-aside : (node name : List ℕ) (goal : Option Goal) (rest : List Item) → AreAside rest → AreAside (cons_option (stopping node name goal) rest)
+stop-aside node name None rest aside = aside
+stop-aside node name (Some (Create arguments)) rest aside = aside
+stop-aside node name (Some (Use usage)) rest aside = by (same_text usage.node node)
+  where
+    by : (b : Bool) → AreAside (cons_option (cond b (Some (Noted name (Some (Stop usage.node usage.target)))) None) rest)
+    by true = (tt, aside)
+    by false = aside
+stop-aside node name (Some (Stop there target)) rest aside = aside
+stop-aside node name (Some Delete) rest aside = aside
+
+-- each of them
+stops-aside : (node : List ℕ) (goals : List ℕ → Option Goal) (names : List (List ℕ)) → AreAside (filter_map (λ name. stopping node name (goals name)) names)
+stops-aside node goals [] = tt
+stops-aside node goals (name ∷ names) = stop-aside node name (goals name) _ (stops-aside node goals names)
+
+-- what is added where a session begins
+pub forgetting-aside : (history : History) → AreAside (forgetting history)
+forgetting-aside history = forgotten-aside (filter (is_forgotten history) (names_of history))
+
+-- the same where a node is lost
+pub stopping-aside : (history : History) (node : List ℕ) → AreAside (stopping_all history node)
+stopping-aside history node = stops-aside node (goal_of history) (names_of history)
+
+-- both
+pub loss-aside : (history : History) (node : List ℕ) → AreAside (forgetting history ++ stopping_all history node)
+loss-aside history node = each-append IsAside (forgetting history) (stopping_all history node) (forgetting-aside history) (stopping-aside history node)
+
+-- ---- what they leave as it was
+
+-- the last number
+pub last-aside : (began : Number) (later older : List Item) → AreAside later → last_in began (later ++ older) ≡ last_in began older
+last-aside began [] older aside = refl
+last-aside began (Noted name goal ∷ later) older aside = last-aside began later older aside.1
+last-aside began (Forgotten name ∷ later) older aside = last-aside began later older aside.1
+last-aside began (item ∷ later) older aside = absurd aside.0
+
+-- the nodes
+pub nodes-aside : (first : List (List ℕ)) (later older : List Item) → AreAside later → nodes_in first (later ++ older) ≡ nodes_in first older
+nodes-aside first [] older aside = refl
+nodes-aside first (Noted name goal ∷ later) older aside = nodes-aside first later older aside.1
+nodes-aside first (Forgotten name ∷ later) older aside = nodes-aside first later older aside.1
+nodes-aside first (item ∷ later) older aside = absurd aside.0
+
+-- the calls that were sent
+pub issued-aside : (later older : List Item) → AreAside later → issued_in (later ++ older) ≡ issued_in older
+issued-aside [] older aside = refl
+issued-aside (Noted name goal ∷ later) older aside = issued-aside later older aside.1
+issued-aside (Forgotten name ∷ later) older aside = issued-aside later older aside.1
+issued-aside (item ∷ later) older aside = absurd aside.0
+
+-- the form, where nothing was sent in the session
+pub form-aside : (began : Number) (later older : List Item) → AreAside later → AreWellFormed began older → IsUnused (last_in began older) → AreWellFormed began (later ++ older)
+form-aside began [] older aside form unused = form
+form-aside began (Noted name goal ∷ later) older aside form unused = (tt, form-aside began later older aside.1 form unused)
+form-aside began (Forgotten name ∷ later) older aside form unused =
+    (ap (λ (n : Number). n.call) (last-aside began later older aside.1) ∙ unused, form-aside began later older aside.1 form unused)
+form-aside began (item ∷ later) older aside form unused = absurd aside.0
+
+-- ---- how many there are
+
+-- of the names, each is in at most one of two lists
+few-in-both : (p : List ℕ → Bool) (f : List ℕ → Option Item) (names : List (List ℕ)) → ((name : List ℕ) → p name ≡ true → f name ≡ None) → length (filter p names) + length (filter_map f names) ≤ length names
+few-in-both p f [] apart = omega arith
+few-in-both p f (name ∷ names) apart = by (p name) refl (f name) refl (few-in-both p f names apart)
+  where
+    by : (b : Bool) → p name ≡ b → (o : Option Item) → f name ≡ o → length (filter p names) + length (filter_map f names) ≤ length names
+        → length (cond b (name ∷ filter p names) (filter p names)) + length (cons_option o (filter_map f names)) ≤ length (name ∷ names)
+    by true e None g least = omega arith
+    by true e (Some item) g least = absurd (clash item (sym (apart name e) ∙ g))
+      where
+        clash : (item : Item) → None ≡ Some item → ⊥
+        clash item h = cc
+    by false e None g least = omega arith
+    by false e (Some item) g least = omega arith
+
+-- a name that is forgotten has no use
+not-both : (history : History) (node name : List ℕ) → is_forgotten history name ≡ true → stopping node name (goal_of history name) ≡ None
+not-both history node name e = by (goal_of history name) (second (is_no (known history (Exists name))) (is_none (goal_of history name)) e)
+  where
+    second : (a b : Bool) → (a && b) ≡ true → b ≡ true
+    second true b h = h
+    second false b h = absurd (false≢true h)
+
+    by : (goal : Option Goal) → is_none goal ≡ true → stopping node name goal ≡ None
+    by None h = refl
+    by (Some goal) h = absurd (false≢true h)
+
+-- one for each name at most is forgotten
+pub few-forgotten : (history : History) → length (forgetting history) ≤ length (names_of history)
+few-forgotten history =
+    let least = few-in-both (is_forgotten history) (λ name. None) (names_of history) (λ name e. refl) in
+    let long = length-map (filter (is_forgotten history) (names_of history)) Forgotten in
+    omega (arith, least, long)
+
+-- or stopped
+pub few-begun : (history : History) (node : List ℕ) → length (forgetting history) + length (stopping_all history node) ≤ length (names_of history)
+few-begun history node =
+    let least = few-in-both (is_forgotten history) (λ name. stopping node name (goal_of history name)) (names_of history) (not-both history node) in
+    let long = length-map (filter (is_forgotten history) (names_of history)) Forgotten in
+    omega (arith, least, long)

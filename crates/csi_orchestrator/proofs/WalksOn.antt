@@ -1,0 +1,37 @@
+-- How the test of a use goes on behind an entry of another node, and whether a node has targets.
+use Rattle.std.proofs.Common.{◌≡◌, ◌<◌, ◌+◌, ℕ, List, ◌∷◌, get_or, drop, length, map, Bool, true, false, cond, refl, sym, ◌∙◌, ap}
+use Rattle.std.specs.Prelude.{◌&&◌, ◌==◌, Option, Some, None, find, option_map}
+use Rattle.std.specs.List.{list_all}
+use Rattle.std.proofs.lemmas.List.{drop_more}
+use Rattle.csi_lists.proofs.Searches.{find-of_map}
+use Rattle.csi_types.specs.Model.Same.{same_text}
+use Rattle.csi_orchestrator.specs.declared.request.Usage.{Usage}
+use Rattle.csi_orchestrator.specs.declared.row.NodeEntry.{NodeEntry}
+use Rattle.csi_orchestrator.specs.Model.Shown.{NodeEntryShown}
+use Rattle.csi_orchestrator.specs.Public.Shown.{node_entry_shown}
+use Rattle.csi_orchestrator.specs.Private.Judging.{is_resting, uses_here, is_untargeted, is_use_on_the_way}
+
+-- an entry of another node, and what is behind it
+pub use-walks : (usage : Usage) (entries : List NodeEntry) (place : ℕ) (entry : NodeEntry) → place < length entries → entry ≡ get_or entries place entry → same_text entry.node usage.node ≡ false
+    → is_use_on_the_way usage (drop place entries) ≡ (is_resting entry && is_use_on_the_way usage (drop (place + 1) entries))
+use-walks usage entries place entry inside is other =
+    let later = drop (place + 1) entries in
+    ap (is_use_on_the_way usage) (drop_more entries place entry inside ∙ ap (λ (e : NodeEntry). e ∷ later) (sym is))
+    ∙ ap (λ b. cond b (uses_here usage entry && list_all is_resting later) (is_resting entry && is_use_on_the_way usage later)) other
+
+-- an entry as it is shown, if there is one, has no targets
+untargeted_shown : Option NodeEntryShown → Bool
+untargeted_shown None = true
+untargeted_shown (Some entry) = length entry.target_entries == 0
+
+-- so it is with the entry as it is kept
+shown-untargeted : (o : Option NodeEntry) → is_untargeted o ≡ untargeted_shown (option_map node_entry_shown o)
+unfolding untargeted_shown
+shown-untargeted None = refl
+shown-untargeted (Some entry) = refl
+
+-- what is found of a node, as it is shown
+pub untargeted-as : (entries : List NodeEntry) (node : List ℕ) (o : Option NodeEntry) → option_map node_entry_shown o ≡ find (λ (s : NodeEntryShown). same_text s.node node) (map node_entry_shown entries)
+    → is_untargeted o ≡ is_untargeted (find (λ (e : NodeEntry). same_text e.node node) entries)
+untargeted-as entries node o is =
+    shown-untargeted o ∙ ap untargeted_shown (is ∙ find-of_map (λ (s : NodeEntryShown). same_text s.node node) node_entry_shown entries) ∙ sym (shown-untargeted (find (λ (e : NodeEntry). same_text e.node node) entries))

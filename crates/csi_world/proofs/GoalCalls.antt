@@ -1,0 +1,101 @@
+-- The calls that are due for goals, and how goals end.
+use Rattle.std.proofs.Common.{◌≡◌, ◌⊎◌, ℕ, List, ◌∷◌, true, Option, Some, None, refl, sym, ◌∙◌, ap, inl, inr}
+use Rattle.std.specs.Prelude.{is_some, IsSome, option_and_then}
+use Rattle.std.proofs.lemmas.Bool.{false≢true}
+use Rattle.std.proofs.lemmas.Option.{none-some, same_Some}
+use Rattle.csi_types.specs.declared.call.Kind.{Kind}
+use Rattle.csi_types.specs.declared.call.Kind.TheVariants as kinds
+use Rattle.csi_types.specs.declared.call.Party.TheVariants.{Controller, Node}
+use Rattle.csi_orchestrator.specs.declared.request.Arguments.{Arguments}
+use Rattle.csi_orchestrator.specs.declared.request.Usage.{Usage}
+use Rattle.csi_orchestrator.specs.declared.thing.Thing.TheVariants as things
+use Rattle.csi_orchestrator.specs.declared.thing.Known.TheVariants.{Yes, No}
+use Rattle.csi_orchestrator.specs.Model.History.{Goal, Create, Use, Stop, Delete, Item, Noted, History, with_items}
+use Rattle.csi_orchestrator.specs.Model.Readings.{goal_of, id_of, known}
+use Rattle.csi_orchestrator.specs.Model.Due.{Due, call_for}
+use Rattle.csi_orchestrator.specs.Model.Moves.{is_forward}
+use Rattle.csi_world.specs.Model.World.{World}
+use Rattle.csi_world.specs.Public.Settling.{is_at_rest, node_in, IsStopped, WasRefused}
+use Rattle.csi_world.proofs.CallThings.{is_making}
+use Rattle.csi_world.proofs.GoalsMet.{IsMet}
+use Rattle.csi_world.proofs.RowsShown.{have-ids}
+use Rattle.csi_world.proofs.RunWorlds.{IsRun}
+use Rattle.csi_world.proofs.SettledFrames.{self, Extends}
+
+-- ---- goals
+
+-- what was noted last is wanted
+pub goal-noted : (history : History) (name : List ℕ) (goal : Option Goal) (items : List Item) → goal_of (with_items history (Noted name goal ∷ items)) name ≡ goal
+goal-noted history name goal items = let same = self name in rw same refl
+
+-- the call of a kind that is due for a goal, if one is
+abbrev pub due_from : List ℕ → Goal → Option ℕ → Option Kind → Option Due
+due_from name goal id kind = option_and_then (call_for name (Some goal) id) kind
+
+-- a call that is due for a goal is for the controller, or for the goal's node
+pub due-party : (name : List ℕ) (goal : Goal) (id : Option ℕ) (kind : Option Kind) (due : Due) → due_from name goal id kind ≡ Some due → (due.party ≡ Controller) ⊎ ((node : List ℕ) × (due.party ≡ Node node) × (node_in (Some goal) ≡ Some node))
+due-party name goal id None due e = absurd (none-some due e)
+due-party name goal id (Some kind) due e = at goal id kind e
+  where
+    at : (goal : Goal) (id : Option ℕ) (kind : Kind) → call_for name (Some goal) id kind ≡ Some due → (due.party ≡ Controller) ⊎ ((node : List ℕ) × (due.party ≡ Node node) × (node_in (Some goal) ≡ Some node))
+    at (Create arguments) id kinds.CreateVolume e = inl (ap (λ (d : Due). d.party) (sym (same_Some _ due e)))
+    at (Use usage) (Some id) kinds.ControllerPublishVolume e = inl (ap (λ (d : Due). d.party) (sym (same_Some _ due e)))
+    at (Use usage) (Some id) kinds.NodeStageVolume e = inr (usage.node, ap (λ (d : Due). d.party) (sym (same_Some _ due e)), refl)
+    at (Use usage) (Some id) kinds.NodePublishVolume e = inr (usage.node, ap (λ (d : Due). d.party) (sym (same_Some _ due e)), refl)
+    at (Stop node target) (Some id) kinds.NodeUnpublishVolume e = inr (node, ap (λ (d : Due). d.party) (sym (same_Some _ due e)), refl)
+    at (Stop node target) (Some id) kinds.NodeUnstageVolume e = inr (node, ap (λ (d : Due). d.party) (sym (same_Some _ due e)), refl)
+    at (Stop node target) (Some id) kinds.ControllerUnpublishVolume e = inl (ap (λ (d : Due). d.party) (sym (same_Some _ due e)))
+    at Delete (Some id) kinds.DeleteVolume e = inl (ap (λ (d : Due). d.party) (sym (same_Some _ due e)))
+    at goal id kind e = absurd (none-some due e)
+
+-- a forward call is due for a use alone
+pub due-forward : (name : List ℕ) (goal : Goal) (id : Option ℕ) (kind : Option Kind) (due : Due) → due_from name goal id kind ≡ Some due → is_forward due.call ≡ true → (usage : Usage) × (goal ≡ Use usage)
+due-forward name goal id None due e forward = absurd (none-some due e)
+due-forward name goal id (Some kind) due e forward = at goal id kind e
+  where
+    at : (g : Goal) (id : Option ℕ) (kind : Kind) → call_for name (Some g) id kind ≡ Some due → (usage : Usage) × (g ≡ Use usage)
+    at (Create arguments) id kinds.CreateVolume e = absurd (false≢true (ap (λ (x : Due). is_forward x.call) (same_Some _ due e) ∙ forward))
+    at (Use usage) id kind e = (usage, refl)
+    at (Stop node target) (Some id) kinds.NodeUnpublishVolume e = absurd (false≢true (ap (λ (x : Due). is_forward x.call) (same_Some _ due e) ∙ forward))
+    at (Stop node target) (Some id) kinds.NodeUnstageVolume e = absurd (false≢true (ap (λ (x : Due). is_forward x.call) (same_Some _ due e) ∙ forward))
+    at (Stop node target) (Some id) kinds.ControllerUnpublishVolume e = absurd (false≢true (ap (λ (x : Due). is_forward x.call) (same_Some _ due e) ∙ forward))
+    at Delete (Some id) kinds.DeleteVolume e = absurd (false≢true (ap (λ (x : Due). is_forward x.call) (same_Some _ due e) ∙ forward))
+    at g id kind e = absurd (none-some due e)
+
+-- CreateVolume is due for a creation alone
+pub due-create : (name : List ℕ) (goal : Goal) (id : Option ℕ) (kind : Option Kind) (due : Due) → due_from name goal id kind ≡ Some due → is_making due.call ≡ true → (arguments : Arguments) × (goal ≡ Create arguments)
+due-create name goal id None due e makes = absurd (none-some due e)
+due-create name goal id (Some kind) due e makes = at goal id kind e
+  where
+    at : (g : Goal) (id : Option ℕ) (kind : Kind) → call_for name (Some g) id kind ≡ Some due → (arguments : Arguments) × (g ≡ Create arguments)
+    at (Create arguments) id kind e = (arguments, refl)
+    at (Use usage) (Some id) kinds.ControllerPublishVolume e = absurd (false≢true (ap (λ (x : Due). is_making x.call) (same_Some _ due e) ∙ makes))
+    at (Use usage) (Some id) kinds.NodeStageVolume e = absurd (false≢true (ap (λ (x : Due). is_making x.call) (same_Some _ due e) ∙ makes))
+    at (Use usage) (Some id) kinds.NodePublishVolume e = absurd (false≢true (ap (λ (x : Due). is_making x.call) (same_Some _ due e) ∙ makes))
+    at (Stop node target) (Some id) kinds.NodeUnpublishVolume e = absurd (false≢true (ap (λ (x : Due). is_making x.call) (same_Some _ due e) ∙ makes))
+    at (Stop node target) (Some id) kinds.NodeUnstageVolume e = absurd (false≢true (ap (λ (x : Due). is_making x.call) (same_Some _ due e) ∙ makes))
+    at (Stop node target) (Some id) kinds.ControllerUnpublishVolume e = absurd (false≢true (ap (λ (x : Due). is_making x.call) (same_Some _ due e) ∙ makes))
+    at Delete (Some id) kinds.DeleteVolume e = absurd (false≢true (ap (λ (x : Due). is_making x.call) (same_Some _ due e) ∙ makes))
+    at g id kind e = absurd (none-some due e)
+
+-- ---- how a goal ends
+
+-- by what is met at the end, or undone since a refusal
+abbrev pub Ends : ℕ → World → List ℕ → Goal → Type 0
+Ends sent world name (Create arguments) = IsSome (id_of world.history name) ⊎ WasRefused world sent
+Ends sent world name (Use usage) = (known world.history (things.Published name usage.node usage.target) ≡ Yes) ⊎ (IsStopped world.history name usage.node usage.target × WasRefused world sent)
+Ends sent world name (Stop node target) = IsStopped world.history name node target
+Ends sent world name Delete = known world.history (things.Exists name) ≡ No
+
+-- what is met ends so
+pub met-ends : (sent : ℕ) (world : World) (name : List ℕ) (goal : Goal) → IsRun world → IsMet world.history name goal → Ends sent world name goal
+met-ends sent world name (Create arguments) run met = inl (let has = have-ids world run.right name met in ap is_some has.1)
+met-ends sent world name (Use usage) run met = inl met
+met-ends sent world name (Stop node target) run met = met
+met-ends sent world name Delete run met = met
+
+-- from a world to one in which the volume is at rest, and its goal ended
+pub record Finishes (sent : ℕ) (world : World) (name : List ℕ) (goal : Goal) (last : World) : Type 0 where
+  pub rest : is_at_rest last name ≡ true
+  pub ends : Ends sent last name goal
+  pub extends : Extends world last

@@ -1,0 +1,184 @@
+-- Where no call is due what was wanted is so, and a volume keeps its id.
+use Rattle.std.proofs.Common.{◌≡◌, ℕ, List, [], ◌∷◌, filter, filter_map, find, Bool, true, false, cond, not, Option, Some, None, option_map, ◌&&◌, refl, sym, ◌∙◌, ap, subst}
+use Rattle.std.specs.Prelude.{option_and_then}
+use Rattle.std.specs.Option.{option_or}
+use Rattle.std.proofs.lemmas.Option.{none-some, same_Some}
+use Rattle.csi_types.specs.declared.call.Kind.TheVariants as kinds
+use Rattle.csi_types.specs.declared.status.Status.{Status}
+use Rattle.csi_types.specs.Model.Reply.{is_ok_status}
+use Rattle.csi_types.specs.Model.Same.{same_text}
+use Rattle.csi_lists.proofs.Options.{some_is_not_none}
+use Rattle.csi_orchestrator.specs.declared.request.Arguments.{Arguments}
+use Rattle.csi_orchestrator.specs.declared.request.Usage.{Usage}
+use Rattle.csi_orchestrator.specs.declared.row.Goal.{Goal as KeptGoal}
+use Rattle.csi_orchestrator.specs.declared.row.Goal.TheVariants as kept
+use Rattle.csi_orchestrator.specs.declared.thing.Thing.{Thing}
+use Rattle.csi_orchestrator.specs.declared.thing.Thing.TheVariants.{Exists, Attached, Staged, Published}
+use Rattle.csi_orchestrator.specs.declared.thing.Known.{Known}
+use Rattle.csi_orchestrator.specs.declared.thing.Known.TheVariants.{Yes, No, Maybe}
+use Rattle.csi_orchestrator.specs.Model.Thing.{Issued, touches, is_yes, is_no, thing_of}
+use Rattle.csi_orchestrator.specs.Model.History.{Goal, Create, Use, Stop, Delete, Accepted, Closed, Noted, History, with_items}
+use Rattle.csi_orchestrator.specs.Model.Readings.{known, id_of, goal_of, open_call, issued_of, distinct}
+use Rattle.csi_orchestrator.specs.Model.Due.{call_for, targets_in_use, published_target, due_for}
+use Rattle.csi_orchestrator.specs.Model.Shown.{RowShown, row_of, goal_in, goal_shown}
+use Rattle.csi_orchestrator.specs.Model.WellFormed.{IsWellFormed}
+use Rattle.csi_orchestrator.specs.Public.Steady.{IsStandingIf, IsSteadyRowIf}
+use Rattle.csi_orchestrator.proofs.RepliesFollow.{accepted-follows}
+use Rattle.csi_orchestrator.proofs.ViewsFollow.{closed-follows, noted-follows}
+use Rattle.csi_lists.proofs.Members.{each_of, among-find}
+use Rattle.csi_world.specs.Public.Settling.{IsStopped}
+use Rattle.csi_world.proofs.DueRanks.{use_kind, stop_kind, stop-is}
+use Rattle.csi_world.proofs.Lifetimes.{calls_for}
+use Rattle.csi_world.proofs.NamesRowed.{view_of, agrees-itself, known-aside}
+use Rattle.csi_world.proofs.RowsShown.{HasRows}
+
+-- ---- what is so where no call is due
+
+-- what was wanted is so
+abbrev pub IsMet : History → List ℕ → Goal → Type 0
+IsMet history name (Create arguments) = known history (Exists name) ≡ Yes
+IsMet history name (Use usage) = known history (Published name usage.node usage.target) ≡ Yes
+IsMet history name (Stop node target) = IsStopped history name node target
+IsMet history name Delete = known history (Exists name) ≡ No
+
+-- the volume has an id
+abbrev pub HasId : History → List ℕ → Type 0
+HasId history name = (id : ℕ) × (id_of history name ≡ Some id)
+
+-- it has one where anything but its creation is wanted
+abbrev pub HasIdIf : History → List ℕ → Goal → Type 0
+HasIdIf history name goal = ((arguments : Arguments) → goal ≡ Create arguments → ⊥) → HasId history name
+
+-- other goals than a creation
+use-other : (usage : Usage) (arguments : Arguments) → Use usage ≡ Create arguments → ⊥
+use-other usage arguments e = cc
+
+stop-other : (node target : List ℕ) (arguments : Arguments) → Stop node target ≡ Create arguments → ⊥
+stop-other node target arguments e = cc
+
+delete-other : (arguments : Arguments) → Delete ≡ Create arguments → ⊥
+delete-other arguments e = cc
+
+module _ (history : History) (name : List ℕ) where
+  use-met : (usage : Usage) → HasId history name → due_for history name (Some (Use usage)) ≡ None → IsMet history name (Use usage)
+  use-met usage has e =
+      by (known history (Attached name usage.node)) (known history (Staged name usage.node)) (known history (Published name usage.node usage.target)) refl
+      (ap (λ o. option_and_then (call_for name (Some (Use usage)) o) (use_kind (known history (Attached name usage.node)) (known history (Staged name usage.node)) (known history (Published name usage.node usage.target)))) (sym has.1) ∙ e)
+    where
+      by : (a s p : Known) → known history (Published name usage.node usage.target) ≡ p → option_and_then (call_for name (Some (Use usage)) (Some has.0)) (use_kind a s p) ≡ None → known history (Published name usage.node usage.target) ≡ Yes
+      by Yes Yes Yes is e = is
+      by Yes Yes No is e = absurd (some_is_not_none _ e)
+      by Yes Yes Maybe is e = absurd (some_is_not_none _ e)
+      by Yes No p is e = absurd (some_is_not_none _ e)
+      by Yes Maybe p is e = absurd (some_is_not_none _ e)
+      by No s p is e = absurd (some_is_not_none _ e)
+      by Maybe s p is e = absurd (some_is_not_none _ e)
+
+  stop-met : (node target : List ℕ) → HasId history name → due_for history name (Some (Stop node target)) ≡ None → IsMet history name (Stop node target)
+  stop-met node target has e =
+      by (known history (Published name node target)) (targets_in_use history name node) (known history (Staged name node)) (known history (Attached name node)) refl refl refl refl
+      (ap (λ o. option_and_then (call_for name (Some (Stop node target)) o) (stop_kind (known history (Published name node target)) (targets_in_use history name node) (known history (Staged name node)) (known history (Attached name node)))) (sym has.1)
+      ∙ ap (option_and_then (call_for name (Some (Stop node target)) (id_of history name))) (sym (stop-is history name node target)) ∙ e)
+    where
+      filled : (t : List ℕ) (ts : List (List ℕ)) → t ∷ ts ≡ [] → ⊥
+      filled t ts h = cc
+
+      by : (p : Known) (ts : List (List ℕ)) (s a : Known) → known history (Published name node target) ≡ p → targets_in_use history name node ≡ ts → known history (Staged name node) ≡ s → known history (Attached name node) ≡ a
+          → option_and_then (call_for name (Some (Stop node target)) (Some has.0)) (stop_kind p ts s a) ≡ None → IsStopped history name node target
+      by No [] No No kp kt ks ka e = record { unpublished = kp; unstaged = λ none. ks; detached = λ none. ka }
+      by No (t ∷ ts) s a kp kt ks ka e = record { unpublished = kp; unstaged = λ none. absurd (filled t ts (sym kt ∙ none)); detached = λ none. absurd (filled t ts (sym kt ∙ none)) }
+      by No [] No Yes kp kt ks ka e = absurd (some_is_not_none _ e)
+      by No [] No Maybe kp kt ks ka e = absurd (some_is_not_none _ e)
+      by No [] Yes a kp kt ks ka e = absurd (some_is_not_none _ e)
+      by No [] Maybe a kp kt ks ka e = absurd (some_is_not_none _ e)
+      by Yes ts s a kp kt ks ka e = absurd (some_is_not_none _ e)
+      by Maybe ts s a kp kt ks ka e = absurd (some_is_not_none _ e)
+
+  delete-met : HasId history name → due_for history name (Some Delete) ≡ None → IsMet history name Delete
+  delete-met has e =
+      by (known history (Exists name)) refl (ap (λ o. option_and_then (call_for name (Some Delete) o) (cond (is_no (known history (Exists name))) None (Some kinds.DeleteVolume))) (sym has.1) ∙ e)
+    where
+      by : (k : Known) → known history (Exists name) ≡ k → option_and_then (call_for name (Some Delete) (Some has.0)) (cond (is_no k) None (Some kinds.DeleteVolume)) ≡ None → known history (Exists name) ≡ No
+      by No is e = is
+      by Yes is e = absurd (some_is_not_none _ e)
+      by Maybe is e = absurd (some_is_not_none _ e)
+
+  create-met : (arguments : Arguments) → due_for history name (Some (Create arguments)) ≡ None → IsMet history name (Create arguments)
+  create-met arguments e = by (known history (Exists name)) refl e
+    where
+      by : (k : Known) → known history (Exists name) ≡ k → option_and_then (call_for name (Some (Create arguments)) (id_of history name)) (cond (is_yes k) None (Some kinds.CreateVolume)) ≡ None → known history (Exists name) ≡ Yes
+      by Yes is e = is
+      by No is e = absurd (some_is_not_none _ e)
+      by Maybe is e = absurd (some_is_not_none _ e)
+
+  pub met-where-none : (goal : Goal) → HasIdIf history name goal → due_for history name (Some goal) ≡ None → IsMet history name goal
+  met-where-none (Create arguments) has e = create-met arguments e
+  met-where-none (Use usage) has e = use-met usage (has (use-other usage)) e
+  met-where-none (Stop node target) has e = stop-met node target (has (stop-other node target)) e
+  met-where-none Delete has e = delete-met (has delete-other) e
+
+-- it is so still once the goal is dropped
+pub noted-met : (history : History) (name other : List ℕ) (goal : Goal) (noted : Option Goal) → IsMet history name goal → IsMet (with_items history (Noted other noted ∷ [])) name goal
+noted-met history name other goal noted met = by goal met
+  where
+    same : (thing : Thing) → known (with_items history (Noted other noted ∷ [])) thing ≡ known history thing
+    same thing = known-aside history.items (Noted other noted) thing (find (touches thing) (calls_for thing history.items)) (λ n. refl)
+
+    targets : (node : List ℕ) → targets_in_use (with_items history (Noted other noted ∷ [])) name node ≡ targets_in_use history name node
+    targets node = λ i. filter (λ target. not (is_no (same (Published name node target) i))) (distinct (filter_map (λ issued. published_target node (thing_of issued)) (issued_of history name)))
+
+    by : (goal : Goal) → IsMet history name goal → IsMet (with_items history (Noted other noted ∷ [])) name goal
+    by (Create arguments) met = same (Exists name) ∙ met
+    by (Use usage) met = same (Published name usage.node usage.target) ∙ met
+    by (Stop node target) met =
+        record {
+          unpublished = same (Published name node target) ∙ met.unpublished;
+          unstaged = λ none. same (Staged name node) ∙ met.unstaged (sym (targets node) ∙ none);
+          detached = λ none. same (Attached name node) ∙ met.detached (sym (targets node) ∙ none);
+        }
+    by Delete met = same (Exists name) ∙ met
+
+-- ---- ids
+
+-- a volume keeps its id where something is noted
+pub noted-id : (history : History) (name other : List ℕ) (noted : Option Goal) → HasId history name → HasId (with_items history (Noted other noted ∷ [])) name
+noted-id history name other noted has = (has.0, sym ((noted-follows (view_of history) history other noted (agrees-itself history)).same_ids name) ∙ has.1)
+
+-- where a call is given up
+pub closed-id : (history : History) (name : List ℕ) (issued : Issued) → IsWellFormed history → open_call history issued.name ≡ Some issued → HasId history name → HasId (with_items history (Closed issued.number ∷ [])) name
+closed-id history name issued form is_open has = (has.0, sym ((closed-follows (view_of history) history issued form (agrees-itself history) is_open).same_ids name) ∙ has.1)
+
+-- where a reply is taken
+pub accepted-id : (history : History) (name : List ℕ) (issued : Issued) (status : Status) (id : Option ℕ) → IsWellFormed history → open_call history issued.name ≡ Some issued → HasId history name
+    → HasId (with_items history (Accepted issued.number status id ∷ [])) name
+accepted-id history name issued status id form is_open has =
+    by _ (is_ok_status status && same_text issued.name name) (sym ((accepted-follows (view_of history) history issued status id form (agrees-itself history) is_open).same_ids name))
+  where
+    brought : (o : Option ℕ) → (n : ℕ) × (option_or o (id_of history name) ≡ Some n)
+    brought None = has
+    brought (Some n) = (n, refl)
+
+    by : (told : Option ℕ) (b : Bool) → id_of (with_items history (Accepted issued.number status id ∷ [])) name ≡ cond b (option_or told (id_of history name)) (id_of history name) → HasId (with_items history (Accepted issued.number status id ∷ [])) name
+    by told true e = let new = brought told in (new.0, e ∙ new.1)
+    by told false e = (has.0, e ∙ has.1)
+
+-- a volume of which anything but its creation is wanted has an id
+pub goal-id : (history : History) → HasRows history → (name : List ℕ) (goal : Goal) → goal_of history name ≡ Some goal → HasIdIf history name goal
+goal-id history rows name goal wanted other = by (row_of rows.parts.rows name) refl
+  where
+    standing : (row : RowShown) → row_of rows.parts.rows name ≡ Some row → (own : KeptGoal) (id : Option ℕ) → row.id ≡ id → goal_shown row.arguments own ≡ goal → IsStandingIf (Unit {0}) (Some own) id row.exists → HasId history name
+    standing row e own (Some id) i g stands = (id, sym ((rows.agrees).same_ids name) ∙ ap (option_and_then (λ (r : RowShown). r.id)) e ∙ i)
+    standing row e kept.Create None i g stands = absurd (other row.arguments (sym g))
+    standing row e (kept.Use usage) None i g stands = absurd stands
+    standing row e (kept.Stop node target) None i g stands = absurd stands
+    standing row e kept.Delete None i g stands = absurd stands
+
+    at : (row : RowShown) → row_of rows.parts.rows name ≡ Some row → (own : Option KeptGoal) → row.goal ≡ own → option_map (goal_shown row.arguments) own ≡ Some goal → HasId history name
+    at row e None f g = absurd (none-some goal g)
+    at row e (Some own) f g =
+        let steady = each_of (IsSteadyRowIf (Unit {0})) rows.parts.rows row rows.steady (among-find (λ (r : RowShown). same_text r.name name) rows.parts.rows row e) in
+        standing row e own row.id refl (same_Some (goal_shown row.arguments own) goal g) (subst (λ o. IsStandingIf (Unit {0}) o row.id row.exists) f steady.standing)
+
+    by : (o : Option RowShown) → row_of rows.parts.rows name ≡ o → HasId history name
+    by None e = absurd (none-some goal (ap (option_and_then goal_in) (sym e) ∙ (rows.agrees).same_goals name ∙ wanted))
+    by (Some row) e = at row e row.goal refl (ap (option_and_then goal_in) (sym e) ∙ (rows.agrees).same_goals name ∙ wanted)

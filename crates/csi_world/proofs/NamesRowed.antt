@@ -1,0 +1,234 @@
+-- Which names have rows: each of which something is wanted, or for which a call was sent since it was forgotten. Of a name without a row no
+-- volume is known, and there are few with one.
+use Rattle.std.proofs.Common.{◌≡◌, ◌⊎◌, ℕ, ◌<◌, ◌≤◌, List, [], ◌∷◌, length, find, Bool, true, false, cond, not, Option, Some, None, ◌||◌, refl, sym, ◌∙◌, ap, subst, inl, inr, ⊎_elim, arith}
+use Rattle.std.specs.List.{list_any}
+use Rattle.std.proofs.lemmas.Bool.{false≢true}
+use Rattle.std.proofs.lemmas.Option.{none-some}
+use Rattle.csi_types.specs.declared.rows.TheConstants.{MAX_ROWS}
+use Rattle.csi_types.specs.declared.number.Number.{Number}
+use Rattle.csi_types.specs.Model.Same.{same_text}
+use Rattle.csi_types.specs.Public.PluginThing.{Exists}
+use Rattle.csi_types.proofs.Equality.{same_text-tells}
+use Rattle.csi_lists.specs.Model.Members.{IsAmong}
+use Rattle.csi_lists.proofs.Filters.{filter-no_longer}
+use Rattle.csi_lists.proofs.Tests.{any-then, then-any}
+use Rattle.csi_orchestrator.specs.declared.thing.Thing.{Thing}
+use Rattle.csi_orchestrator.specs.declared.thing.Thing.TheVariants as things
+use Rattle.csi_orchestrator.specs.declared.thing.Known.TheVariants.{Yes, No, Maybe}
+use Rattle.csi_orchestrator.specs.Model.Agrees.{OrchestratorView, Agrees}
+use Rattle.csi_orchestrator.specs.Model.Thing.{Issued, name_in, is_thing, touches, does, is_no, thing_of}
+use Rattle.csi_orchestrator.specs.Model.History.{Goal, Item, Started, Lost, Forgotten, Sent, Accepted, Closed, Noted, History, with_items}
+use Rattle.csi_orchestrator.specs.Model.Readings.{nodes_of, names_of, with_name, known, known_by, id_of, goal_of, arguments_of, held, open_call, tries, last_number, has_row, has_success, is_success_of, issued_in, since}
+use Rattle.csi_orchestrator.proofs.ViewsFollow.{forgotten-follows, noted-follows}
+use Rattle.csi_world.proofs.KnownThings.{at-named}
+use Rattle.csi_world.proofs.Lifetimes.{ends, calls_since, calls_for}
+use Rattle.csi_world.proofs.NamedCalls.{same-tells}
+
+-- what is so of a history's names
+pub record AreRowed (history : History) : Type 0 where
+  pub wanted : (name : List ℕ) (goal : Goal) → goal_of history name ≡ Some goal → has_row history name ≡ true
+  pub called : (call : Issued) → IsAmong call (calls_since (Exists call.name) history.items) → has_row history call.name ≡ true
+  pub gone : (name : List ℕ) → has_row history name ≡ false → known history (things.Exists name) ≡ No
+  pub few : length (names_of history) ≤ MAX_ROWS
+
+-- the item is of a name that has a row, or may have one
+abbrev pub IsFit : History → Item → Type 0
+IsFit history (Sent issued) = has_row history issued.name ≡ true
+IsFit history (Noted name goal) = (has_row history name ≡ true) ⊎ (length (names_of history) < MAX_ROWS)
+IsFit history (Forgotten name) = (known history (things.Exists name) ≡ No) × (goal_of history name ≡ None)
+IsFit history item = Unit {0}
+
+-- ---- a history, as it is read
+
+abbrev pub view_of : History → OrchestratorView
+view_of history =
+    record {
+      nodes = nodes_of history;
+      last = last_number history;
+      rows = has_row history;
+      marks = known history;
+      ids = id_of history;
+      goals = goal_of history;
+      arguments = arguments_of history;
+      holdings = held history;
+      open_calls = open_call history;
+      counts = tries history;
+    }
+
+-- agrees with itself
+pub agrees-itself : (history : History) → Agrees (view_of history) history
+agrees-itself history =
+    record { same_nodes = refl; same_last = refl; same_rows = λ name. refl; same_marks = λ thing. refl; same_ids = λ name. refl; same_goals = λ name. refl; same_arguments = λ name. refl; same_holdings = λ name node there. refl; same_open_calls = λ name. refl; same_counts = λ name. refl }
+
+-- which names have rows once something is noted
+pub noted-row : (history : History) (name other : List ℕ) (goal : Option Goal) → has_row (with_items history (Noted name goal ∷ [])) other ≡ cond (same_text name other) true (has_row history other)
+noted-row history name other goal = sym ((noted-follows (view_of history) history name goal (agrees-itself history)).same_rows other)
+
+-- what is wanted then
+noted-goal : (history : History) (name other : List ℕ) (goal : Option Goal) → goal_of (with_items history (Noted name goal ∷ [])) other ≡ cond (same_text name other) goal (goal_of history other)
+noted-goal history name other goal = sym ((noted-follows (view_of history) history name goal (agrees-itself history)).same_goals other)
+
+-- and once a name is forgotten
+forgotten-row : (history : History) (name other : List ℕ) → has_row (with_items history (Forgotten name ∷ [])) other ≡ cond (same_text name other) false (has_row history other)
+forgotten-row history name other = sym ((forgotten-follows (view_of history) history name (agrees-itself history)).same_rows other)
+
+-- ---- what is known of a volume that isn't there
+
+-- an item that isn't a call that is sent, and tells no success
+pub known-aside : (items : List Item) (item : Item) (thing : Thing) (found : Option Issued) → ((number : Number) → is_success_of number item ≡ false) → known_by (item ∷ items) thing found ≡ known_by items thing found
+known-aside items item thing None quiet = refl
+known-aside items item thing (Some call) quiet = ap (λ b. cond (not (b || has_success items call.number)) Maybe (cond (does thing call) Yes No)) (quiet call.number)
+
+-- what is known of a thing is so still once a call of another was sent
+pub sent-other : (history : History) (issued : Issued) (thing : Thing) → touches thing issued ≡ false → known (with_items history (Sent issued ∷ [])) thing ≡ known history thing
+sent-other history issued thing other =
+    ap (λ b. known_by (Sent issued ∷ history.items) thing (cond b (Some issued) found)) other ∙ by found
+  where
+    found : Option Issued
+    found = find (touches thing) (calls_for thing history.items)
+
+    by : (o : Option Issued) → known_by (Sent issued ∷ history.items) thing o ≡ known_by history.items thing o
+    by None = refl
+    by (Some call) = refl
+
+-- a success that is told leaves as it is what is known not to be so
+pub still-gone : (items : List Item) (item : Item) (thing : Thing) (found : Option Issued) → known_by items thing found ≡ No → known_by (item ∷ items) thing found ≡ No
+still-gone items item thing None is = refl
+still-gone items item thing (Some call) is = by (has_success items call.number) refl is
+  where
+    more : has_success items call.number ≡ true → has_success (item ∷ items) call.number ≡ true
+    more h = let there = any-then (is_success_of call.number) items h in then-any (is_success_of call.number) (item ∷ items) there.0 (inr there.1) there.2
+
+    by : (b : Bool) → has_success items call.number ≡ b → cond (not b) Maybe (cond (does thing call) Yes No) ≡ No → cond (not (has_success (item ∷ items) call.number)) Maybe (cond (does thing call) Yes No) ≡ No
+    by true e is = ap (λ c. cond (not c) Maybe (cond (does thing call) Yes No)) (more e) ∙ is
+    by false e is = absurd (false≢true (ap is_no is))
+
+-- a call of a name says nothing of another's volume
+other-untouched : (issued : Issued) (name : List ℕ) → same_text issued.name name ≡ false → touches (things.Exists name) issued ≡ false
+other-untouched issued name differs = by (touches (things.Exists name) issued) refl
+  where
+    at : (o : Option Thing) → thing_of issued ≡ o → is_thing (things.Exists name) o ≡ true → issued.name ≡ name
+    at None e h = absurd (false≢true h)
+    at (Some thing) e h = sym (at-named issued.name issued.party issued.call thing e) ∙ ap name_in (sym (same-tells (things.Exists name) thing h))
+
+    by : (b : Bool) → touches (things.Exists name) issued ≡ b → b ≡ false
+    by false e = refl
+    by true e = absurd (false≢true (sym differs ∙ (same_text-tells issued.name name).1 (at (thing_of issued) refl e)))
+
+-- ---- item by item
+
+-- no more names than there is room for
+few-named : (name : List ℕ) (names : List (List ℕ)) → length names ≤ MAX_ROWS → (list_any (same_text name) names ≡ true) ⊎ (length names < MAX_ROWS) → length (with_name name names) ≤ MAX_ROWS
+few-named name names few fit = by (list_any (same_text name) names) refl fit
+  where
+    by : (b : Bool) → list_any (same_text name) names ≡ b → (b ≡ true) ⊎ (length names < MAX_ROWS) → length (cond b names (name ∷ names)) ≤ MAX_ROWS
+    by true e fit = few
+    by false e (inl h) = absurd (false≢true h)
+    by false e (inr less) = omega (arith, less)
+
+-- a name that has no row had none before, where it isn't forgotten
+had-none : (b r : Bool) → cond b true r ≡ false → r ≡ false
+had-none true r h = absurd (false≢true (sym h))
+had-none false r h = h
+
+-- something is noted
+noted-rowed : (history : History) (name : List ℕ) (goal : Option Goal) → IsFit history (Noted name goal) → AreRowed history → AreRowed (with_items history (Noted name goal ∷ []))
+noted-rowed history name goal fit rowed =
+    record {
+      wanted = λ other want e. by other (same_text name other) refl (λ differs. rowed.wanted other want (sym (noted-goal history name other goal ∙ ap (λ b. cond b goal (goal_of history other)) differs) ∙ e));
+      called = λ call among. by call.name (same_text name call.name) refl (λ differs. rowed.called call among);
+      gone = λ other none. known-aside history.items (Noted name goal) (things.Exists other) (find (touches (things.Exists other)) (calls_for (things.Exists other) history.items)) (λ number. refl)
+          ∙ rowed.gone other (had-none (same_text name other) (has_row history other) (sym (noted-row history name other goal) ∙ none));
+      few = few-named name (names_of history) rowed.few fit;
+    }
+  where
+    by : (other : List ℕ) (b : Bool) → same_text name other ≡ b → (same_text name other ≡ false → has_row history other ≡ true) → has_row (with_items history (Noted name goal ∷ [])) other ≡ true
+    by other true same row = noted-row history name other goal ∙ ap (λ b. cond b true (has_row history other)) same
+    by other false differs row = noted-row history name other goal ∙ ap (λ b. cond b true (has_row history other)) differs ∙ row differs
+
+-- a name is forgotten
+forgotten-rowed : (history : History) (name : List ℕ) → IsFit history (Forgotten name) → AreRowed history → AreRowed (with_items history (Forgotten name ∷ []))
+forgotten-rowed history name fit rowed =
+    record {
+      wanted = λ other want e. by other (same_text name other) refl (λ same. absurd (none-some want (sym fit.1 ∙ ap (goal_of history) same ∙ e))) (rowed.wanted other want e);
+      called = λ call among. called call (same_text name call.name) refl among;
+      gone = λ other none. known-aside history.items (Forgotten name) (things.Exists other) (find (touches (things.Exists other)) (calls_for (things.Exists other) history.items)) (λ number. refl)
+          ∙ gone other (same_text name other) refl (sym (forgotten-row history name other) ∙ none);
+      few = let less = filter-no_longer (λ other. not (same_text other name)) (names_of history) in let few = rowed.few in omega (arith, less, few);
+    }
+  where
+    by : (other : List ℕ) (b : Bool) → same_text name other ≡ b → (name ≡ other → ⊥) → has_row history other ≡ true → has_row (with_items history (Forgotten name ∷ [])) other ≡ true
+    by other true same not_it row = absurd (not_it ((same_text-tells name other).0 same))
+    by other false differs not_it row = forgotten-row history name other ∙ ap (λ b. cond b false (has_row history other)) differs ∙ row
+
+    called : (call : Issued) (b : Bool) → same_text name call.name ≡ b → IsAmong call (issued_in (cond (same_text name call.name) [] (Forgotten name ∷ since (ends (Exists call.name)) history.items))) → has_row (with_items history (Forgotten name ∷ [])) call.name ≡ true
+    called call true same among = absurd (subst (λ b. IsAmong call (issued_in (cond b [] (Forgotten name ∷ since (ends (Exists call.name)) history.items)))) same among)
+    called call false differs among =
+        forgotten-row history name call.name ∙ ap (λ b. cond b false (has_row history call.name)) differs
+        ∙ rowed.called call (subst (λ b. IsAmong call (issued_in (cond b [] (Forgotten name ∷ since (ends (Exists call.name)) history.items)))) differs among)
+
+    gone : (other : List ℕ) (b : Bool) → same_text name other ≡ b → cond (same_text name other) false (has_row history other) ≡ false → known history (things.Exists other) ≡ No
+    gone other true same none = subst (λ n. known history (things.Exists n) ≡ No) ((same_text-tells name other).0 same) fit.0
+    gone other false differs none = rowed.gone other (sym (ap (λ b. cond b false (has_row history other)) differs) ∙ none)
+
+-- a call is sent
+sent-rowed : (history : History) (issued : Issued) → IsFit history (Sent issued) → AreRowed history → AreRowed (with_items history (Sent issued ∷ []))
+sent-rowed history issued fit rowed =
+    record {
+      wanted = rowed.wanted;
+      called = λ call among. ⊎_elim (λ e. ap (λ (c : Issued). has_row history c.name) e ∙ fit) (λ there. rowed.called call there) among;
+      gone = λ name none. sent-other history issued (things.Exists name) (other-untouched issued name (differs name none (same_text issued.name name) refl)) ∙ rowed.gone name none;
+      few = rowed.few;
+    }
+  where
+    differs : (name : List ℕ) → has_row history name ≡ false → (b : Bool) → same_text issued.name name ≡ b → b ≡ false
+    differs name none true e = absurd (false≢true (sym none ∙ ap (has_row history) (sym ((same_text-tells issued.name name).0 e)) ∙ fit))
+    differs name none false e = refl
+
+-- each item
+pub item-rowed : (history : History) (item : Item) → IsFit history item → AreRowed history → AreRowed (with_items history (item ∷ []))
+item-rowed history (Sent issued) fit rowed = sent-rowed history issued fit rowed
+item-rowed history (Noted name goal) fit rowed = noted-rowed history name goal fit rowed
+item-rowed history (Forgotten name) fit rowed = forgotten-rowed history name fit rowed
+item-rowed history (Accepted number status id) fit rowed =
+    record {
+      wanted = rowed.wanted;
+      called = rowed.called;
+      gone = λ name none. still-gone history.items (Accepted number status id) (things.Exists name) (find (touches (things.Exists name)) (calls_for (things.Exists name) history.items)) (rowed.gone name none);
+      few = rowed.few;
+    }
+item-rowed history (Started session nodes) fit rowed =
+    record {
+      wanted = rowed.wanted;
+      called = rowed.called;
+      gone = λ name none. known-aside history.items (Started session nodes) (things.Exists name) (find (touches (things.Exists name)) (calls_for (things.Exists name) history.items)) (λ number. refl) ∙ rowed.gone name none;
+      few = rowed.few;
+    }
+item-rowed history (Lost node) fit rowed =
+    record {
+      wanted = rowed.wanted;
+      called = rowed.called;
+      gone = λ name none. known-aside history.items (Lost node) (things.Exists name) (find (touches (things.Exists name)) (calls_for (things.Exists name) history.items)) (λ number. refl) ∙ rowed.gone name none;
+      few = rowed.few;
+    }
+item-rowed history (Closed number) fit rowed =
+    record {
+      wanted = rowed.wanted;
+      called = rowed.called;
+      gone = λ name none. known-aside history.items (Closed number) (things.Exists name) (find (touches (things.Exists name)) (calls_for (things.Exists name) history.items)) (λ n. refl) ∙ rowed.gone name none;
+      few = rowed.few;
+    }
+
+-- each of these items is fit where it stands, the newest first
+abbrev pub AreFit : History → List Item → Type 0
+AreFit history [] = Unit {0}
+AreFit history (item ∷ older) = IsFit (with_items history older) item × AreFit history older
+
+-- so it is after them
+pub items-rowed : (history : History) (items : List Item) → AreFit history items → AreRowed history → AreRowed (with_items history items)
+items-rowed history [] fit rowed = rowed
+items-rowed history (item ∷ older) fit rowed = item-rowed (with_items history older) item fit.0 (items-rowed history older fit.1 rowed)
+
+-- at first
+pub first-rowed : (nodes : List (List ℕ)) (last : Number) → AreRowed (let h : History = record { began = last; nodes = nodes; items = [] } in h)
+first-rowed nodes last = record { wanted = λ name goal e. absurd (none-some goal e); called = λ call among. absurd among; gone = λ name none. refl; few = omega arith }

@@ -1,0 +1,204 @@
+-- The rows of nodes: each is of another volume, and of a call that was sent to the node for it.
+use Rattle.std.proofs.Common.{◌≡◌, ◌⊎◌, ℕ, List, [], ◌∷◌, map, not, Bool, true, false, cond, Option, Some, None, ◌==◌, refl, sym, ◌∙◌, ap, subst, inl, inr, ⊎_elim}
+use Rattle.std.specs.Prelude.{is_some}
+use Rattle.std.proofs.lemmas.Bool.{eqb-true}
+use Rattle.csi_types.specs.declared.number.Number.{Number}
+use Rattle.csi_types.specs.declared.call.Call.{Call}
+use Rattle.csi_types.specs.declared.call.Party.{Party}
+use Rattle.csi_types.specs.declared.call.Party.TheVariants.{Controller, Node}
+use Rattle.csi_types.specs.declared.frame.Body.{Body}
+use Rattle.csi_types.specs.declared.frame.Body.TheVariants as bodies
+use Rattle.csi_types.specs.Model.Config.{Config}
+use Rattle.csi_types.specs.Model.Frame.{Frame}
+use Rattle.csi_types.specs.Model.Same.{same_text}
+use Rattle.csi_types.proofs.Equality.{same_text-tells}
+use Rattle.csi_lists.specs.Model.Members.{IsAmong, EachTwo}
+use Rattle.csi_lists.proofs.Members.{among-either, among-filter, among-map, none_passes}
+use Rattle.csi_lists.proofs.Pairs.{two-append, two-filter, two-map, two-more}
+use Rattle.csi_fence.specs.Model.Fence.{Kept}
+use Rattle.csi_fence.specs.Model.Fenced.{Fenced, fenced_parts}
+use Rattle.csi_fence.proofs.FramesKeep.{frames_keep}
+use Rattle.csi_node.specs.Model.State.{NodeState, AnsweredVolume, joined_node, staged_of, row_with_id, volume_of}
+use Rattle.csi_node.specs.Model.Table as table
+use Rattle.csi_node.specs.Model.Fenced as nodes
+use Rattle.csi_node.specs.Public.Fenced.{after_frames}
+use Rattle.csi_node.proofs.CarriedOut.{Carried, no_room, has_room, was_carried, kept_of}
+use Rattle.csi_node.proofs.LastCalls.{changed-rows, kept_in-id}
+use Rattle.csi_orchestrator.specs.Model.Thing.{Issued}
+use Rattle.csi_orchestrator.specs.Model.Readings.{issued_in}
+use Rattle.csi_world.specs.Model.World.{NodeAt, World, empty_world, node_id, new_node, node_state, with_state, with_node, with_frame}
+use Rattle.csi_world.specs.Model.Step.{answered_by, answered_by_node}
+use Rattle.csi_world.specs.Public.Step.{Choice, Sends, Closes, Takes, Notes, Starts, Forgets, Answers, Joins, Loses, Configures, MayChoose, MayChooseAll, chosen, chosen_all}
+use Rattle.csi_world.proofs.PluginsReached.{found-at, knows-nothing}
+use Rattle.csi_world.proofs.Deliveries.{PluginLaws}
+use Rattle.csi_world.proofs.RightWorlds.{IsRight}
+use Rattle.csi_world.proofs.ChoicesRight.{chosen-right}
+use Rattle.csi_world.proofs.HeardNumbers.{call-so}
+
+-- ---- each is of another volume
+
+-- the rows are of different volumes
+abbrev pub AreApart : List AnsweredVolume → Type 0
+AreApart rows = EachTwo (λ (a b : AnsweredVolume). (a.id == b.id) ≡ false) rows
+
+-- so they are once a call is kept
+keep-apart : (volume : Option ℕ) (kept : Kept) (state : NodeState) → AreApart state.rows → AreApart (nodes.keep volume kept state).rows
+keep-apart None kept state apart = apart
+keep-apart (Some id) kept state apart = by (row_with_id id state) refl
+  where
+    Differ : AnsweredVolume → AnsweredVolume → Type 0
+    Differ a b = (a.id == b.id) ≡ false
+
+    by : (o : Option AnsweredVolume) → row_with_id id state ≡ o → AreApart (nodes.kept_rows id kept state.rows o)
+    by (Some row) e =
+        two-map (λ (a b : AnsweredVolume). (a.id == b.id) ≡ false) (nodes.kept_in id kept) state.rows
+        (two-more (λ (a b : AnsweredVolume). (a.id == b.id) ≡ false) (λ (a b : AnsweredVolume). ((nodes.kept_in id kept a).id == (nodes.kept_in id kept b).id) ≡ false) state.rows
+        (λ a b differ. (λ i. kept_in-id id kept a i == kept_in-id id kept b i) ∙ differ) apart)
+    by None e = two-append (λ (a b : AnsweredVolume). (a.id == b.id) ≡ false) state.rows (record { id = id; kept = kept }) apart (λ row among. none_passes (λ (r : AnsweredVolume). r.id == id) state.rows row e among)
+
+-- and once a call is carried out
+carried-apart : (node : List ℕ) (state : NodeState) (number : Number) (call : Call) → AreApart state.rows → AreApart (nodes.carried_out node state number call (table.node_row state call)).state.rows
+carried-apart node state number call apart = by _ (was_carried node state number call)
+  where
+    by : (after : Fenced NodeState) → Carried node state number call after → AreApart after.state.rows
+    by _ (no_room full) = apart
+    by _ (has_room room) =
+        keep-apart (volume_of call) (kept_of state number call) (table.changed state (table.lifecycle_row state call).change)
+        (subst AreApart (sym (changed-rows state (table.lifecycle_row state call).change)) apart)
+
+-- whatever frames came
+pub apart-rows : (node : List ℕ) (session : ℕ) (frames : List Frame) → AreApart (after_frames node (joined_node session) frames).rows
+apart-rows node session frames =
+    frames_keep (nodes.node_at node) (λ (s : NodeState). AreApart s.rows)
+    (record {
+      sets_session = λ session state. refl;
+      begins = λ session state later apart. two-filter (λ (a b : AnsweredVolume). (a.id == b.id) ≡ false) (λ (r : AnsweredVolume). is_some (staged_of r.id state)) state.rows apart;
+      carries = λ state number call carried apart. carried-apart node state number call apart;
+    }) (joined_node session) frames tt
+
+-- ---- each is of a call that was sent
+
+-- a call that was sent to the node for the row's volume, under the number that is kept
+pub record IsCalled (issued : List Issued) (node : List ℕ) (row : AnsweredVolume) : Type 0 where
+  pub call : Issued
+  pub among : IsAmong call issued
+  pub to_node : call.party ≡ Node node
+  pub for_volume : volume_of call.call ≡ Some row.id
+  pub has_number : call.number ≡ row.kept.number
+
+-- each row of a node is so
+abbrev pub AreCalled : List Issued → List ℕ → NodeState → Type 0
+AreCalled issued node state = (row : AnsweredVolume) → IsAmong row state.rows → IsCalled issued node row
+
+-- of each node that is there
+abbrev pub AllCalled : World → Type 0
+AllCalled world = (node : NodeAt) → IsAmong node world.nodes → AreCalled (issued_in world.history.items) node.id node.state
+
+-- where more was sent
+more-called : (call : Issued) (issued : List Issued) (node : List ℕ) (row : AnsweredVolume) → IsCalled issued node row → IsCalled (call ∷ issued) node row
+more-called call issued node row called = record { call = called.call; among = inr called.among; to_node = called.to_node; for_volume = called.for_volume; has_number = called.has_number }
+
+-- a row once a call is kept is one from before, or the call's
+keep-either : (volume : Option ℕ) (kept : Kept) (state : NodeState) (row : AnsweredVolume) → IsAmong row (nodes.keep volume kept state).rows → IsAmong row state.rows ⊎ ((row.kept ≡ kept) × (volume ≡ Some row.id))
+keep-either None kept state row among = inl among
+keep-either (Some id) kept state row among = by (row_with_id id state) among
+  where
+    new : (was : AnsweredVolume) → IsAmong was state.rows → row ≡ nodes.kept_in id kept was → (b : Bool) → (was.id == id) ≡ b → IsAmong row state.rows ⊎ ((row.kept ≡ kept) × (Some id ≡ Some row.id))
+    new was there is true same =
+        let now : row ≡ record was { kept = kept } = is ∙ ap (λ b. cond b (let r : AnsweredVolume = record was { kept = kept } in r) was) same in
+        inr (ap (λ (r : AnsweredVolume). r.kept) now, ap Some (sym (ap (λ (r : AnsweredVolume). r.id) now ∙ eqb-true was.id id same)))
+    new was there is false differ =
+        let now : row ≡ was = is ∙ ap (λ b. cond b (let r : AnsweredVolume = record was { kept = kept } in r) was) differ in
+        inl (subst (λ (r : AnsweredVolume). IsAmong r state.rows) (sym now) there)
+
+    by : (o : Option AnsweredVolume) → IsAmong row (nodes.kept_rows id kept state.rows o) → IsAmong row state.rows ⊎ ((row.kept ≡ kept) × (Some id ≡ Some row.id))
+    by (Some there) inside = let was = among-map (nodes.kept_in id kept) state.rows row inside in new was.0 was.1 was.2 (was.0.id == id) refl
+    by None inside =
+        ⊎_elim (λ there. inl there) (λ is. inr (ap (λ (r : AnsweredVolume). r.kept) is, ap Some (sym (ap (λ (r : AnsweredVolume). r.id) is))))
+        (among-either state.rows (record { id = id; kept = kept }) row inside)
+
+-- a sent call that is carried out
+carried-called : (issued : List Issued) (node : List ℕ) (state : NodeState) (one : Issued) → IsAmong one issued → one.party ≡ Node node → AreCalled issued node state
+    → AreCalled issued node (nodes.carried_out node state one.number one.call (table.node_row state one.call)).state
+carried-called issued node state one sent to called = by _ (was_carried node state one.number one.call)
+  where
+    by : (after : Fenced NodeState) → Carried node state one.number one.call after → AreCalled issued node after.state
+    by _ (no_room full) = called
+    by _ (has_room room) = λ row among.
+        ⊎_elim
+        (λ there. called row (subst (λ (rows : List AnsweredVolume). IsAmong row rows) (changed-rows state (table.lifecycle_row state one.call).change) there))
+        (λ own. record { call = one; among = sent; to_node = to; for_volume = own.1; has_number = ap (λ (k : Kept). k.number) (sym own.0) })
+        (keep-either (volume_of one.call) (kept_of state one.number one.call) (table.changed state (table.lifecycle_row state one.call).change) row among)
+
+-- a node got a frame that was sent to it
+node-called : (issued : List Issued) (node : List ℕ) (state : NodeState) (number : Number) (body : Body) → ((call : Call) → body ≡ bodies.Call call → (one : Issued) × IsAmong one issued × (one.party ≡ Node node) × (one.number ≡ number) × (one.call ≡ call))
+    → AreCalled issued node state → AreCalled issued node (fenced_parts (nodes.node_at node) state number (Node node) body).state
+node-called issued node state number (bodies.Call call) of called =
+    let one = of call refl in
+    call-so (nodes.node_at node) (AreCalled issued node) number call
+    (λ s so row among. so row (among-filter (λ (r : AnsweredVolume). is_some (staged_of r.id s)) s.rows row among))
+    (λ s so. subst (λ (x : Number × Call). AreCalled issued node (nodes.carried_out node s x.0 x.1 (table.node_row s x.1)).state) (λ i. (one.3 i, one.4 i)) (carried-called issued node s one.0 one.1 one.2 so))
+    state (Node node) called
+node-called issued node state number (bodies.Reply kind reply) of called = called
+
+-- so it is by each choice that may be made
+chosen-called : (world : World) (choice : Choice) → IsRight world → MayChoose world choice → AllCalled world → AllCalled (chosen world choice)
+chosen-called world (Sends issued) right may called = λ at among row here. more-called issued (issued_in world.history.items) at.id row (called at among row here)
+chosen-called world (Closes number) right may called = called
+chosen-called world (Takes issued reply) right may called = called
+chosen-called world (Notes name goal) right may called = called
+chosen-called world (Starts session ns) right may called = called
+chosen-called world (Forgets name) right may called = called
+chosen-called world (Answers frame) right may called = by frame.party refl
+  where
+    issued : List Issued
+    issued = issued_in world.history.items
+
+    more : (reply : Option Frame) (next : World) → AllCalled next → AllCalled (with_frame reply next)
+    more None next so = so
+    more (Some one) next so = so
+
+    sent : (node : List ℕ) → frame.party ≡ Node node → (call : Call) → frame.body ≡ bodies.Call call → (one : Issued) × IsAmong one issued × (one.party ≡ Node node) × (one.number ≡ frame.number) × (one.call ≡ call)
+    sent node to call is =
+        let of = right.good.well.so_far.truth.calls frame call may is in
+        (of.call, of.among, ap (λ (f : Frame). f.party) (sym of.is) ∙ to, ap (λ (f : Frame). f.number) (sym of.is), same (of.call).call call (ap (λ (f : Frame). f.body) (sym of.is) ∙ is))
+      where
+        same : (a b : Call) → bodies.Call a ≡ bodies.Call b → a ≡ b
+        same a b h = cc
+
+    with_one : (id : List ℕ) (state : NodeState) → AreCalled issued id state → (at : NodeAt) → IsAmong at (map (with_state id state) world.nodes) → AreCalled issued at.id at.state
+    with_one id state own at among =
+        let from = among-map (with_state id state) world.nodes at among in
+        subst (λ (n : NodeAt). AreCalled issued n.id n.state) (sym from.2) (one from.0 (called from.0 from.1) (same_text (from.0).id id) refl)
+      where
+        one : (old : NodeAt) → AreCalled issued old.id old.state → (b : Bool) → same_text old.id id ≡ b → AreCalled issued (cond b (let n : NodeAt = record old { state = state } in n) old).id (cond b (let n : NodeAt = record old { state = state } in n) old).state
+        one old so true e = subst (λ n. AreCalled issued n state) (sym ((same_text-tells old.id id).0 e)) own
+        one old so false e = so
+
+    at_node : (id : List ℕ) → frame.party ≡ Node id → (o : Option NodeState) → node_state id world ≡ o → AllCalled (answered_by_node id world frame o)
+    at_node id to None e = called
+    at_node id to (Some state) e =
+        let found = found-at id world state e in
+        let own : AreCalled issued id state = subst (λ (n : List ℕ × NodeState). AreCalled issued n.0 n.1) (λ i. (found.2 i, found.3 i)) (called found.0 found.1) in
+        let next : NodeState = (nodes.fenced id state frame).state in
+        more (nodes.fenced id state frame).reply (with_node id next world)
+        (with_one id next (subst (λ p. AreCalled issued id (fenced_parts (nodes.node_at id) state frame.number p frame.body).state) (sym to) (node-called issued id state frame.number frame.body (sent id to) own)))
+
+    by : (party : Party) → frame.party ≡ party → AllCalled (answered_by world frame party)
+    by Controller to = more _ (record world { controller = _ }) called
+    by (Node id) to = at_node id to (node_state id world) refl
+chosen-called world (Joins node) right may called = λ at among.
+    ⊎_elim (λ there. called at there) (λ e row here. absurd (subst (λ (n : NodeAt). IsAmong row n.state.rows) e here))
+    (among-either world.nodes (new_node _ node) at among)
+chosen-called world (Loses node session ns) right may called = λ at among. called at (among-filter (λ (n : NodeAt). not (same_text n.id node)) world.nodes at among)
+chosen-called world (Configures config) right may called = called
+
+-- and by many
+pub all-called : PluginLaws → (world : World) (choices : List Choice) → IsRight world → MayChooseAll world choices → AllCalled world → AllCalled (chosen_all world choices)
+all-called laws world [] right may called = called
+all-called laws world (choice ∷ choices) right may called =
+    all-called laws (chosen world choice) choices (chosen-right laws world choice right may.0) may.1 (chosen-called world choice right may.0 called)
+
+-- at first there are no rows
+pub empty-called : (config : Config) → AllCalled (empty_world config)
+empty-called config = λ at among row here. absurd (subst (λ (s : NodeState). IsAmong row s.rows) (knows-nothing (map node_id config.nodes) at among) here)

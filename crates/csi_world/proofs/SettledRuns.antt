@@ -1,0 +1,191 @@
+-- A volume comes to rest by one timeout and at most twelve deliveries: each call that is due is answered, and fewer are left then.
+use Rattle.std.proofs.Common.{◌≡◌, ◌⊎◌, ℕ, suc, ◌+◌, ◌^◌, ◌≤◌, ◌<◌, List, [], ◌∷◌, length, Bool, true, false, cond, not, find, Option, Some, None, ◌&&◌, ◌||◌, ◌==◌, refl, sym, ◌∙◌, ap, subst, inl, inr, ⊎_elim, arith}
+use Rattle.std.specs.Prelude.{is_none, IsSome}
+use Rattle.std.proofs.lemmas.Bool.{and_parts, eqb-true, false≢true}
+use Rattle.csi_types.specs.declared.call.Party.TheVariants.{Node}
+use Rattle.csi_types.specs.declared.event.Event.{Event}
+use Rattle.csi_types.specs.declared.event.Event.TheVariants.{Timeout}
+use Rattle.csi_types.proofs.Equality.{same_text-tells}
+use Rattle.csi_orchestrator.specs.declared.fault.OrchFault.TheVariants as faults
+use Rattle.csi_node.specs.Model.State.{NodeState}
+use Rattle.csi_orchestrator.specs.declared.request.Usage.{Usage}
+use Rattle.csi_orchestrator.specs.Model.Thing.{Issued, touches}
+use Rattle.csi_orchestrator.specs.declared.thing.Thing.{Thing}
+use Rattle.csi_orchestrator.specs.Model.WellFormed.{IsWellFormed}
+use Rattle.csi_orchestrator.proofs.Numbers.{open-sent}
+use Rattle.csi_orchestrator.specs.Model.History.{Goal, Create, Use, Stop, Delete, Item, Sent, Closed, Noted, History, with_items}
+use Rattle.csi_orchestrator.specs.Model.Readings.{goal_of, has_row, id_of, known, last_number, nodes_of, open_call, tries}
+use Rattle.csi_orchestrator.specs.Model.Due.{Due, due_kind, due_for, due_call}
+use Rattle.csi_orchestrator.specs.Model.Moves.{TimesOut, Sends, moves, send_due, is_forward_due, undoing_goal, closing, timeout}
+use Rattle.csi_world.specs.Model.World.{World, node_state}
+use Rattle.csi_world.specs.Model.After.{occurs, after_from}
+use Rattle.csi_world.specs.Public.Settling.{is_at_rest, deliveries, settled, node_in, MaySettle, Settles, EndsSo}
+use Rattle.csi_world.proofs.Lifetimes.{calls_for}
+use Rattle.csi_world.proofs.NamesRowed.{known-aside}
+use Rattle.csi_world.proofs.GoalsMet.{HasId, noted-id, closed-id, goal-id}
+use Rattle.csi_world.proofs.RowsShown.{IsListed}
+use Rattle.csi_world.proofs.DueRanks.{use-create, goal-rank, stop-rank}
+use Rattle.csi_world.proofs.FreshCalls.{IsThere}
+use Rattle.csi_world.proofs.RunWorlds.{IsRun, RunLaws, next-run}
+use Rattle.csi_world.proofs.UndoneCalls.{HasRoom}
+use Rattle.csi_world.proofs.SettledFrames.{final, at-end, few-deliveries, extends-same}
+use Rattle.csi_world.proofs.GoalCalls.{goal-noted, due-forward, Ends, met-ends, Finishes}
+use Rattle.csi_world.proofs.WaitingWorlds.{IsNext, rank-most, sends-so, sent-next}
+use Rattle.csi_world.proofs.AnsweredWaits.{waits}
+
+module _ (laws : RunLaws) (name : List ℕ) where
+  module _ (room : (world : World) (base : History) (issued : Issued) → IsRun world → world.history ≡ with_items base (Sent issued ∷ []) → HasRoom world issued.number issued.party issued.call) where
+    -- ---- the timeout
+
+    -- giving up an open call leaves what is wanted
+    closing-goal : (history : History) (call : Option Issued) → goal_of (with_items history (closing call)) name ≡ goal_of history name
+    closing-goal history None = refl
+    closing-goal history (Some issued) = refl
+
+    closing-nodes : (history : History) (call : Option Issued) → nodes_of (with_items history (closing call)) ≡ nodes_of history
+    closing-nodes history None = refl
+    closing-nodes history (Some issued) = refl
+
+    closing-known : (history : History) (call : Option Issued) (thing : Thing) → known (with_items history (closing call)) thing ≡ known history thing
+    closing-known history None thing = refl
+    closing-known history (Some issued) thing = known-aside history.items (Closed issued.number) thing (find (touches thing) (calls_for thing history.items)) (λ n. refl)
+
+    closing-id : (history : History) (call : Option Issued) → IsWellFormed history → open_call history name ≡ call → HasId history name → HasId (with_items history (closing call)) name
+    closing-id history None form e has = has
+    closing-id history (Some issued) form e has =
+        let same : issued.name ≡ name = (same_text-tells issued.name name).0 (open-sent name history.items issued e).1 in
+        closed-id history name issued form (ap (open_call history) same ∙ e) has
+
+    timeout-next : (world : World) (goal : Goal) → IsRun world → has_row world.history name ≡ true → goal_of world.history name ≡ Some goal → (last_number world.history).call + 6 < 2 ^ 64
+        → ((node : List ℕ) → node_in (Some goal) ≡ Some node → IsListed world.history node → IsThere world (Node node))
+        → IsNext (occurs world (Timeout name)).world name (length world.frames) 6 goal
+        ⊎ ((usage : Usage) × (goal ≡ Use usage) × (tries world.history name ≡ 3) × IsNext (occurs world (Timeout name)).world name (length world.frames) 6 (Stop usage.node usage.target))
+    timeout-next world goal run row wanted numbers there = by (is_forward_due (due_call history name) && (tries history name == 3)) refl
+      where
+        history : History
+        history = world.history
+
+        left : (last_number history).call + suc 6 ≤ 2 ^ 64
+        left = omega (arith, numbers)
+
+        next : IsRun (occurs world (Timeout name)).world
+        next = next-run laws world (Timeout name) run
+
+        ended : List Item
+        ended = closing (open_call history name)
+
+        stops : Item
+        stops = Noted name (undoing_goal (goal_of history name))
+
+        moved : (b : Bool) → (is_forward_due (due_call history name) && (tries history name == 3)) ≡ b
+            → moves history (TimesOut name) ≡ cond b (send_due history name Sends (stops ∷ ended)) (send_due history name Sends ended)
+        moved b e =
+            ap (timeout history name)
+            (ap (λ r. cond (not r) (Some faults.NoSuchVolume) (cond (is_none (goal_of history name)) (Some faults.Idle) None)) row ∙ ap (λ g. cond (is_none g) (Some faults.Idle) None) wanted)
+            ∙ ap (λ r. cond r (send_due history name Sends (stops ∷ ended)) (send_due history name Sends ended)) e
+
+        used : is_forward_due (due_for history name (Some goal)) ≡ true → (usage : Usage) × (goal ≡ Use usage)
+        used forward = at (due_for history name (Some goal)) refl forward
+          where
+            at : (o : Option Due) → due_for history name (Some goal) ≡ o → is_forward_due o ≡ true → (usage : Usage) × (goal ≡ Use usage)
+            at None e forward = absurd (false≢true forward)
+            at (Some due) e forward = due-forward name goal (id_of history name) (due_kind history name goal) due e forward
+
+        stopped : (usage : Usage) → goal ≡ Use usage → moves history (TimesOut name) ≡ send_due history name Sends (stops ∷ ended) → IsNext (occurs world (Timeout name)).world name (length world.frames) 6 (Stop usage.node usage.target)
+        stopped usage is e =
+            (sent-next laws name world (TimesOut name) Sends (stops ∷ ended) (Stop usage.node usage.target) 6 sends-so e run next
+            (goal-noted history name (undoing_goal (goal_of history name)) ended ∙ ap undoing_goal (wanted ∙ ap Some is))
+            (let own = stop-rank (with_items history (stops ∷ ended)) name usage.node usage.target in omega (arith, own)) left
+            (λ node of. there node (ap (λ g. node_in (Some g)) is ∙ of)) (closing-nodes history (open_call history name))
+            (λ thing gone. known-aside (with_items history ended).items stops thing (find (touches thing) (calls_for thing (with_items history ended).items)) (λ n. refl) ∙ closing-known history (open_call history name) thing ∙ gone)
+            (λ differs. noted-id (with_items history ended) name name (undoing_goal (goal_of history name)) (closing-id history (open_call history name) run.form refl (goal-id history run.rows name goal wanted (λ arguments f. use-create usage arguments (sym is ∙ f)))))).0
+
+        by : (b : Bool) → (is_forward_due (due_call history name) && (tries history name == 3)) ≡ b
+            → IsNext (occurs world (Timeout name)).world name (length world.frames) 6 goal
+            ⊎ ((usage : Usage) × (goal ≡ Use usage) × (tries history name ≡ 3) × IsNext (occurs world (Timeout name)).world name (length world.frames) 6 (Stop usage.node usage.target))
+        by true e =
+            let parts = and_parts (is_forward_due (due_call history name)) (tries history name == 3) e in
+            let usage = used (ap (λ g. is_forward_due (due_for history name g)) (sym wanted) ∙ parts.0) in
+            inr (usage.0, usage.1, eqb-true (tries history name) 3 parts.1, stopped usage.0 usage.1 (moved true e))
+        by false e =
+            inl (sent-next laws name world (TimesOut name) Sends ended goal 6 sends-so (moved false e) run next (closing-goal history (open_call history name) ∙ wanted)
+            (goal-rank (with_items history ended) name goal 6 (rank-most (due_kind (with_items history ended) name goal))) left there (closing-nodes history (open_call history name))
+            (λ thing gone. closing-known history (open_call history name) thing ∙ gone)
+            (λ differs. closing-id history (open_call history name) run.form refl (goal-id history run.rows name goal wanted differs))).0
+
+    -- ---- all together
+
+    -- what has to be there is
+    has-state : (world : World) (node : List ℕ) → IsSome (node_state node world) → IsThere world (Node node)
+    has-state world node some = by (node_state node world) refl some
+      where
+        by : (o : Option NodeState) → node_state node world ≡ o → IsSome o → IsThere world (Node node)
+        by None e some = absurd (false≢true some)
+        by (Some state) e some = (state, e)
+
+    -- what came of a goal, once the volume is at rest
+    ends-so : (world last : World) (goal : Goal) → Ends (length world.frames) last name goal → EndsSo world last name (Some goal)
+    ends-so world last (Create arguments) ends = ends
+    ends-so world last (Use usage) ends = ⊎_elim (λ made. inl made) (λ stopped. inr (stopped.0, inl stopped.1)) ends
+    ends-so world last (Stop node target) ends = ends
+    ends-so world last Delete ends = ends
+
+    -- a volume of which this is wanted comes to rest
+    wanted-settles : (world : World) → IsRun world → MaySettle world name → (goal : Goal) → goal_of world.history name ≡ Some goal
+        → (is_at_rest (final 12 (occurs world (Timeout name)).world name (length world.frames)) name ≡ true) × EndsSo world (final 12 (occurs world (Timeout name)).world name (length world.frames)) name (Some goal)
+    wanted-settles world run may goal e = by (timeout-next world goal run ((run.rowed).wanted name goal e) e may.numbers (λ node of here. has-state world node (may.there node (ap node_in e ∙ of) here)))
+      where
+        then : World
+        then = (occurs world (Timeout name)).world
+
+        last : World
+        last = final 12 then name (length world.frames)
+
+        finishes : (other : Goal) → IsNext then name (length world.frames) 6 other → Finishes (length world.frames) then name other last
+        finishes other (inl rest) =
+            subst (Finishes (length world.frames) then name other) (sym (at-end 12 then name (length world.frames) rest.0))
+            (record { rest = rest.0; ends = met-ends (length world.frames) then name other (next-run laws world (Timeout name) run) rest.1; extends = extends-same then then refl })
+        finishes other (inr waiting) = subst (λ g. Finishes (length world.frames) then name g last) waiting.1 (waits laws name room (length world.frames) 6 12 then (length world.frames) (omega arith) (omega arith) waiting.0)
+
+        by : IsNext then name (length world.frames) 6 goal
+            ⊎ ((usage : Usage) × (goal ≡ Use usage) × (tries world.history name ≡ 3) × IsNext then name (length world.frames) 6 (Stop usage.node usage.target))
+            → (is_at_rest last name ≡ true) × EndsSo world last name (Some goal)
+        by (inl next) = let finished = finishes goal next in (finished.rest, ends-so world last goal finished.ends)
+        by (inr (usage, is, tried, next)) =
+            let finished = finishes (Stop usage.node usage.target) next in
+            (finished.rest, subst (λ g. EndsSo world last name (Some g)) (sym is) (inr (finished.ends, inr tried)))
+
+    pub settles : (world : World) → IsRun world → MaySettle world name → Settles world name
+    settles world run may = by (goal_of world.history name) refl
+      where
+        then : World
+        then = (occurs world (Timeout name)).world
+
+        others : List Event
+        others = deliveries 12 then name (length world.frames)
+
+        few : (b : Bool) → length (cond b [] (Timeout name ∷ others)) ≤ 13
+        few true = omega arith
+        few false = let own = few-deliveries 12 then name (length world.frames) in omega (arith, own)
+
+        -- by whether anything happens
+        after : (b : Bool) → (is_at_rest world name || not (has_row world.history name)) ≡ b → settled world name ≡ (after_from world (cond b [] (Timeout name ∷ others))).world
+        after b e = ap (λ c. (after_from world (cond c [] (Timeout name ∷ others))).world) e
+
+        by : (o : Option Goal) → goal_of world.history name ≡ o → Settles world name
+        by None e =
+            let same = after true (ap (λ g. is_none g || not (has_row world.history name)) e) in
+            record {
+              few = few (is_at_rest world name || not (has_row world.history name));
+              rest = ap (λ w. is_at_rest w name) same ∙ ap is_none e;
+              ends = subst (EndsSo world (settled world name) name) (sym e) tt;
+            }
+        by (Some goal) e =
+            let row = (run.rowed).wanted name goal e in
+            let same = after false (ap (λ g. is_none g || not (has_row world.history name)) e ∙ ap not row) in
+            let so = wanted-settles world run may goal e in
+            record {
+              few = few (is_at_rest world name || not (has_row world.history name));
+              rest = ap (λ w. is_at_rest w name) same ∙ so.0;
+              ends = subst (EndsSo world (settled world name) name) (sym e) (subst (λ w. EndsSo world w name (Some goal)) (sym same) so.1);
+            }

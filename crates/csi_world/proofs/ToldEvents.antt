@@ -1,0 +1,67 @@
+-- Events that are told one by one.
+use Rattle.std.proofs.Common.{◌≡◌, ℕ, suc, ◌+◌, List, [], ◌∷◌, ◌++◌, refl, sym, ◌∙◌, ap, subst, append-nil, append_assoc, arith}
+use Rattle.csi_types.specs.declared.event.Event.{Event}
+use Rattle.csi_types.specs.declared.event.Event.TheVariants.{Timeout, Deliver}
+use Rattle.csi_types.specs.Model.Config.{Config}
+use Rattle.csi_world.specs.Model.World.{World, empty_world}
+use Rattle.csi_world.specs.Model.After.{Run, occurs, after_from, after}
+use Rattle.csi_world.specs.Public.Settling.{spelled, spelled_from, spelled_out}
+use Rattle.csi_world.specs.Model.Simulated.{WorldParts}
+use Rattle.csi_world.specs.Private.Simulating.{IsRun}
+use Rattle.csi_world.specs.Private.Telling.{IsAt, counted_events}
+use Rattle.csi_world.proofs.SimulatedRuns.{after-more}
+use Rattle.csi_world.proofs.SettledWorlds.{counted-more}
+
+-- a timeout was told, and the deliveries of frames below this number
+pub record HasTold (old : List Event) (name : List ℕ) (first number : ℕ) (new : List Event) : Type 0 where
+  pub count : ℕ
+  pub numbered : number ≡ suc count
+  pub told : new ≡ old ++ counted_events name first (suc count)
+
+-- at first
+pub told-timeout : (old new : List Event) (event : Event) (name : List ℕ) (first : ℕ) → event ≡ Timeout name → new ≡ old ++ event ∷ [] → HasTold old name first 1 new
+told-timeout old new event name first is told = record { count = 0; numbered = refl; told = told ∙ ap (λ e. old ++ e ∷ []) is }
+
+-- one more
+pub told-more : (old mid new : List Event) (name : List ℕ) (first number : ℕ) → new ≡ mid ++ Deliver (first + number) ∷ [] → HasTold old name first number mid → HasTold old name first (number + 1) new
+told-more old mid new name first number told has =
+    let numbered = has.numbered in
+    let place : first + number ≡ suc (first + has.count) = omega (arith, numbered) in
+    record {
+      count = suc has.count;
+      numbered = omega (arith, numbered);
+      told = told ∙ ap (λ n. mid ++ Deliver n ∷ []) place ∙ ap (λ es. es ++ Deliver (suc (first + has.count)) ∷ []) has.told
+          ∙ append_assoc old (counted_events name first (suc has.count)) (Deliver (suc (first + has.count)) ∷ [])
+          ∙ ap (λ es. old ++ Timeout name ∷ es) (sym (counted-more first has.count));
+    }
+
+-- all of them
+pub told-all : (old new : List Event) (name : List ℕ) (first number count : ℕ) → number ≡ count → HasTold old name first number new → new ≡ old ++ counted_events name first count
+told-all old new name first number count all has = has.told ∙ ap (λ n. old ++ counted_events name first n) (sym has.numbered ∙ all)
+
+-- ---- of a run
+
+-- these events were told, and it is the world after them
+pub record IsToldTo (config : Config) (events : List Event) (shown : WorldParts) (told : List Event) : Type 0 where
+  pub at : IsAt shown (after config events).world
+  pub same : told ≡ spelled_out config events
+
+-- one event more
+spelled-more : (world : World) (events : List Event) (event : Event) → spelled_from world (events ++ event ∷ []) ≡ spelled_from world events ++ spelled (after_from world events).world event
+spelled-more world [] event = append-nil (spelled world event)
+spelled-more world (x ∷ xs) event =
+    ap (λ es. spelled world x ++ es) (spelled-more (occurs world x).world xs event)
+    ∙ sym (append_assoc (spelled world x) (spelled_from (occurs world x).world xs) (spelled (after_from (occurs world x).world xs).world event))
+
+-- at first
+pub told-none : (config : Config) (shown : WorldParts) (told : List Event) → IsRun config [] shown → told ≡ [] → IsToldTo config [] shown told
+told-none config shown told run none = record { at = record { own = run.own; shows = run.shows.world }; same = none }
+
+-- an event is told
+pub told-next : (config : Config) (events : List Event) (event : Event) (mid new : WorldParts) (before told : List Event) → ((world : World) → IsAt mid world → IsAt new (occurs world event).world)
+    → ((world : World) → IsAt mid world → told ≡ before ++ spelled world event) → IsToldTo config events mid before → IsToldTo config (events ++ event ∷ []) new told
+told-next config events event mid new before told went more was =
+    record {
+      at = subst (IsAt new) (ap (λ (r : Run). r.world) (sym (after-more (empty_world config) events event))) (went (after config events).world was.at);
+      same = more (after config events).world was.at ∙ ap (λ es. es ++ spelled (after config events).world event) was.same ∙ sym (spelled-more (empty_world config) events event);
+    }

@@ -1,0 +1,14 @@
+-- So many were delivered.
+use Rattle.std.proofs.Common.{List}
+use Rattle.csi_types.specs.declared.event.Event.{Event}
+use Rattle.csi_types.specs.Model.Config.{Config}
+use Rattle.csi_world.specs.Private.Settling.{IsOfOneMake}
+use Rattle.csi_world.specs.Private.Simulating.{IsRun}
+use Rattle.csi_world.specs.Public.System.{world_parts}
+use Rattle.csi_world.proofs.SettledEvents.{HasDelivered}
+use Rattle.csi_world.proofs.system.System.deliver_next.Given as goal
+
+abbrev pub invariant-loop-count : goal.invariant-loop-count
+invariant-loop-count l =
+    ((config : Config) (events : List Event) → IsRun config events (world_parts l.fn.self) → HasDelivered config events l.name l.first l.count (world_parts l.self))
+    × IsOfOneMake (world_parts l.fn.self) (world_parts l.self)
