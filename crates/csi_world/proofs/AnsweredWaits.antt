@@ -4,6 +4,7 @@ use Rattle.std.specs.Prelude.{is_none}
 use Rattle.std.proofs.lemmas.Bool.{false≢true}
 use Rattle.csi_types.specs.declared.call.Call.{Call}
 use Rattle.csi_types.specs.declared.call.Call.TheVariants as calls
+use Rattle.csi_types.specs.declared.call.Kind.TheVariants as kinds
 use Rattle.csi_types.specs.declared.capability.Capability.{Capability}
 use Rattle.csi_types.specs.declared.call.Party.TheVariants.{Node}
 use Rattle.csi_types.specs.declared.event.Event.TheVariants.{Deliver}
@@ -36,9 +37,9 @@ use Rattle.csi_world.proofs.DueRanks.{rank_of, rank_due, issued_for, use-create,
 use Rattle.csi_world.proofs.FreshCalls.{IsThere, IsAnsweredBy, call-answered}
 use Rattle.csi_world.proofs.RunWorlds.{IsRun, RunLaws, next-run}
 use Rattle.csi_world.proofs.UndoneCalls.{HasRoom, undone-ok}
-use Rattle.csi_world.proofs.SettledFrames.{self, final, at-end, goes-on, get-last, Extends, extends-same, extends-then, still-refused}
+use Rattle.csi_world.proofs.SettledFrames.{self, final, at-end, goes-on, get-last, Extends, extends-same, extends-then, still-refused, RefusesNoMore, refuses-added, IsUnrefused, stop-unrefused}
 use Rattle.csi_world.proofs.GoalCalls.{goal-noted, due-party, due-forward, due-create, Ends, met-ends, Finishes}
-use Rattle.csi_world.proofs.WaitingWorlds.{IsWaiting, IsNext, rank-one, hears-so, sent-next}
+use Rattle.csi_world.proofs.WaitingWorlds.{IsWaiting, IsNext, AddsCalls, rank-one, hears-so, sent-next}
 
 module _ (laws : RunLaws) (name : List ℕ) where
   -- ---- a call that is waited for
@@ -98,17 +99,18 @@ module _ (laws : RunLaws) (name : List ℕ) where
         frame = reply_frame issued.number issued.party (kind_of issued.call) answer.reply
 
     -- what comes of its reply: the goal goes on; or the call was refused, and a use is stopped, or a creation dropped
-    abbrev pub Replied : World → ℕ → ℕ → ℕ → Goal → Type 0
-    Replied world sent place rank goal =
-        IsNext world name place rank goal
-        ⊎ (WasRefused world sent × (((usage : Usage) × (goal ≡ Use usage) × IsNext world name place rank (Stop usage.node usage.target)) ⊎ ((arguments : Arguments) × (goal ≡ Create arguments) × (is_at_rest world name ≡ true))))
+    abbrev pub Replied : World → World → ℕ → ℕ → ℕ → Goal → Type 0
+    Replied before world sent place rank goal =
+        (IsNext world name place rank goal × RefusesNoMore before world)
+        ⊎ ((was : WasRefused world sent)
+        × (((usage : Usage) × (goal ≡ Use usage) × IsNext world name place rank (Stop usage.node usage.target)) ⊎ ((arguments : Arguments) × (goal ≡ Create arguments) × (was.kind ≡ kinds.CreateVolume) × (is_at_rest world name ≡ true))))
 
     -- its reply is delivered
     pub replies : (sent : ℕ) (world : World) (place rank : ℕ) (waiting : IsWaiting world name place (suc rank)) (answered : IsAnswered world place rank waiting) → sent ≤ place
-        → Replied (occurs answered.next (Deliver (suc (suc place)))).world sent (suc (suc place)) rank waiting.goal × Extends answered.next (occurs answered.next (Deliver (suc (suc place)))).world
+        → Replied world (occurs answered.next (Deliver (suc (suc place)))).world sent (suc (suc place)) rank waiting.goal × Extends answered.next (occurs answered.next (Deliver (suc (suc place)))).world
     replies sent world place rank waiting answered since =
-        subst (λ w. Replied w sent (suc (suc place)) rank waiting.goal × Extends answered.next w) (sym is)
-        (subst (λ n. Replied last_world sent n rank waiting.goal × Extends answered.next last_world) answered.only (by (is_ok_status reply.status) refl))
+        subst (λ w. Replied world w sent (suc (suc place)) rank waiting.goal × Extends answered.next w) (sym is)
+        (subst (λ n. Replied world last_world sent n rank waiting.goal × Extends answered.next last_world) answered.only (by (is_ok_status reply.status) refl))
       where
         base : History
         base = waiting.base
@@ -167,20 +169,20 @@ module _ (laws : RunLaws) (name : List ℕ) where
         has_id : (other : Goal) → ((arguments : Arguments) → goal ≡ Create arguments → ⊥) → HasId (with_items old.history (accepted ∷ [])) name
         has_id other differs = accepted-id old.history name issued reply.status reply.id (answered.run).form is_open (goal-id old.history (answered.run).rows name goal wanted differs)
 
-        -- a refusal is there
-        was-refused : Extends old last_world → is_ok_status reply.status ≡ false → WasRefused last_world sent
+        -- a refusal of the call is there
+        was-refused : Extends old last_world → is_ok_status reply.status ≡ false → (was : WasRefused last_world sent) × (was.kind ≡ kind_of due.call)
         was-refused extends bad =
             still-refused old last_world sent extends
             (record { place = suc place; number = issued.number; party = issued.party; kind = kind_of issued.call; reply = reply; is_there = answered.framed; since = omega (arith, since); refused = bad })
 
         -- a success
-        succeeds : is_ok_status reply.status ≡ true → Replied last_world sent (length old.frames) rank goal × Extends old last_world
+        succeeds : is_ok_status reply.status ≡ true → Replied world last_world sent (length old.frames) rank goal × Extends old last_world
         succeeds ok =
             let went
             = sent-next laws name old (Comes frame) hears (accepted ∷ []) goal rank hears-so
             (moved ∙ ap (λ b. cond b (send_due old.history name hears (accepted ∷ [])) (heard_refusal old.history issued accepted issued.call)) ok) answered.run next wanted few left there refl keeps (λ differs. has_id goal differs)
             in
-            (inl went.0, went.1)
+            (inl (went.0, λ n was. refuses-added world old frame (answered.answer).frames ok n (went.1.refuses n was)), went.1.extends)
           where
             few : rank_due (due_for (with_items old.history (accepted ∷ [])) name (Some goal)) ≤ rank
             few =
@@ -195,16 +197,17 @@ module _ (laws : RunLaws) (name : List ℕ) where
 
         -- a creation is dropped
         dropped : (create : List ℕ) (required limit : ℕ) (capabilities : List Capability) → due.call ≡ calls.CreateVolume create required limit capabilities → is_ok_status reply.status ≡ false
-            → moves old.history (Comes frame) ≡ Ok (record { answer = hears None; items = Noted name None ∷ accepted ∷ [] }) → Replied last_world sent (length old.frames) rank goal × Extends old last_world
+            → moves old.history (Comes frame) ≡ Ok (record { answer = hears None; items = Noted name None ∷ accepted ∷ [] }) → Replied world last_world sent (length old.frames) rank goal × Extends old last_world
         dropped create required limit capabilities c bad e =
             let extends = extends-same old last_world (ap (λ r. (by_result old r).world.frames) e) in
             let made = due-create name goal (id_of base name) (due_kind base name goal) due waiting.is_due (ap is_making c) in
-            (inr (was-refused extends bad, inr (made.0, made.1, ap (λ r. is_at_rest (by_result old r).world name) e ∙ ap is_none (goal-noted old.history name None (accepted ∷ [])))), extends)
+            let was = was-refused extends bad in
+            (inr (was.0, inr (made.0, made.1, was.1 ∙ ap kind_of c, ap (λ r. is_at_rest (by_result old r).world name) e ∙ ap is_none (goal-noted old.history name None (accepted ∷ [])))), extends)
 
         -- a use is stopped
         stopped : is_forward due.call ≡ true → 4 ≤ rank_of (kind_of due.call) → is_ok_status reply.status ≡ false → moves old.history (Comes frame) ≡ send_due old.history name hears (Noted name (undoing_goal (goal_of old.history name)) ∷ accepted ∷ [])
-            → Replied last_world sent (length old.frames) rank goal × Extends old last_world
-        stopped forward most bad e = (inr (was-refused went.1 bad, inl (usage, used.1, went.0)), went.1)
+            → Replied world last_world sent (length old.frames) rank goal × Extends old last_world
+        stopped forward most bad e = (inr ((was-refused went.1.extends bad).0, inl (usage, used.1, went.0)), went.1.extends)
           where
             used : (usage : Usage) × (goal ≡ Use usage)
             used = due-forward name goal (id_of base name) (due_kind base name goal) due waiting.is_due forward
@@ -218,7 +221,7 @@ module _ (laws : RunLaws) (name : List ℕ) where
             few : rank_due (due_for (with_items old.history items) name (Some (Stop usage.node usage.target))) ≤ rank
             few = let own = stop-rank (with_items old.history items) name usage.node usage.target in let ranked = waiting.ranked in omega (arith, own, most, ranked)
 
-            went : IsNext last_world name (length old.frames) rank (Stop usage.node usage.target) × Extends old last_world
+            went : IsNext last_world name (length old.frames) rank (Stop usage.node usage.target) × AddsCalls old last_world
             went =
                 sent-next laws name old (Comes frame) hears items (Stop usage.node usage.target) rank hears-so e answered.run next
                 (goal-noted old.history name (undoing_goal (goal_of old.history name)) (accepted ∷ []) ∙ ap undoing_goal (wanted ∙ ap Some used.1)) few left
@@ -227,12 +230,12 @@ module _ (laws : RunLaws) (name : List ℕ) where
                 (λ differs. noted-id (with_items old.history (accepted ∷ [])) name name (undoing_goal (goal_of old.history name)) (has_id goal (λ arguments e. use-create usage arguments (sym used.1 ∙ e))))
 
         -- what is undone isn't refused
-        undone : is_doing due.call ≡ false → is_ok_status reply.status ≡ false → Replied last_world sent (length old.frames) rank goal × Extends old last_world
+        undone : is_doing due.call ≡ false → is_ok_status reply.status ≡ false → Replied world last_world sent (length old.frames) rank goal × Extends old last_world
         undone undoes bad =
             let ok = undone-ok world base issued waiting.run waiting.is_sent waiting.guarded undoes (room world base issued waiting.run waiting.is_sent) reply (answered.answer).tabled in
             absurd (false≢true (sym bad ∙ ap is_ok_status ok))
 
-        refused : (call : Call) → due.call ≡ call → is_ok_status reply.status ≡ false → Replied last_world sent (length old.frames) rank goal × Extends old last_world
+        refused : (call : Call) → due.call ≡ call → is_ok_status reply.status ≡ false → Replied world last_world sent (length old.frames) rank goal × Extends old last_world
         refused (calls.CreateVolume create required limit capabilities) c bad = dropped create required limit capabilities c bad (refusal bad ∙ ap (heard_refusal old.history issued accepted) c)
         refused (calls.ControllerPublishVolume id node capability readonly) c bad =
             stopped (ap is_forward c) (subst (λ k. 4 ≤ rank_of (kind_of k)) (sym c) (omega arith)) bad (refusal bad ∙ ap (heard_refusal old.history issued accepted) c)
@@ -245,27 +248,28 @@ module _ (laws : RunLaws) (name : List ℕ) where
         refused (calls.NodeUnstageVolume id) c bad = undone (ap is_doing c) bad
         refused (calls.NodeUnpublishVolume id target) c bad = undone (ap is_doing c) bad
 
-        by : (b : Bool) → is_ok_status reply.status ≡ b → Replied last_world sent (length old.frames) rank goal × Extends old last_world
+        by : (b : Bool) → is_ok_status reply.status ≡ b → Replied world last_world sent (length old.frames) rank goal × Extends old last_world
         by true ok = succeeds ok
         by false bad = refused due.call refl bad
 
     -- a world that waits comes to rest by two deliveries for each call that is left
-    pub waits : (sent rank more : ℕ) (world : World) (place : ℕ) → sent ≤ place → rank + rank ≤ more → (waiting : IsWaiting world name place rank) → Finishes sent world name waiting.goal (final more world name place)
+    pub waits : (sent rank more : ℕ) (world : World) (place : ℕ) → sent ≤ place → rank + rank ≤ more → (waiting : IsWaiting world name place rank) → IsUnrefused sent world waiting.goal
+        → Finishes sent world name waiting.goal (final more world name place)
     unfolding answers
-    waits sent zero more world place since enough waiting =
+    waits sent zero more world place since enough waiting clean =
         let one = rank-one (kind_of (waiting.due).call) in let ranked = waiting.ranked in absurd (none one ranked)
       where
         none : {n : ℕ} → 1 ≤ n → n ≤ 0 → ⊥
         none {n} one ranked = omega (arith, one, ranked)
-    waits sent (suc rank) zero world place since enough waiting = absurd (none enough)
+    waits sent (suc rank) zero world place since enough waiting clean = absurd (none enough)
       where
         none : suc rank + suc rank ≤ 0 → ⊥
         none enough = omega (arith, enough)
-    waits sent (suc rank) (suc zero) world place since enough waiting = absurd (none enough)
+    waits sent (suc rank) (suc zero) world place since enough waiting clean = absurd (none enough)
       where
         none : suc rank + suc rank ≤ 1 → ⊥
         none enough = omega (arith, enough)
-    waits sent (suc rank) (suc (suc more)) world place since enough waiting =
+    waits sent (suc rank) (suc (suc more)) world place since enough waiting clean =
         let answered = answers world place rank waiting in
         let replied = replies sent world place rank waiting answered since in
         let next : World = (occurs (occurs world (Deliver (suc place))).world (Deliver (suc (suc place)))).world in
@@ -275,28 +279,31 @@ module _ (laws : RunLaws) (name : List ℕ) where
         = goes-on (suc more) world name place (frame_of (issued_for name waiting.number waiting.due)) (ap is_none (ap (λ h. goal_of h name) waiting.is_sent ∙ waiting.wanted)) waiting.framed
         ∙ goes-on more (occurs world (Deliver (suc place))).world name (suc place) _ (ap is_none (ap (λ h. goal_of h name) answered.same_history ∙ waiting.wanted)) answered.framed in
         subst (Finishes sent world name waiting.goal) (sym same)
-        (finish sent rank more world next place waiting.goal run there (λ goal then. ended sent rank more next place goal run (λ w. waits sent rank more next (suc (suc place)) (omega (arith, since)) (omega (arith, enough)) w) then) replied.0)
+        (finish sent rank more world next place waiting.goal run there clean (λ goal unrefused then. ended sent rank more next place goal run unrefused (λ w. waits sent rank more next (suc (suc place)) (omega (arith, since)) (omega (arith, enough)) w) then) replied.0)
       where
         -- by what comes next
-        ended : (sent rank more : ℕ) (next : World) (place : ℕ) (goal : Goal) → IsRun next → ((w : IsWaiting next name (suc (suc place)) rank) → Finishes sent next name w.goal (final more next name (suc (suc place))))
+        ended : (sent rank more : ℕ) (next : World) (place : ℕ) (goal : Goal) → IsRun next → IsUnrefused sent next goal
+            → ((w : IsWaiting next name (suc (suc place)) rank) → IsUnrefused sent next w.goal → Finishes sent next name w.goal (final more next name (suc (suc place))))
             → IsNext next name (suc (suc place)) rank goal → Finishes sent next name goal (final more next name (suc (suc place)))
-        ended sent rank more next place goal run waits (inl rest) =
+        ended sent rank more next place goal run clean waits (inl rest) =
             subst (Finishes sent next name goal) (sym (at-end more next name (suc (suc place)) rest.0))
-            (record { rest = rest.0; ends = met-ends sent next name goal run rest.1; extends = extends-same next next refl })
-        ended sent rank more next place goal run waits (inr then) = subst (λ g. Finishes sent next name g (final more next name (suc (suc place)))) then.1 (waits then.0)
+            (record { rest = rest.0; ends = met-ends sent next name goal run clean rest.1; extends = extends-same next next refl })
+        ended sent rank more next place goal run clean waits (inr then) =
+            subst (λ g. Finishes sent next name g (final more next name (suc (suc place)))) then.1 (waits then.0 (subst (IsUnrefused sent next) (sym then.1) clean))
 
-        finish : (sent rank more : ℕ) (world next : World) (place : ℕ) (goal : Goal) → IsRun next → Extends world next → ((other : Goal) → IsNext next name (suc (suc place)) rank other → Finishes sent next name other (final more next name (suc (suc place))))
-            → Replied next sent (suc (suc place)) rank goal → Finishes sent world name goal (final more next name (suc (suc place)))
-        finish sent rank more world next place goal run there on (inl then) =
-            let finished = on goal then in
+        finish : (sent rank more : ℕ) (world next : World) (place : ℕ) (goal : Goal) → IsRun next → Extends world next → IsUnrefused sent world goal
+            → ((other : Goal) → IsUnrefused sent next other → IsNext next name (suc (suc place)) rank other → Finishes sent next name other (final more next name (suc (suc place))))
+            → Replied world next sent (suc (suc place)) rank goal → Finishes sent world name goal (final more next name (suc (suc place)))
+        finish sent rank more world next place goal run there clean on (inl (then, refuses)) =
+            let finished = on goal (λ usage is was. clean usage is (refuses sent was)) then in
             record { rest = finished.rest; ends = finished.ends; extends = extends-then world next (final more next name (suc (suc place))) there finished.extends }
-        finish sent rank more world next place goal run there on (inr (was, inl (usage, is, then))) =
-            let finished = on (Stop usage.node usage.target) then in
+        finish sent rank more world next place goal run there clean on (inr (was, inl (usage, is, then))) =
+            let finished = on (Stop usage.node usage.target) (stop-unrefused sent next usage.node usage.target) then in
             record {
               rest = finished.rest;
-              ends = subst (Ends sent (final more next name (suc (suc place))) name) (sym is) (inr (finished.ends, still-refused next (final more next name (suc (suc place))) sent finished.extends was));
+              ends = subst (Ends sent (final more next name (suc (suc place))) name) (sym is) (inr (finished.ends, (still-refused next (final more next name (suc (suc place))) sent finished.extends was).0));
               extends = extends-then world next (final more next name (suc (suc place))) there finished.extends;
             }
-        finish sent rank more world next place goal run there on (inr (was, inr (arguments, is, rest))) =
+        finish sent rank more world next place goal run there clean on (inr (was, inr (arguments, is, of, rest))) =
             subst (Finishes sent world name goal) (sym (at-end more next name (suc (suc place)) rest))
-            (record { rest = rest; ends = subst (Ends sent next name) (sym is) (inr was); extends = there })
+            (record { rest = rest; ends = subst (Ends sent next name) (sym is) (inr (was, of)); extends = there })

@@ -1,5 +1,5 @@
--- Where no call is due what was wanted is so, and a volume keeps its id.
-use Rattle.std.proofs.Common.{◌≡◌, ℕ, List, [], ◌∷◌, filter, filter_map, find, Bool, true, false, cond, not, Option, Some, None, option_map, ◌&&◌, refl, sym, ◌∙◌, ap, subst}
+-- Where no call is due what was wanted is so, and a volume keeps its id; and a use that is wanted isn't so yet.
+use Rattle.std.proofs.Common.{◌≡◌, ◌≢◌, ℕ, List, [], ◌∷◌, filter, filter_map, find, Bool, true, false, cond, not, Option, Some, None, option_map, ◌&&◌, refl, sym, ◌∙◌, ap, subst}
 use Rattle.std.specs.Prelude.{option_and_then}
 use Rattle.std.specs.Option.{option_or}
 use Rattle.std.proofs.lemmas.Option.{none-some, same_Some}
@@ -20,9 +20,11 @@ use Rattle.csi_orchestrator.specs.Model.Thing.{Issued, touches, is_yes, is_no, t
 use Rattle.csi_orchestrator.specs.Model.History.{Goal, Create, Use, Stop, Delete, Accepted, Closed, Noted, History, with_items}
 use Rattle.csi_orchestrator.specs.Model.Readings.{known, id_of, goal_of, open_call, issued_of, distinct}
 use Rattle.csi_orchestrator.specs.Model.Due.{call_for, targets_in_use, published_target, due_for}
-use Rattle.csi_orchestrator.specs.Model.Shown.{RowShown, row_of, goal_in, goal_shown}
+use Rattle.csi_orchestrator.specs.Model.Shown.{NodeEntryShown, RowShown, row_of, mark_in, mark_of, publication_known, goal_in, goal_shown}
 use Rattle.csi_orchestrator.specs.Model.WellFormed.{IsWellFormed}
-use Rattle.csi_orchestrator.specs.Public.Steady.{IsStandingIf, IsSteadyRowIf}
+use Rattle.csi_orchestrator.specs.Public.Steady.{IsStandingIf, IsSteadyRowIf, HasMarks, IsAtWork, IsAtRest, AreMarked}
+use Rattle.csi_orchestrator.proofs.HasOnes.{one-found}
+use Rattle.csi_orchestrator.proofs.KeptMarks.{known-there}
 use Rattle.csi_orchestrator.proofs.RepliesFollow.{accepted-follows}
 use Rattle.csi_orchestrator.proofs.ViewsFollow.{closed-follows, noted-follows}
 use Rattle.csi_lists.proofs.Members.{each_of, among-find}
@@ -58,6 +60,12 @@ stop-other node target arguments e = cc
 
 delete-other : (arguments : Arguments) → Delete ≡ Create arguments → ⊥
 delete-other arguments e = cc
+
+use-stop : (usage : Usage) (node target : List ℕ) → Use usage ≡ Stop node target → ⊥
+use-stop usage node target e = cc
+
+use-delete : (usage : Usage) → Use usage ≡ Delete → ⊥
+use-delete usage e = cc
 
 module _ (history : History) (name : List ℕ) where
   use-met : (usage : Usage) → HasId history name → due_for history name (Some (Use usage)) ≡ None → IsMet history name (Use usage)
@@ -181,4 +189,51 @@ goal-id history rows name goal wanted other = by (row_of rows.parts.rows name) r
 
     by : (o : Option RowShown) → row_of rows.parts.rows name ≡ o → HasId history name
     by None e = absurd (none-some goal (ap (option_and_then goal_in) (sym e) ∙ (rows.agrees).same_goals name ∙ wanted))
+    by (Some row) e = at row e row.goal refl (ap (option_and_then goal_in) (sym e) ∙ (rows.agrees).same_goals name ∙ wanted)
+
+-- ---- uses
+
+-- a use by its goal
+use-is : (one usage : Usage) → Use one ≡ Use usage → one ≡ usage
+use-is one usage e = cc
+
+-- where a goal is at work, it isn't published
+at-work : (a s : Known) → IsAtWork a s Yes → ⊥
+at-work No s h = h
+at-work Maybe No h = h
+at-work Maybe Maybe h = h
+at-work Maybe Yes h = h
+at-work Yes No h = h
+at-work Yes Maybe h = h
+at-work Yes Yes h = h
+
+-- a use that is wanted isn't known to be so
+pub use-unmet : (history : History) → HasRows history → (name : List ℕ) (usage : Usage) → goal_of history name ≡ Some (Use usage) → known history (Published name usage.node usage.target) ≡ Yes → ⊥
+use-unmet history rows name usage wanted met = by (row_of rows.parts.rows name) refl
+  where
+    thing : Thing
+    thing = Published name usage.node usage.target
+
+    marked : (row : RowShown) → row_of rows.parts.rows name ≡ Some row → AreMarked IsAtWork (λ mark. mark ≢ No) (Some (kept.Use usage)) row.node_entries → ⊥
+    marked row e marks =
+        let found = one-found (λ (x : NodeEntryShown). x.node) usage.node (HasMarks IsAtWork usage.target) IsAtRest row.node_entries marks in
+        let has : HasMarks IsAtWork usage.target found.0 = found.2 in
+        let is : has.published ≡ Yes
+        = sym (known-there IsAtWork usage.target found.0 has) ∙ sym (ap (mark_in (publication_known usage.target)) found.1) ∙ sym (ap (mark_in (mark_of thing)) e) ∙ (rows.agrees).same_marks thing ∙ met in
+        at-work (found.0).attached (found.0).staged (subst (IsAtWork (found.0).attached (found.0).staged) is has.marks)
+
+    wished : (row : RowShown) → row_of rows.parts.rows name ≡ Some row → (own : KeptGoal) → row.goal ≡ Some own → goal_shown row.arguments own ≡ Use usage → ⊥
+    wished row e (kept.Use other) f g =
+        let steady = each_of (IsSteadyRowIf (Unit {0})) rows.parts.rows row rows.steady (among-find (λ (r : RowShown). same_text r.name name) rows.parts.rows row e) in
+        marked row e (subst (λ u. AreMarked IsAtWork (λ mark. mark ≢ No) (Some (kept.Use u)) row.node_entries) (use-is other usage g) (subst (λ o. AreMarked IsAtWork (λ mark. mark ≢ No) o row.node_entries) f steady.marked))
+    wished row e kept.Create f g = use-other usage row.arguments (sym g)
+    wished row e (kept.Stop node target) f g = use-stop usage node target (sym g)
+    wished row e kept.Delete f g = use-delete usage (sym g)
+
+    at : (row : RowShown) → row_of rows.parts.rows name ≡ Some row → (own : Option KeptGoal) → row.goal ≡ own → option_map (goal_shown row.arguments) own ≡ Some (Use usage) → ⊥
+    at row e None f g = none-some (Use usage) g
+    at row e (Some own) f g = wished row e own f (same_Some (goal_shown row.arguments own) (Use usage) g)
+
+    by : (o : Option RowShown) → row_of rows.parts.rows name ≡ o → ⊥
+    by None e = none-some (Use usage) (ap (option_and_then goal_in) (sym e) ∙ (rows.agrees).same_goals name ∙ wanted)
     by (Some row) e = at row e row.goal refl (ap (option_and_then goal_in) (sym e) ∙ (rows.agrees).same_goals name ∙ wanted)

@@ -20,12 +20,13 @@ use Rattle.csi_orchestrator.specs.Model.Shown.{RowShown, OrchestratorParts, row_
 use Rattle.csi_orchestrator.specs.Public.Changed.{place_by_name}
 use Rattle.csi_orchestrator.specs.Public.Shown.{row_shown}
 use Rattle.csi_world.specs.Model.World.{World, empty_world}
-use Rattle.csi_world.specs.Model.After.{Run, occurs, after, after_from}
+use Rattle.csi_world.specs.Model.After.{Run, occurs, after}
 use Rattle.csi_world.specs.Public.Settling.{is_at_rest, deliveries, settling, settled}
 use Rattle.csi_world.specs.Model.Simulated.{WorldParts, ShowsRun, ShowsWorld}
 use Rattle.csi_world.specs.Private.Settling.{WentOn, IsOfOneMake}
 use Rattle.csi_world.specs.Private.Simulating.{IsRun, IsLogged}
 use Rattle.csi_world.specs.Public.Simulating.{IsSoundWorld, has_same_id}
+use Rattle.csi_world.proofs.SettledWorlds.{after-joined}
 use Rattle.csi_world.proofs.SimulatedRuns.{after-more, run-more}
 
 -- ---- whether something is wanted
@@ -300,11 +301,6 @@ sound-stays old new make sound =
     }
 
 -- ---- in a world
-
--- the world after events and others
-after-joined : (world : World) (events more : List Event) → (after_from world (events ++ more)).world ≡ (after_from (after_from world events).world more).world
-after-joined world [] more = refl
-after-joined world (event ∷ others) more = after-joined (occurs world event).world others more
 
 -- it is the one that settled
 pub settled-is : (config : Config) (events : List Event) (name : List ℕ) → (after config (events ++ settling (after config events).world name)).world ≡ settled (after config events).world name

@@ -1,12 +1,19 @@
--- Deliveries of the frames that are sent, one after another; no frame is ever taken out.
-use Rattle.std.proofs.Common.{◌≡◌, ℕ, zero, suc, ◌≤◌, List, [], ◌∷◌, ◌++◌, length, slice_get, Bool, true, false, cond, Some, ◌||◌, refl, sym, ◌∙◌, ap, arith, append-nil, append_assoc}
+-- Deliveries of the frames that are sent, one after another; no frame is ever taken out; and which of them are refusals.
+use Rattle.std.proofs.Common.{◌≡◌, ◌⊎◌, ℕ, zero, suc, ◌≤◌, List, [], ◌∷◌, ◌++◌, length, slice_get, Bool, true, false, cond, Some, None, ◌||◌, refl, sym, ◌∙◌, ap, inl, inr, ⊎_elim, arith, append-nil, append_assoc}
 use Rattle.std.specs.Prelude.{is_none}
-use Rattle.std.proofs.lemmas.Option.{none-some}
+use Rattle.std.proofs.lemmas.Bool.{false≢true}
+use Rattle.std.proofs.lemmas.Option.{none-some, same_Some}
 use Rattle.csi_types.specs.declared.event.Event.{Event}
 use Rattle.csi_types.specs.declared.event.Event.TheVariants.{Deliver}
+use Rattle.csi_types.specs.declared.frame.Body.{Body}
+use Rattle.csi_types.specs.declared.frame.Body.TheVariants as bodies
 use Rattle.csi_types.specs.Model.Frame.{Frame}
+use Rattle.csi_types.specs.Model.Reply.{is_ok_status}
+use Rattle.csi_types.specs.Model.Replies.{reply_frame}
 use Rattle.csi_types.specs.Model.Same.{same_text}
 use Rattle.csi_types.proofs.Equality.{same_text-tells}
+use Rattle.csi_orchestrator.specs.declared.request.Usage.{Usage}
+use Rattle.csi_orchestrator.specs.Model.History.{Goal, Use, Stop}
 use Rattle.csi_world.specs.Model.World.{World}
 use Rattle.csi_world.specs.Model.After.{occurs, after_from}
 use Rattle.csi_world.specs.Public.Settling.{is_at_rest, deliveries, WasRefused}
@@ -68,16 +75,73 @@ extends-same old new e = record { more = []; frames = e ∙ sym (append-nil old.
 pub extends-then : (first next last : World) → Extends first next → Extends next last → Extends first last
 extends-then first next last a b = record { more = a.more ++ b.more; frames = b.frames ∙ ap (λ fs. fs ++ b.more) a.frames ∙ append_assoc first.frames a.more b.more }
 
--- so a refusal is there still
-pub still-refused : (old new : World) (sent : ℕ) → Extends old new → WasRefused old sent → WasRefused new sent
-still-refused old new sent extends was =
-    record {
-      place = was.place;
-      number = was.number;
-      party = was.party;
-      kind = was.kind;
-      reply = was.reply;
-      is_there = ap (λ fs. slice_get fs was.place) extends.frames ∙ get-more old.frames extends.more was.place _ was.is_there;
-      since = was.since;
-      refused = was.refused;
-    }
+-- so a refusal of a call is there still
+pub still-refused : (old new : World) (sent : ℕ) → Extends old new → (was : WasRefused old sent) → (still : WasRefused new sent) × (still.kind ≡ was.kind)
+still-refused old new sent extends was = (
+  record {
+    place = was.place;
+    number = was.number;
+    party = was.party;
+    kind = was.kind;
+    reply = was.reply;
+    is_there = ap (λ fs. slice_get fs was.place) extends.frames ∙ get-more old.frames extends.more was.place _ was.is_there;
+    since = was.since;
+    refused = was.refused;
+  },
+  refl,
+)
+
+-- ---- refusals
+
+-- the body is no refusal
+abbrev pub is_no_refusal : Body → Bool
+is_no_refusal (bodies.Call call) = true
+is_no_refusal (bodies.Reply kind reply) = is_ok_status reply.status
+
+-- each refusal was there before
+abbrev pub RefusesNoMore : World → World → Type 0
+RefusesNoMore old new = (sent : ℕ) → WasRefused new sent → WasRefused old sent
+
+-- one frame more is the last
+get-new : {X : Type 0} (xs : List X) (x y : X) (place : ℕ) → slice_get (xs ++ x ∷ []) place ≡ Some y → (slice_get xs place ≡ Some y) ⊎ (x ≡ y)
+get-new [] x y zero e = inr (same_Some x y e)
+get-new [] x y (suc place) e = absurd (none-some y e)
+get-new (z ∷ zs) x y zero e = inl e
+get-new (z ∷ zs) x y (suc place) e = get-new zs x y place e
+
+-- behind all none is
+get-none : {X : Type 0} (xs : List X) (place : ℕ) → length xs ≤ place → slice_get xs place ≡ None
+get-none [] place behind = refl
+get-none (x ∷ xs) zero behind = absurd (none behind)
+  where
+    none : {n : ℕ} → suc n ≤ 0 → ⊥
+    none behind = omega (arith, behind)
+get-none (x ∷ xs) (suc place) behind = get-none xs place (omega (arith, behind))
+
+-- where the frames stay, no refusal comes
+pub refuses-same : (old new : World) → new.frames ≡ old.frames → RefusesNoMore old new
+refuses-same old new e = λ sent was.
+    record { place = was.place; number = was.number; party = was.party; kind = was.kind; reply = was.reply; is_there = ap (λ fs. slice_get fs was.place) (sym e) ∙ was.is_there; since = was.since; refused = was.refused }
+
+-- nor where a frame is added that is none
+pub refuses-added : (old new : World) (frame : Frame) → new.frames ≡ old.frames ++ frame ∷ [] → is_no_refusal frame.body ≡ true → RefusesNoMore old new
+refuses-added old new frame e none = λ sent was.
+    ⊎_elim
+    (λ there. record { place = was.place; number = was.number; party = was.party; kind = was.kind; reply = was.reply; is_there = there; since = was.since; refused = was.refused })
+    (λ same. absurd (false≢true (sym was.refused ∙ ap (λ (f : Frame). is_no_refusal f.body) (sym same) ∙ none)))
+    (get-new old.frames frame (reply_frame was.number was.party was.kind was.reply) was.place (ap (λ fs. slice_get fs was.place) (sym e) ∙ was.is_there))
+
+-- none was behind the frames that there are
+pub refused-none : (world : World) → WasRefused world (length world.frames) → ⊥
+refused-none world was = none-some (reply_frame was.number was.party was.kind was.reply) (sym (get-none world.frames was.place was.since) ∙ was.is_there)
+
+-- while a use is wanted, no refusal is behind so many frames
+abbrev pub IsUnrefused : ℕ → World → Goal → Type 0
+IsUnrefused sent world goal = (usage : Usage) → goal ≡ Use usage → WasRefused world sent → ⊥
+
+-- so it is of a stop
+pub stop-unrefused : (sent : ℕ) (world : World) (node target : List ℕ) → IsUnrefused sent world (Stop node target)
+stop-unrefused sent world node target = λ usage e was. other usage e
+  where
+    other : (usage : Usage) → Stop node target ≡ Use usage → ⊥
+    other usage e = cc

@@ -1,12 +1,13 @@
--- What settles a volume, as the events for which it stands.
-use Rattle.std.proofs.Common.{◌≡◌, ℕ, zero, suc, ◌+◌, List, [], ◌∷◌, ◌++◌, length, Bool, true, false, cond, not, ◌||◌, refl, ◌∙◌, ap, arith}
+-- What settles a volume, as the events for which it stands, and runs that are told by these.
+use Rattle.std.proofs.Common.{◌≡◌, ℕ, zero, suc, ◌+◌, List, [], ◌∷◌, ◌++◌, length, Bool, true, false, cond, not, ◌||◌, refl, sym, ◌∙◌, ap, arith}
 use Rattle.std.specs.Prelude.{is_none}
 use Rattle.csi_types.specs.declared.event.Event.{Event}
-use Rattle.csi_types.specs.declared.event.Event.TheVariants.{Timeout, Deliver, Settle}
+use Rattle.csi_types.specs.declared.event.Event.TheVariants.{Create, Use, Stop, Delete, Timeout, Deliver, RestartOrchestrator, RestartOrchestratorWith, RestartController, RestartControllerWith, RestartNode, Join, Lose, Settle}
 use Rattle.csi_orchestrator.specs.Model.Readings.{has_row}
+use Rattle.csi_world.specs.declared.outcomes.Outcome.TheVariants as outcomes
 use Rattle.csi_world.specs.Model.World.{World}
-use Rattle.csi_world.specs.Model.After.{OnItsWay, frame_numbered, is_at_rest, delivered_on, brought_on, settling_way, occurs, after_from}
-use Rattle.csi_world.specs.Public.Settling.{deliveries, settling}
+use Rattle.csi_world.specs.Model.After.{Occurred, OnItsWay, frame_numbered, is_at_rest, delivered_on, brought_on, settling_way, occurs, after_from}
+use Rattle.csi_world.specs.Public.Settling.{deliveries, settling, settled, spelled, spelled_from}
 use Rattle.csi_world.specs.Private.Telling.{counted_deliveries, counted_events}
 
 -- what each delivery keeps, all keep
@@ -91,6 +92,54 @@ settled-count world name = by (is_at_rest world name || not (has_row world.histo
     by : (b : Bool) → length (cond b [] (Timeout name ∷ deliveries 12 timed.world name (length world.frames))) ≡ (cond b still (brought_on world name)).events
     by true = refl
     by false = let rest = on-count 12 timed name (length world.frames) in omega (arith, rest)
+
+-- once the volume is at rest, a schedule's event tells so
+pub rest-told : (world : World) (name : List ℕ) → is_at_rest (settled world name) name ≡ true → occurs world (Settle name) ≡ record { world = settled world name; outcome = outcomes.Settled (length (settling world name)) }
+rest-told world name rest =
+    ap by (ap (λ w. is_at_rest w name) (sym same) ∙ rest) ∙ ap (λ w. told w way.events) (sym same) ∙ ap (told (settled world name)) (sym (settled-count world name))
+  where
+    way : OnItsWay
+    way = settling_way world name
+
+    same : settled world name ≡ way.world
+    same = settled-world world name
+
+    told : World → ℕ → Occurred
+    told w count = record { world = w; outcome = outcomes.Settled count }
+
+    by : Bool → Occurred
+    by b = record { world = way.world; outcome = cond b (outcomes.Settled way.events) (outcomes.NotSettled way.events) }
+
+-- ---- runs
+
+-- the world after events and others
+pub after-joined : (world : World) (events more : List Event) → (after_from world (events ++ more)).world ≡ (after_from (after_from world events).world more).world
+after-joined world [] more = refl
+after-joined world (event ∷ others) more = after-joined (occurs world event).world others more
+
+-- an event, told by events that settle nothing
+spelled-world : (world : World) (event : Event) → (after_from world (spelled world event)).world ≡ (occurs world event).world
+spelled-world world (Settle name) = settled-world world name
+spelled-world world (Create name required limit capabilities) = refl
+spelled-world world (Use name node target capability readonly) = refl
+spelled-world world (Stop name node target) = refl
+spelled-world world (Delete name) = refl
+spelled-world world (Timeout name) = refl
+spelled-world world (Deliver number) = refl
+spelled-world world RestartOrchestrator = refl
+spelled-world world (RestartOrchestratorWith nodes) = refl
+spelled-world world RestartController = refl
+spelled-world world (RestartControllerWith config) = refl
+spelled-world world (RestartNode node) = refl
+spelled-world world (Join node) = refl
+spelled-world world (Lose node) = refl
+
+-- so are many
+pub all-spelled : (world : World) (events : List Event) → (after_from world (spelled_from world events)).world ≡ (after_from world events).world
+all-spelled world [] = refl
+all-spelled world (event ∷ others) =
+    after-joined world (spelled world event) (spelled_from (occurs world event).world others)
+    ∙ ap (λ w. (after_from w (spelled_from (occurs world event).world others)).world) (spelled-world world event) ∙ all-spelled (occurs world event).world others
 
 -- ---- told by their numbers
 

@@ -10,7 +10,7 @@ use Rattle.csi_world.specs.Model.Simulated.{WorldParts}
 use Rattle.csi_world.specs.Private.Simulating.{IsRun}
 use Rattle.csi_world.specs.Private.Telling.{IsAt, counted_events}
 use Rattle.csi_world.proofs.SimulatedRuns.{after-more}
-use Rattle.csi_world.proofs.SettledWorlds.{counted-more}
+use Rattle.csi_world.proofs.SettledWorlds.{counted-more, all-spelled}
 
 -- a timeout was told, and the deliveries of frames below this number
 pub record HasTold (old : List Event) (name : List ℕ) (first number : ℕ) (new : List Event) : Type 0 where
@@ -65,3 +65,7 @@ told-next config events event mid new before told went more was =
       at = subst (IsAt new) (ap (λ (r : Run). r.world) (sym (after-more (empty_world config) events event))) (went (after config events).world was.at);
       same = more (after config events).world was.at ∙ ap (λ es. es ++ spelled (after config events).world event) was.same ∙ sym (spelled-more (empty_world config) events event);
     }
+
+-- what was told leads to the same world
+pub told-same : (config : Config) (events told : List Event) → told ≡ spelled_out config events → (after config told).world ≡ (after config events).world
+told-same config events told same = ap (λ es. (after config es).world) same ∙ all-spelled (empty_world config) events

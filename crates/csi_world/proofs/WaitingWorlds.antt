@@ -31,7 +31,7 @@ use Rattle.csi_world.proofs.DueRanks.{rank_of, rank_if, rank_due, issued_for}
 use Rattle.csi_world.proofs.FreshCalls.{IsThere}
 use Rattle.csi_world.proofs.HeardNumbers.{HaveHeard}
 use Rattle.csi_world.proofs.RunWorlds.{IsRun, RunLaws}
-use Rattle.csi_world.proofs.SettledFrames.{get-last, Extends, extends-same}
+use Rattle.csi_world.proofs.SettledFrames.{get-last, Extends, extends-same, RefusesNoMore, refuses-same, refuses-added}
 use Rattle.csi_world.proofs.GoalCalls.{goal-noted}
 
 -- ---- worlds that wait
@@ -84,6 +84,11 @@ rank-most (Some kinds.NodeUnstageVolume) = omega arith
 rank-most (Some kinds.NodePublishVolume) = omega arith
 rank-most (Some kinds.NodeUnpublishVolume) = omega arith
 
+-- no frame is taken out, and no refusal comes
+pub record AddsCalls (old new : World) : Type 0 where
+  pub extends : Extends old new
+  pub refuses : RefusesNoMore old new
+
 -- an answer by which a frame is sent, or none
 pub record IsSending (answer : Option Frame → Answer) : Type 0 where
   pub none : (world : World) → (by_answer world (answer None)).world ≡ world
@@ -111,7 +116,7 @@ module _ (laws : RunLaws) (name : List ℕ) where
       → goal_of (with_items old.history items) name ≡ Some goal → rank_due (due_for (with_items old.history items) name (Some goal)) ≤ rank
       → (last_number old.history).call + suc rank ≤ 2 ^ 64 → ((node : List ℕ) → node_in (Some goal) ≡ Some node → IsListed old.history node → IsThere old (Node node))
       → nodes_of (with_items old.history items) ≡ nodes_of old.history → ((thing : Thing) → known old.history thing ≡ No → known (with_items old.history items) thing ≡ No) → HasIdIf (with_items old.history items) name goal
-      → IsNext (orchestrated old input).world name (length old.frames) rank goal × Extends old (orchestrated old input).world
+      → IsNext (orchestrated old input).world name (length old.frames) rank goal × AddsCalls old (orchestrated old input).world
   sent-next old input answer items goal rank sending is run next wanted ranked left there same_nodes keeps has_id =
       by (due_for base name (Some goal)) refl ranked
     where
@@ -127,7 +132,7 @@ module _ (laws : RunLaws) (name : List ℕ) where
       now : World
       now = (orchestrated old input).world
 
-      by : (o : Option Due) → due_for base name (Some goal) ≡ o → rank_due o ≤ rank → IsNext now name (length old.frames) rank goal × Extends old now
+      by : (o : Option Due) → due_for base name (Some goal) ≡ o → rank_due o ≤ rank → IsNext now name (length old.frames) rank goal × AddsCalls old now
       by None e few =
           let moved : moves old.history input ≡ Ok (record { answer = answer None; items = Noted name None ∷ items })
           = is ∙ ap (λ g. sent_as name answer items (due_for base name g) (next_number last)) wanted ∙ ap (λ d. sent_as name answer items d (next_number last)) e in
@@ -136,7 +141,7 @@ module _ (laws : RunLaws) (name : List ℕ) where
               ap (λ w. is_at_rest w name) world ∙ ap is_none (goal-noted old.history name None items),
               subst (λ h. IsMet h name goal) (sym (ap (λ (w : World). w.history) world)) (noted-met base name name goal None (met-where-none base name goal has_id e)),
             ),
-            extends-same old now (ap (λ (w : World). w.frames) world),
+            record { extends = extends-same old now (ap (λ (w : World). w.frames) world); refuses = refuses-same old now (ap (λ (w : World). w.frames) world) },
           )
       by (Some due) e few = (
         inr (
@@ -162,7 +167,7 @@ module _ (laws : RunLaws) (name : List ℕ) where
           },
           refl,
         ),
-        record { more = frame_of issued ∷ []; frames = ap (λ (w : World). w.frames) world },
+        record { extends = record { more = frame_of issued ∷ []; frames = ap (λ (w : World). w.frames) world }; refuses = refuses-added old now (frame_of issued) (ap (λ (w : World). w.frames) world) refl },
       )
         where
           issued : Issued

@@ -31,10 +31,11 @@ pub fn runs_law()
 
 /// A law, and nothing that runs: after every list of events, one timeout and at most twelve deliveries of frames that are sent from
 /// there on bring any volume to rest, so that nothing is wanted of it any more, if six numbers are left in the session, and the node
-/// of its use or its stop is there, where the orchestrator's list has it. A use came about then; or it is stopped, since a call was
-/// refused, or it had been tried three times. A stop came about: the volume isn't published at the target, and if that was the
-/// node's last, it isn't staged or attached there. What was to be deleted isn't there, and what was to be made has an id, or was
-/// refused. So no lost frame, restart, refusal or lost node leaves a volume in a corner. This profile's own.
+/// of its use or its stop is there, where the orchestrator's list has it. A use that was tried fewer than three times, and of which
+/// no call is refused, came about then; any other is stopped. A stop came about: the volume isn't published at the target, and if
+/// it may be published at no other target of the node, it isn't staged or attached there. What was to be deleted isn't there, and
+/// what was to be made has an id, or its creation was refused. A schedule's event that settles the volume is these events. So no
+/// lost frame, restart, refusal or lost node leaves a volume in a corner. This profile's own.
 pub fn settling_law()
     ensures { RunsSettle }
 {

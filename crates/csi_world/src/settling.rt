@@ -147,6 +147,7 @@ impl System {
     /// Lets a volume come to rest, and answers by how many events. A frame that is delivered is written in place of the bytes. An
     /// `Err` is an allocation that was refused; the system is of no use then.
     pub(crate) fn settle(&mut self, bytes: &mut Vec<u8>, name: &Name) -> Result<u64, NoMemory>
+        ensures few { IfOk result (λ count. count ≤ 13) }
         ensures went { (config : Config) (events : List Happens) → IsRun config events (world_parts self.old) →
             IfOk result (WentOn config events (settling (after config events).world name.now) (world_parts self.new)) }
         ensures make { OnOk result (IsOfOneMake (world_parts self.old) (world_parts self.new)) }
@@ -186,7 +187,8 @@ impl World {
         ensures rest { (config : Config) (events : List Happens) → ShowsRun self (after config events) →
             IfOk result (λ settled. settled.rest ≡ is_at_rest (settled_world (after config events).world name.now) name.now) }
         ensures settles { (config : Config) (events : List Happens) → ShowsRun self (after config events) → MaySettle (after config events).world name.now →
-            IfOk result (λ settled. (settled.rest ≡ true) × (settled.events ≤ 13)) }
+            IfOk result (λ settled. settled.rest ≡ true) }
+        ensures few { IfOk result (λ settled. settled.events ≤ 13) }
     {
         settling_law();
         let mut system = self.into_system();

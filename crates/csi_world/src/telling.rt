@@ -1,7 +1,7 @@
 //! Events, told by events that settle nothing.
 ghost use Rattle.std.specs.Prelude.{◌≡◌, ◌+◌, ◌<◌, ◌^◌, ◌++◌, IfOk, OnOk};
 ghost use Rattle.csi_world.specs.Model.World.{World};
-ghost use Rattle.csi_world.specs.Model.After.{occurs};
+ghost use Rattle.csi_world.specs.Model.After.{occurs, after};
 ghost use Rattle.csi_world.specs.Public.Settling.{spelled, spelled_out};
 ghost use Rattle.csi_world.specs.Model.Simulated.{ShowsWorld};
 ghost use Rattle.csi_world.specs.Public.Simulating.{IsSoundWorld};
@@ -58,7 +58,8 @@ pub fn told_one_by_one(
     config: &Config,
     events: &[Event],
 ) -> Result<Vec<Event>, NoMemory>
-    ensures { IfOk result (λ told. told.items ≡ spelled_out config.now events.now) }
+    ensures told { IfOk result (λ told. told.items ≡ spelled_out config.now events.now) }
+    ensures world { IfOk result (λ told. (after config.now told.items).world ≡ (after config.now events.now).world) }
 {
     let mut system = new_system(alloc, config)?;
     let mut bytes = Vec::new(alloc);

@@ -6,6 +6,7 @@ use Rattle.csi_types.specs.declared.event.Event.TheVariants.{Timeout, Deliver, S
 use Rattle.csi_types.specs.Model.Config.{Config}
 use Rattle.csi_types.specs.Model.Same.{same_text}
 use Rattle.csi_types.specs.declared.call.Kind.{Kind}
+use Rattle.csi_types.specs.declared.call.Kind.TheVariants as kinds
 use Rattle.csi_types.specs.declared.call.Party.{Party}
 use Rattle.csi_types.specs.declared.number.Number.{Number}
 use Rattle.csi_types.specs.declared.reply.Reply.{Reply}
@@ -16,6 +17,7 @@ use Rattle.csi_orchestrator.specs.declared.thing.Thing.TheVariants.{Exists, Atta
 use Rattle.csi_orchestrator.specs.Model.Due.{targets_in_use}
 use Rattle.csi_orchestrator.specs.Model.History.{Goal, Create, Use, Stop, Delete, History}
 use Rattle.csi_orchestrator.specs.Model.Readings.{goal_of, has_row, id_of, known, last_number, nodes_of, tries}
+use Rattle.csi_world.specs.declared.outcomes.Outcome.TheVariants as outcomes
 use Rattle.csi_world.specs.Model.World.{World, empty_world, node_state}
 pub use Rattle.csi_world.specs.Model.After.{is_at_rest}
 use Rattle.csi_world.specs.Model.After.{frame_numbered, occurs, after_from}
@@ -81,19 +83,19 @@ pub record WasRefused (world : World) (sent : ℕ) : Type 0 where
   pub since : sent ≤ place
   pub refused : is_ok_status reply.status ≡ false
 
--- what becomes of what was wanted. A volume that was to be made has an id, or a call was refused. A use came about; or it is stopped, and a
--- call was refused, or it was tried three times before. A stop came about; what was to be deleted isn't there
+-- what becomes of what was wanted. A volume that was to be made has an id, or its creation was refused. A use that was tried fewer than
+-- three times, and of which no call is refused, came about; any other is stopped. A stop came about; what was to be deleted isn't there
 abbrev pub EndsSo : World → World → List ℕ → Option Goal → Type 0
 EndsSo old new name None = Unit {0}
-EndsSo old new name (Some (Create arguments)) = IsSome (id_of new.history name) ⊎ WasRefused new (length old.frames)
+EndsSo old new name (Some (Create arguments)) = IsSome (id_of new.history name) ⊎ ((was : WasRefused new (length old.frames)) × (was.kind ≡ kinds.CreateVolume))
 EndsSo old new name (Some (Use usage)) =
-    (known new.history (Published name usage.node usage.target) ≡ Yes)
+    ((known new.history (Published name usage.node usage.target) ≡ Yes) × (WasRefused new (length old.frames) → ⊥) × (tries old.history name < 3))
     ⊎ (IsStopped new.history name usage.node usage.target × (WasRefused new (length old.frames) ⊎ (tries old.history name ≡ 3)))
 EndsSo old new name (Some (Stop node target)) = IsStopped new.history name node target
 EndsSo old new name (Some Delete) = known new.history (Exists name) ≡ No
 
--- the volume comes to rest by at most thirteen events, and so ends what was wanted of it
+-- the volume comes to rest, and so ends what was wanted of it; a schedule's event that settles it is these events
 pub record Settles (world : World) (name : List ℕ) : Type 0 where
-  pub few : length (settling world name) ≤ 13
   pub rest : is_at_rest (settled world name) name ≡ true
   pub ends : EndsSo world (settled world name) name (goal_of world.history name)
+  pub event : occurs world (Settle name) ≡ record { world = settled world name; outcome = outcomes.Settled (length (settling world name)) }

@@ -1,9 +1,10 @@
--- One event more.
-use Rattle.std.proofs.Common.{◌≡◌, ◌+◌, ◌++◌, ◌∷◌, [], List, take, sym, ◌∙◌, ap, subst}
-use Rattle.std.proofs.lemmas.List.{take_more}
+-- One event more; and what was told leads to the same world.
+use Rattle.std.proofs.Common.{◌≡◌, ◌+◌, ◌++◌, ◌∷◌, [], ◌≤◌, List, length, rules, take, sym, ◌∙◌, ap, subst}
+use Rattle.std.proofs.lemmas.List.{take_more, take_all}
 use Rattle.csi_types.specs.declared.event.Event.{Event}
+use Rattle.csi_world.specs.Public.Settling.{spelled_out}
 use Rattle.csi_world.specs.Public.System.{world_parts}
-use Rattle.csi_world.proofs.ToldEvents.{IsToldTo, told-none, told-next}
+use Rattle.csi_world.proofs.ToldEvents.{IsToldTo, told-none, told-next, told-same}
 use Rattle.csi_world.proofs.telling.told_one_by_one.Goals as goal
 
 pub loop-event-init : goal.loop-event-init
@@ -19,3 +20,9 @@ loop-event-preserved c =
     subst (λ (es : List Event). IsToldTo c.args.config.now es (world_parts c.tell.new.system) c.tell.new.told.items) (sym more)
     (told-next c.args.config.now (take index events) event (world_parts c.loop-event.system) (world_parts c.tell.new.system) c.loop-event.told.items c.tell.new.told.items
     (λ world at. c.in_ok-tell.ensures.at world at) (λ world at. c.in_ok-tell.ensures.told world at) c.loop-event.invariant)
+
+pub returns-clause-world : goal.returns-clause-world
+returns-clause-world c =
+    let behind : length c.args.events.now ≤ c.loop-event.event-index = search rules in
+    let all = take_all c.loop-event.event-index c.args.events.now behind in
+    told-same c.args.config.now c.args.events.now c.loop-event.told.items (c.loop-event.invariant.same ∙ ap (spelled_out c.args.config.now) all)

@@ -1,5 +1,5 @@
 -- The world went on by these events.
-use Rattle.std.proofs.Common.{◌≡◌, ◌++◌, ◌≤◌, List, sym, ◌∙◌, subst}
+use Rattle.std.proofs.Common.{◌≡◌, ◌++◌, List, sym, ◌∙◌, subst}
 use Rattle.csi_types.specs.declared.event.Event.{Event}
 use Rattle.csi_types.specs.Model.Config.{Config}
 use Rattle.csi_world.specs.Model.After.{after}
@@ -32,5 +32,5 @@ pub returns-in-Ok-clause-settles : goal.returns-in-Ok-clause-settles
 returns-in-Ok-clause-settles c = λ config events shows may.
     let run = has-run c.args.self (world_parts c.into_system-system.result) config events c.into_system-system.ensures.parts c.into_system-system.ensures.sound shows in
     let went = c.in-Ok.ensures.went config events run in
-    let settles = c.settling_law.ensures config events c.args.name.now may in
-    (rest-then config events c.args.name.now (world_parts c.settle.new.self) c.is_wanted-rest.result c.is_wanted-rest.ensures (went.is_run).shows ∙ settles.rest, subst (λ n. n ≤ 13) (sym went.counted) settles.few)
+    let settles = (c.settling_law.ensures config events c.args.name.now).1 may in
+    rest-then config events c.args.name.now (world_parts c.settle.new.self) c.is_wanted-rest.result c.is_wanted-rest.ensures (went.is_run).shows ∙ settles.rest
