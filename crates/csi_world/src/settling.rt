@@ -163,6 +163,7 @@ impl System {
 }
 
 /// A world in which a volume was let come to rest.
+#[derive(Drop)]
 pub struct Settled {
     /// The world then.
     pub world: World,
