@@ -9,6 +9,7 @@ mod modes;
 mod playing;
 mod refused;
 mod restarts;
+mod settled;
 mod stopped;
 mod used;
 
@@ -38,6 +39,7 @@ enum Does {
     Stop(&'static str, &'static str),
     Delete,
     Timeout,
+    Settle,
     Deliver(u64),
     RestartOrchestrator,
     RestartController,

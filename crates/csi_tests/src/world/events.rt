@@ -47,6 +47,7 @@ pub(super) fn event(rt: &(impl Abort + AllocGlobal), does: Does) -> Event {
         Does::Stop(at, path) => stop(rt, at, path),
         Does::Delete => Event::Delete(name(rt, "v")),
         Does::Timeout => Event::Timeout(name(rt, "v")),
+        Does::Settle => Event::Settle(name(rt, "v")),
         Does::Deliver(number) => Event::Deliver(number),
         Does::RestartOrchestrator => Event::RestartOrchestrator,
         Does::RestartController => Event::RestartController,

@@ -11,7 +11,11 @@ use csi_world::{Event, Outcome, World, audit, simulate};
 use std::alloc::Global;
 use std::process::Abort;
 
-fn world_after(rt: &(impl Abort + AllocGlobal), config: &Config, events: &[Event]) -> World {
+pub(super) fn world_after(
+    rt: &(impl Abort + AllocGlobal),
+    config: &Config,
+    events: &[Event],
+) -> World {
     match simulate(rt.alloc(), config, events) {
         Ok(world) => world,
         Err(_) => simulate(rt.alloc(), config, events).expect(rt, "a world"),
@@ -19,7 +23,7 @@ fn world_after(rt: &(impl Abort + AllocGlobal), config: &Config, events: &[Event
 }
 
 // The audit finds nothing.
-fn is_safe(rt: &(impl Abort + AllocGlobal), world: &World) -> bool {
+pub(super) fn is_safe(rt: &(impl Abort + AllocGlobal), world: &World) -> bool {
     match audit(rt.alloc(), world) {
         Ok(found) => found.is_none(),
         Err(_) => matches!(audit(rt.alloc(), world), Ok(None)),
