@@ -196,11 +196,11 @@ impl World {
         let mut bytes = Vec::new(system.alloc);
         match system.settle(&mut bytes, name) {
             Ok(events) => {
-                let rest = !is_wanted(&system.orchestrator, name);
+                let wanted = is_wanted(&system.orchestrator, name);
                 Ok(Settled {
                     world: World::of(system),
                     events,
-                    rest,
+                    rest: !wanted,
                 })
             }
             Err(NoMemory) => Err(NoMemory),

@@ -26,11 +26,11 @@ returns-in-Ok-clause-run c = λ config events shows.
 pub returns-in-Ok-clause-rest : goal.returns-in-Ok-clause-rest
 returns-in-Ok-clause-rest c = λ config events shows.
     let run = has-run c.args.self (world_parts c.into_system-system.result) config events c.into_system-system.ensures.parts c.into_system-system.ensures.sound shows in
-    rest-then config events c.args.name.now (world_parts c.settle.new.self) c.is_wanted-rest.result c.is_wanted-rest.ensures ((c.in-Ok.ensures.went config events run).is_run).shows
+    rest-then config events c.args.name.now (world_parts c.settle.new.self) c.is_wanted-wanted.result c.is_wanted-wanted.ensures ((c.in-Ok.ensures.went config events run).is_run).shows
 
 pub returns-in-Ok-clause-settles : goal.returns-in-Ok-clause-settles
 returns-in-Ok-clause-settles c = λ config events shows may.
     let run = has-run c.args.self (world_parts c.into_system-system.result) config events c.into_system-system.ensures.parts c.into_system-system.ensures.sound shows in
     let went = c.in-Ok.ensures.went config events run in
     let settles = (c.settling_law.ensures config events c.args.name.now).1 may in
-    rest-then config events c.args.name.now (world_parts c.settle.new.self) c.is_wanted-rest.result c.is_wanted-rest.ensures (went.is_run).shows ∙ settles.rest
+    rest-then config events c.args.name.now (world_parts c.settle.new.self) c.is_wanted-wanted.result c.is_wanted-wanted.ensures (went.is_run).shows ∙ settles.rest
