@@ -5,6 +5,7 @@ One thread waits for whatever comes first: a reply, an answer, a command, or the
 - `orchestrator.db`, `controller.db`, `n1.db` and so on: the stores;
 - `config`: the configuration with which the orchestrator and the controller are started;
 - `nodes`: the nodes that are there, each with the session of its joining, if it was told one;
+- `losing`: the nodes that are lost, and of which the orchestrator hasn't answered yet;
 - `log`: what happened, in lines; `errors`: what the programs said on standard error;
 - `config.first`, `events`: the schedule.
 """
@@ -15,6 +16,7 @@ import selectors
 import socket
 import time
 
+from clients import answer, close, refuse
 from parts import Orchestrator, Plugin, told
 from schedule import Schedule, ids
 
@@ -22,6 +24,7 @@ SLOTS = 16  # of a node that joins
 PATIENCE = 2  # seconds until a call has timed out
 AGAIN = 1  # seconds until a part that ended by itself is started again
 SOON = 0.05  # seconds until it is seen whether a part has ended that is to be started again
+UNTOLD = "the orchestrator is down, and is told of the loss once it is up"
 NODE_ID = re.compile(r"[A-Za-z0-9][A-Za-z0-9._-]{0,63}")  # the names of nodes are those of their files
 
 
@@ -34,9 +37,10 @@ class Host:
         self.orchestrator = Orchestrator(self, "orchestrator", "orchestrator", "orchestrator.db", "config")
         self.plugins = {"controller": Plugin(self, "controller", "controller", "controller.db", "config")}
         self.parts = {"orchestrator": self.orchestrator, **self.plugins}
-        self.config, self.nodes = self.read("config"), {}
+        self.config, self.nodes, self.losing = self.read("config"), {}, self.read("losing")
         for node, session in self.read("nodes").items():
-            self.add(node, session)
+            if node not in self.losing:
+                self.add(node, session)
         self.goals = {}  # by name: what is wanted
         self.open = {}  # by name: the call that was sent and not answered yet, in words
         self.due = {}  # by name: when it times out
@@ -44,7 +48,8 @@ class Host:
         self.killing = {}  # by node that is lost: when its program is killed, if it didn't end
         self.commands = {}  # by name: the last command that was accepted
         self.was_refused = {}  # by name: whether the last call was refused
-        self.clients = {}  # by name of a volume, or a node that is lost: the connections that want to know of it
+        self.clients = {}  # by name of a volume: the connections that want to know of it
+        self.watching = {}  # by node that is lost or joins: the same
         self.joining = []  # the connections that wait until the orchestrator and the controller were started again
         self.session = 0
         self.is_ending = False
@@ -82,7 +87,7 @@ class Host:
         self.log.flush()
         if self.is_shown:
             print(line, flush=True)
-        for client in self.clients.get(about, ()):
+        for client in (*self.clients.get(about, ()), *self.watching.get(about, ())):
             answer(client, line)
 
     def leave(self, name, client, well, *lines):
@@ -126,9 +131,11 @@ class Host:
                 self.starting[part.name] = time.monotonic() + AGAIN
         if part is self.orchestrator:
             for _, name, client in filter(None, lost):
-                self.leave(name, client, False)
+                self.leave(name, client, False, f"{name}: the orchestrator ended, and didn't answer")
+            for node in self.losing:
+                self.say(node, UNTOLD)
         if part.is_lost:
-            self.throw_away(part)
+            self.throw_away(part.name)
 
     # ---- what the orchestrator says
 
@@ -137,13 +144,18 @@ class Host:
         line = {"reply": frame.hex()} if frame else event
         self.orchestrator.give(json.dumps(line).encode() + b"\n", (event, name, client))
 
+    def ask_once(self, event):
+        """A timeout or a loss, unless the orchestrator was told, and hasn't answered yet."""
+        if not any(it and it[0] == event for it in self.orchestrator.asked):
+            self.ask(event)
+
     def heard(self, asked, line):
         said = json.loads(line)
         if asked is None:
             return self.begun(said)
         event, asked_of, client = asked
         if "lose" in event:
-            return self.lost(event["lose"], said, client)
+            return self.lost(event["lose"], said)
         if "fault" in said:
             return self.leave(asked_of, client, False, f"{asked_of}: the command isn't one ({said['fault']})")
         send, outcome = said.get("send"), said["outcome"]
@@ -176,13 +188,15 @@ class Host:
         self.session = first["session"]
         self.say("orchestrator", f"session {self.session}")
         self.send_again(first["wanted"])
+        for node in self.losing:
+            self.tell_lost(node)
 
     def send_again(self, names):
         """A session began, in which no call was sent yet: of what is wanted, they are sent again."""
         self.open.clear()
         for name in names:
             self.goals[name] = self.goals.get(name) or {}
-            self.ask({"timeout": name})
+            self.ask_once({"timeout": name})
 
     def send(self, name, number, send, timed_out):
         """A call goes to its plugin; one that is down never gets it."""
@@ -210,54 +224,53 @@ class Host:
     # ---- nodes that join and are lost
 
     def lose(self, client, node):
-        """A node's machine is off for good, and its store never comes back; an emptied store is a lost node. Its program is ended, if it runs, and then
-        the orchestrator is told."""
+        """A node's machine is off for good, and its store never comes back; an emptied store is a lost node. Its program is ended, if it runs, its store is
+        thrown away, and the orchestrator is told, again at each of its starts until it answers."""
         if not self.orchestrator.is_up:
             return refuse(client, "the orchestrator is down")
-        if node not in self.nodes and node not in self.schedule.listed:
+        if node not in self.nodes and node not in self.schedule.listed and node not in self.losing:
             return refuse(client, f"there is no node {node}: {', '.join(self.nodes)}")
-        self.clients.setdefault(node, []).append(client)
+        self.watching.setdefault(node, []).append(client)
         part = self.parts.get(node)
-        if part is None:
-            return self.tell_lost(node)
+        if part is None or not part.process:
+            return self.throw_away(node)
         part.is_lost = True
-        self.starting.pop(node, None)
-        if not part.process:
-            return self.throw_away(part)
-        self.killing[node] = time.monotonic() + PATIENCE
+        self.killing.setdefault(node, time.monotonic() + PATIENCE)
         return part.end()
 
-    def throw_away(self, part):
-        """A lost node's store, of which the program has ended."""
-        node = part.name
-        del self.parts[node], self.plugins[node], self.nodes[node]
-        self.starting.pop(node, None)
-        self.killing.pop(node, None)
+    def throw_away(self, node):
+        """A lost node, whose program has ended, is no more: only once the orchestrator has answered, one of its id may join."""
+        for of_parts in (self.parts, self.plugins, self.nodes, self.starting, self.killing):
+            of_parts.pop(node, None)
+        if node not in self.losing:
+            self.losing.append(node)
+        self.write("losing", self.losing)
         self.write("nodes", self.nodes)
-        for end in ("", "-wal"):
-            if os.path.exists(f"{self.folder}/{node}.db{end}"):
-                os.remove(f"{self.folder}/{node}.db{end}")
         self.tell_lost(node)
 
     def tell_lost(self, node):
+        for end in ("", "-wal"):
+            if os.path.exists(f"{self.folder}/{node}.db{end}"):
+                os.remove(f"{self.folder}/{node}.db{end}")
         if self.orchestrator.is_up:
-            self.ask({"lose": node}, name=node)
+            self.ask_once({"lose": node})
         else:
-            for client in self.clients.pop(node, ()):
-                refuse(client, f"the orchestrator is down: say again that {node} is lost")
+            self.say(node, UNTOLD)
 
-    def lost(self, node, said, client):
+    def lost(self, node, said):
         """The orchestrator was told: a session began without the node, in which a use there is its stop, and what is wanted is sent again."""
         if said["outcome"] != "lost":
-            for client in self.clients.pop(node, ()):
+            for client in self.watching.pop(node, ()):
                 refuse(client, f"{node}: {said['outcome']}")
             return
         self.schedule.happened({"lose": node})
         self.session = said["session"]
         self.config = {**self.config, "nodes": [it for it in self.config["nodes"] if it["id"] != node]}
         self.write("config", self.config)
+        self.losing.remove(node)
+        self.write("losing", self.losing)
         self.say(node, f"lost, session {self.session}")
-        for client in self.clients.pop(node, ()):
+        for client in self.watching.pop(node, ()):
             close(client, True)
         self.send_again([name for name, goal in self.goals.items() if goal is not None])
 
@@ -267,13 +280,15 @@ class Host:
             return refuse(client, "the orchestrator is down")
         if node in self.parts or not NODE_ID.fullmatch(node):
             return refuse(client, f"there is a node {node}" if node in self.nodes else f"no node's name: {node}")
+        if node in self.losing:
+            return refuse(client, f"{node} has to be lost first: the orchestrator hasn't answered")
         self.add(node, self.session)
         self.write("nodes", self.nodes)
         self.schedule.happened({"join": node})
         self.parts[node].start()
-        self.clients[node] = [client]
+        self.watching[node] = [client]
         self.say(node, f"joined, session {self.session}")
-        del self.clients[node]
+        del self.watching[node]
         if node not in ids(self.config):
             self.config = {**self.config, "nodes": [*self.config["nodes"], {"id": node, "slots": SLOTS}]}
             self.write("config", self.config)
@@ -368,24 +383,3 @@ class Host:
             self.due[name] = now + PATIENCE
             if self.orchestrator.is_up and not self.orchestrator.asked:
                 self.ask({"timeout": name})
-
-
-def answer(client, line):
-    if not client:
-        return
-    try:
-        client.sendall(line.encode() + b"\n")
-    except OSError:
-        pass  # it went away
-
-
-def refuse(client, line):
-    """A command that isn't carried out, and why."""
-    answer(client, line)
-    close(client, False)
-
-
-def close(client, well):
-    """The last line says how it ended."""
-    answer(client, "" if well else "-")
-    client.close()

@@ -41,6 +41,11 @@ class Hosted:
         wanted(f"how volumes {' '.join(words)} ends, with {ran.stdout}", (ran.returncode, ran.stderr), (status, ""))
         return ran.stdout
 
+    def asks_beside(self, *words):
+        """A command that is waited for later."""
+        words = [sys.executable, f"{TOP}/examples/cluster/volumes", *words]
+        return subprocess.Popen(words, env=self.env, stdout=subprocess.PIPE, text=True)
+
     def says(self, right, *words, status=0):
         wanted(f"volumes {' '.join(words)}", self.asks(*words, status=status), "".join(f"{it}\n" for it in right))
 
@@ -60,12 +65,23 @@ class Hosted:
         for pid in list(self.processes(f"{part}.db")):
             os.kill(pid, which)
 
+    def until(self, told, is_so):
+        """Waits until something is so."""
+        last = time.monotonic() + LIMIT
+        while not is_so():
+            wanted(f"{told}, within {LIMIT} s", time.monotonic() < last, True)
+            time.sleep(0.05)
+
     def audited(self, parts=PARTS):
         """The records, after the end: an audit finds nothing. The orchestrator's comes first."""
         lines = [self.box.run("record", f"{self.folder}/{part}.db").out for part in parts]
         ran = subprocess.run([sys.executable, f"{TOP}/tools/audit"], input=b"".join(lines), capture_output=True, timeout=LIMIT, check=False)
         wanted("the audit", (ran.returncode, ran.stdout), (0, b"nothing found\n"))
         return [json.loads(line) for line in lines]
+
+    def text(self, name):
+        with open(f"{self.folder}/{name}", encoding="utf-8") as file:
+            return file.read()
 
     def drawn(self):
         """A picture is drawn of the schedule; what a run of it reports, and what was said of where it ends."""
@@ -108,8 +124,7 @@ def parts(box):
     with Hosted(box) as cluster:
         cluster.asks("create", "v")
         cluster.asks("down", "controller")
-        words = [sys.executable, f"{TOP}/examples/cluster/volumes", "use", "v", "n1", "/a"]
-        running = subprocess.Popen(words, env=cluster.env, stdout=subprocess.PIPE, text=True)
+        running = cluster.asks_beside("use", "v", "n1", "/a")
         time.sleep(2.5)
         cluster.asks("up", "controller")
         lines = running.communicate(timeout=LIMIT)[0].splitlines()
@@ -176,6 +191,45 @@ def lost(box):
         cluster.says(["v; volume 3", "w; volume 2; at n4 /a"], "list")
 
 
+def untold(box):
+    """The orchestrator, and then the host, is killed before it answers that a node is lost: no node of that id joins until it was told."""
+    first = "n2 has to be lost first: the orchestrator hasn't answered"
+    with Hosted(box) as cluster:
+
+        def throws_away():
+            """It is lost, and the orchestrator, which is stopped, has it to read."""
+            cluster.signals("orchestrator", signal.SIGSTOP)
+            running = cluster.asks_beside("lose", "n2")
+            cluster.until("n2's store is thrown away", lambda: not os.path.exists(f"{cluster.folder}/n2.db"))
+            cluster.says([first], "join", "n2", status=1)
+            return running
+
+        cluster.asks("create", "v")
+        cluster.asks("use", "v", "n2", "/a")
+        running = throws_away()
+        cluster.signals("orchestrator", signal.SIGKILL)
+        said = running.communicate(timeout=LIMIT)[0].splitlines()
+        late = "n2: the orchestrator is down, and is told of the loss once it is up"
+        wanted("what comes after it was killed", (said, running.returncode), (["n2: down", late, "n2: lost, session 3"], 0))
+        cluster.says(["v; volume 1; attached to n2, which was lost"], "list")
+        cluster.says(["n2: joined, session 3"], "join", "n2")
+        cluster.says(["n2: down", "n2: lost, session 5"], "lose", "n2")
+        cluster.says(["n2: joined, session 5"], "join", "n2")
+        running = throws_away()
+        for pid in set(cluster.processes()) - {running.pid}:
+            os.kill(pid, signal.SIGKILL)
+        said = running.communicate(timeout=LIMIT)[0]
+        wanted("what it says that the host doesn't answer", (said, running.returncode), ("n2: down\n", 1))
+        cluster.start("n1, n3")
+        cluster.until("the orchestrator is told", lambda: json.loads(cluster.text("losing")) == [])
+        wanted("what the host says last", cluster.text("log").splitlines()[-1], "n2: lost, session 8")
+        cluster.says(["n2: joined, session 8"], "join", "n2")
+        cluster.says(["v: ControllerUnpublishVolume 9.1 to controller: OK", "v: at rest"], "stop", "v", "n2", "/b")
+        cluster.says(use_of("v", ["9.2", "9.3", "9.4"], "n2"), "use", "v", "n2", "/a")
+        cluster.asks("end")
+        wanted("the session of n2", cluster.audited(("orchestrator", "controller", "n1", "n3", "n2"))[4]["session"], 9)
+
+
 def not_started(box):
     """What can't be started is told in a line, and nothing is made."""
     box.put("text", b"no program\n")
@@ -200,6 +254,7 @@ ROWS = [
     ("each command", whole),
     ("parts that end, are stopped and killed", parts),
     ("nodes that are lost and join", lost),
+    ("nodes of whose loss nobody is told", untold),
     ("not started", not_started),
 ]
 
