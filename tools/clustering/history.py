@@ -80,6 +80,9 @@ class History:
         for number, (right, came) in enumerate(zip(frames, self.frames), 1):
             if came not in (None, right):
                 raise Found(f"frame {number}: the processes sent {came.hex()}, a run of the schedule {right.hex()}")
+        counts, right = (len(self.outcomes), len(self.frames)), (len(report["events"]), len(frames))
+        if counts != right:
+            raise Found(f"the processes had {counts[0]} events and sent {counts[1]} frames, a run of the schedule has {right[0]} and {right[1]}")
         return report
 
     def compare_end(self, report, lines):
