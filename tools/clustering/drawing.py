@@ -1,9 +1,13 @@
 """What is asked of the orchestrator, drawn at random: mostly what can be done, and also what has to be refused."""
+import json
+
 from auditing.clauses import FOR_ONE_NODE
 
 ODD_NAMES = ['"\\\n', "\u00e9", "n" * 128, "\U0001f600 v"]
 TARGETS = ["/a", "/b", "/c", "/" + "t" * 254, "a"]  # the last one isn't a path from the root: a node refuses it
 ODD_NODE = "node \u00fc"
+LONG_NAMES = ["n" * 129, "\u00e9" * 64 + "n"]
+NONSENSE = ((b"no JSON", "NotJson"), (b'{"delete":1}', "BadLine"), (b'{"reply":"00"}', "BadFrame"), (b'{"restart":"controller"}', "BadLine"))
 MOST = 2**63 - 1
 WINDOW = 8  # how many names are in use at a time
 
@@ -21,6 +25,20 @@ def capability(drawn, mode=None):
     if drawn.random() < 0.5:
         return {"access": "block", "mode": mode}
     return {"access": "mount", "fs": drawn.choice(("ext4", "xfs", "")), "mode": mode}
+
+
+def nonsense(drawn):
+    """A line that is no request, and its fault (docs/FORMATS.md): nothing like one, or a command with a mode, a name or a target out of its range."""
+    if drawn.random() < 0.4:
+        return drawn.choice(NONSENSE)
+    name, mode = drawn.choice(LONG_NAMES), {"access": "block", "mode": drawn.choice((0, 8))}
+    create = {"capabilities": [capability(drawn)], "limit": 0, "name": "v1", "required": 1}
+    stop = {"name": "v1", "node": "n1", "target": "/a"}
+    use = {**stop, "capability": capability(drawn), "readonly": False}
+    events = [{"create": {**create, "name": name}}, {"create": {**create, "capabilities": [*create["capabilities"], mode]}}]
+    events += [{"use": {**use, "name": name}}, {"use": {**use, "capability": mode}}, {"stop": {**stop, "target": "/" + "t" * 255}}]
+    event = drawn.choice([*events, {"stop": {**stop, "name": name}}, {"delete": name}, {"timeout": name}])
+    return json.dumps(event, ensure_ascii=False).encode(), "BadLine"
 
 
 class Commands:

@@ -6,7 +6,7 @@ from dataclasses import dataclass
 from .breaking import Breaks
 from .changing import Changes
 from .cluster import CONTROLLER, ORCHESTRATOR, Cluster, numbers_of
-from .drawing import Commands, configuration
+from .drawing import Commands, configuration, nonsense
 from .parts import Found
 from .reading import read
 from .watching import Watch
@@ -14,7 +14,6 @@ from .watching import Watch
 AUDIT_EVERY, BROKEN_EVERY = 200, 20  # turns between audits, and where something is broken, which may mend itself
 BREAK_EVERY = 10  # a break is tried so often, from the first audit on, until one changed something
 MOST_GIVEN = 8  # what a part that is asleep is given at most, so that its pipe has room
-NONSENSE = ((b"no JSON", "NotJson"), (b'{"delete":1}', "BadLine"), (b'{"reply":"00"}', "BadFrame"), (b'{"restart":"controller"}', "BadLine"))
 MOMENTS = ("idle", "reading", "working", "working", "committing", "committing", "ending", "starting")
 
 
@@ -218,7 +217,7 @@ class Run:
 
     def say_nonsense(self):
         if not self.cluster.orchestrator.is_asleep:
-            self.cluster.nonsense(*self.drawn.choice(NONSENSE))
+            self.cluster.nonsense(*nonsense(self.drawn))
 
     # ---- parts
 
