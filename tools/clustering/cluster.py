@@ -327,15 +327,18 @@ class Cluster:
             self.take_down(name, item, part.take())
         part.given = []
 
-    def kill(self, name, given=(), cut=b"", seconds=0.0, after_log=None, is_ending=False):
+    def kill(self, name, given=(), cut=b"", seconds=0.0, after_log=None, is_ending=False, is_mute=False):
         """Kills a part, so long after it was given so many calls, or one event, and behind them the beginning of something more, or the end of its
-        input; or earlier, so long after it wrote its log. What it was given, and never did, is lost: the answer is those numbers of frames."""
+        input; or earlier, so long after it wrote its log; perhaps it can't say anything. What it was given, and never did, is lost: the answer is those
+        numbers of frames."""
         part = self.parts[name]
         if part.is_asleep:
             given = part.given
         else:
             part.before = part.record() if name == ORCHESTRATOR else None
             written = part.log_state()
+            if is_mute:
+                part.mute()
             part.give(b"".join(self.content(name, it) for it in given) + cut)
             if is_ending:
                 part.process.stdin.close()

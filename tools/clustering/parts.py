@@ -34,6 +34,7 @@ class Part:
         self.process = None
         self.is_asleep = self.is_dead = self.was_killed = False
         self.came = b""  # what it said that was not taken yet
+        self.filled = 0  # how many bytes stand in its pipe that it didn't say
         self.given = []  # what it was given while it was asleep, or before that, and hasn't answered
 
     @property
@@ -47,7 +48,7 @@ class Part:
         with open(self.at(".error"), "wb") as error:
             pipes = {"stdin": subprocess.PIPE, "stdout": subprocess.PIPE, "stderr": error}
             self.process = subprocess.Popen([self.program, *self.words], cwd=self.folder, env={}, bufsize=0, **pipes)
-        self.came, self.given, self.is_asleep = b"", [], False
+        self.came, self.given, self.filled, self.is_asleep = b"", [], 0, False
 
     def give(self, content):
         while content:
@@ -55,6 +56,15 @@ class Part:
                 content = content[os.write(self.process.stdin.fileno(), content) :]
             except BrokenPipeError:
                 return  # it ended, as is seen by what comes of it
+
+    def mute(self):
+        """Fills the pipe from it: it carries out what it is given, and waits to say so."""
+        pipe = os.open(f"/proc/self/fd/{self.process.stdout.fileno()}", os.O_WRONLY | os.O_NONBLOCK)
+        try:
+            while True:
+                self.filled += os.write(pipe, bytes(4096))
+        except BlockingIOError:
+            os.close(pipe)
 
     def more(self):
         """Reads more of what it says."""
@@ -74,7 +84,7 @@ class Part:
 
     def close(self):
         """All that it said and that was not taken; its pipes are closed."""
-        rest = self.came + self.process.stdout.read()
+        rest = self.came + self.process.stdout.read()[self.filled :]
         self.process.wait(LIMIT)
         for pipe in (self.process.stdin, self.process.stdout):
             pipe.close()

@@ -14,7 +14,7 @@ from .watching import Watch
 AUDIT_EVERY, BROKEN_EVERY = 200, 20  # turns between audits, and where something is broken, which may mend itself
 BREAK_EVERY = 10  # a break is tried so often, from the first audit on, until one changed something
 MOST_GIVEN = 8  # what a part that is asleep is given at most, so that its pipe has room
-MOMENTS = ("idle", "reading", "working", "working", "committing", "committing", "ending", "starting")
+MOMENTS = ("idle", "reading", "working", "working", "committing", "committing", "saying", "saying", "ending", "starting")
 
 
 @dataclass
@@ -281,7 +281,7 @@ class Run:
         self.cluster.pending += [it for it in numbers_of(given) if self.drawn.random() < 0.7]
 
     def kill(self):
-        """A part is killed: at rest, while it reads, works, commits, puts its log back or opens its store, or while it is asleep."""
+        """A part is killed: at rest, while it reads, works, commits, says what came of it, puts its log back or opens its store, or while it is asleep."""
         cluster, drawn = self.cluster, self.drawn
         running = [name for name, part in cluster.parts.items() if part.is_up]
         if not running:
@@ -299,6 +299,8 @@ class Run:
             left = cluster.kill(name, self.given_to(name), seconds=self.moment())
         elif moment == "committing":
             left = cluster.kill(name, self.given_to(name), seconds=0.02, after_log=drawn.uniform(0, 0.00004))
+        elif moment == "saying":
+            left = cluster.kill(name, self.given_to(name), seconds=0.02, after_log=drawn.uniform(0, 0.002), is_mute=True)
         else:
             left = cluster.kill(name, seconds=self.moment(), is_ending=moment == "ending")
         self.counts.kills += 1
