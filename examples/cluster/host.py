@@ -41,6 +41,7 @@ class Host:
         for node, session in self.read("nodes").items():
             if node not in self.losing:
                 self.add(node, session)
+        self.write("nodes", self.nodes)
         self.goals = {}  # by name: what is wanted
         self.open = {}  # by name: the call that was sent and not answered yet, in words
         self.due = {}  # by name: when it times out

@@ -219,10 +219,12 @@ def untold(box):
         for pid in set(cluster.processes()) - {running.pid}:
             os.kill(pid, signal.SIGKILL)
         said = running.communicate(timeout=LIMIT)[0]
+        box.put("cluster/nodes", b'{"n1":null,"n3":null,"n2":5}')  # as if it was killed before it wrote this
         wanted("what it says that the host doesn't answer", (said, running.returncode), ("n2: down\n", 1))
         cluster.start("n1, n3")
         cluster.until("the orchestrator is told", lambda: json.loads(cluster.text("losing")) == [])
         wanted("what the host says last", cluster.text("log").splitlines()[-1], "n2: lost, session 8")
+        wanted("the nodes that are there", json.loads(cluster.text("nodes")), {"n1": None, "n3": None})
         cluster.says(["n2: joined, session 8"], "join", "n2")
         cluster.says(["v: ControllerUnpublishVolume 9.1 to controller: OK", "v: at rest"], "stop", "v", "n2", "/b")
         cluster.says(use_of("v", ["9.2", "9.3", "9.4"], "n2"), "use", "v", "n2", "/a")
