@@ -229,8 +229,8 @@ fn lose_handle(
     }
 }
 
-/// The node of this id is lost: its machine is off for good, and its store never comes back. A session begins without it. What is to be
-/// sent is asked for by `tufayon_timeout` and `tufayon_stop`. `Refused` in the last session.
+/// The node of this id is lost: the machine is off for good, and its store never comes back; an emptied store is a lost node. A session
+/// begins without it. What is to be sent is asked for by `tufayon_timeout` and `tufayon_stop`. `Refused` in the last session.
 #[unsafe(no_mangle)]
 pub extern "C" fn tufayon_orchestrator_lose(
     alloc: Global,

@@ -374,11 +374,11 @@ impl Orchestrator {
         self.core.restart(nodes)
     }
 
-    /// A node is lost (this profile's own): its machine is off for good, and its store never comes back. The next session starts without
-    /// it: every open call is given up, nothing is sent, nothing is staged or published there, a use there becomes its stop, and names are
-    /// forgotten as by `restart`. What the controller attached to the node stays attached until `stop`, with any target, or a timeout
-    /// detached it. A node that isn't listed is lost too. Refused with `NumbersSpent` in the last session, which changes nothing. It takes
-    /// no memory.
+    /// A node is lost (this profile's own): the machine is off for good, and its store never comes back; an emptied store is a lost node.
+    /// The next session starts without it: every open call is given up, nothing is sent, nothing is staged or published there, a use there
+    /// becomes its stop, and names are forgotten as by `restart`. What the controller attached to the node stays attached until `stop`,
+    /// with any target, or a timeout detached it. A node that isn't listed is lost too. Refused with `NumbersSpent` in the last session,
+    /// which changes nothing. It takes no memory.
     pub fn lose(&mut self, node: &NodeId) -> Result<(), OrchFault>
         ensures value { OnOk result (self.new ≡ parts_at_loss node.now self.old) }
         ensures ok { (history : History) → IsWellFormed history → Shows self.old history →

@@ -293,8 +293,8 @@ impl OrchestratorService {
         Ok(heard)
     }
 
-    /// A node is lost (`Orchestrator::lose`): its machine is off for good, and its store never comes back. What changed is the whole record. A
-    /// refusal, `NumbersSpent` in the last session, changes nothing. It takes no memory.
+    /// A node is lost (`Orchestrator::lose`): the machine is off for good, and its store never comes back; an emptied store is a lost node.
+    /// What changed is the whole record. A refusal, `NumbersSpent` in the last session, changes nothing. It takes no memory.
     pub fn lose(&mut self, node: &NodeId) -> Result<(), OrchFault>
         ensures answered { OrchestratorLoses self.old node.now result self.new }
         ensures changed { TellsChanges self.old result self.new }

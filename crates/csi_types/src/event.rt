@@ -47,7 +47,7 @@ pub enum Event {
     RestartNode(NodeId),
     /// A node joins, with a new store, and is told the orchestrator's present session.
     Join(NodeId),
-    /// A node is lost. The operator promises that its machine is off for good, and that its store never comes back.
+    /// A node is lost. The operator promises: the machine is off for good, and its store never comes back; an emptied store is a lost node.
     Lose(NodeId),
     /// A volume is brought to rest, as far as deliveries do that: its name times out, and then the frames that are sent from there on are
     /// delivered, the oldest first and at most twelve, until nothing is wanted of it.

@@ -20,8 +20,8 @@ pub(crate) fn runs_are_steps()
 
 /// A law, and nothing that runs: after every beginning of every list of commands, deliveries, repeats, timeouts, restarts, joins and
 /// losses of nodes the world is safe, as `safety_law` says it, whatever the configuration is first. What isn't delivered is lost, and
-/// frames may come again and out of order. By the loss of a node the operator promises that its machine is off for good, and that its
-/// store never comes back; an emptied store is a lost node.
+/// frames may come again and out of order. By the loss of a node the operator promises: the machine is off for good, and its store never
+/// comes back; an emptied store is a lost node.
 pub fn runs_law()
     ensures { RunsAreSafe }
 {

@@ -88,7 +88,7 @@ join_of d = do
   node ← node_id_of d
   Some (events.Join node)
 
--- a node is lost: the operator promises that the machine is off for good, and that its store never comes back
+-- a node is lost. The operator promises: the machine is off for good, and its store never comes back; an emptied store is a lost node
 unfoldable pub lose_of : Data → Option Event
 lose_of d = do
   node ← node_id_of d

@@ -21,7 +21,7 @@ use Rattle.csi_orchestrator.specs.Public.Steps.{MayForget, frame_of}
 -- what is chosen to be done: the orchestrator sends a call, gives one up, takes a reply to one, notes what is wanted, starts a
 -- session with a list of nodes, forgets a name; a plugin answers a frame; a node joins; the controller gets a configuration. A node is
 -- lost in one step with the session that begins then: it is no more, and what was staged and published there isn't so any more. By that
--- step the operator promises that the machine is off for good, and that its store never comes back
+-- step the operator promises: the machine is off for good, and its store never comes back; an emptied store is a lost node
 pub data Choice : Type 0 where
   Sends : (issued : Issued) → Choice
   Closes : (number : Number) → Choice
