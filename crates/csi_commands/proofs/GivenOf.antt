@@ -1,5 +1,5 @@
 -- What a command gives of the world to which a schedule's events lead.
-use Rattle.std.proofs.Common.{◌≡◌, ℕ, List, Result, Ok, Err, IfOk}
+use Rattle.std.proofs.Common.{ℕ, List, Result, Ok, Err, IfOk}
 use Rattle.csi_json.specs.Public.Schedule.{Schedule}
 use Rattle.csi_world.specs.Model.After.{after}
 use Rattle.csi_world.specs.Model.Simulated.{WorldParts, ShowsRun}

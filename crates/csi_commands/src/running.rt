@@ -1,11 +1,12 @@
 //! A schedule, run to its report, to the frames that it sends, or to its picture.
 ghost use Rattle.std.specs.Prelude.{◌≡◌, IfOk, IfErr, OnOk, OnErr};
-ghost use Rattle.std.specs.List.{flat_map};
+ghost use Rattle.std.specs.List.{flat_map, list_any};
 ghost use Rattle.std.specs.Str.{IsUtf8};
 ghost use Rattle.csi_frames.specs.Public.Spelling.{spelling};
 ghost use Rattle.csi_json.specs.Public.Schedule.{text_schedule};
 ghost use Rattle.csi_commands.specs.Public.Running.{IsReportLine, IsGivenOf, IsGiven, events_of as events_by, Plays, IsScheduleRefused};
-ghost use Rattle.csi_commands.specs.Private.Running.{refusal_of as refusal};
+ghost use Rattle.csi_world.specs.Public.Settling.{spelled_out};
+ghost use Rattle.csi_commands.specs.Private.Running.{refusal_of as refusal, is_settling};
 
 use crate::drawing::Draws;
 use csi_endings::{Ending, ScheduleCommand};
@@ -92,6 +93,24 @@ fn given<D: Draws>(
     given_of::<D>(alloc, command, config, events, &world)
 }
 
+// Whether one of these events settles a volume.
+fn has_settling(events: &[Event]) -> bool
+    ensures { result ≡ list_any is_settling events.now }
+{
+    events.iter().any(|event| matches!(event, Event::Settle(_)))
+}
+
+// The events of a run, told by events that settle nothing. Where none does, it needn't be run for that.
+fn spelled(alloc: Global, config: &Config, events: Vec<Event>) -> Result<Vec<Event>, NoMemory>
+    ensures { IfOk result (λ told. told.items ≡ spelled_out config.now events.items) }
+{
+    if has_settling(&events) {
+        told_one_by_one(alloc, config, &events)
+    } else {
+        Ok(events)
+    }
+}
+
 // The events of a schedule that the command runs: those that it has; and to be drawn, those that what settles a volume stands for.
 fn events_of(
     alloc: Global,
@@ -103,7 +122,7 @@ fn events_of(
 {
     match command {
         ScheduleCommand::Run | ScheduleCommand::Frames => Ok(events),
-        ScheduleCommand::Draw => told_one_by_one(alloc, config, &events),
+        ScheduleCommand::Draw => spelled(alloc, config, events),
     }
 }
 
