@@ -216,8 +216,10 @@ def untold(box):
         cluster.says(["n2: down", "n2: lost, session 5"], "lose", "n2")
         cluster.says(["n2: joined, session 5"], "join", "n2")
         running = throws_away()
-        for pid in set(cluster.processes()) - {running.pid}:
-            os.kill(pid, signal.SIGKILL)
+        killed = set(cluster.processes()) - {running.pid}
+        for one in (signal.SIGSTOP, signal.SIGKILL):  # stopped before, so that none sees another's end
+            for pid in killed:
+                os.kill(pid, one)
         said = running.communicate(timeout=LIMIT)[0]
         box.put("cluster/nodes", b'{"n1":null,"n3":null,"n2":5}')  # as if it was killed before it wrote this
         wanted("what it says that the host doesn't answer", (said, running.returncode), ("n2: down\n", 1))
