@@ -194,8 +194,8 @@ uint32_t tufayon_deliver(tufayon_plugin *orchestrator, const uint8_t *came, size
                          size_t *written, uint32_t *fault);
 
 /*
- * The node of an id is lost, listed or not. Whoever makes this call promises that its machine is off for good, and that its store never comes back;
- * an emptied store is a lost node. A session begins without the node in the list: what was staged and published there is so no more, a use there
+ * The node of an id is lost, listed or not. Whoever makes this call promises: the machine is off for good, and its store never comes back; an
+ * emptied store is a lost node. A session begins without the node in the list: what was staged and published there is so no more, a use there
  * becomes its stop, open calls are given up, and names whose volumes are gone and of which nothing is wanted are free again. What the controller
  * attached to it stays attached until tufayon_stop there, of any target, or tufayon_timeout detached it. Nothing is sent: what is wanted of volumes
  * goes on by a tufayon_timeout of each. Its changes are the whole record; the session that began stands in the value under key 0 (docs/FORMATS.md,
