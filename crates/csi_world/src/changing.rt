@@ -24,6 +24,7 @@ fn is_listed(nodes: &[NodeId], id: &NodeId) -> bool
 
 impl System {
     /// The controller restarts, from its record.
+    #[inline(never)]
     pub(crate) fn restart_controller(&mut self) -> Result<Outcome, NoMemory>
         ensures { Does (world_parts self.old) (world_parts self.new) result (λ world. record { world = world; outcome = outcomes.Restarted }) }
     {
@@ -33,6 +34,7 @@ impl System {
     }
 
     /// The controller restarts, from its record, with this configuration.
+    #[inline(never)]
     pub(crate) fn restart_controller_with(&mut self, config: &Config) -> Result<Outcome, NoMemory>
         ensures { Does (world_parts self.old) (world_parts self.new) result (λ world. record { world = record world { config = config.now }; outcome = outcomes.Restarted }) }
     {
@@ -45,6 +47,7 @@ impl System {
     }
 
     /// The node of this id restarts, from its record.
+    #[inline(never)]
     pub(crate) fn restart_node(&mut self, id: &NodeId) -> Result<Outcome, NoMemory>
         ensures { Does (world_parts self.old) (world_parts self.new) result (λ world. restarted_at world (node_state id.now world)) }
     {
@@ -59,6 +62,7 @@ impl System {
     }
 
     /// A node of this id joins, unless one is there, and is told the orchestrator's session.
+    #[inline(never)]
     pub(crate) fn join(&mut self, id: &NodeId) -> Result<Outcome, NoMemory>
         ensures { Does (world_parts self.old) (world_parts self.new) result (λ world. joined_at world id.now (node_state id.now world)) }
     {
@@ -91,6 +95,7 @@ impl System {
     }
 
     /// The node of this id is lost: it is no more, and the orchestrator begins a session without it.
+    #[inline(never)]
     pub(crate) fn lose(&mut self, id: &NodeId) -> Result<Outcome, NoMemory>
         ensures { Does (world_parts self.old) (world_parts self.new) result (λ world. lost world id.now) }
     {

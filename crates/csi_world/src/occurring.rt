@@ -57,6 +57,7 @@ impl System {
     }
 
     /// The frame of this number is delivered, if it is there. A frame that is delivered is written in place of the bytes.
+    #[inline(always)]
     pub(crate) fn deliver(&mut self, bytes: &mut Vec<u8>, number: u64) -> Result<Outcome, NoMemory>
         ensures does { Does (world_parts self.old) (world_parts self.new) result (λ world. delivered world (frame_numbered world number)) }
         ensures make { OnOk result (IsOfOneMake (world_parts self.old) (world_parts self.new)) }

@@ -106,6 +106,7 @@ impl System {
     }
 
     /// The same as one event, of which this comes.
+    #[inline(never)]
     pub(crate) fn bring_to_rest(
         &mut self,
         bytes: &mut Vec<u8>,
