@@ -201,6 +201,21 @@ def changed(box, events, keys):
     wanted("the report", {"safe": True, **{key: report[key] for key in keys}}, {"safe": report["safe"], **keys})
 
 
+def settled_often(box):
+    """As many events as a schedule may have, half of which settle: a call that was sent isn't answered, and is sent again by the timeout."""
+    told, sent, rounds = [(MAKES_V, "sent 1"), ({"settle": "v"}, "settled 3")], 3, 24_999
+    for _ in range(rounds):
+        for command in (use("n1"), stop("n1")):
+            told += [(command, f"sent {sent + 1}"), ({"settle": "v"}, "settled 7")]
+            sent += 7
+    told += [({"settle": "v"}, "settled 0")] * 2
+    wanted("how many events", len(told), 100_000)
+    changed(box, told, {"session": 1, "frames": sent, "attached": []})
+    drawn = box.run("draw", "f")
+    head = f"{1 + 3 + rounds * 2 * (1 + 7)} events, {sent} frames".encode()
+    wanted("how the picture ends, and what it counts", (drawn.status, drawn.error, head in drawn.out[:10_000]), (0, b"", True))
+
+
 def frames_of(box):
     """The frames that a schedule sends, as bytes: the orchestrator's calls and what they are answered."""
     use = b'{"use":{"capability":{"access":"block","mode":1},"name":"v","node":"n1","readonly":false,"target":"/a"}}'
@@ -264,6 +279,7 @@ def cases():
     rows += [(f"reported: {name}", reported, *rest) for name, *rest in REPORTED]
     rows += [(f"changes: {name}", changed, *rest) for name, *rest in CHANGED]
     yield from of_rows("schedules", rows)
+    yield Case("schedules: 100,000 events that settle", settled_often)
     yield Case("schedules: the frames of one", frames_of)
     yield Case("schedules: the examples", examples)
     yield Case("answer: a new controller", answered)
