@@ -2,11 +2,9 @@
 use Rattle.std.proofs.Common.{◌≡◌, ◌<◌, ◌≤◌, ℕ, zero, suc, length, take, arith, Bool, true, false, cond, List, [], ◌∷◌, ◌++◌, map, refl, sym, ◌∙◌, ap, subst}
 use Rattle.std.specs.Prelude.{Some, None, find, ◌==◌}
 use Rattle.std.specs.List.{AllByRecursion}
-use Rattle.std.proofs.lemmas.Bool.{eq-eqb}
 use Rattle.csi_lists.specs.Public.Places.{AtMostOne, IsAt, FirstAt}
-use Rattle.csi_lists.proofs.Places.{FirstAt-only, find-not_none}
+use Rattle.csi_lists.proofs.Places.{find-not_none}
 use Rattle.csi_lists.proofs.Searches.{find-missed}
-use Rattle.csi_types.proofs.Equality.{same_text-tells}
 use Rattle.csi_types.specs.Model.Config.{Config}
 use Rattle.csi_types.specs.Model.Same.{same_text}
 use Rattle.csi_controller.specs.declared.row.ControllerRow.{ControllerRow}
@@ -15,7 +13,7 @@ use Rattle.csi_controller.specs.Model.Shown.{volume_of_row, holdings_in}
 use Rattle.csi_controller.specs.Model.Core.{Shows}
 use Rattle.csi_controller.specs.Public.Core.{AreSoundRows, IsSoundRow, AreRisingRows, IsSameRow, volume_holding}
 use Rattle.csi_controller.specs.Public.Views.{AreSameRows}
-use Rattle.csi_controller.proofs.Sound.{sound-same, rising-one}
+use Rattle.csi_controller.proofs.Sound.{sound-same}
 
 -- rows and copies that say the same say it with one more of each
 pub AreSameRows-append : (rows copies : List ControllerRow) (row copy : ControllerRow) → AreSameRows rows copies → IsSameRow row copy → AreSameRows (rows ++ row ∷ []) (copies ++ copy ∷ [])
@@ -133,18 +131,6 @@ before-find p [] place row first = absurd first
 before-find p (r ∷ rs) zero row first = refl
 before-find p (r ∷ rs) (suc place) row first = rw (first.0) (before-find p rs place row (first.1))
 
--- no earlier row has its id
-pub id-before : (n : ℕ) (rows : List ControllerRow) (place : ℕ) (row : ControllerRow) → AreSoundRows n rows → IsAt rows place row → find (λ (r : ControllerRow). r.id == row.id) (take place rows) ≡ None
-id-before n rows place row sound at =
-    before-find (λ (r : ControllerRow). r.id == row.id) rows place row
-    (FirstAt-only (λ (r : ControllerRow). r.id == row.id) rows place row at (eq-eqb row.id row.id refl) (rising-one rows sound.rising row.id))
-
--- nor its name
-pub name-before : (n : ℕ) (rows : List ControllerRow) (place : ℕ) (row : ControllerRow) → AreSoundRows n rows → IsAt rows place row → find (λ (r : ControllerRow). same_text r.name row.name) (take place rows) ≡ None
-name-before n rows place row sound at =
-    before-find (λ (r : ControllerRow). same_text r.name row.name) rows place row
-    (FirstAt-only (λ (r : ControllerRow). same_text r.name row.name) rows place row at ((same_text-tells row.name row.name).1 refl) (sound.names row.name))
-
 -- an id that no row has no copy has
 id-none-same : (id : ℕ) (rows copies : List ControllerRow) → AreSameRows rows copies → find (λ (r : ControllerRow). r.id == id) rows ≡ None → find (λ (r : ControllerRow). r.id == id) copies ≡ None
 id-none-same id [] [] same none = refl
@@ -155,20 +141,6 @@ id-none-same id (r ∷ rs) (c ∷ cs) same none =
     let ids : c.id ≡ r.id = ap (λ (v : Volume). v.id) (same.0).volume in
     let fails : (c.id == id) ≡ false = ap (λ k. k == id) ids ∙ missed.0 in
     rw fails (id-none-same id rs cs (same.1) missed.1)
-
--- no copy of an earlier row has the id of its copy
-pub copied_id-before : (n : ℕ) (rows copies : List ControllerRow) (place : ℕ) (row copy : ControllerRow) → AreSoundRows n rows → IsAt rows place row → AreSameRows (take place rows) copies → IsSameRow row copy
-    → find (λ (r : ControllerRow). r.id == copy.id) copies ≡ None
-copied_id-before n rows copies place row copy sound at same one =
-    subst (λ k. find (λ (r : ControllerRow). r.id == k) copies ≡ None) (sym (ap (λ (v : Volume). v.id) one.volume))
-    (id-none-same row.id (take place rows) copies same (id-before n rows place row sound at))
-
--- nor its name
-pub copied_name-before : (n : ℕ) (rows copies : List ControllerRow) (place : ℕ) (row copy : ControllerRow) → AreSoundRows n rows → IsAt rows place row → AreSameRows (take place rows) copies → IsSameRow row copy
-    → find (λ (r : ControllerRow). same_text r.name copy.name) copies ≡ None
-copied_name-before n rows copies place row copy sound at same one =
-    subst (λ k. find (λ (r : ControllerRow). same_text r.name k) copies ≡ None) (sym (ap (λ (v : Volume). v.name) one.volume))
-    (none-same row.name (take place rows) copies same (name-before n rows place row sound at))
 
 -- the same of a list in two parts
 at-split : {X : Type 0} (xs : List X) (x : X) (ys : List X) → IsAt (xs ++ x ∷ ys) (length xs) x
@@ -183,11 +155,3 @@ split-find p (z ∷ zs) x ys one passes = by (p z) refl (split-find p zs x ys (o
     by : (b : Bool) → p z ≡ b → find p zs ≡ None → cond b (Some z) (find p zs) ≡ None
     by true e rest = absurd (find-not_none p (zs ++ x ∷ ys) (length zs) x (at-split zs x ys) passes (one.0 e))
     by false e rest = rest
-
--- no row that stands before one of a record's has its id
-pub id-split : (n : ℕ) (rows : List ControllerRow) (row : ControllerRow) (others : List ControllerRow) → AreSoundRows n (rows ++ row ∷ others) → find (λ (r : ControllerRow). r.id == row.id) rows ≡ None
-id-split n rows row others sound = split-find (λ (r : ControllerRow). r.id == row.id) rows row others (rising-one (rows ++ row ∷ others) sound.rising row.id) (eq-eqb row.id row.id refl)
-
--- nor its name
-pub name-split : (n : ℕ) (rows : List ControllerRow) (row : ControllerRow) (others : List ControllerRow) → AreSoundRows n (rows ++ row ∷ others) → find (λ (r : ControllerRow). same_text r.name row.name) rows ≡ None
-name-split n rows row others sound = split-find (λ (r : ControllerRow). same_text r.name row.name) rows row others (sound.names row.name) ((same_text-tells row.name row.name).1 refl)

@@ -1,7 +1,7 @@
 -- The counts of the configured nodes after a row changed.
 use Rattle.std.proofs.Common.{◌≡◌, ◌≢◌, ◌≤◌, ◌<◌, ◌+◌, ℕ, Bool, true, false, cond, not, filter, List, [], ◌∷◌, ◌++◌, length, get_or, set, refl, sym, ◌∙◌, ap, subst, slice_index, arith}
-use Rattle.std.specs.Prelude.{Option, Some, None, find, is_some, ◌==◌, ◌||◌, ◌&&◌, nat_le}
-use Rattle.std.specs.List.{list_any, position_or_len}
+use Rattle.std.specs.Prelude.{Option, Some, None, find, is_some, count_by, map, ◌==◌, ◌||◌, ◌&&◌, nat_le}
+use Rattle.std.specs.List.{AllByRecursion, list_any, position_or_len}
 use Rattle.std.proofs.lemmas.Bool.{true≢false, eq-eqb, eqb-true, or_parts}
 use Rattle.std.proofs.lemmas.Bool.Decides.{nat_tests}
 use Rattle.std.proofs.lemmas.Grind.{get_or-set_at}
@@ -14,26 +14,17 @@ use Rattle.csi_lists.proofs.Options.{none-from_is_some, some_is_not_none}
 use Rattle.csi_lists.proofs.Places.{FirstAt-find, FirstAt-position}
 use Rattle.csi_lists.proofs.Tests.{any-find}
 use Rattle.csi_types.proofs.Equality.{same_text-tells}
-use Rattle.csi_types.specs.declared.number.Number.{Number}
-use Rattle.csi_types.specs.declared.call.Call.{Call}
 use Rattle.csi_types.specs.declared.config.NodeSlots.{NodeSlots}
-use Rattle.csi_fence.specs.declared.fence.Verdict.{Verdict}
-use Rattle.csi_fence.specs.declared.fence.Verdict.TheVariants.{Stale, Repeated, Fresh}
-use Rattle.csi_types.specs.Model.Config.{Config, has_node}
+use Rattle.csi_types.specs.Model.Config.{has_node}
 use Rattle.csi_types.specs.Public.Config.{has_same_node}
-use Rattle.csi_types.specs.Model.Frame.{Frame}
 use Rattle.csi_types.specs.Model.Same.{same_text}
 use Rattle.csi_controller.specs.declared.row.NodeHolding.{NodeHolding}
-use Rattle.csi_controller.specs.declared.row.ControllerRow.{ControllerRow}
-use Rattle.csi_controller.specs.declared.controller.core_parts.ControllerCore.{ControllerCore}
-use Rattle.csi_controller.specs.Public.Catalog.{rows_of}
-use Rattle.csi_controller.specs.Model.Core.{ControllerParts}
-use Rattle.csi_controller.specs.Private.OneRow.{RowChange, RowStays, RowEnds, RowAttaches, RowDetaches, items_after, count_change_by}
-use Rattle.csi_controller.specs.Private.AtRow.{RowAnswers}
-use Rattle.csi_controller.specs.Private.RowTable.{row_line}
-use Rattle.csi_controller.specs.Public.CoreParts.{controller_parts_shown}
+use Rattle.csi_controller.specs.Model.Table.{Change, Stays, Makes, Ends, Attaches, Detaches}
+use Rattle.csi_controller.specs.Public.OneRow.{RowShown, row_changed, held_by}
+use Rattle.csi_controller.specs.Private.OneRow.{moved, CanChange}
 use Rattle.csi_controller.specs.Public.Counts.{is_held, count_held, place_of, AreCounted}
 use Rattle.csi_controller.specs.Private.Counts.{count_at_place, is_full_with, is_node_full, count_after, counted_at, recounted}
+use Rattle.csi_controller.specs.Private.PlanLaws.{counted-alike, counted-left}
 use Rattle.csi_controller.proofs.SameText.{text-turned}
 
 -- ---- where a node is configured
@@ -55,7 +46,7 @@ same-node a b nodes place at other = sym (stands a nodes place some_node at).1 �
 -- ---- one more node is counted
 
 -- where the counts before a place are right, and the node's there is put at it, the counts up to it are right
-pub counted-more : (nodes : List NodeSlots) (rows : List ControllerRow) (counts : List ℕ) (i : ℕ) (entry : NodeSlots) (count : ℕ) → i < length counts → entry ≡ get_or nodes i entry → count ≡ count_held entry.id rows
+pub counted-more : (nodes : List NodeSlots) (rows : List RowShown) (counts : List ℕ) (i : ℕ) (entry : NodeSlots) (count : ℕ) → i < length counts → entry ≡ get_or nodes i entry → count ≡ count_held entry.id rows
     → ((node : List ℕ) (place : ℕ) → place_of node nodes ≡ Some place → place < i → slice_index counts place ≡ count_held node rows)
     → (node : List ℕ) (place : ℕ) → place_of node nodes ≡ Some place → place < i + 1 → slice_index (set counts i count) place ≡ count_held node rows
 counted-more nodes rows counts i entry count inside is told before node place at below = by (place == i) refl
@@ -71,12 +62,8 @@ counted-more nodes rows counts i entry count inside is told before node place at
 
 -- ---- a row changed
 
--- rows that are held alike are counted alike
-pub counted-alike : (nodes : List NodeSlots) (rows after : List ControllerRow) (counts : List ℕ) → ((node : List ℕ) → count_held node after ≡ count_held node rows) → AreCounted nodes rows counts → AreCounted nodes after counts
-counted-alike nodes rows after counts alike counted = record { few = counted.few; distinct = counted.distinct; fits = counted.fits; each = λ node place at. counted.each node place at ∙ sym (alike node) }
-
 -- the counts are right once one node's went up or down by one, where no other node's changes
-at-node : (nodes : List NodeSlots) (rows after : List ControllerRow) (node : List ℕ) (is : Bool) (counts : List ℕ) → AreCounted nodes rows counts → count_after is (count_held node rows) ≡ count_held node after
+at-node : (nodes : List NodeSlots) (rows after : List RowShown) (node : List ℕ) (is : Bool) (counts : List ℕ) → AreCounted nodes rows counts → count_after is (count_held node rows) ≡ count_held node after
     → ((other : List ℕ) → same_text node other ≡ false → count_held other after ≡ count_held other rows) → (found : Option ℕ) → place_of node nodes ≡ found → AreCounted nodes after (counted_at found is counts)
 at-node nodes rows after node is counts counted own others None none = record { few = counted.few; distinct = counted.distinct; fits = counted.fits; each = each }
   where
@@ -108,26 +95,26 @@ at-node nodes rows after node is counts counted own others (Some found) here =
         get_or-set_other counts found place value 0 apart ∙ counted.each other place at ∙ sym (others other e)
 
 -- what another row in its place adds or takes
-changes : (node : List ℕ) (rows : List ControllerRow) (place : ℕ) (row new : ControllerRow) → place < length rows → row ≡ get_or rows place row
+changes : (node : List ℕ) (rows : List RowShown) (place : ℕ) (row new : RowShown) → place < length rows → row ≡ get_or rows place row
     → count_held node (set rows place new) + cond (is_held node row) 1 0 ≡ count_held node rows + cond (is_held node new) 1 0
 changes node rows place row new inside is =
-    ap (λ (r : ControllerRow). count_held node (set rows place new) + cond (is_held node r) 1 0) is
-    ∙ sum_by-set (λ (r : ControllerRow). cond (is_held node r) 1 0) rows place new row inside
+    ap (λ (r : RowShown). count_held node (set rows place new) + cond (is_held node r) 1 0) is
+    ∙ sum_by-set (λ (r : RowShown). cond (is_held node r) 1 0) rows place new row inside
 
 -- another row in a row's place leaves the count of a node at which both are held, or neither is
-alike-counted : (node : List ℕ) (rows : List ControllerRow) (place : ℕ) (row new : ControllerRow) → place < length rows → row ≡ get_or rows place row → is_held node new ≡ is_held node row
+alike-counted : (node : List ℕ) (rows : List RowShown) (place : ℕ) (row new : RowShown) → place < length rows → row ≡ get_or rows place row → is_held node new ≡ is_held node row
     → count_held node (set rows place new) ≡ count_held node rows
 alike-counted node rows place row new inside is same =
     let whole = changes node rows place row new inside is ∙ ap (λ b. count_held node rows + cond b 1 0) same in
     omega (arith, whole)
 
 -- the counts after a row came to be held at a node, or ceased to be, and is held elsewhere as before
-node-counted : (nodes : List NodeSlots) (rows : List ControllerRow) (place : ℕ) (row new : ControllerRow) (node : List ℕ) (is : Bool) (counts : List ℕ) → AreCounted nodes rows counts → length rows ≤ 4096
+node-counted : (nodes : List NodeSlots) (rows : List RowShown) (place : ℕ) (row new : RowShown) (node : List ℕ) (is : Bool) (counts : List ℕ) → AreCounted nodes rows counts → length rows ≤ 4096
     → place < length rows → row ≡ get_or rows place row → is_held node row ≡ not is → is_held node new ≡ is → ((other : List ℕ) → same_text node other ≡ false → is_held other new ≡ is_held other row)
     → AreCounted nodes (set rows place new) (counted_at (place_of node nodes) is counts)
 node-counted nodes rows place row new node is counts counted limit inside stands was now others = by is was now
   where
-    after : List ControllerRow
+    after : List RowShown
     after = set rows place new
 
     others_counted : (other : List ℕ) → same_text node other ≡ false → count_held other after ≡ count_held other rows
@@ -149,15 +136,15 @@ node-counted nodes rows place row new node is counts counted limit inside stands
         at-node nodes rows after node true counts counted (omega (arith, more, small)) others_counted (place_of node nodes) refl
 
 -- a row that is held as before leaves all counts
-pub same-counted : (nodes : List NodeSlots) (rows : List ControllerRow) (place : ℕ) (row new : ControllerRow) (counts : List ℕ) → AreCounted nodes rows counts → place < length rows → row ≡ get_or rows place row
-    → new.holdings.items ≡ row.holdings.items → AreCounted nodes (set rows place new) counts
+pub same-counted : (nodes : List NodeSlots) (rows : List RowShown) (place : ℕ) (row new : RowShown) (counts : List ℕ) → AreCounted nodes rows counts → place < length rows → row ≡ get_or rows place row
+    → new.items ≡ row.items → AreCounted nodes (set rows place new) counts
 same-counted nodes rows place row new counts counted inside is same =
     counted-alike nodes rows (set rows place new) counts (λ node. alike-counted node rows place row new inside is (ap (list_any (λ held. same_text held.node node)) same)) counted
 
 -- ---- all nodes
 
 -- the counts are right once each configured node was counted
-pub all-counted : (nodes : List NodeSlots) (rows : List ControllerRow) (counts : List ℕ) (count : ℕ) → length nodes ≤ 64 → has_same_node nodes ≡ false → length counts ≡ 64 → length nodes ≤ count
+pub all-counted : (nodes : List NodeSlots) (rows : List RowShown) (counts : List ℕ) (count : ℕ) → length nodes ≤ 64 → has_same_node nodes ≡ false → length counts ≡ 64 → length nodes ≤ count
     → ((node : List ℕ) (place : ℕ) → place_of node nodes ≡ Some place → place < count → slice_index counts place ≡ count_held node rows) → AreCounted nodes rows counts
 all-counted nodes rows counts count few distinct long all each =
     record { few = few; distinct = distinct; fits = omega (arith, few, long); each = λ node place at. each node place at (let inside = (stands node nodes place some_node at).0 in omega (arith, inside, all)) }
@@ -243,62 +230,48 @@ or_true false = refl
 
 -- ---- a row that a call changed
 
--- what a row of these holdings may add or take out
-abbrev pub IsCountChange : ControllerRow → RowChange → Type 0
-IsCountChange row RowStays = Unit {0}
-IsCountChange row RowEnds = Unit {0}
-IsCountChange row (RowAttaches held) = is_held held.node row ≡ false
-IsCountChange row (RowDetaches node) = is_held node row ≡ true
-
 -- the counts are right after a row's change, once they are counted again for the node that it moves
-changed-counted : (nodes : List NodeSlots) (rows : List ControllerRow) (place : ℕ) (row new : ControllerRow) (change : RowChange) (counts : List ℕ) → AreCounted nodes rows counts → length rows ≤ 4096
-    → place < length rows → row ≡ get_or rows place row → IsCountChange row change → new.holdings.items ≡ items_after change row.holdings.items
-    → AreCounted nodes (set rows place new) (recounted nodes (count_change_by change) counts)
-changed-counted nodes rows place row new RowStays counts counted limit inside stands move items = same-counted nodes rows place row new counts counted inside stands items
-changed-counted nodes rows place row new RowEnds counts counted limit inside stands move items = same-counted nodes rows place row new counts counted inside stands items
-changed-counted nodes rows place row new (RowAttaches held) counts counted limit inside stands move items =
-    node-counted nodes rows place row new held.node true counts counted limit inside stands move
-    (ap (list_any (λ (other : NodeHolding). same_text other.node held.node)) items
-    ∙ one_more (λ (other : NodeHolding). same_text other.node held.node) row.holdings.items held true ((same_text-tells held.node held.node).1 refl) ∙ or_true (is_held held.node row))
+pub changed-counted : (nodes : List NodeSlots) (rows : List RowShown) (place : ℕ) (row new : RowShown) (change : Change) (counts : List ℕ) → AreCounted nodes rows counts → length rows ≤ 4096
+    → place < length rows → row ≡ get_or rows place row → CanChange row change → new.items ≡ (row_changed row change).items
+    → AreCounted nodes (set rows place new) (recounted nodes (moved change) counts)
+changed-counted nodes rows place row new Stays counts counted limit inside stands can items = same-counted nodes rows place row new counts counted inside stands items
+changed-counted nodes rows place row new (Makes name capacity capabilities) counts counted limit inside stands can items = absurd can
+changed-counted nodes rows place row new (Ends id) counts counted limit inside stands can items = same-counted nodes rows place row new counts counted inside stands items
+changed-counted nodes rows place row new (Attaches holding) counts counted limit inside stands can items =
+    node-counted nodes rows place row new holding.node true counts counted limit inside stands (any-find (λ (other : NodeHolding). same_text other.node holding.node) row.items ∙ ap is_some can.free)
+    (ap (list_any (λ (other : NodeHolding). same_text other.node holding.node)) items
+    ∙ one_more (λ (other : NodeHolding). same_text other.node holding.node) row.items (held_by holding) true ((same_text-tells holding.node holding.node).1 refl) ∙ or_true (is_held holding.node row))
     (λ other differ. ap (list_any (λ (h : NodeHolding). same_text h.node other)) items
-    ∙ one_more (λ (h : NodeHolding). same_text h.node other) row.holdings.items held false differ ∙ or_false (is_held other row))
-changed-counted nodes rows place row new (RowDetaches node) counts counted limit inside stands move items =
-    node-counted nodes rows place row new node false counts counted limit inside stands move
-    (ap (list_any (λ (held : NodeHolding). same_text held.node node)) items ∙ here_none node row.holdings.items)
-    (λ other differ. ap (list_any (λ (held : NodeHolding). same_text held.node other)) items ∙ taken-others node other row.holdings.items differ)
-
--- by what the fence says
-pub answered-counted : (nodes : List NodeSlots) (rows : List ControllerRow) (place : ℕ) (row new : ControllerRow) (counts after : List ℕ) (number : Number) (call : Call) (verdict : Verdict) (frame : Frame)
-    → AreCounted nodes rows counts → length rows ≤ 4096 → place < length rows → row ≡ get_or rows place row → IsCountChange row (row_line nodes counts row call).change
-    → RowAnswers nodes row new counts after number call verdict frame → AreCounted nodes (set rows place new) after
-answered-counted nodes rows place row new counts after number call Stale frame counted limit inside stands move answered =
-    subst (AreCounted nodes (set rows place new)) (sym answered.counts) (same-counted nodes rows place row new counts counted inside stands answered.gives.items)
-answered-counted nodes rows place row new counts after number call Repeated frame counted limit inside stands move answered =
-    subst (AreCounted nodes (set rows place new)) (sym answered.counts) (same-counted nodes rows place row new counts counted inside stands answered.gives.items)
-answered-counted nodes rows place row new counts after number call Fresh frame counted limit inside stands move answered =
-    subst (AreCounted nodes (set rows place new)) (sym answered.counts)
-    (changed-counted nodes rows place row new (row_line nodes counts row call).change counts counted limit inside stands move answered.gives.items)
+    ∙ one_more (λ (h : NodeHolding). same_text h.node other) row.items (held_by holding) false differ ∙ or_false (is_held other row))
+changed-counted nodes rows place row new (Detaches id node) counts counted limit inside stands can items =
+    node-counted nodes rows place row new node false counts counted limit inside stands (any-find (λ (held : NodeHolding). same_text held.node node) row.items ∙ can.1)
+    (ap (list_any (λ (held : NodeHolding). same_text held.node node)) items ∙ here_none node row.items)
+    (λ other differ. ap (list_any (λ (held : NodeHolding). same_text held.node other)) items ∙ taken-others node other row.items differ)
 
 -- ---- a row that is added
 
 -- one more row, without holdings, leaves every node's count
-pub added-one : (node : List ℕ) (rows : List ControllerRow) (row : ControllerRow) → row.holdings.items ≡ [] → count_held node (rows ++ row ∷ []) ≡ count_held node rows
+pub added-one : (node : List ℕ) (rows : List RowShown) (row : RowShown) → row.items ≡ [] → count_held node (rows ++ row ∷ []) ≡ count_held node rows
 added-one node [] row empty = count-cons (is_held node) row [] ∙ ap (λ (items : List NodeHolding). cond (list_any (λ (held : NodeHolding). same_text held.node node) items) 1 0 + count_held node []) empty
 added-one node (r ∷ rs) row empty = count-cons (is_held node) r (rs ++ row ∷ []) ∙ ap (λ n. cond (is_held node r) 1 0 + n) (added-one node rs row empty) ∙ sym (count-cons (is_held node) r rs)
 
 -- the counts stay right where a row without holdings is put at the end
-pub made-counted : (old new : ControllerCore) (row : ControllerRow) → new.config ≡ old.config → rows_of new.catalog ≡ rows_of old.catalog ++ row ∷ [] → row.holdings.items ≡ [] → new.counts ≡ old.counts
-    → AreCounted old.config.nodes (rows_of old.catalog) old.counts → AreCounted new.config.nodes (rows_of new.catalog) new.counts
-made-counted old new row config rows empty counts counted =
-    subst (λ (k : Config). AreCounted k.nodes (rows_of new.catalog) new.counts) (sym config)
-    (subst (AreCounted old.config.nodes (rows_of new.catalog)) (sym counts)
-    (subst (λ (rs : List ControllerRow). AreCounted old.config.nodes rs old.counts) (sym rows)
-    (counted-alike old.config.nodes (rows_of old.catalog) (rows_of old.catalog ++ row ∷ []) old.counts (λ node. added-one node (rows_of old.catalog) row empty) counted)))
+pub made-counted : (nodes : List NodeSlots) (rows : List RowShown) (counts : List ℕ) (row : RowShown) → row.items ≡ [] → AreCounted nodes rows counts → AreCounted nodes (rows ++ row ∷ []) counts
+made-counted nodes rows counts row empty counted = counted-alike nodes rows (rows ++ row ∷ []) counts (λ node. added-one node rows row empty) counted
 
--- the counts stay right where configuration and rows stay
-pub same-parts-counted : (old new : ControllerCore) → controller_parts_shown new ≡ controller_parts_shown old → new.counts ≡ old.counts → AreCounted old.config.nodes (rows_of old.catalog) old.counts → AreCounted new.config.nodes (rows_of new.catalog) new.counts
-same-parts-counted old new parts counts counted =
-    subst (λ (k : ControllerParts). AreCounted k.config.nodes k.rows new.counts) (sym parts) (subst (AreCounted old.config.nodes (rows_of old.catalog)) (sym counts) counted)
+-- ---- rows that are left out
+
+-- the counts stay right where such rows are left out
+pub counted-fewer : (nodes : List NodeSlots) (q : RowShown → Bool) (rows : List RowShown) (counts : List ℕ) → AllByRecursion (λ (row : RowShown). q row ≡ false → row.items ≡ []) rows
+    → AreCounted nodes rows counts → AreCounted nodes (filter q rows) counts
+counted-fewer nodes q rows counts empty counted = counted-alike nodes rows (filter q rows) counts (λ node. counted-left node q rows empty) counted
+
+-- ---- rows as they are shown
+
+-- as many rows are held at a node as are shown so
+pub count-shown : {X : Type 0} (p : RowShown → Bool) (f : X → RowShown) (xs : List X) → count_by (λ (x : X). p (f x)) xs ≡ count_by p (map f xs)
+count-shown p f [] = refl
+count-shown {X} p f (x ∷ xs) = count-cons (λ (x : X). p (f x)) x xs ∙ ap (λ n. cond (p (f x)) 1 0 + n) (count-shown p f xs) ∙ sym (count-cons p (f x) (map f xs))
 
 -- ---- whether a node is full
 
@@ -336,7 +309,7 @@ none-full nodes node count held none =
     any_none p xs h = none-from_is_some (find p xs) (sym (any-find p xs) ∙ h)
 
 -- the count at a configured node's place is the count of its volumes
-pub full-told : (nodes : List NodeSlots) (rows : List ControllerRow) (counts : List ℕ) (node : List ℕ) → AreCounted nodes rows counts
+pub full-told : (nodes : List NodeSlots) (rows : List RowShown) (counts : List ℕ) (node : List ℕ) → AreCounted nodes rows counts
     → list_any (λ (entry : NodeSlots). same_text entry.id node && nat_le entry.slots (count_held node rows)) nodes ≡ is_node_full nodes counts node
 full-told nodes rows counts node counted = full-first nodes node (count_held node rows) counted.distinct ∙ by (place_of node nodes) refl
   where

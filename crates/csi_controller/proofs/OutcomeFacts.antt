@@ -20,8 +20,8 @@ use Rattle.csi_fence.specs.Model.Fence.{Kept}
 use Rattle.csi_types.specs.Model.Holding.{same_holding}
 use Rattle.csi_types.specs.Model.Replies.{ok_reply, ok_reply_with}
 use Rattle.csi_types.specs.Model.Same.{same_text, same_capability, has_capability}
-use Rattle.csi_controller.specs.Model.State.{Volume, ControllerState, volume_named, live_volume, is_held_at, holding_at, is_row_for}
-use Rattle.csi_controller.specs.Model.Table.{Outcome, Stays, Makes, Ends, Attaches, Detaches, refused, met, done, serves, create_named, create, delete, publish_held, publish, unpublish, controller_row, ended_volume, changed}
+use Rattle.csi_controller.specs.Model.State.{Volume, ControllerState, volume_named, live_volume, holdings_of, is_held_at, holding_at, is_row_for}
+use Rattle.csi_controller.specs.Model.Table.{Outcome, Stays, Makes, Ends, Attaches, Detaches, refused, met, done, serves, unless, create_named, create, delete, is_full, publish_held, publish, unpublish, controller_row, ended_volume, changed}
 use Rattle.csi_controller.specs.Public.Laws.{IsDone, is_of_another}
 use Rattle.csi_controller.proofs.TableOutcomes.{IsOutcome, CanAttach, publish_call, was_refused, was_found, was_made, was_ended, was_ended_before, was_attached, was_attached_before, was_detached, was_detached_before, is_outcome}
 use Rattle.csi_controller.proofs.OrderlyStates.{IsOrderly, named_by_id, made_orderly, end_leaves}
@@ -58,8 +58,8 @@ create_found : (config : Config) (state : ControllerState) (name : List ℕ) (re
     → serves volume required limit (first ∷ others) ≡ true
     → create config state name required limit (first ∷ others) ≡ record { reply = ok_reply_with volume.id; change = Stays }
 create_found config state name required limit first others volume bad none named live serving =
-    subst (λ b. cond b (refused InvalidArgument (codes "capacity")) (cond (is_empty_range required limit) (refused OutOfRange (codes "range")) (create_named config state name required limit (first ∷ others) (volume_named name state))) ≡ record { reply = ok_reply_with volume.id; change = Stays }) (sym bad)
-    (subst (λ b. cond b (refused OutOfRange (codes "range")) (create_named config state name required limit (first ∷ others) (volume_named name state)) ≡ record { reply = ok_reply_with volume.id; change = Stays }) (sym none)
+    subst (λ b. unless (cond b (Some (refused InvalidArgument (codes "capacity"))) (cond (is_empty_range required limit) (Some (refused OutOfRange (codes "range"))) None)) (create_named config state name required limit (first ∷ others) (volume_named name state)) ≡ record { reply = ok_reply_with volume.id; change = Stays }) (sym bad)
+    (subst (λ b. unless (cond b (Some (refused OutOfRange (codes "range"))) None) (create_named config state name required limit (first ∷ others) (volume_named name state)) ≡ record { reply = ok_reply_with volume.id; change = Stays }) (sym none)
     (subst (λ o. create_named config state name required limit (first ∷ others) o ≡ record { reply = ok_reply_with volume.id; change = Stays }) (sym named)
     (subst (λ b. cond (not b) (refused AlreadyExists (codes "name")) (cond (serves volume required limit (first ∷ others)) (record { reply = ok_reply_with volume.id; change = Stays }) (refused AlreadyExists (codes "name"))) ≡ record { reply = ok_reply_with volume.id; change = Stays }) (sym live)
     (subst (λ b. cond b (record { reply = ok_reply_with volume.id; change = Stays }) (refused AlreadyExists (codes "name")) ≡ record { reply = ok_reply_with volume.id; change = Stays }) (sym serving) refl))))
@@ -160,7 +160,7 @@ ended-other id volume h = let other : (volume.id == id) ≡ false = not-true (vo
 
 -- DeleteVolume is ready where no live volume has its id
 delete_ready : (config : Config) (state : ControllerState) (id : ℕ) → live_volume id state ≡ None → IsReady config state (calls.DeleteVolume id) ok_reply
-delete_ready config state id none = record { is_done = none; again = ap (delete state id) none }
+delete_ready config state id none = record { is_done = none; again = ap (delete id (holdings_of id state)) none }
 
 -- what is so where DeleteVolume ends a volume
 ended_facts : (config : Config) (state : ControllerState) (id : ℕ) → Facts config state (calls.DeleteVolume id) (done (Ends id))
@@ -179,10 +179,10 @@ publish_ready config state holding volume live node capable held =
     record {
       is_done = held;
       again =
-          subst (λ o. publish config state holding o ≡ met) (sym live)
-          (subst (λ b. cond (not b) (refused NotFound (codes "node")) (cond (not (has_capability volume.capabilities holding.capability)) (refused InvalidArgument (codes "capability")) (publish_held config state holding (holding_at holding.volume holding.node state))) ≡ met) (sym node)
-          (subst (λ b. cond (not b) (refused InvalidArgument (codes "capability")) (publish_held config state holding (holding_at holding.volume holding.node state)) ≡ met) (sym capable)
-          (subst (λ o. publish_held config state holding o ≡ met) (sym held)
+          subst (λ o. publish config (is_full config state holding.node) state holding o ≡ met) (sym live)
+          (subst (λ b. cond (not b) (refused NotFound (codes "node")) (cond (not (has_capability volume.capabilities holding.capability)) (refused InvalidArgument (codes "capability")) (publish_held (is_full config state holding.node) (holdings_of holding.volume state) holding (holding_at holding.volume holding.node state))) ≡ met) (sym node)
+          (subst (λ b. cond (not b) (refused InvalidArgument (codes "capability")) (publish_held (is_full config state holding.node) (holdings_of holding.volume state) holding (holding_at holding.volume holding.node state)) ≡ met) (sym capable)
+          (subst (λ o. publish_held (is_full config state holding.node) (holdings_of holding.volume state) holding o ≡ met) (sym held)
           (subst (λ b. cond b met (refused AlreadyExists (codes "held otherwise")) ≡ met) (sym self) refl))));
     }
 

@@ -9,6 +9,7 @@ use Rattle.csi_controller.specs.Model.Shown.{volume_of_row, holdings_in_row}
 use Rattle.csi_controller.specs.Model.Core.{ControllerParts, Shows}
 use Rattle.csi_controller.specs.Public.Core.{volume_holding}
 use Rattle.csi_controller.specs.Public.Views.{shown_if_live, IsCopyOf, IsRowOf}
+use Rattle.csi_controller.specs.Public.OneRow.{RowShown, row_shown}
 use Rattle.csi_controller.specs.Private.Views.{row_if_live}
 
 -- the volume of a name is that of the name's row
@@ -30,6 +31,15 @@ pub id-shown : (parts : ControllerParts) (state : ControllerState) (name : List 
 id-shown parts state name shown = sym (ap (option_map (λ (v : Volume). v.id)) (named-shown parts state name shown) ∙ by (find (λ (r : ControllerRow). same_text r.name name) parts.rows))
   where
     by : (o : Option ControllerRow) → option_map (λ (v : Volume). v.id) (option_map volume_of_row o) ≡ option_map (λ (r : ControllerRow). r.id) o
+    by None = refl
+    by (Some row) = refl
+
+-- the id of a name's row, as it is shown, is the row's
+pub id-in : (rows : List ControllerRow) (name : List ℕ)
+    → option_map (λ (row : RowShown). row.volume.id) (find (λ (row : RowShown). same_text row.volume.name name) (map row_shown rows)) ≡ option_map (λ (r : ControllerRow). r.id) (find (λ (r : ControllerRow). same_text r.name name) rows)
+id-in rows name = ap (option_map (λ (row : RowShown). row.volume.id)) (find-of_map (λ (row : RowShown). same_text row.volume.name name) row_shown rows) ∙ by (find (λ (r : ControllerRow). same_text r.name name) rows)
+  where
+    by : (o : Option ControllerRow) → option_map (λ (row : RowShown). row.volume.id) (option_map row_shown o) ≡ option_map (λ (r : ControllerRow). r.id) o
     by None = refl
     by (Some row) = refl
 

@@ -15,7 +15,7 @@ abbrev state_by_id : ControllerParts → ControllerState
 state_by_id parts = record { volumes = map volume_of_row parts.rows; next_id = next_shown parts.next_id; session = parts.session; holdings = attached_holdings parts.rows }
 
 -- a next id below 2^64, where 0 stands for 2^64, is from 1 to 2^64 and told by its 64 bits
-next-by : (n : ℕ) (b : Bool) → (n == 0) ≡ b → n < 2 ^ 64 → (n ≡ cond b (2 ^ 64) n % 2 ^ 64) × (1 ≤ cond b (2 ^ 64) n) × (cond b (2 ^ 64) n ≤ 2 ^ 64)
+pub next-by : (n : ℕ) (b : Bool) → (n == 0) ≡ b → n < 2 ^ 64 → (n ≡ cond b (2 ^ 64) n % 2 ^ 64) × (1 ≤ cond b (2 ^ 64) n) × (cond b (2 ^ 64) n ≤ 2 ^ 64)
 next-by n true e below = (let zero : n ≡ 0 = eqb-true n 0 e in omega arith, omega arith, omega arith)
 next-by n false e below = (omega arith, (let some = eqb-false n 0 e in omega arith), omega arith)
 

@@ -1,6 +1,6 @@
 -- The laws of the controller's table, from what is so of each of its outcomes.
-use Rattle.std.proofs.Common.{◌≡◌, ◌⊎◌, ◌≤◌, ℕ, List, [], ◌∷◌, map, true, false, cond, not, refl, sym, ◌∙◌, ap, subst}
-use Rattle.std.specs.Prelude.{Option, Some, None, option_map, ◌==◌, ◌&&◌, ◌||◌, nat_le, nat_lt, length, codes, ◌^◌, IsTrue}
+use Rattle.std.proofs.Common.{◌≡◌, ◌⊎◌, ◌≤◌, ℕ, Bool, List, [], ◌∷◌, map, true, false, not, refl, sym, ◌∙◌, ap, subst}
+use Rattle.std.specs.Prelude.{Option, Some, None, option_map, ◌==◌, ◌&&◌, length, IsTrue}
 use Rattle.std.specs.List.{AllByRecursion}
 use Rattle.std.proofs.lemmas.Bool.{not-true}
 use Rattle.csi_lists.proofs.Filters.{filter-map}
@@ -13,10 +13,8 @@ use Rattle.csi_types.specs.declared.call.Call.{Call}
 use Rattle.csi_types.specs.declared.call.Call.TheVariants as calls
 use Rattle.csi_types.specs.declared.call.Party.TheVariants.{Controller}
 use Rattle.csi_fence.specs.declared.fence.Verdict.TheVariants.{Fresh}
-use Rattle.csi_types.specs.declared.status.Status.TheVariants.{InvalidArgument, OutOfRange, ResourceExhausted}
 use Rattle.csi_types.specs.declared.reply.Reply.{Reply}
 use Rattle.csi_types.specs.Model.Call.{kind_of}
-use Rattle.csi_types.specs.Model.Capacity.{is_bad_range, is_empty_range, capacity_wanted}
 use Rattle.csi_types.specs.Model.Config.{Config}
 use Rattle.csi_fence.proofs.FramesKeep.{own_session, session_keeps}
 use Rattle.csi_fence.proofs.LetThrough.{fresh-after, is_carried_out, stays-in_session}
@@ -26,10 +24,10 @@ use Rattle.csi_fence.specs.Model.Fence.{Kept, verdict_of}
 use Rattle.csi_fence.specs.Model.Fenced.{Fenced}
 use Rattle.csi_fence.specs.Public.Lawful.{IsLawful, IsIdempotent}
 use Rattle.csi_types.specs.Model.Number.{IsBefore}
-use Rattle.csi_types.specs.Model.Replies.{ok_reply_with, call_frame, reply_frame}
+use Rattle.csi_types.specs.Model.Replies.{call_frame, reply_frame}
 use Rattle.csi_types.specs.Model.Same.{same_text, has_capability}
-use Rattle.csi_controller.specs.Model.State.{Volume, ControllerState, volume_named, live_volume, is_row_for, row_for}
-use Rattle.csi_controller.specs.Model.Table.{Outcome, Change, Stays, Makes, refused, create_named, delete, publish, controller_row, changed}
+use Rattle.csi_controller.specs.Model.State.{Volume, ControllerState, volume_named, live_volume, holdings_of, is_row_for, row_for}
+use Rattle.csi_controller.specs.Model.Table.{Outcome, Change, Stays, argument_fault, unless, create_new, create_named, delete, is_full, publish, controller_row, changed}
 use Rattle.csi_controller.specs.Model.Fenced.{fenced, kept_for, kept_in, keep, carried_out, controller_with}
 use Rattle.csi_controller.specs.Public.Fenced.{in_session}
 use Rattle.csi_controller.specs.Public.Laws.{IsLetThrough, IsSameApart, IsDone, IsMadeAs, LeavesOthers, keeping, plugin_with}
@@ -59,34 +57,31 @@ create_named-keep : (config : Config) (call : Call) (kept : Kept) (state : Contr
 create_named-keep config call kept state name required limit capabilities (Some v) =
     ap (λ (w : Volume). create_named config state name required limit capabilities (Some w)) (kept_same call kept kept v)
 create_named-keep config call kept state name required limit capabilities None =
-    ap (λ (n : ℕ). cond (nat_lt config.greatest (capacity_wanted required limit)) (refused OutOfRange (codes "range"))
-    (cond (nat_le 4096 n || nat_le (2 ^ 64) state.next_id) (refused ResourceExhausted (codes "volumes"))
-    (record { reply = ok_reply_with state.next_id; change = Makes name (capacity_wanted required limit) capabilities })))
-    (length-map (kept_in call kept) state.volumes)
+    ap (λ (n : ℕ). create_new config.greatest n state.next_id name required limit capabilities) (length-map (kept_in call kept) state.volumes)
 
 -- DeleteVolume is answered the same, whatever is kept
-delete-keep : (call : Call) (kept : Kept) (state : ControllerState) (id : ℕ) (o : Option Volume) → delete (keep call kept state) id (option_map (kept_in call kept) o) ≡ delete state id o
-delete-keep call kept state id None = refl
-delete-keep call kept state id (Some v) = refl
+delete-keep : (call : Call) (kept : Kept) (held : List Holding) (id : ℕ) (o : Option Volume) → delete id held (option_map (kept_in call kept) o) ≡ delete id held o
+delete-keep call kept held id None = refl
+delete-keep call kept held id (Some v) = refl
 
 -- so is ControllerPublishVolume
-publish-keep : (config : Config) (call : Call) (kept : Kept) (state : ControllerState) (holding : Holding) (o : Option Volume)
-    → publish config (keep call kept state) holding (option_map (kept_in call kept) o) ≡ publish config state holding o
-publish-keep config call kept state holding None = refl
-publish-keep config call kept state holding (Some v) = ap (λ (w : Volume). publish config state holding (Some w)) (kept_same call kept kept v)
+publish-keep : (config : Config) (full : Bool) (call : Call) (kept : Kept) (state : ControllerState) (holding : Holding) (o : Option Volume)
+    → publish config full (keep call kept state) holding (option_map (kept_in call kept) o) ≡ publish config full state holding o
+publish-keep config full call kept state holding None = refl
+publish-keep config full call kept state holding (Some v) = ap (λ (w : Volume). publish config full state holding (Some w)) (kept_same call kept kept v)
 
 -- and so is every call, by the whole table
 row-keep : (config : Config) (by : Call) (kept : Kept) (state : ControllerState) (call : Call) → controller_row config (keep by kept state) call ≡ controller_row config state call
-row-keep config by kept state (calls.CreateVolume name required limit []) = refl
-row-keep config by kept state (calls.CreateVolume name required limit (first ∷ others)) =
-    ap (λ (o : Outcome). cond (is_bad_range required limit) (refused InvalidArgument (codes "capacity")) (cond (is_empty_range required limit) (refused OutOfRange (codes "range")) o))
-    (ap (create_named config (keep by kept state) name required limit (first ∷ others)) (volume_named-keep by kept state name)
-    ∙ create_named-keep config by kept state name required limit (first ∷ others) (volume_named name state))
+row-keep config by kept state (calls.CreateVolume name required limit capabilities) =
+    ap (unless (argument_fault required limit capabilities))
+    (ap (create_named config (keep by kept state) name required limit capabilities) (volume_named-keep by kept state name)
+    ∙ create_named-keep config by kept state name required limit capabilities (volume_named name state))
 row-keep config by kept state (calls.DeleteVolume id) =
-    ap (delete (keep by kept state) id) (live_volume-keep by kept state id) ∙ delete-keep by kept state id (live_volume id state)
+    ap (delete id (holdings_of id state)) (live_volume-keep by kept state id) ∙ delete-keep by kept (holdings_of id state) id (live_volume id state)
 row-keep config by kept state (calls.ControllerPublishVolume id node capability readonly) =
     let holding : Holding = record { volume = id; node = node; capability = capability; readonly = readonly } in
-    ap (publish config (keep by kept state) holding) (live_volume-keep by kept state id) ∙ publish-keep config by kept state holding (live_volume id state)
+    ap (publish config (is_full config state node) (keep by kept state) holding) (live_volume-keep by kept state id)
+    ∙ publish-keep config (is_full config state node) by kept state holding (live_volume id state)
 row-keep config by kept state (calls.ControllerUnpublishVolume id node) = refl
 row-keep config by kept state (calls.NodeStageVolume id capability) = refl
 row-keep config by kept state (calls.NodeUnstageVolume id) = refl

@@ -15,7 +15,7 @@ use Rattle.csi_types.specs.Model.Holding.{same_holding, is_compatible}
 use Rattle.csi_types.specs.Model.Replies.{ok_reply_with}
 use Rattle.csi_types.specs.Model.Same.{has_capability}
 use Rattle.csi_controller.specs.Model.State.{Volume, ControllerState, volume_named, live_volume, holdings_of, holding_at}
-use Rattle.csi_controller.specs.Model.Table.{Outcome, Stays, Makes, Ends, Attaches, Detaches, refused, met, done, serves, create_named, create, delete_live, delete, is_full, attach, publish_held, publish, unpublish, controller_row}
+use Rattle.csi_controller.specs.Model.Table.{Outcome, Stays, Makes, Ends, Attaches, Detaches, refused, met, done, serves, unless, create_named, create, delete_live, delete, attach, publish_held, publish, unpublish, lifecycle_row, is_full, controller_row}
 
 -- a range that can be met
 pub record IsRange (required limit : ℕ) : Type 0 where
@@ -104,12 +104,14 @@ create_named_outcomes config state name required limit first others (Some volume
 create_outcomes : (config : Config) (state : ControllerState) (name : List ℕ) (required limit : ℕ) (capabilities : List Capability)
     → IsOutcome config state (calls.CreateVolume name required limit capabilities) (create config state name required limit capabilities)
 create_outcomes config state name required limit [] = was_refused (calls.CreateVolume name required limit []) InvalidArgument (codes "capabilities") invalid
-create_outcomes config state name required limit (first ∷ others) =
-    let call = calls.CreateVolume name required limit (first ∷ others) in
-    by_if config state call (is_bad_range required limit) (refused InvalidArgument (codes "capacity")) _ (λ _. was_refused call InvalidArgument (codes "capacity") invalid)
-    (λ ordered. by_if config state call (is_empty_range required limit) (refused OutOfRange (codes "range")) (create_named config state name required limit (first ∷ others) (volume_named name state))
-    (λ _. was_refused call OutOfRange (codes "range") out_of_range)
-    (λ not_empty. create_named_outcomes config state name required limit first others (volume_named name state) (record { ordered = ordered; not_empty = not_empty }) refl))
+create_outcomes config state name required limit (first ∷ others) = by (is_bad_range required limit) (is_empty_range required limit) refl refl
+  where
+    by : (bad none : Bool) → is_bad_range required limit ≡ bad → is_empty_range required limit ≡ none
+        → IsOutcome config state (calls.CreateVolume name required limit (first ∷ others))
+        (unless (cond bad (Some (refused InvalidArgument (codes "capacity"))) (cond none (Some (refused OutOfRange (codes "range"))) None)) (create_named config state name required limit (first ∷ others) (volume_named name state)))
+    by true none e f = was_refused (calls.CreateVolume name required limit (first ∷ others)) InvalidArgument (codes "capacity") invalid
+    by false true e f = was_refused (calls.CreateVolume name required limit (first ∷ others)) OutOfRange (codes "range") out_of_range
+    by false false e f = create_named_outcomes config state name required limit first others (volume_named name state) (record { ordered = e; not_empty = f }) refl
 
 -- so does DeleteVolume of a live volume, by what is held of it
 delete_live_outcomes : (config : Config) (state : ControllerState) (id : ℕ) (volume : Volume) (held : List Holding) → live_volume id state ≡ Some volume → holdings_of id state ≡ held
@@ -118,40 +120,40 @@ delete_live_outcomes config state id volume [] live is = was_ended id volume liv
 delete_live_outcomes config state id volume (holding ∷ others) live is = was_refused (calls.DeleteVolume id) FailedPrecondition holding.node failed
 
 -- so does DeleteVolume
-delete_outcomes : (config : Config) (state : ControllerState) (id : ℕ) (o : Option Volume) → live_volume id state ≡ o → IsOutcome config state (calls.DeleteVolume id) (delete state id o)
+delete_outcomes : (config : Config) (state : ControllerState) (id : ℕ) (o : Option Volume) → live_volume id state ≡ o → IsOutcome config state (calls.DeleteVolume id) (delete id (holdings_of id state) o)
 delete_outcomes config state id None is = was_ended_before id is
 delete_outcomes config state id (Some volume) is = delete_live_outcomes config state id volume (holdings_of id state) is refl
 
 -- so does ControllerPublishVolume where the node doesn't hold the volume, by the first holding that can't be beside it
-attach_outcomes : (config : Config) (state : ControllerState) (holding : Holding) (volume : Volume) (o : Option Holding) → CanAttach config state holding volume
+attach_outcomes : (config : Config) (full : Bool) (state : ControllerState) (holding : Holding) (volume : Volume) (o : Option Holding) → CanAttach config state holding volume
     → holding_at holding.volume holding.node state ≡ None → find (λ other. not (is_compatible holding other)) (holdings_of holding.volume state) ≡ o
-    → IsOutcome config state (publish_call holding) (attach config state holding o)
-attach_outcomes config state holding volume (Some other) can free is = was_refused (publish_call holding) FailedPrecondition other.node failed
-attach_outcomes config state holding volume None can free is =
-    by_if config state (publish_call holding) (is_full config state holding.volume holding.node) (refused ResourceExhausted (codes "slots")) (done (Attaches holding))
+    → IsOutcome config state (publish_call holding) (attach full (holdings_of holding.volume state) holding o)
+attach_outcomes config full state holding volume (Some other) can free is = was_refused (publish_call holding) FailedPrecondition other.node failed
+attach_outcomes config full state holding volume None can free is =
+    by_if config state (publish_call holding) (full || nat_le 64 (length (holdings_of holding.volume state))) (refused ResourceExhausted (codes "slots")) (done (Attaches holding))
     (λ _. was_refused (publish_call holding) ResourceExhausted (codes "slots") exhausted)
     (λ _. was_attached holding volume can free is)
 
 -- so does ControllerPublishVolume of a volume that can be attached, by what the node holds of it
-publish_held_outcomes : (config : Config) (state : ControllerState) (holding : Holding) (volume : Volume) (o : Option Holding) → CanAttach config state holding volume
-    → holding_at holding.volume holding.node state ≡ o → IsOutcome config state (publish_call holding) (publish_held config state holding o)
-publish_held_outcomes config state holding volume None can is =
-    attach_outcomes config state holding volume (find (λ other. not (is_compatible holding other)) (holdings_of holding.volume state)) can is refl
-publish_held_outcomes config state holding volume (Some held) can is =
+publish_held_outcomes : (config : Config) (full : Bool) (state : ControllerState) (holding : Holding) (volume : Volume) (o : Option Holding) → CanAttach config state holding volume
+    → holding_at holding.volume holding.node state ≡ o → IsOutcome config state (publish_call holding) (publish_held full (holdings_of holding.volume state) holding o)
+publish_held_outcomes config full state holding volume None can is =
+    attach_outcomes config full state holding volume (find (λ other. not (is_compatible holding other)) (holdings_of holding.volume state)) can is refl
+publish_held_outcomes config full state holding volume (Some held) can is =
     by_if config state (publish_call holding) (same_holding held holding) met (refused AlreadyExists (codes "held otherwise"))
     (λ same. was_attached_before holding volume can (is ∙ ap Some ((same_holding-tells held holding).0 same)))
     (λ _. was_refused (publish_call holding) AlreadyExists (codes "held otherwise") exists)
 
 -- so does ControllerPublishVolume
-publish_outcomes : (config : Config) (state : ControllerState) (holding : Holding) (o : Option Volume) → live_volume holding.volume state ≡ o
-    → IsOutcome config state (publish_call holding) (publish config state holding o)
-publish_outcomes config state holding None is = was_refused (publish_call holding) NotFound (codes "volume") unfound
-publish_outcomes config state holding (Some volume) is =
+publish_outcomes : (config : Config) (full : Bool) (state : ControllerState) (holding : Holding) (o : Option Volume) → live_volume holding.volume state ≡ o
+    → IsOutcome config state (publish_call holding) (publish config full state holding o)
+publish_outcomes config full state holding None is = was_refused (publish_call holding) NotFound (codes "volume") unfound
+publish_outcomes config full state holding (Some volume) is =
     let call = publish_call holding in
     by_if config state call (not (has_node holding.node config.nodes)) (refused NotFound (codes "node")) _ (λ _. was_refused call NotFound (codes "node") unfound)
-    (λ node. by_if config state call (not (has_capability volume.capabilities holding.capability)) (refused InvalidArgument (codes "capability")) (publish_held config state holding (holding_at holding.volume holding.node state))
+    (λ node. by_if config state call (not (has_capability volume.capabilities holding.capability)) (refused InvalidArgument (codes "capability")) (publish_held full (holdings_of holding.volume state) holding (holding_at holding.volume holding.node state))
     (λ _. was_refused call InvalidArgument (codes "capability") invalid)
-    (λ capable. publish_held_outcomes config state holding volume (holding_at holding.volume holding.node state)
+    (λ capable. publish_held_outcomes config full state holding volume (holding_at holding.volume holding.node state)
     (record { live = is; node = not-false (has_node holding.node config.nodes) node; capable = not-false (has_capability volume.capabilities holding.capability) capable }) refl))
 
 -- so does ControllerUnpublishVolume
@@ -160,14 +162,15 @@ unpublish_outcomes : (config : Config) (state : ControllerState) (id : ℕ) (nod
 unpublish_outcomes config state id node None is = was_detached_before id node is
 unpublish_outcomes config state id node (Some held) is = was_detached id node held is
 
--- every answer of the table is one of these
+-- every answer of the table is one of these, whichever nodes are full
+pub lifecycle-outcome : (config : Config) (full : List ℕ → Bool) (state : ControllerState) (call : Call) → IsOutcome config state call (lifecycle_row config full state call)
+lifecycle-outcome config full state (calls.CreateVolume name required limit capabilities) = create_outcomes config state name required limit capabilities
+lifecycle-outcome config full state (calls.DeleteVolume id) = delete_outcomes config state id (live_volume id state) refl
+lifecycle-outcome config full state (calls.ControllerPublishVolume id node capability readonly) =
+    publish_outcomes config (full node) state (record { volume = id; node = node; capability = capability; readonly = readonly }) (live_volume id state) refl
+lifecycle-outcome config full state (calls.ControllerUnpublishVolume id node) = unpublish_outcomes config state id node (holding_at id node state) refl
+lifecycle-outcome config full state call = was_refused call Unimplemented [] unimplemented
+
+-- also of the whole table
 pub is_outcome : (config : Config) (state : ControllerState) (call : Call) → IsOutcome config state call (controller_row config state call)
-is_outcome config state (calls.CreateVolume name required limit capabilities) = create_outcomes config state name required limit capabilities
-is_outcome config state (calls.DeleteVolume id) = delete_outcomes config state id (live_volume id state) refl
-is_outcome config state (calls.ControllerPublishVolume id node capability readonly) =
-    publish_outcomes config state (record { volume = id; node = node; capability = capability; readonly = readonly }) (live_volume id state) refl
-is_outcome config state (calls.ControllerUnpublishVolume id node) = unpublish_outcomes config state id node (holding_at id node state) refl
-is_outcome config state (calls.NodeStageVolume id capability) = was_refused (calls.NodeStageVolume id capability) Unimplemented [] unimplemented
-is_outcome config state (calls.NodeUnstageVolume id) = was_refused (calls.NodeUnstageVolume id) Unimplemented [] unimplemented
-is_outcome config state (calls.NodePublishVolume id target capability readonly) = was_refused (calls.NodePublishVolume id target capability readonly) Unimplemented [] unimplemented
-is_outcome config state (calls.NodeUnpublishVolume id target) = was_refused (calls.NodeUnpublishVolume id target) Unimplemented [] unimplemented
+is_outcome config state call = lifecycle-outcome config (is_full config state) state call

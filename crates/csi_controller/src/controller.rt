@@ -1,5 +1,5 @@
 //! The controller plugin.
-ghost use Rattle.std.specs.Prelude.{◌≡◌, ◌%◌, ◌^◌, Some, None, [], Ok, IfOk, IfSome, OnOk, OnErr, IsOk, IsTrue, not, option_map, find, slice_get, ◌==◌};
+ghost use Rattle.std.specs.Prelude.{◌≡◌, ◌%◌, ◌^◌, None, Ok, IfOk, IfSome, OnOk, OnErr, IsOk, IsTrue, not, option_map, find, slice_get, ◌==◌};
 ghost use Rattle.std.specs.Option.{option_copied};
 ghost use Rattle.csi_types.specs.declared.call.Call.{Call as OneCall};
 ghost use Rattle.csi_types.specs.declared.call.Party.{Party as OneParty};
@@ -10,32 +10,25 @@ ghost use Rattle.csi_types.specs.Public.Lent.{lent_call, HasFitTexts};
 ghost use Rattle.csi_types.specs.Model.Replies.{call_frame};
 ghost use Rattle.csi_controller.specs.Public.Core.{AreSoundRows, IsCurrent};
 
-mod at_row;
 mod attached;
-mod beginning;
-mod changes;
-mod core_parts;
-mod counts;
-mod create_lines;
-mod finding;
+pub(crate) mod changes;
+pub(crate) mod counts;
+pub(crate) mod create_lines;
 pub(crate) mod holdings;
-mod line;
 mod listing;
-mod making;
-mod new_row;
+pub(crate) mod new_row;
 mod readers;
-mod replies;
-mod row_table;
+pub(crate) mod row_table;
 mod step;
-mod without_row;
+pub(crate) mod without_row;
 
 use crate::catalog::Catalog;
+use crate::names::id_of_name;
 use crate::record::ControllerRecord;
 use crate::row::ControllerRow;
+use crate::table::ControllerTable;
 use attached::attachments;
-use core_parts::ControllerCore;
-use counts::counted;
-use csi_fence::{Answer, CoreFault};
+use csi_fence::{Answer, CoreFault, Rows};
 use csi_types::{Body, CallRef, Config, Frame, Holding, Name, Number, Party, VolumeId};
 use std::alloc::Global;
 use std::marker::Model;
@@ -45,25 +38,25 @@ use std::marker::Model;
 /// sees its configuration, its next id, that session and its rows by rising id.
 #[derive(Drop)]
 pub struct Controller {
-    core: ControllerCore,
+    rows: Rows<ControllerTable>,
 }
 
 impl Model for Controller {
     ghost use Rattle.csi_controller.specs.Model.Core.{ControllerParts};
-    ghost use Rattle.csi_controller.specs.Public.CoreParts.{controller_parts_shown, IsSoundCore};
+    ghost use Rattle.csi_controller.specs.Public.Plan.{controller_parts, AreControllerRows};
 
     ghost Value = { ControllerParts };
 
-    ghost view = { λ controller. controller_parts_shown controller.core };
+    ghost view = { λ controller. controller_parts controller.rows.table controller.rows.session controller.rows.rows.items };
 
-    ghost invariant = { λ controller. IsSoundCore controller.core };
+    ghost invariant = { λ controller. AreControllerRows controller.rows.table controller.rows.session controller.rows.rows.items controller.rows.empty };
 }
 
 impl Controller {
     ghost use Rattle.csi_controller.specs.Public.RowsLaw.{ChangesAt};
     ghost use Rattle.csi_controller.specs.Model.State.{ControllerState, empty_controller, volume_named};
     ghost use Rattle.csi_controller.specs.Model.Fenced.{fenced, kept_for};
-    ghost use Rattle.csi_controller.specs.Public.Repeats.{IsPlainRepeat};
+    ghost use Rattle.csi_fence.specs.Public.Repeats.{IsPlainRepeat};
     ghost use Rattle.csi_controller.specs.Public.Step.{answer_frame};
     ghost use Rattle.csi_lists.specs.Model.Members.{EachTwo};
     ghost use Rattle.csi_controller.specs.Public.Views.{shown_if_live, attached_holdings, IsHeldBefore, HasHoldingsOf, IsCopyOf, IsRowOf};
@@ -75,18 +68,8 @@ impl Controller {
         ensures config { result.config ≡ config }
         ensures empty { Shows result empty_controller }
     {
-        config.fit_law();
-        let catalog = Catalog::new(alloc);
-        let counts = counted(config.nodes(), catalog.rows());
         Controller {
-            core: ControllerCore {
-                alloc,
-                config,
-                next_id: 1,
-                session: 0,
-                catalog,
-                counts,
-            },
+            rows: Catalog::new(alloc).into_rows(alloc, config, 1, 0),
         }
     }
 
@@ -110,7 +93,7 @@ impl Controller {
         ensures repeated { (state : ControllerState) (call : OneCall) → Shows self.old state → frame.now.body ≡ Body.Call call
             → IsPlainRepeat state.session (kept_for call state) frame.now.number → IsOk result }
     {
-        self.core.step(frame)
+        step::step(&mut self.rows, frame)
     }
 
     /// Answers a call as `step` answers a frame of it, by the kind and the reply that the frame of the answer has (those that were
@@ -147,25 +130,26 @@ impl Controller {
         ensures repeated { (state : ControllerState) → Shows self.old state →
             IsPlainRepeat state.session (kept_for (lent_call call.now) state) number → IsOk result }
     {
-        let _core = &self.core;
+        let _rows = &self.rows;
         if !call.is_within_limits() {
             return Ok(None);
         }
-        self.core.answer(number, call)
+        step::answer(&mut self.rows, number, call)
     }
 
     /// Id and capacity in bytes of the volume of this name, unless it was deleted. It takes no memory.
     pub fn volume(&self, name: &Name) -> Option<(VolumeId, u64)>
         ensures { (state : ControllerState) → Shows self.now state → result ≡ shown_if_live (volume_named name.now state) }
     {
-        self.core.volume(name.as_str())
+        let rows = self.rows.rows.as_slice();
+        readers::volume(&self.rows.table.ids, rows, name.as_str())
     }
 
     /// The id of the volume of this name, deleted or not, unless it is forgotten. It takes no memory.
     pub fn id_of(&self, name: &Name) -> Option<VolumeId>
         ensures { (state : ControllerState) → Shows self.now state → result ≡ option_map (λ volume. volume.id) (volume_named name.now state) }
     {
-        self.core.catalog.id_of(name.as_str())
+        id_of_name(&self.rows.table.ids, name.as_str())
     }
 
     /// The id of the next volume, 0 once all were given. It takes no memory.
@@ -173,7 +157,7 @@ impl Controller {
         ensures value { result ≡ self.now.next_id }
         ensures state { (state : ControllerState) → Shows self.now state → result ≡ state.next_id % 2 ^ 64 }
     {
-        self.core.next_id
+        self.rows.table.next_id
     }
 
     /// The greatest session of which a call came, 0 before any did. It takes no memory.
@@ -181,7 +165,7 @@ impl Controller {
         ensures value { result ≡ self.now.session }
         ensures state { (state : ControllerState) → Shows self.now state → result ≡ state.session }
     {
-        self.core.session
+        self.rows.session
     }
 
     /// The controller of a record, under a configuration that need not be the one that it was made under: what
@@ -197,17 +181,8 @@ impl Controller {
         let next_id = kept.next_id();
         let session = kept.session();
         let catalog = kept.into_catalog();
-        config.fit_law();
-        let counts = counted(config.nodes(), catalog.rows());
         Ok(Controller {
-            core: ControllerCore {
-                alloc,
-                config,
-                next_id,
-                session,
-                catalog,
-                counts,
-            },
+            rows: catalog.into_rows(alloc, config, next_id, session),
         })
     }
 
@@ -216,9 +191,10 @@ impl Controller {
         ensures { (state : ControllerState) → Shows self.now state →
             IfOk result (λ kept. Shows (record { config = self.now.config; next_id = kept.next_id; session = kept.session; rows = kept.rows }) state) }
     {
-        let core = &self.core;
-        let catalog = core.catalog.copied(core.alloc, core.next_id)?;
-        Ok(ControllerRecord::new(core.next_id, core.session, catalog))
+        let rows = &self.rows;
+        let next_id = rows.table.next_id;
+        let catalog = Catalog::copied(rows.alloc, next_id, rows.rows.as_slice())?;
+        Ok(ControllerRecord::new(next_id, rows.session, catalog))
     }
 
     /// The row of the volume of this id, deleted or not, unless it is forgotten, as the record has it. Where there is none it takes no memory.
@@ -227,14 +203,14 @@ impl Controller {
         ensures state { (state : ControllerState) → Shows self.now state → IfOk result (IsRowOf state id) }
         ensures succeeds { find (λ row. row.id == id) self.now.rows ≡ None → IsOk result }
     {
-        self.core.row(id)
+        readers::copied_row(self.rows.rows.as_slice(), id)
     }
 
     /// The row at this place, by rising id, as the controller has it. It takes no memory, and is no search.
     pub fn row_at(&self, place: usize) -> Option<&ControllerRow>
         ensures { option_copied result ≡ slice_get self.now.rows place }
     {
-        self.core.catalog.rows().get(place)
+        self.rows.rows.get(place)
     }
 
     /// Where each volume is held, by rising id, and for each volume in the order of its row.
@@ -243,7 +219,7 @@ impl Controller {
         ensures rising { IfOk result (λ all. EachTwo IsHeldBefore all.items) }
         ensures state { (state : ControllerState) → Shows self.now state → IfOk result (λ all. HasHoldingsOf state all.items) }
     {
-        attachments(self.core.catalog.rows(), self.core.alloc)
+        attachments(self.rows.rows.as_slice(), self.rows.alloc)
     }
 }
 
@@ -251,7 +227,7 @@ impl Controller {
 pub fn sound_law(controller: &Controller)
     ensures { AreSoundRows controller.now.next_id controller.now.rows }
 {
-    let _core = &controller.core;
+    let _rows = &controller.rows;
 }
 
 /// A law, and nothing that runs: in every controller, whatever it was asked and whichever record it was made of, no row's last call
@@ -259,5 +235,5 @@ pub fn sound_law(controller: &Controller)
 pub fn current_law(controller: &Controller)
     ensures { IsCurrent controller.now.session controller.now.rows }
 {
-    let _core = &controller.core;
+    let _rows = &controller.rows;
 }

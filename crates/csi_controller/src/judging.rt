@@ -8,7 +8,7 @@ ghost use Rattle.csi_controller.specs.Public.Core.{AreSoundRows, IsCurrent};
 ghost use Rattle.csi_controller.specs.Public.Judging.{AreRecorded, IsFirstRefused};
 ghost use Rattle.csi_controller.specs.Private.Judging.{earlier_of, may_follow as is_fit_after};
 
-use crate::catalog::stays;
+use crate::names::stays;
 use crate::row::ControllerRow;
 use crate::sound_row::is_sound_row;
 use csi_types::{MAX_ROWS, NoMemory};

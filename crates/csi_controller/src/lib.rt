@@ -6,9 +6,11 @@ mod catalog;
 mod controller;
 mod judging;
 mod laws;
+mod names;
 mod record;
 mod row;
 mod sound_row;
+mod table;
 mod worked;
 
 pub use controller::{Controller, current_law, sound_law};

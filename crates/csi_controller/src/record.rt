@@ -33,19 +33,19 @@ fn latest_session(rows: &[ControllerRow]) -> u64
 
 impl Model for ControllerRecord {
     ghost use Rattle.csi_controller.specs.Public.Core.{AreSoundRows, IsCurrent};
-    ghost use Rattle.csi_controller.specs.Public.Catalog.{rows_of, IsIndexed};
+    ghost use Rattle.csi_controller.specs.Public.Catalog.{IsIndexed};
     ghost use Rattle.csi_controller.specs.Public.Views.{RecordParts};
 
     ghost Value = { RecordParts };
 
-    ghost view = { λ record_. record { next_id = record_.next_id; session = record_.session; rows = rows_of record_.catalog } };
+    ghost view = { λ record_. record { next_id = record_.next_id; session = record_.session; rows = record_.catalog.rows.items } };
 
-    ghost invariant = { λ record_. AreSoundRows record_.next_id (rows_of record_.catalog) ×
-        IsCurrent record_.session (rows_of record_.catalog) × IsIndexed record_.catalog };
+    ghost invariant = { λ record_. AreSoundRows record_.next_id record_.catalog.rows.items ×
+        IsCurrent record_.session record_.catalog.rows.items × IsIndexed record_.catalog };
 }
 
 impl ControllerRecord {
-    ghost use Rattle.csi_controller.specs.Public.Catalog.{rows_of, IsIndexed};
+    ghost use Rattle.csi_controller.specs.Public.Catalog.{IsIndexed};
     ghost use Rattle.csi_controller.specs.Public.Core.{AreSoundRows, IsCurrent};
     ghost use Rattle.csi_controller.specs.declared.row.ControllerRow.{ControllerRow as OneRow};
     ghost use Rattle.csi_controller.specs.Public.Judging.{AreRecorded, IsRecordRefusal};
@@ -54,10 +54,10 @@ impl ControllerRecord {
 
     // The record of this catalog.
     pub(crate) fn new(next_id: u64, session: u64, catalog: Catalog) -> ControllerRecord
-        requires sound { AreSoundRows next_id (rows_of catalog) }
-        requires current { IsCurrent session (rows_of catalog) }
+        requires sound { AreSoundRows next_id catalog.rows.items }
+        requires current { IsCurrent session catalog.rows.items }
         requires indexed { IsIndexed catalog }
-        ensures { result ≡ record { next_id = next_id; session = session; rows = rows_of catalog } }
+        ensures { result ≡ record { next_id = next_id; session = session; rows = catalog.rows.items } }
     {
         ControllerRecord {
             next_id,
@@ -131,10 +131,10 @@ impl ControllerRecord {
 
     // The record of what stays of this catalog in a session that none of its rows is after.
     fn of_session(next_id: u64, session: u64, mut catalog: Catalog) -> ControllerRecord
-        requires sound { AreSoundRows next_id (rows_of catalog) }
-        requires latest { session ≡ latest (rows_of catalog) }
+        requires sound { AreSoundRows next_id catalog.rows.items }
+        requires latest { session ≡ latest catalog.rows.items }
         requires indexed { IsIndexed catalog }
-        ensures { result ≡ record { next_id = next_id; session = session; rows = filter (stays_in session) (rows_of catalog) } }
+        ensures { result ≡ record { next_id = next_id; session = session; rows = filter (stays_in session) catalog.rows.items } }
     {
         catalog.forget(session);
         ControllerRecord::new(next_id, session, catalog)
@@ -160,12 +160,12 @@ impl ControllerRecord {
         ensures sound { AreSoundRows self.now.next_id self.now.rows }
         ensures current { IsCurrent self.now.session self.now.rows }
     {
-        self.catalog.rows()
+        self.catalog.rows.as_slice()
     }
 
     // The rows by id and by name.
     pub(crate) fn into_catalog(self) -> Catalog
-        ensures value { rows_of result ≡ self.rows }
+        ensures value { result.rows.items ≡ self.rows }
         ensures sound { AreSoundRows self.next_id self.rows }
         ensures indexed { IsIndexed result }
     {

@@ -1,3 +1,13 @@
+pub mod RisingRows
+pub mod PutRows
+pub mod PlacedRows
+pub mod StayingRows
+pub mod AnsweredRows
+pub mod RowsThere
+pub mod KeptRows
+pub mod Answering
+pub mod FreshRows
+pub mod AbsentRows
 pub mod Spent
 pub mod Judged
 pub mod FramesKeep
@@ -5,3 +15,5 @@ pub mod Views
 pub mod Begun
 pub mod Delivered
 pub mod LetThrough
+pub mod Simulating
+pub mod FoundPlaces

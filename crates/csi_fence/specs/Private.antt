@@ -1,2 +1,3 @@
 pub mod Fence
+pub mod Rows
 pub mod Worked

@@ -2,3 +2,8 @@ pub mod Fence
 pub mod Fenced
 pub mod Delivery
 pub mod Lawful
+pub mod Line
+pub mod Repeats
+pub mod Rows
+pub mod Simulating
+pub mod Table

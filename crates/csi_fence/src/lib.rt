@@ -1,12 +1,22 @@
-//! What is the same in both plugins of the Container Storage Interface (CSI): the fence in front of their tables, the laws
-//! that they keep behind it, and their faults.
+//! What is the same in both plugins of the Container Storage Interface (CSI): the fence in front of their tables, the rows
+//! behind it, the laws that they keep, and their faults.
 #![tactic(auto)]
 
 mod answer;
+mod carrying;
 mod fault;
 mod fence;
+mod line;
+mod places;
+mod rows;
+mod table;
 mod worked;
 
 pub use answer::Answer;
+pub use carrying::carry_out;
 pub use fault::{CoreFault, RecordFault};
 pub use fence::{Verdict, verdict_of};
+pub use line::Line;
+pub use places::place_of;
+pub use rows::Rows;
+pub use table::{Absent, Table};

@@ -1,34 +1,29 @@
--- The rows of volumes that aren't staged are forgotten: the rest shows the state in which a session has begun. A row that was put before
--- is put after.
-use Rattle.std.proofs.Common.{◌≡◌, ℕ, ◌<◌, List, [], ◌∷◌, map, Bool, true, false, cond, ◌||◌, refl, sym, ◌∙◌, ap, arith, inl, inr}
-use Rattle.std.specs.Prelude.{Option, Some, None, filter, ◌==◌, nat_lt, is_some}
-use Rattle.std.specs.List.{AllByRecursion}
-use Rattle.std.proofs.lemmas.Bool.{eq-eqb, eqb-true, ne_eqb}
+-- The rows of volumes that aren't staged are forgotten: the rest shows the state in which a session has begun.
+use Rattle.std.proofs.Common.{◌≡◌, ℕ, List, [], ◌∷◌, map, Bool, cond, ◌||◌, refl, sym, ◌∙◌, ap, arith, inl, inr}
+use Rattle.std.specs.Prelude.{Option, Some, None, filter, ◌==◌, is_some}
+use Rattle.std.proofs.lemmas.Bool.{eq-eqb, ne_eqb}
 use Rattle.std.proofs.lemmas.List.Elements.{All-filter}
 use Rattle.csi_types.specs.declared.capability.Capability.{Capability}
 use Rattle.csi_lists.specs.Model.Members.{IsAmong, EachTwo}
 use Rattle.csi_lists.specs.Public.Places.{AtMostOne}
-use Rattle.csi_lists.proofs.Each.{each-filter, each-weaker}
 use Rattle.csi_lists.proofs.Filters.{filter-no_longer, filter-of_map}
 use Rattle.csi_lists.proofs.Members.{each_of}
-use Rattle.csi_lists.proofs.Pairs.{two-filter}
+use Rattle.csi_fence.proofs.RisingRows.{rising-filter}
 use Rattle.csi_lists.proofs.PassingByKey.{find-passing, length-by_key, once-rising, passing, passing-by_key}
 use Rattle.csi_node.specs.declared.row.NodeRow.{NodeRow}
 use Rattle.csi_node.specs.Model.State.{NodeState, AnsweredVolume, StagedVolume, staged_of}
 use Rattle.csi_node.specs.Public.View.{empty_node}
 use Rattle.csi_node.specs.Model.Fenced.{begun}
-use Rattle.csi_node.specs.Public.Changes.{put_row}
 use Rattle.csi_node.specs.Model.OneRow.{NodeRowShown, node_row_shown}
 use Rattle.csi_node.specs.Public.OneRow.{state_shown, staged_by, published_by, IsSoundRow}
 use Rattle.csi_node.specs.Model.Record.{parts}
 use Rattle.csi_node.specs.Public.Record.{AreSoundRows}
-use Rattle.csi_node.specs.Private.Step.{IsEarlierRow}
+use Rattle.csi_node.specs.Public.Plan.{node_plan}
 use Rattle.csi_node.specs.Public.WithoutSession.{stays_in}
 use Rattle.csi_node.proofs.OneRow.{staged_of-alone}
 use Rattle.csi_node.proofs.StateChanges.{part-staged}
 use Rattle.csi_node.proofs.ShownAfter.{ShowsAll, row_of, alone_in, answered_of, part_of}
-use Rattle.csi_node.proofs.Readers.{IsRowBefore, rows_rise}
-use Rattle.csi_node.proofs.PutRows.{higher-from, put-first, rise-rows}
+use Rattle.csi_node.proofs.RecordRules.{IsRowBefore, places-rise, rise-places}
 
 -- the volume is staged
 abbrev pub is_staged : NodeRowShown → Bool
@@ -85,83 +80,19 @@ forgotten-shows session rows state rise all = record {
     same : (id : ℕ) → alone_in (row_of id (filter is_staged rows)) ≡ alone_in (row_of id rows)
     same id = ap alone_in (find-passing (λ (row : NodeRowShown). row.id == id) is_staged rows (once-rise rows rise id)) ∙ alone-passing (row_of id rows)
 
--- which row is found then
-pub found-staged : (rows : List NodeRowShown) → EachTwo IsRowBefore rows → (id : ℕ) → row_of id (filter is_staged rows) ≡ passing is_staged (row_of id rows)
-found-staged rows rise id = find-passing (λ (row : NodeRowShown). row.id == id) is_staged rows (once-rise rows rise id)
-
 -- rows that pass a test keep the rules
 pub rules-filter : (p : NodeRowShown → Bool) (rows : List NodeRowShown) → AreSoundRows rows → AreSoundRows (filter p rows)
 rules-filter p rows rules = record {
-  rising = rise-rows (filter p rows) (two-filter IsRowBefore p rows (rows_rise rows rules.rising));
+  rising = rise-places (filter p rows) (rising-filter node_plan.id p rows (places-rise rows rules.rising));
   limit = let fewer = filter-no_longer p rows in let few = rules.limit in omega (arith, fewer, few);
   each = All-filter p IsSoundRow rows rules.each;
 }
 
--- ---- a row that is put
+-- ---- rows of a record that are forgotten
 
 -- the volume is staged, or its last call is of this session
 abbrev pub is_kept : ℕ → NodeRowShown → Bool
 is_kept session row = is_some row.staged || (row.kept.number.session == session)
-
--- a row of an earlier session is kept where it is staged
-kept-earlier : (session : ℕ) (row : NodeRowShown) → IsEarlierRow session row → is_kept session row ≡ is_staged row
-kept-earlier session row earlier = by (is_some row.staged) (ne_eqb row.kept.number.session session (λ e. omega (arith, e, earlier)))
-  where
-    by : (b : Bool) → (row.kept.number.session == session) ≡ false → (b || (row.kept.number.session == session)) ≡ b
-    by true e = refl
-    by false e = e
-
--- a row of this session is kept
-kept-own : (session : ℕ) (row : NodeRowShown) → row.kept.number.session ≡ session → is_kept session row ≡ true
-kept-own session row own = by (is_some row.staged) (eq-eqb row.kept.number.session session own)
-  where
-    by : (b : Bool) → (row.kept.number.session == session) ≡ true → (b || (row.kept.number.session == session)) ≡ true
-    by true e = refl
-    by false e = e
-
--- of rows of earlier sessions those that are staged are kept
-pub forget-earlier : (session : ℕ) (rows : List NodeRowShown) → AllByRecursion (IsEarlierRow session) rows → filter (is_kept session) rows ≡ filter is_staged rows
-forget-earlier session [] earlier = refl
-forget-earlier session (row ∷ rows) earlier =
-    ap (λ (b : Bool). cond b (row ∷ filter (is_kept session) rows) (filter (is_kept session) rows)) (kept-earlier session row earlier.0)
-    ∙ ap (λ (l : List NodeRowShown). cond (is_staged row) (row ∷ l) l) (forget-earlier session rows earlier.1)
-
--- a row of this session that is put among rows of earlier ones, of which then those that aren't staged are forgotten
-pub forget-put : (session : ℕ) (new : NodeRowShown) (rows : List NodeRowShown) → new.kept.number.session ≡ session → AllByRecursion (IsEarlierRow session) rows → EachTwo IsRowBefore rows
-    → filter (is_kept session) (put_row new rows) ≡ put_row new (filter is_staged rows)
-forget-put session new [] own earlier rise = ap (λ (b : Bool). cond b (new ∷ []) []) (kept-own session new own)
-forget-put session new (row ∷ rows) own earlier rise = by (forget-put session new rows own earlier.1 rise.1) (nat_lt row.id new.id) refl (row.id == new.id) refl
-  where
-    first : (l : List NodeRowShown) → filter (is_kept session) (new ∷ l) ≡ new ∷ filter (is_kept session) l
-    first l = ap (λ (b : Bool). cond b (new ∷ filter (is_kept session) l) (filter (is_kept session) l)) (kept-own session new own)
-
-    -- where the row stands before the new one
-    lower_first : (d : Bool) → nat_lt row.id new.id ≡ true → cond d (row ∷ put_row new (filter is_staged rows)) (put_row new (filter is_staged rows)) ≡ put_row new (cond d (row ∷ filter is_staged rows) (filter is_staged rows))
-    lower_first true lower =
-        sym (ap (λ (b : Bool). cond b (row ∷ put_row new (filter is_staged rows)) (cond (row.id == new.id) (new ∷ filter is_staged rows) (new ∷ row ∷ filter is_staged rows))) lower)
-    lower_first false lower = refl
-
-    -- where it has its id
-    same_first : (d : Bool) → nat_lt row.id new.id ≡ false → (row.id == new.id) ≡ true → new ∷ filter is_staged rows ≡ put_row new (cond d (row ∷ filter is_staged rows) (filter is_staged rows))
-    same_first true not_lower same =
-        sym (ap (λ (b : Bool). cond b (row ∷ put_row new (filter is_staged rows)) (cond (row.id == new.id) (new ∷ filter is_staged rows) (new ∷ row ∷ filter is_staged rows))) not_lower
-        ∙ ap (λ (b : Bool). cond b (new ∷ filter is_staged rows) (new ∷ row ∷ filter is_staged rows)) same)
-    same_first false not_lower same =
-        let id = eqb-true row.id new.id same in
-        sym (put-first new (filter is_staged rows) (each-filter (IsRowBefore new) is_staged rows (each-weaker (IsRowBefore row) (IsRowBefore new) rows (λ r before. omega (arith, before, id)) rise.0)))
-
-    by : filter (is_kept session) (put_row new rows) ≡ put_row new (filter is_staged rows) → (b : Bool) → nat_lt row.id new.id ≡ b → (c : Bool) → (row.id == new.id) ≡ c
-        → filter (is_kept session) (cond b (row ∷ put_row new rows) (cond c (new ∷ rows) (new ∷ row ∷ rows))) ≡ put_row new (filter is_staged (row ∷ rows))
-    by rest true lower c e =
-        ap (λ (b : Bool). cond b (row ∷ filter (is_kept session) (put_row new rows)) (filter (is_kept session) (put_row new rows))) (kept-earlier session row earlier.0)
-        ∙ ap (λ (l : List NodeRowShown). cond (is_staged row) (row ∷ l) l) rest
-        ∙ lower_first (is_staged row) lower
-    by rest false not_lower true same = first rows ∙ ap (λ (l : List NodeRowShown). new ∷ l) (forget-earlier session rows earlier.1) ∙ same_first (is_staged row) not_lower same
-    by rest false not_lower false other =
-        let below : new.id < row.id = higher-from row.id new.id not_lower other in
-        first (row ∷ rows)
-        ∙ ap (λ (l : List NodeRowShown). new ∷ l) (forget-earlier session (row ∷ rows) earlier)
-        ∙ sym (put-first new (filter is_staged (row ∷ rows)) (each-filter (IsRowBefore new) is_staged (row ∷ rows) (below, each-weaker (IsRowBefore row) (IsRowBefore new) rows (λ r before. omega (arith, before, below)) rise.0)))
 
 -- rows that are forgotten, as they are shown
 pub parts-forgotten : (session : ℕ) (rows : List NodeRow) → parts (filter (stays_in session) rows) ≡ filter (is_kept session) (parts rows)

@@ -1,31 +1,27 @@
--- What a search finds among rows by rising id.
-use Rattle.std.proofs.Common.{◌≡◌, ◌≢◌, ℕ, zero, suc, ◌<◌, List, [], ◌∷◌, length, get_or, refl, arith}
-use Rattle.std.specs.Prelude.{Some, None}
-use Rattle.std.proofs.lemmas.Bool.Decides.{nat_tests}
-use Rattle.csi_node.specs.Model.OneRow.{NodeRowShown}
-use Rattle.csi_node.specs.Public.Record.{row_id_at}
-use Rattle.csi_node.specs.Private.Record.{IsRowAt}
+-- The row that a search finds among a record's rows.
+use Rattle.std.proofs.Common.{◌≡◌, ℕ, zero, suc, List, [], ◌∷◌, get_or, refl, sym, ◌∙◌, ap, Some}
+use Rattle.std.specs.Prelude.{position, ◌==◌}
+use Rattle.csi_lists.proofs.Members.{among-find, one-of_all}
+use Rattle.csi_lists.proofs.Places.{FirstAt-find, FirstAt-position}
+use Rattle.csi_node.specs.declared.row.NodeRow.{NodeRow}
+use Rattle.csi_node.specs.Model.OneRow.{NodeRowShown, node_row_shown}
+use Rattle.csi_node.specs.Model.Record.{parts}
+use Rattle.csi_node.specs.Public.OneRow.{IsSoundRow}
+use Rattle.csi_node.specs.Public.Record.{AreSoundRows}
 use Rattle.csi_node.proofs.ShownAfter.{row_of}
 
--- no row before the place has the id
-abbrev pub NoneBefore : List NodeRowShown → ℕ → ℕ → Type 0
-NoneBefore rows id place = (j : ℕ) → j < place → row_id_at rows j ≢ id
+-- the row at a place, of the rows as they are shown, is what is shown of the row there
+pub parts-at : (rows : List NodeRow) (place : ℕ) (d : NodeRow) → get_or (parts rows) place (node_row_shown d) ≡ node_row_shown (get_or rows place d)
+parts-at [] place d = refl
+parts-at (row ∷ rows) zero d = refl
+parts-at (row ∷ rows) (suc place) d = parts-at rows place d
 
--- where no row before a place has the id, none of those behind the first has it
-tail_none : (row : NodeRowShown) (rows : List NodeRowShown) (id place : ℕ) → NoneBefore (row ∷ rows) id (suc place) → NoneBefore rows id place
-tail_none row rows id place none j lt = none (suc j) (omega arith)
+-- the row at the place of an id is found by it
+pub there-found : (rows : List NodeRow) (id place : ℕ) (row : NodeRow) → row ≡ get_or rows place row → Some place ≡ position (λ (r : NodeRowShown). r.id == id) (parts rows) → row_of id (parts rows) ≡ Some (node_row_shown row)
+there-found rows id place row is at =
+    FirstAt-find (λ (r : NodeRowShown). r.id == id) (parts rows) place (node_row_shown row)
+    (FirstAt-position (λ (r : NodeRowShown). r.id == id) (parts rows) place (node_row_shown row) (sym at) (ap node_row_shown is ∙ sym (parts-at rows place row)))
 
--- the row of an id behind the first row is one place earlier in the rest
-tail_at : (row : NodeRowShown) (rows : List NodeRowShown) (id place : ℕ) → IsRowAt (row ∷ rows) id (suc place) → IsRowAt rows id place
-tail_at row rows id place at = record { within = omega (arith, at.within); has_id = at.has_id }
-
--- an id that no row has is not found
-pub row_of-absent : (rows : List NodeRowShown) (id : ℕ) → NoneBefore rows id (length rows) → row_of id rows ≡ None
-row_of-absent [] id none = refl
-row_of-absent (row ∷ rows) id none = grind (arith, nat_tests, none 0 (omega arith), row_of-absent rows id (tail_none row rows id _ none))
-
--- the first row that has it is found
-pub row_of-present : (rows : List NodeRowShown) (id place : ℕ) (d : NodeRowShown) → IsRowAt rows id place → NoneBefore rows id place → row_of id rows ≡ Some (get_or rows place d)
-row_of-present [] id place d at none = absurd (omega (arith, at.within))
-row_of-present (row ∷ rows) id zero d at none = grind (arith, nat_tests, at.has_id)
-row_of-present (row ∷ rows) id (suc place) d at none = grind (arith, nat_tests, none 0 (omega arith), row_of-present rows id place d (tail_at row rows id place at) (tail_none row rows id place none))
+-- and keeps the rules of a row
+pub there-sound : (rows : List NodeRow) (id : ℕ) (row : NodeRowShown) → AreSoundRows (parts rows) → row_of id (parts rows) ≡ Some row → IsSoundRow row
+there-sound rows id row rules found = one-of_all IsSoundRow (parts rows) row rules.each (among-find (λ (r : NodeRowShown). r.id == id) (parts rows) row found)

@@ -9,13 +9,12 @@ pub mod ThingRows
 pub mod DeliveryLaw
 pub mod OutcomeFacts
 pub mod OneRow
+pub mod RowsTold
 pub mod RowChanges
 pub mod StateChanges
 pub mod ShownAfter
-pub mod AnsweredRows
-pub mod FoundRows
 pub mod RecordRules
-pub mod AtRow
+pub mod FoundRows
 pub mod OwnFrames
 pub mod CopiedRows
 pub mod SafeRows
@@ -26,10 +25,9 @@ pub mod SafeStates
 pub mod StagedOnce
 pub mod JoiningLaw
 mod SoundRow
-pub mod PutRows
 pub mod Forgotten
 pub mod LeftOut
 pub mod FewRows
 pub mod ChangedRows
-pub mod AtBeginning
 pub mod FirstRefused
+pub mod RowsMachine

@@ -5,18 +5,14 @@ use Rattle.std.proofs.lemmas.Bool.{eq-eqb}
 use Rattle.csi_types.specs.declared.capability.Capability.{Capability}
 use Rattle.csi_types.specs.declared.status.Status.TheVariants.{FailedPrecondition}
 use Rattle.csi_types.specs.Model.Same.{same_text, same_capability}
-use Rattle.csi_types.proofs.Equality.{same_capability-tells}
 use Rattle.csi_lists.proofs.Searches.{find-of_map, find-same}
 use Rattle.csi_lists.proofs.Filters.{filter-of_map, filter-all}
 use Rattle.csi_node.specs.declared.row.NodeTarget.{NodeTarget}
 use Rattle.csi_node.specs.Model.State.{StagedVolume, PublishedVolume, is_published_at, published_at, published_of, staged_of}
 use Rattle.csi_node.specs.Model.Table.{Outcome, refused, publish, publish_at_target, publish_staged, publish_new, unpublish, begins_with_slash}
 use Rattle.csi_node.specs.Model.OneRow.{NodeRowShown}
-use Rattle.csi_node.specs.Private.OneRow.{IsNew, HasRoomFor, target_of_row, publish_by_row, unpublish_by_row}
+use Rattle.csi_node.specs.Private.OneRow.{target_of_row, publish_by_row, unpublish_by_row}
 use Rattle.csi_node.specs.Public.OneRow.{state_shown, staged_by, published_so, published_by}
-use Rattle.csi_node.specs.declared.line.Line.{Line}
-use Rattle.csi_node.specs.declared.line.Line.TheVariants.{Refused, Met, Done}
-use Rattle.csi_node.specs.Private.Line.{WhereDone}
 
 -- an id is equal to itself, and below: asking that too asks nothing more
 pub itself : (id : ℕ) → (id == id) ≡ true
@@ -90,15 +86,3 @@ publish-row row staged target capability readonly is slash =
     absolute (begins_with_slash target) _ _ slash
     ∙ ap (publish_at_target (state_shown row) published) at
     ∙ publish-found row staged published (target_of_row row target) (staged_of-alone row ∙ is) (published_of-alone row ∙ ap (λ (o : Option Capability). published_by row.id o row.targets) is)
-
--- a fact that holds where the change is made
-pub WhereDone-weaker : (line : Line) {P Q : Type 0} → (P → Q) → WhereDone line P → WhereDone line Q
-WhereDone-weaker (Refused status detail) f h = tt
-WhereDone-weaker Met f h = tt
-WhereDone-weaker Done f h = f h
-
--- a new target can be published where the volume is staged in the call's capability
-pub has_room : (row : NodeRowShown) (staged : Capability) (target : List ℕ) (capability : Capability) → row.staged ≡ Some staged → begins_with_slash target ≡ true
-    → IsNew row staged target capability → HasRoomFor row target capability
-has_room row staged target capability is slash at =
-    record { staged = is ∙ ap Some ((same_capability-tells staged capability).0 at.same); absolute = slash; «new» = at.«new»; single = at.single; limit = at.limit }

@@ -1,5 +1,5 @@
 -- What the rows of a record have, one row after another, is what the states that they show have, by rising id.
-use Rattle.std.proofs.Common.{◌≡◌, ℕ, suc, ◌<◌, List, [], ◌∷◌, ◌++◌, map, Bool, true, false, cond, length, refl, sym, ◌∙◌, ap, subst, arith}
+use Rattle.std.proofs.Common.{◌≡◌, ℕ, ◌<◌, List, [], ◌∷◌, ◌++◌, map, Bool, true, false, cond, refl, sym, ◌∙◌, ap, subst, arith}
 use Rattle.std.specs.Prelude.{Option, Some, None, filter, ◌==◌}
 use Rattle.std.specs.List.{flat_map, AllByRecursion}
 use Rattle.std.proofs.lemmas.Bool.{eq-eqb, eqb-true, ne_eqb}
@@ -19,27 +19,10 @@ use Rattle.csi_node.specs.Model.Shown.{RowsShow}
 use Rattle.csi_node.specs.Model.OneRow.{NodeRowShown, node_row_shown}
 use Rattle.csi_node.specs.Public.OneRow.{state_shown, staged_by, published_by, published_so}
 use Rattle.csi_node.specs.Model.Record.{parts}
-use Rattle.csi_node.specs.Public.Record.{row_id_at, AreSoundRows}
+use Rattle.csi_node.specs.Public.Record.{AreSoundRows}
 use Rattle.csi_node.specs.Public.Views.{IsStagedBefore, IsPublishedBefore, ListsStaged, ListsPublished}
 use Rattle.csi_node.proofs.ShownAfter.{ShowsAll, row_of, alone_in, all-from_shows}
-use Rattle.csi_node.proofs.RecordRules.{IsRising}
-
--- the first has the lower id
-abbrev pub IsRowBefore : NodeRowShown → NodeRowShown → Type 0
-IsRowBefore a b = a.id < b.id
-
--- where an id is below the id at each place, it is below each row's
-above_first : (id : ℕ) (rows : List NodeRowShown) → ((place : ℕ) → place < length rows → id < row_id_at rows place) → AllByRecursion (λ (row : NodeRowShown). id < row.id) rows
-above_first id [] above = tt
-above_first id (row ∷ rows) above = (above 0 (omega arith), above_first id rows (λ place within. above (suc place) (omega arith)))
-
--- rows with rising ids have the lower id before the higher, any two of them
-pub rows_rise : (rows : List NodeRowShown) → IsRising rows → EachTwo IsRowBefore rows
-rows_rise [] rising = tt
-rows_rise (row ∷ rows) rising = (
-  above_first row.id rows (λ place within. rising 0 (suc place) (omega arith) (omega arith)),
-  rows_rise rows (λ i j lt within. rising (suc i) (suc j) (omega arith) (omega arith)),
-)
+use Rattle.csi_node.proofs.RecordRules.{IsRowBefore, rows_rise}
 
 -- a number above one that is equal to an id isn't equal to it
 higher : (n m id : ℕ) → (n == id) ≡ true → n < m → (m == id) ≡ false

@@ -1,87 +1,89 @@
--- A search among a record's rows finds the id or its gap.
-use Rattle.std.proofs.Common.{◌≡◌, ℕ, zero, suc, ◌<◌, ◌≤◌, List, [], ◌∷◌, length, get_or, refl, sym, ◌∙◌, ap, arith, Result, Ok, Err, IfOk, IfErr}
-use Rattle.std.specs.Prelude.{Some, None}
-use Rattle.std.specs.List.Sorted.{IsSearchInRange, IsBinarySearchResult, IsNonDecreasingBy}
-use Rattle.std.specs.Ordering.{nat_cmp, ordering_index}
-use Rattle.std.proofs.lemmas.Cmp.{ranked}
-use Rattle.std.proofs.lemmas.List.{length-map}
-use Rattle.std.proofs.lemmas.Bool.Decides.{nat_tests}
+-- The rules of a record are those of rows behind the fence.
+use Rattle.std.proofs.Common.{◌≡◌, ℕ, zero, suc, ◌<◌, List, [], ◌∷◌, length, get_or, true, refl, sym, ◌∙◌, arith}
+use Rattle.std.specs.Prelude.{Option, Some, None, count_by, is_none, slice_get}
+use Rattle.std.proofs.lemmas.Option.{slice_get-get_or}
+use Rattle.csi_lists.specs.Model.Members.{EachTwo}
+use Rattle.csi_types.specs.declared.capability.Capability.{Capability}
+use Rattle.csi_fence.specs.Public.Rows as rows
+use Rattle.csi_fence.specs.Public.Rows.{AreRising, id_of}
+use Rattle.csi_fence.proofs.PlacedRows as placed
+use Rattle.csi_fence.proofs.RisingRows as risen
 use Rattle.csi_node.specs.declared.row.NodeRow.{NodeRow}
-use Rattle.csi_node.specs.Model.OneRow.{NodeRowShown, node_row_shown}
+use Rattle.csi_node.specs.Model.OneRow.{NodeRowShown}
 use Rattle.csi_node.specs.Model.Record.{parts}
-use Rattle.csi_node.specs.Public.Record.{row_id_at}
-use Rattle.csi_node.specs.Private.Record.{IsRowAt, IsGapFor}
+use Rattle.csi_node.specs.Public.Record.{row_id_at, AreSoundRows, IsCurrent, IsCurrentRow}
+use Rattle.csi_node.specs.Public.Plan.{node_plan, AreNodeRows}
 use Rattle.csi_node.proofs.ShownAfter.{row_of}
-use Rattle.csi_node.proofs.FoundRows.{NoneBefore, row_of-absent, row_of-present}
-
--- the id at a place is that of the row there
-pub id_at-row : (rows : List NodeRowShown) (place : ℕ) (d : NodeRowShown) → place < length rows → row_id_at rows place ≡ (get_or rows place d).id
-id_at-row [] place d within = absurd (omega arith)
-id_at-row (row ∷ rows) zero d within = refl
-id_at-row (row ∷ rows) (suc place) d within = id_at-row rows place d (omega arith)
-
--- the id at a place of the rows as they are shown is that of the row there
-pub id_at-parts : (rows : List NodeRow) (place : ℕ) (d : NodeRow) → place < length rows → row_id_at (parts rows) place ≡ (get_or rows place d).id
-id_at-parts [] place d within = absurd (omega arith)
-id_at-parts (row ∷ rows) zero d within = refl
-id_at-parts (row ∷ rows) (suc place) d within = id_at-parts rows place d (omega arith)
 
 -- the ids rise
 abbrev pub IsRising : List NodeRowShown → Type 0
 IsRising rows = (i j : ℕ) → i < j → j < length rows → row_id_at rows i < row_id_at rows j
 
--- where a search ended: at the row of the id, or in the gap for it
-pub record Searched (rows : List NodeRow) (id : ℕ) (r : Result ℕ ℕ) : Type 0 where
-  pub found : IfOk r (IsRowAt (parts rows) id)
-  pub absent : IfErr r (IsGapFor (parts rows) id)
+-- the first has the lower id
+abbrev pub IsRowBefore : NodeRowShown → NodeRowShown → Type 0
+IsRowBefore a b = a.id < b.id
 
--- where ids rise, so do their comparisons with an id
-comparisons_rise : (rows : List NodeRow) (id : ℕ) → IsRising (parts rows) → IsNonDecreasingBy (λ (row : NodeRow). ordering_index (nat_cmp row.id id)) rows
-comparisons_rise rows id rising = λ i j d le within.
-    let many = length-map rows node_row_shown in
-    let first : row_id_at (parts rows) i ≡ (get_or rows i d).id = id_at-parts rows i d (omega arith) in
-    let second : row_id_at (parts rows) j ≡ (get_or rows j d).id = id_at-parts rows j d within in
-    let same : i ≡ j → row_id_at (parts rows) i ≡ row_id_at (parts rows) j = λ e. ap (row_id_at (parts rows)) e in
-    let less : i < j → row_id_at (parts rows) i < row_id_at (parts rows) j = λ lt. rising i j lt (omega arith) in
-    let rise : (get_or rows i d).id ≤ (get_or rows j d).id = grind (arith, first, second, same, less) in
-    grind (arith, nat_tests)
+-- the row of the id is at this place
+pub record IsRowAt (rows : List NodeRowShown) (id place : ℕ) : Type 0 where
+  pub within : place < length rows
+  pub has_id : row_id_at rows place ≡ id
 
--- a binary search ends at the id, or at the gap for it
-pub searched : (rows : List NodeRow) (id : ℕ) (r : Result ℕ ℕ) → IsRising (parts rows) → IsSearchInRange r (length rows) → IsBinarySearchResult (λ (row : NodeRow). nat_cmp row.id id) rows r → Searched rows id r
-searched [] id (Ok at) rising within equal = absurd (omega arith)
-searched [] id (Err at) rising within parted = record { found = tt; absent = record { within = within; before = λ j lt. absurd (omega arith); after = λ j le lt. absurd (omega arith) } }
-searched (first ∷ rest) id (Ok at) rising within equal =
-    let rows : List NodeRow = first ∷ rest in
-    let many = length-map rows node_row_shown in
-    record { found = record { within = omega arith; has_id = id_at-parts rows at first within ∙ ranked _ id _ (sym (equal first)) }; absent = tt }
-searched (first ∷ rest) id (Err at) rising within parted =
-    let rows : List NodeRow = first ∷ rest in
-    let many = length-map rows node_row_shown in
-    let halves = parted (comparisons_rise rows id rising) in
-    record {
-      found = tt;
-      absent = record {
-        within = omega arith;
-        before = λ j lt.
-            let here = id_at-parts rows j first (omega arith) in
-            let below : (get_or rows j first).id < id = ranked _ id _ (sym (halves.0 j first (omega arith) lt)) in
-            omega arith;
-        after = λ j le lt.
-            let inside : j < length rows = omega arith in
-            let here = id_at-parts rows j first inside in
-            let above : id < (get_or rows j first).id = ranked _ id _ (sym (halves.1 j first le inside)) in
-            omega arith;
-      };
-    }
+-- the id at a place
+pub id_at : (rows : List NodeRowShown) (place : ℕ) → row_id_at rows place ≡ id_of node_plan.id (slice_get rows place)
+id_at [] place = refl
+id_at (row ∷ rows) zero = refl
+id_at (row ∷ rows) (suc place) = id_at rows place
 
--- before a place that has the id no row has it
-none_before-at : (rows : List NodeRowShown) (id place : ℕ) → IsRising rows → IsRowAt rows id place → NoneBefore rows id place
-none_before-at rows id place rising at j lt same = omega (arith, rising j place lt at.within, at.has_id)
+-- the id at a place is that of the row there
+pub id_at-row : (rows : List NodeRowShown) (place : ℕ) (d : NodeRowShown) → place < length rows → row_id_at rows place ≡ (get_or rows place d).id
+id_at-row rows place d within = id_at rows place ∙ risen.id_at-row node_plan.id rows place d within
+
+-- ids that rise do so by places
+pub places-rise : (rows : List NodeRowShown) → IsRising rows → AreRising node_plan.id rows
+places-rise rows rising i j lt within = omega (arith, rising i j lt within, id_at rows i, id_at rows j)
+
+-- and the other way round
+pub rise-places : (rows : List NodeRowShown) → AreRising node_plan.id rows → IsRising rows
+rise-places rows rising i j lt within = omega (arith, rising i j lt within, id_at rows i, id_at rows j)
+
+-- rows with rising ids have the lower id before the higher, any two of them
+pub rows_rise : (rows : List NodeRowShown) → IsRising rows → EachTwo IsRowBefore rows
+rows_rise rows rising = risen.rows_rise node_plan.id rows (places-rise rows rising)
 
 -- a row that is there is found
 pub found-at : (rows : List NodeRowShown) (id place : ℕ) (d : NodeRowShown) → IsRising rows → IsRowAt rows id place → row_of id rows ≡ Some (get_or rows place d)
-found-at rows id place d rising at = row_of-present rows id place d at (none_before-at rows id place rising at)
+found-at rows id place d rising at =
+    placed.found-at node_plan.id rows id place (places-rise rows rising) (record { within = at.within; has_id = sym (id_at rows place) ∙ at.has_id })
+    ∙ slice_get-get_or rows place d at.within
 
--- an id that has a gap isn't found
-pub absent-gap : (rows : List NodeRowShown) (id place : ℕ) → IsGapFor rows id place → row_of id rows ≡ None
-absent-gap rows id place gap = row_of-absent rows id (λ j lt same. grind (arith, gap.before j, gap.after j))
+-- a row that is current by one definition is so by the other
+current-row : (session : ℕ) (row : NodeRowShown) → rows.IsCurrentRow node_plan session row → IsCurrentRow session row
+current-row session row current = record { before = current.before; empty = λ none. current.empty (rw none refl) }
+
+-- what is missing is none
+none-from : (o : Option Capability) → is_none o ≡ true → o ≡ None
+none-from None h = refl
+none-from (Some capability) h = cc
+
+-- and the other way round
+row-current : (session : ℕ) (row : NodeRowShown) → IsCurrentRow session row → rows.IsCurrentRow node_plan session row
+row-current session row current = record { before = current.before; empty = λ none. current.empty (none-from row.staged none) }
+
+-- rows behind the fence keep the rules of a record
+pub record-rules : (session : ℕ) (old : List NodeRow) (empty : ℕ) → AreNodeRows session old empty → AreSoundRows (parts old)
+record-rules session old empty kept = record { rising = rise-places (parts old) kept.rising; limit = kept.limit; each = kept.each }
+
+-- and those of its sessions
+pub record-current : (session : ℕ) (old : List NodeRow) (empty : ℕ) → AreNodeRows session old empty → IsCurrent session (parts old)
+record-current session old empty kept = λ place row within. current-row session (get_or (parts old) place row) (kept.current place row within)
+
+-- rows that keep the rules of a record are rows behind the fence
+pub node-rows : (session : ℕ) (old : List NodeRow) (empty : ℕ) → AreSoundRows (parts old) → IsCurrent session (parts old) → empty ≡ count_by node_plan.is_empty (parts old) → AreNodeRows session old empty
+node-rows session old empty rules current counted = record {
+  rising = places-rise (parts old) rules.rising;
+  limit = rules.limit;
+  each = rules.each;
+  current = λ place row within. row-current session (get_or (parts old) place row) (current place row within);
+  fits = tt;
+  counted = counted;
+}

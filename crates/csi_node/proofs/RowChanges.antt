@@ -1,17 +1,12 @@
 -- What a call that the table carries out changes in its row is what it changes in the state, and the row keeps its
 -- rules.
-use Rattle.std.proofs.Common.{◌≡◌, ℕ, ◌≤◌, List, [], ◌∷◌, ◌++◌, map, length, Bool, true, false, cond, not, refl, sym, ◌∙◌, ap, subst, arith, length-append}
+use Rattle.std.proofs.Common.{◌≡◌, ℕ, ◌≤◌, List, [], ◌∷◌, ◌++◌, map, length, Bool, true, false, cond, not, refl, sym, ◌∙◌, ap, arith, length-append}
 use Rattle.std.specs.Prelude.{Option, Some, None, filter, ◌==◌}
 use Rattle.std.proofs.lemmas.Bool.{both_ways, false_from_ne_true}
 use Rattle.std.proofs.lemmas.List.{map-append}
 use Rattle.csi_types.specs.declared.capability.Capability.{Capability}
 use Rattle.csi_types.specs.declared.call.Call.{Call}
 use Rattle.csi_types.specs.declared.call.Call.TheVariants as calls
-use Rattle.csi_types.specs.declared.number.Number.{Number}
-use Rattle.csi_types.specs.declared.reply.Reply.{Reply}
-use Rattle.csi_fence.specs.Model.Fence.{Kept}
-use Rattle.csi_types.specs.Model.Call.{kind_of}
-use Rattle.csi_types.specs.Public.Call.{is_node_kind}
 use Rattle.csi_types.specs.Model.Same.{same_text}
 use Rattle.csi_types.specs.Model.Sharing.{allows_one_target}
 use Rattle.csi_lists.proofs.Searches.{find-append}
@@ -23,14 +18,12 @@ use Rattle.csi_lists.proofs.Options.{option_or-none}
 use Rattle.csi_lists.proofs.Filters.{filter-of_map}
 use Rattle.csi_lists.proofs.Searches.{find-none_in_filter}
 use Rattle.csi_node.specs.declared.row.NodeTarget.{NodeTarget}
-use Rattle.csi_node.specs.declared.line.Line.{Line}
-use Rattle.csi_node.specs.declared.line.Line.TheVariants.{Refused, Met, Done}
 use Rattle.csi_node.specs.Model.State.{NodeState, StagedVolume, PublishedVolume, is_published_at, volume_of}
-use Rattle.csi_node.specs.Model.Table.{Change, Outcome, lifecycle_row, changed, begins_with_slash}
-use Rattle.csi_node.specs.Private.Line.{outcome_shown, reply_shown, WhereDone, is_done}
+use Rattle.csi_node.specs.Model.Table.{changed, begins_with_slash}
 use Rattle.csi_node.specs.Model.OneRow.{NodeRowShown}
-use Rattle.csi_node.specs.Public.OneRow.{state_shown, staged_by, published_so, published_by, target_among, AreDistinctTargets, AreAbsolute, TargetsFit, IsSoundRow}
-use Rattle.csi_node.specs.Private.OneRow.{row_changed, call_change, CanChange, IsRowAfter}
+use Rattle.csi_node.specs.Public.OneRow.{state_shown, staged_by, published_so, published_by, target_among, AreDistinctTargets, AreAbsolute, TargetsFit}
+use Rattle.csi_node.specs.Public.OneRow.{row_changed}
+use Rattle.csi_node.specs.Private.OneRow.{call_change, CanChange}
 use Rattle.csi_node.proofs.OneRow.{itself, itself_and}
 
 -- texts differ both ways
@@ -138,7 +131,7 @@ filter_shorter p (first ∷ rest) = step (p first) (filter_shorter p rest)
     step false h = omega arith
 
 -- no targets fit however the volume is staged
-no_targets : (staged : Option Capability) → TargetsFit staged []
+pub no_targets : (staged : Option Capability) → TargetsFit staged []
 no_targets staged = record { unstaged = λ _. refl; absolute = tt; distinct = tt; single = λ capability is one. omega arith; limit = omega arith }
 
 -- what is there isn't missing
@@ -171,69 +164,13 @@ fits-changed row (calls.DeleteVolume id) fits can = absurd can
 fits-changed row (calls.ControllerPublishVolume id node capability readonly) fits can = absurd can
 fits-changed row (calls.ControllerUnpublishVolume id node) fits can = absurd can
 
--- by the line that answers
-abbrev where_done : Line → NodeRowShown → Call → NodeRowShown
-where_done line row call = cond (is_done line) (row_changed row call) row
-
--- the state of the row alone after an answer is the one after the table's change
-alone-by : (row : NodeRowShown) (call : Call) (line : Line) → volume_of call ≡ Some row.id → TargetsFit row.staged row.targets → WhereDone line (CanChange row call)
-    → state_shown (where_done line row call) ≡ changed (state_shown row) (outcome_shown (call_change call) line).change
-alone-by row call (Refused status detail) volume fits can = refl
-alone-by row call Met volume fits can = refl
-alone-by row call Done volume fits can = alone-changed row call volume fits can
-
--- the targets of the row after an answer fit how it is staged
-fits-by : (row : NodeRowShown) (call : Call) (line : Line) → TargetsFit row.staged row.targets → WhereDone line (CanChange row call)
-    → TargetsFit (where_done line row call).staged (where_done line row call).targets
-fits-by row call (Refused status detail) fits can = fits
-fits-by row call Met fits can = fits
-fits-by row call Done fits can = fits-changed row call fits can
-
--- a row that a call changes keeps its id
-id-by : (row : NodeRowShown) (call : Call) → (row_changed row call).id ≡ row.id
-id-by row (calls.NodeStageVolume id capability) = refl
-id-by row (calls.NodeUnstageVolume id) = refl
-id-by row (calls.NodePublishVolume id target capability readonly) = refl
-id-by row (calls.NodeUnpublishVolume id target) = refl
-id-by row (calls.CreateVolume name required limit capabilities) = refl
-id-by row (calls.DeleteVolume id) = refl
-id-by row (calls.ControllerPublishVolume id node capability readonly) = refl
-id-by row (calls.ControllerUnpublishVolume id node) = refl
-
--- a row keeps its id, whether or not the call is carried out
-id-where : (row : NodeRowShown) (call : Call) (b : Bool) → (cond b (row_changed row call) row).id ≡ row.id
-id-where row call true = id-by row call
-id-where row call false = refl
-
--- the reply of the outcome is the one that is shown
-reply-by : (change : Change) (line : Line) → (outcome_shown change line).reply ≡ reply_shown line
-reply-by change (Refused status detail) = refl
-reply-by change Met = refl
-reply-by change Done = refl
-
--- no reply of a line has an id
-no_id-by : (line : Line) → (reply_shown line).id ≡ None
-no_id-by (Refused status detail) = refl
-no_id-by Met = refl
-no_id-by Done = refl
-
--- the row after a call is carried out
-pub after-line : (old mid : NodeRowShown) (number : Number) (call : Call) (line : Line) → volume_of call ≡ Some old.id → IsSoundRow old
-    → lifecycle_row (state_shown old) call ≡ outcome_shown (call_change call) line → WhereDone line (CanChange old call) → mid ≡ where_done line old call
-    → IsRowAfter number call old (record mid { kept = record { number = number; kind = kind_of call; reply = reply_shown line } })
-after-line old mid number call line volume rules is can made =
-    let reply : reply_shown line ≡ (lifecycle_row (state_shown old) call).reply = sym (ap (λ (o : Outcome). o.reply) is ∙ reply-by (call_change call) line) in
-    record {
-      id = ap (λ (r : NodeRowShown). r.id) made ∙ id-where old call (is_done line);
-      kept = ap (λ (r : Reply). let k : Kept = record { number = number; kind = kind_of call; reply = r } in k) reply;
-      state = ap state_shown made ∙ alone-by old call line volume rules.targets can ∙ ap (λ (o : Outcome). changed (state_shown old) o.change) (sym is);
-    }
-
--- and its rules
-pub row-line : (old mid : NodeRowShown) (number : Number) (call : Call) (line : Line) → is_node_kind (kind_of call) ≡ true → IsSoundRow old → WhereDone line (CanChange old call) → mid ≡ where_done line old call
-    → IsSoundRow (record mid { kept = record { number = number; kind = kind_of call; reply = reply_shown line } })
-row-line old mid number call line kind rules can made = record {
-  kind = kind;
-  no_id = no_id-by line;
-  targets = subst (λ (r : NodeRowShown). TargetsFit r.staged r.targets) (sym made) (fits-by old call line rules.targets can);
-}
+-- what is kept stays
+pub changed-kept : (row : NodeRowShown) (call : Call) → (row_changed row call).kept ≡ row.kept
+changed-kept row (calls.NodeStageVolume id capability) = refl
+changed-kept row (calls.NodeUnstageVolume id) = refl
+changed-kept row (calls.NodePublishVolume id target capability readonly) = refl
+changed-kept row (calls.NodeUnpublishVolume id target) = refl
+changed-kept row (calls.CreateVolume name required limit capabilities) = refl
+changed-kept row (calls.DeleteVolume id) = refl
+changed-kept row (calls.ControllerPublishVolume id node capability readonly) = refl
+changed-kept row (calls.ControllerUnpublishVolume id node) = refl

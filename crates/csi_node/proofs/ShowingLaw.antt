@@ -11,7 +11,8 @@ use Rattle.csi_node.specs.Public.OneRow.{state_shown}
 use Rattle.csi_node.specs.Model.Record.{NodeParts, Shows, parts}
 use Rattle.csi_node.specs.Public.Record.{AreSoundRows}
 use Rattle.csi_node.proofs.ShownAfter.{row_of, answered_of, shows-from_all}
-use Rattle.csi_node.proofs.Readers.{rows_rise, of_one, staged_own, published_own, staged_part, published_part}
+use Rattle.csi_node.proofs.RecordRules.{rows_rise}
+use Rattle.csi_node.proofs.Readers.{of_one, staged_own, published_own, staged_part, published_part}
 
 -- the state of this session in which the volumes stand by rising id
 abbrev state_by_id : NodeParts → NodeState

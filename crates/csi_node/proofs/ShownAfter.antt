@@ -1,5 +1,5 @@
 -- A step of a node, from rows that show a state to rows that show the state after it.
-use Rattle.std.proofs.Common.{◌≡◌, ℕ, ◌+◌, List, [], ◌∷◌, ◌++◌, map, length, Bool, true, false, not, ◌&&◌, refl, sym, ◌∙◌, ap, arith, length-append}
+use Rattle.std.proofs.Common.{◌≡◌, ℕ, List, [], ◌∷◌, ◌++◌, map, length, Bool, true, false, not, ◌&&◌, refl, sym, ◌∙◌, ap, arith, length-append}
 use Rattle.std.specs.Prelude.{Option, Some, None, option_map, find, filter, ◌==◌, is_none, nat_le, option_to_list}
 use Rattle.std.proofs.lemmas.Bool.{eq-eqb, eqb-true}
 use Rattle.std.proofs.lemmas.Bool.Decides.{nat_tests}
@@ -8,6 +8,7 @@ use Rattle.csi_types.specs.declared.capability.Capability.{Capability}
 use Rattle.csi_types.specs.declared.call.Call.{Call}
 use Rattle.csi_fence.specs.Model.Fence.{Kept}
 use Rattle.std.proofs.lemmas.List.Elements.{filter_agree}
+use Rattle.csi_fence.proofs.PutRows.{grown}
 use Rattle.csi_lists.proofs.PassingByKey.{find-by_key}
 use Rattle.csi_lists.proofs.Searches.{find-of_map, find-passes}
 use Rattle.csi_lists.proofs.Filters.{filter-append_one, filter-append_passes, filter-filter, filter-map, filter-of_map}
@@ -93,11 +94,6 @@ shows-from_all rows state all = record {
 -- the row of an id is the state's
 pub kept-found : (rows : List NodeRowShown) (state : NodeState) → ShowsAll rows state → (id : ℕ) → option_map answered_of (row_of id rows) ≡ row_with_id id state
 kept-found rows state all id = sym (find-by_key answered_of (λ (row : NodeRowShown). row.id) (λ (row : AnsweredVolume). row.id) rows state.rows all.kept id)
-
--- how many rows there are after a call, by whether its volume had one
-abbrev pub grown : Option NodeRowShown → ℕ → ℕ
-grown None n = n + 1
-grown (Some row) n = n
 
 -- the rows after a call of a volume
 pub record RowsAfter (id : ℕ) (old new : List NodeRowShown) (row : NodeRowShown) : Type 0 where

@@ -1,9 +1,8 @@
 pub mod Fenced
 pub mod OneRow
-pub mod Line
-pub mod Record
 pub mod Laws
 pub mod Worked
 pub mod SoundRow
 pub mod Judging
+pub mod PlanLaws
 pub mod Step

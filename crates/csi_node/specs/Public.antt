@@ -9,3 +9,4 @@ pub mod Joining
 pub mod View
 pub mod Judging
 pub mod Changes
+pub mod Plan

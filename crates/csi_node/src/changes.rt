@@ -1,9 +1,9 @@
 //! What a call changes in the row of its volume.
-ghost use Rattle.std.specs.Prelude.{◌≡◌, [], ◌∷◌, ◌++◌, Some, None, filter, not, OnOk, OnErr, if◌then◌else◌};
+ghost use Rattle.std.specs.Prelude.{◌≡◌, [], ◌∷◌, ◌++◌, Some, None, filter, not, OnOk, OnErr};
 ghost use Rattle.csi_types.specs.Public.Lent.{lent_capability, lent_call};
 ghost use Rattle.csi_types.specs.Model.Same.{same_text};
 ghost use Rattle.csi_node.specs.Model.OneRow.{node_row_shown};
-ghost use Rattle.csi_node.specs.Private.OneRow.{row_changed};
+ghost use Rattle.csi_node.specs.Public.OneRow.{row_changed};
 
 use crate::row::{NodeRow, NodeTarget};
 use csi_fence::CoreFault;
@@ -47,8 +47,8 @@ fn unpublish(row: &mut NodeRow, target: &str)
     row.targets.retain(|there| there.target.as_str() != target);
 }
 
-// Makes the call's change to the row. An `Err` changes nothing.
-fn change(row: &mut NodeRow, alloc: Global, call: &CallRef<'_>) -> Result<(), CoreFault>
+/// Makes the call's change to the row. An `Err` changes nothing.
+pub(crate) fn change(row: &mut NodeRow, alloc: Global, call: &CallRef<'_>) -> Result<(), CoreFault>
     ensures ok { OnOk result (node_row_shown row.new ≡ row_changed (node_row_shown row.old) (lent_call call.now)) }
     ensures err { OnErr result (node_row_shown row.new ≡ node_row_shown row.old) }
 {
@@ -69,21 +69,4 @@ fn change(row: &mut NodeRow, alloc: Global, call: &CallRef<'_>) -> Result<(), Co
         }
         _ => Ok(()),
     }
-}
-
-/// Makes the call's change to the row where the table has it so. An `Err` changes nothing.
-pub(crate) fn change_where(
-    is_done: bool,
-    row: &mut NodeRow,
-    alloc: Global,
-    call: &CallRef<'_>,
-) -> Result<(), CoreFault>
-    ensures ok { OnOk result (node_row_shown row.new ≡ (if is_done then row_changed (node_row_shown row.old)
-        (lent_call call.now) else node_row_shown row.old)) }
-    ensures err { OnErr result (node_row_shown row.new ≡ node_row_shown row.old) }
-{
-    if !is_done {
-        return Ok(());
-    }
-    change(row, alloc, call)
 }

@@ -2,21 +2,17 @@
 //! call, and what it keeps.
 #![tactic(auto)]
 
-mod at_row;
-mod beginning;
 mod changes;
 mod entries;
 mod forgettable;
-mod forgetting;
 mod judging;
 mod laws;
-mod line;
 mod node;
 mod record;
 mod row;
 mod row_table;
 mod sound_row;
-mod step;
+mod table;
 mod views;
 mod worked;
 

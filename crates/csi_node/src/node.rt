@@ -1,19 +1,23 @@
 //! The node plugin.
-ghost use Rattle.std.specs.Prelude.{◌≡◌, ◌≤◌, ◌+◌, ◌==◌, false, Some, None, is_some, is_none, [], length, filter, count_by};
+ghost use Rattle.std.specs.Prelude.{◌≡◌, ◌≤◌, ◌+◌, ◌==◌, true, false, Some, None, is_some, is_none, [], length, filter, count_by};
 ghost use Rattle.std.specs.Prelude.{IfOk, OnOk, OnErr, Ok, IsOk, IfSome, option_map, map, slice_get};
 ghost use Rattle.std.specs.Option.{option_copied};
 ghost use Rattle.csi_types.specs.Public.Lent.{lent_call};
 ghost use Rattle.csi_types.specs.Model.Same.{same_text};
+ghost use Rattle.csi_types.specs.declared.call.Party.TheVariants.{Node as OfNode};
+ghost use Rattle.csi_types.specs.declared.frame.Body.TheVariants.{Call as CallBody, Reply as ReplyBody};
+ghost use Rattle.csi_types.specs.Model.Call.{kind_of};
+ghost use Rattle.csi_types.specs.Public.Call.{is_node_kind};
+ghost use Rattle.csi_types.specs.Public.Frame.{IsAllowed};
 ghost use Rattle.csi_node.specs.Public.Fenced.{answer_frame};
-ghost use Rattle.csi_node.specs.Private.OneRow.{IsNodeAnswer};
 
 use crate::entries::{Published, Staged};
 use crate::forgettable::forgettable_ids;
 use crate::record::NodeRecord;
 use crate::row::NodeRow;
-use crate::step::place_of;
+use crate::table::{NodeTable, place_of};
 use crate::views::{published_in, staged_in};
-use csi_fence::{Answer, CoreFault};
+use csi_fence::{Answer, CoreFault, Rows};
 use csi_types::{Body, CallRef, Frame, NodeId, Number, Party, VolumeId};
 use std::alloc::Global;
 use std::marker::Model;
@@ -25,16 +29,18 @@ use std::marker::Model;
 /// contract sees its record.
 #[derive(Drop)]
 pub struct Node {
-    alloc: Global,
-    record: NodeRecord,
+    rows: Rows<NodeTable>,
 }
 
 impl Model for Node {
     ghost use Rattle.csi_node.specs.Model.Record.{NodeParts};
+    ghost use Rattle.csi_node.specs.Public.Plan.{AreNodeRows};
 
     ghost Value = { NodeParts };
 
-    ghost view = { λ node. node.«record» };
+    ghost view = { λ node. record { id = node.rows.table.id; session = node.rows.session; rows = node.rows.rows.items } };
+
+    ghost invariant = { λ node. AreNodeRows node.rows.session node.rows.rows.items node.rows.empty };
 }
 
 // Whether the two are the same.
@@ -44,9 +50,23 @@ fn is_same_node(a: &NodeId, b: &NodeId) -> bool
     a == b
 }
 
+// Whether it is a call to a node.
+#[inline]
+fn is_node_call(call: &CallRef<'_>) -> bool
+    ensures { result ≡ is_node_kind (kind_of (lent_call call.now)) }
+{
+    matches!(
+        call,
+        CallRef::NodeStageVolume { .. }
+            | CallRef::NodeUnstageVolume { .. }
+            | CallRef::NodePublishVolume { .. }
+            | CallRef::NodeUnpublishVolume { .. }
+    )
+}
+
 // An answer of this node, as a frame.
 fn frame_of(node: NodeId, number: Number, answer: Answer) -> Frame
-    requires { IsNodeAnswer answer }
+    requires { IsAllowed (OfNode node) (ReplyBody answer.kind answer.reply) }
     ensures { result ≡ answer_frame node number answer }
 {
     let Answer {
@@ -58,11 +78,7 @@ fn frame_of(node: NodeId, number: Number, answer: Answer) -> Frame
 }
 
 impl Node {
-    ghost use Rattle.csi_types.specs.declared.call.Party.TheVariants.{Node as OfNode};
-    ghost use Rattle.csi_types.specs.declared.frame.Body.TheVariants.{Call as CallBody, Reply as ReplyBody};
-    ghost use Rattle.csi_types.specs.Model.Call.{kind_of};
     ghost use Rattle.csi_types.specs.Public.Call.{is_party_of};
-    ghost use Rattle.csi_types.specs.Public.Frame.{IsAllowed};
     ghost use Rattle.csi_types.specs.Public.Lent.{HasFitTexts};
     ghost use Rattle.csi_types.specs.Model.Replies.{call_frame};
     ghost use Rattle.csi_node.specs.Model.Fenced.{fenced};
@@ -70,6 +86,7 @@ impl Node {
     ghost use Rattle.csi_node.specs.Public.Record.{is_call_for, AreSoundRows, IsCurrent};
     ghost use Rattle.csi_node.specs.Model.OneRow.{node_row_shown};
     ghost use Rattle.csi_node.specs.Public.OneRow.{state_shown, IsSoundRow};
+    ghost use Rattle.csi_node.specs.Private.Step.{AnswersCall};
     ghost use Rattle.csi_node.specs.Public.Changes.{row_by_id, ChangesAt};
     ghost use Rattle.std.specs.List.{flat_map};
     ghost use Rattle.csi_node.specs.Public.Views.{staged_shown, published_shown, ListsStaged, ListsPublished};
@@ -85,16 +102,38 @@ impl Node {
         ensures rows { result.rows ≡ [] }
         ensures joined { Shows result (joined_node session) }
     {
-        let rows = Vec::new(alloc);
-        let record = NodeRecord { id, session, rows };
-        Node { alloc, record }
+        let rows = Rows::new(alloc, session, Vec::new(alloc), NodeTable { id });
+        Node { rows }
     }
 
     /// The node's id. It takes no memory.
     pub fn id(&self) -> &NodeId
         ensures { result.now ≡ self.now.id }
     {
-        self.record.id()
+        &self.rows.table.id
+    }
+
+    // The rows, by rising id.
+    #[inline]
+    fn rows(&self) -> &[NodeRow]
+        ensures value { result.now ≡ self.now.rows }
+        ensures rules { AreSoundRows (parts self.now.rows) }
+        ensures current { IsCurrent self.now.session (parts self.now.rows) }
+    {
+        self.rows.rows.as_slice()
+    }
+
+    // Answers a call to a node, behind the fence. An `Err` changes nothing.
+    fn answer_own(&mut self, number: Number, call: &CallRef<'_>) -> Result<Answer, CoreFault>
+        requires kind { is_node_kind (kind_of (lent_call call.now)) ≡ true }
+        ensures ok { IfOk result (AnswersCall number (lent_call call.now) self.old self.new) }
+        ensures allowed { IfOk result (λ answer. IsAllowed (OfNode self.old.id) (ReplyBody answer.kind answer.reply)) }
+        ensures current { IsCurrent self.new.session (parts self.new.rows) }
+        ensures id { self.new.id ≡ self.old.id }
+        ensures err { OnErr result (parts self.new.rows ≡ parts self.old.rows) }
+        ensures err_session { OnErr result (self.new.session ≡ self.old.session) }
+    {
+        self.rows.answer(number, call)
     }
 
     /// Answers a frame by the fence and the table (CSI's spec.md, "NodeStageVolume" to "NodeUnpublishVolume"), or
@@ -124,21 +163,12 @@ impl Node {
         let Party::Node(id) = frame.party() else {
             return Ok(None);
         };
-        if !is_same_node(id, self.record.id()) {
+        if !is_same_node(id, &self.rows.table.id) {
             return Ok(None);
         }
         let number = frame.number();
-        let call = call.lend();
-        let id = match &call {
-            CallRef::NodeStageVolume { id, .. }
-            | CallRef::NodeUnstageVolume { id }
-            | CallRef::NodePublishVolume { id, .. }
-            | CallRef::NodeUnpublishVolume { id, .. } => id.volume_id(),
-            // No frame to a node has another call.
-            _ => return Ok(None),
-        };
-        let node = self.record.id().clone()?;
-        let answer = self.record.answer(self.alloc, number, id, &call)?;
+        let node = self.rows.table.id.clone()?;
+        let answer = self.answer_own(number, &call.lend())?;
         Ok(Some(frame_of(node, number, answer)))
     }
 
@@ -173,18 +203,13 @@ impl Node {
         ensures others { is_party_of (kind_of (lent_call call.now)) (OfNode self.old.id) ≡ false → (result ≡ Ok None) × (self.new ≡ self.old) }
     {
         self.assert_rules();
-        let id = match call {
-            CallRef::NodeStageVolume { id, .. }
-            | CallRef::NodeUnstageVolume { id }
-            | CallRef::NodePublishVolume { id, .. }
-            | CallRef::NodeUnpublishVolume { id, .. } => id.volume_id(),
-            _ => return Ok(None),
-        };
-        if !call.is_within_limits() {
+        if !is_node_call(call) || !call.is_within_limits() {
             return Ok(None);
         }
-        let answer = self.record.answer(self.alloc, number, id, call)?;
-        Ok(Some(answer))
+        match self.answer_own(number, call) {
+            Ok(answer) => Ok(Some(answer)),
+            Err(fault) => Err(fault),
+        }
     }
 
     /// The node's record as a value. The node stays as it is. An `Err` is an allocation that was refused.
@@ -194,11 +219,11 @@ impl Node {
         ensures rows { IfOk result (λ copy. parts copy.rows ≡ parts self.now.rows) }
         ensures shows { (state : NodeState) → Shows self.now state → IfOk result (λ copy. Shows copy state) }
     {
-        let id = self.record.id().clone()?;
-        let rows = Vec::from_clones(self.alloc, self.record.rows())?;
+        let id = self.id().clone()?;
+        let rows = Vec::from_clones(self.rows.alloc, self.rows())?;
         Ok(NodeRecord {
             id,
-            session: self.record.session(),
+            session: self.session(),
             rows,
         })
     }
@@ -208,7 +233,8 @@ impl Node {
         ensures value { result ≡ Ok «record» }
         ensures current { IfOk result (λ made. IsCurrent made.session (parts made.rows)) }
     {
-        Ok(Node { alloc, record })
+        let rows = record.into_rows(alloc);
+        Ok(Node { rows })
     }
 
     /// The row of a volume as the record has it, if it has one. The node stays as it is. An `Err` is an allocation
@@ -230,10 +256,10 @@ impl Node {
         ensures row { option_map node_row_shown (option_copied result) ≡ row_by_id id (parts self.now.rows) }
         ensures rules { IfSome (option_copied result) (λ row. IsSoundRow (node_row_shown row)) }
     {
-        let rows = self.record.rows();
+        let rows = self.rows();
         match place_of(rows, id) {
-            Ok(place) => Some(&rows[place]),
-            Err(_) => None,
+            Some(place) => Some(&rows[place]),
+            None => None,
         }
     }
 
@@ -242,14 +268,14 @@ impl Node {
         ensures row { option_map node_row_shown (option_copied result) ≡ slice_get (parts self.now.rows) place }
         ensures rules { IfSome (option_copied result) (λ row. IsSoundRow (node_row_shown row)) }
     {
-        self.record.rows().get(place)
+        self.rows().get(place)
     }
 
     /// The greatest session that it heard of, at its joining or by a call, 0 before any. It takes no memory.
     pub fn session(&self) -> u64
         ensures { result ≡ self.now.session }
     {
-        self.record.session()
+        self.rows.session
     }
 
     /// How many rows there are: at most as many as are of staged volumes and as have their last call in the greatest session that
@@ -259,7 +285,7 @@ impl Node {
         ensures few { result ≤ count_by (λ row. is_some row.staged) (parts self.now.rows) + count_by
             (λ row. row.kept.number.session == self.now.session) (parts self.now.rows) }
     {
-        self.record.rows().len()
+        self.rows().len()
     }
 
     /// The ids of the rows of volumes that aren't staged, by rising id: these are forgotten where a call begins a session, the
@@ -269,7 +295,7 @@ impl Node {
         ensures ids { IfOk result (λ list. list.items ≡ map (λ row. row.id) (filter (λ row. is_none row.staged) (parts self.now.rows))) }
         ensures none { filter (λ row. is_none row.staged) (parts self.now.rows) ≡ [] → IsOk result }
     {
-        forgettable_ids(self.alloc, self.record.rows())
+        forgettable_ids(self.rows.alloc, self.rows())
     }
 
     /// What is staged, each volume once, by rising id. The node stays as it is. An `Err` is an allocation that was
@@ -279,7 +305,7 @@ impl Node {
         ensures shows { (state : NodeState) → Shows self.now state →
             IfOk result (λ list. ListsStaged (map staged_shown list.items) state) }
     {
-        staged_in(self.alloc, self.record.rows())
+        staged_in(self.rows.alloc, self.rows())
     }
 
     /// What is published, each target once, by rising id and then in the order in which it was published. The node
@@ -289,7 +315,7 @@ impl Node {
         ensures shows { (state : NodeState) → Shows self.now state →
             IfOk result (λ list. ListsPublished (map published_shown list.items) state) }
     {
-        published_in(self.alloc, self.record.rows())
+        published_in(self.rows.alloc, self.rows())
     }
 
     // Nothing that runs: the rules of the rows hold.
@@ -297,6 +323,6 @@ impl Node {
         ensures rules { AreSoundRows (parts self.now.rows) }
         ensures current { IsCurrent self.now.session (parts self.now.rows) }
     {
-        let _rows = self.record.rows();
+        let _rows = self.rows();
     }
 }

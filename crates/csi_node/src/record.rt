@@ -1,14 +1,12 @@
 //! A node's record as a value.
-ghost use Rattle.std.specs.Prelude.{◌≡◌, true, Some, None, IfOk, IfErr, IsOk, OnOk, OnErr};
+ghost use Rattle.std.specs.Prelude.{◌≡◌, Some, None, filter, IfOk, IfErr, IsOk, OnOk};
+ghost use Rattle.csi_node.specs.Public.WithoutSession.{stays_in};
 
-use crate::at_row::refusal;
-use crate::beginning::begin;
-use crate::forgetting::forget;
 use crate::judging::{first_refused, latest_session};
 use crate::row::NodeRow;
-use crate::step::answer;
-use csi_fence::{Answer, CoreFault, RecordFault};
-use csi_types::{CallRef, NodeId, Number, Status, VolumeId};
+use crate::table::NodeTable;
+use csi_fence::{RecordFault, Rows};
+use csi_types::NodeId;
 use std::alloc::Global;
 use std::marker::Model;
 
@@ -45,17 +43,19 @@ impl Model for NodeRecord {
     ghost invariant = { λ record_. AreSoundRows (parts record_.rows.items) × IsCurrent record_.session (parts record_.rows.items) };
 }
 
+// Forgets the rows of volumes that aren't staged, but for those whose last call is of this session. It takes no memory.
+fn forget(rows: &mut Vec<NodeRow>, session: u64)
+    ensures { rows.new.items ≡ filter (stays_in session) rows.old.items }
+{
+    rows.retain(|row| row.staged.is_some() || row.last.session == session);
+}
+
 impl NodeRecord {
-    ghost use Rattle.csi_types.specs.Model.Call.{kind_of};
-    ghost use Rattle.csi_types.specs.Public.Call.{is_node_kind};
-    ghost use Rattle.csi_types.specs.Public.Lent.{lent_call};
     ghost use Rattle.csi_node.specs.Public.Judging.{IsRecordRefusal};
     ghost use Rattle.csi_node.specs.Model.Record.{parts};
     ghost use Rattle.csi_node.specs.Public.Record.{AreSoundRows, IsCurrent};
-    ghost use Rattle.csi_node.specs.Private.OneRow.{IsNodeAnswer};
-    ghost use Rattle.csi_node.specs.Model.State.{volume_of};
-    ghost use Rattle.csi_node.specs.Private.Step.{AnswersCall};
     ghost use Rattle.csi_node.specs.Public.WithoutSession.{without_session as kept_without_session};
+    ghost use Rattle.csi_node.specs.Public.Plan.{AreNodeRows};
 
     /// The record of the node of this id that has these rows, by rising id, and of which this is the greatest session that it heard
     /// of (this profile's own). It is refused with `BadRow` at the first row that no record has there: its id isn't above the
@@ -119,33 +119,14 @@ impl NodeRecord {
     {
         self.rows.as_slice()
     }
-
-    /// Answers a call of this volume, behind the fence: one of an earlier session than the greatest that came is stale, whatever its
-    /// row says, and one of a later session begins it. An `Err` changes nothing.
-    pub(crate) fn answer(
-        &mut self,
-        alloc: Global,
-        number: Number,
-        id: VolumeId,
-        call: &CallRef<'_>,
-    ) -> Result<Answer, CoreFault>
-        requires volume { volume_of (lent_call call.now) ≡ Some id }
-        requires kind { is_node_kind (kind_of (lent_call call.now)) ≡ true }
-        ensures ok { IfOk result (AnswersCall number (lent_call call.now) self.old self.new) }
-        ensures fits { IfOk result IsNodeAnswer }
-        ensures current { IsCurrent self.new.session (parts self.new.rows) }
-        ensures id { self.new.id ≡ self.old.id }
-        ensures err { OnErr result (parts self.new.rows ≡ parts self.old.rows) }
-        ensures err_session { OnErr result (self.new.session ≡ self.old.session) }
+    /// Its rows, as a node keeps them. It takes no memory.
+    pub(crate) fn into_rows(self, alloc: Global) -> Rows<NodeTable>
+        ensures id { result.table.id ≡ self.id }
+        ensures session { result.session ≡ self.session }
+        ensures rows { result.rows.items ≡ self.rows }
+        ensures kept { AreNodeRows result.session result.rows.items result.empty }
     {
-        if number.session < self.session {
-            return refusal(alloc, call.kind(), Status::Aborted, "stale");
-        }
-        if number.session > self.session {
-            let answer = begin(&mut self.rows, alloc, number, id, call)?;
-            self.session = number.session;
-            return Ok(answer);
-        }
-        answer(&mut self.rows, alloc, number, id, call)
+        let NodeRecord { id, session, rows } = self;
+        Rows::new(alloc, session, rows, NodeTable { id })
     }
 }

@@ -1,20 +1,17 @@
 //! The node's table, for the row of a call's volume.
-ghost use Rattle.std.specs.Prelude.{◌≡◌, ◌<◌, [], length, true, Some, None, option_copied, codes, if◌then◌else◌};
-ghost use Rattle.csi_types.specs.Model.Call.{kind_of};
-ghost use Rattle.csi_types.specs.Public.Call.{is_node_kind};
+ghost use Rattle.std.specs.Prelude.{◌≡◌, Some, option_copied, codes, if◌then◌else◌};
 ghost use Rattle.csi_types.specs.Public.Lent.{lent_capability, lent_call};
-ghost use Rattle.csi_types.specs.Model.Sharing.{allows_one_target as allows_one};
 ghost use Rattle.csi_types.specs.declared.status.Status.TheVariants.{AlreadyExists};
-ghost use Rattle.csi_node.specs.Private.Line.{outcome_shown, WhereDone};
+ghost use Rattle.csi_fence.specs.Public.Line.{told_by};
 ghost use Rattle.csi_node.specs.Model.OneRow.{node_row_shown};
 ghost use Rattle.csi_node.specs.Public.OneRow.{state_shown, target_among, published_by, IsSoundRow};
-ghost use Rattle.csi_node.specs.Private.OneRow.{target_of_row, publish_by_row, call_change, CanChange, HasRoomFor, IsNew};
+ghost use Rattle.csi_node.specs.Private.OneRow.{target_of_row, publish_by_row};
+ghost use Rattle.csi_node.specs.Public.Plan.{told_in, told_at};
 ghost use Rattle.csi_node.specs.Model.State.{volume_of, published_at, PublishedVolume};
-ghost use Rattle.csi_node.specs.Model.Table.{Change, Stages, Unstages, Publishes, Unpublishes};
-ghost use Rattle.csi_node.specs.Model.Table.{stage, unstage, refused, met, publish, publish_new, unpublish, lifecycle_row, begins_with_slash};
+ghost use Rattle.csi_node.specs.Model.Table.{stage, unstage, refused, met, publish, publish_new, unpublish, begins_with_slash};
 
-use crate::line::Line;
 use crate::row::{NodeRow, NodeTarget};
+use csi_fence::Line;
 use csi_types::{
     CallRef, Capability, CapabilityRef, Status, allows_one_target, same_capability, same_way,
 };
@@ -43,15 +40,13 @@ pub(crate) fn find_target<'a>(targets: &'a [NodeTarget], target: &str) -> Option
 
 // NodeStageVolume.
 fn stage_line(row: &NodeRow, capability: &CapabilityRef<'_>) -> Line<'static>
-    ensures line { stage (record { volume = row.now.id; capability = lent_capability capability.now }) row.now.staged
-        ≡ outcome_shown (Stages (record { volume = row.now.id; capability = lent_capability capability.now })) result }
-    ensures ready { WhereDone result (row.now.staged ≡ None) }
+    ensures { told_by result ≡ told_in (stage (record { volume = row.now.id; capability = lent_capability capability.now }) row.now.staged) }
 {
     match &row.staged {
         None => Line::Done,
         Some(staged) => {
             if same_capability(staged.lend(), *capability) {
-                return Line::Met;
+                return Line::Met(None);
             }
             Line::Refused(Status::AlreadyExists, "staged otherwise")
         }
@@ -61,8 +56,7 @@ fn stage_line(row: &NodeRow, capability: &CapabilityRef<'_>) -> Line<'static>
 // NodeUnstageVolume.
 fn unstage_line(row: &NodeRow) -> Line<'_>
     requires rules { IsSoundRow (node_row_shown row.now) }
-    ensures line { unstage row.now.id (published_by row.now.id row.now.staged row.now.targets.items) ≡ outcome_shown (Unstages row.now.id) result }
-    ensures ready { WhereDone result (row.now.targets.items ≡ []) }
+    ensures { told_by result ≡ told_in (unstage row.now.id (published_by row.now.id row.now.staged row.now.targets.items)) }
 {
     match row.targets.first() {
         None => Line::Done,
@@ -72,10 +66,8 @@ fn unstage_line(row: &NodeRow) -> Line<'_>
 
 // NodePublishVolume at a target where the volume isn't published, in the capability in which it is staged.
 fn publish_new_line<'a>(row: &'a NodeRow, capability: &CapabilityRef<'_>) -> Line<'a>
-    ensures line { (published : PublishedVolume) (staged : Capability) → published.capability ≡ lent_capability capability.now →
-        publish_new published (published_by row.now.id (Some staged) row.now.targets.items) ≡ outcome_shown (Publishes published) result }
-    ensures single { WhereDone result (allows_one capability.now.mode ≡ true → row.now.targets.items ≡ []) }
-    ensures limit { WhereDone result (length row.now.targets.items < 16) }
+    ensures { (published : PublishedVolume) (staged : Capability) → published.capability ≡ lent_capability capability.now →
+        told_by result ≡ told_in (publish_new published (published_by row.now.id (Some staged) row.now.targets.items)) }
 {
     match row.targets.first() {
         None => Line::Done,
@@ -93,11 +85,10 @@ fn publish_new_line<'a>(row: &'a NodeRow, capability: &CapabilityRef<'_>) -> Lin
 
 // NodePublishVolume at a target where the volume is published, by whether it is so in the same way.
 fn published_line(is_same: bool) -> Line<'static>
-    ensures line { (change : Change) → (if is_same then met else refused AlreadyExists (codes "published otherwise")) ≡ outcome_shown change result }
-    ensures never { WhereDone result ⊥ }
+    ensures { told_by result ≡ told_in (if is_same then met else refused AlreadyExists (codes "published otherwise")) }
 {
     if is_same {
-        return Line::Met;
+        return Line::Met(None);
     }
     Line::Refused(Status::AlreadyExists, "published otherwise")
 }
@@ -110,15 +101,13 @@ fn publish_staged_line<'a>(
     capability: &CapabilityRef<'_>,
     readonly: bool,
 ) -> Line<'a>
-    ensures line { let published : PublishedVolume = record {
+    ensures { let published : PublishedVolume = record {
       volume = row.now.id;
       target = target.now;
       capability = lent_capability capability.now;
       readonly = readonly;
     } in
-        publish_by_row (node_row_shown row.now) staged.now published (target_of_row (node_row_shown row.now) target.now)
-        ≡ outcome_shown (Publishes published) result }
-    ensures ready { WhereDone result (IsNew (node_row_shown row.now) staged.now target.now (lent_capability capability.now)) }
+        told_by result ≡ told_in (publish_by_row (node_row_shown row.now) staged.now published (target_of_row (node_row_shown row.now) target.now)) }
 {
     match find_target(row.targets.as_slice(), target) {
         Some(there) => {
@@ -141,14 +130,13 @@ fn publish_line<'a>(
     capability: &CapabilityRef<'_>,
     readonly: bool,
 ) -> Line<'a>
-    ensures line { let published : PublishedVolume = record {
+    ensures { let published : PublishedVolume = record {
       volume = row.now.id;
       target = target.now;
       capability = lent_capability capability.now;
       readonly = readonly;
     } in
-        publish (state_shown (node_row_shown row.now)) published ≡ outcome_shown (Publishes published) result }
-    ensures ready { WhereDone result (HasRoomFor (node_row_shown row.now) target.now (lent_capability capability.now)) }
+        told_by result ≡ told_in (publish (state_shown (node_row_shown row.now)) published) }
 {
     if !is_absolute(target) {
         return Line::Refused(Status::InvalidArgument, "target");
@@ -162,11 +150,10 @@ fn publish_line<'a>(
 // NodeUnpublishVolume.
 fn unpublish_line(row: &NodeRow, target: &str) -> Line<'static>
     requires rules { IsSoundRow (node_row_shown row.now) }
-    ensures { unpublish row.now.id target.now (published_at row.now.id target.now (state_shown (node_row_shown row.now))) ≡ outcome_shown
-        (Unpublishes row.now.id target.now) result }
+    ensures { told_by result ≡ told_in (unpublish row.now.id target.now (published_at row.now.id target.now (state_shown (node_row_shown row.now)))) }
 {
     match find_target(row.targets.as_slice(), target) {
-        None => Line::Met,
+        None => Line::Met(None),
         Some(_) => Line::Done,
     }
 }
@@ -174,10 +161,8 @@ fn unpublish_line(row: &NodeRow, target: &str) -> Line<'static>
 /// What the table answers to a call of the row's volume.
 pub(crate) fn line<'a>(row: &'a NodeRow, call: &CallRef<'_>) -> Line<'a>
     requires volume { volume_of (lent_call call.now) ≡ Some row.now.id }
-    requires kind { is_node_kind (kind_of (lent_call call.now)) ≡ true }
     requires rules { IsSoundRow (node_row_shown row.now) }
-    ensures line { lifecycle_row (state_shown (node_row_shown row.now)) (lent_call call.now) ≡ outcome_shown (call_change (lent_call call.now)) result }
-    ensures ready { WhereDone result (CanChange (node_row_shown row.now) (lent_call call.now)) }
+    ensures { told_by result ≡ told_at (node_row_shown row.now) (lent_call call.now) }
 {
     match call {
         CallRef::NodeStageVolume { capability, .. } => stage_line(row, capability),

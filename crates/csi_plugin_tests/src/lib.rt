@@ -10,6 +10,7 @@ mod frames;
 mod node;
 #[cfg(test)]
 mod replies;
+mod shelf;
 #[cfg(test)]
 mod types;
 #[cfg(test)]

@@ -1,6 +1,6 @@
 -- A frame that is no call for a plugin gets no answer and changes nothing; and each call for it gets one.
-use Rattle.std.proofs.Common.{◌≡◌, sym, ap, refl, subst, inl, inr, Bool, true, false, cond}
-use Rattle.std.specs.Prelude.{◌↔◌, Option, Some, None, IsSome, IsTrue, IfSome, option_map}
+use Rattle.std.proofs.Common.{◌≡◌, sym, refl, subst, inl, inr, Bool, true, false, cond}
+use Rattle.std.specs.Prelude.{◌↔◌, Option, Some, None, IsSome, IsTrue, IfSome, option_map, Result, Ok, Err, IfOk, OnErr}
 use Rattle.csi_lists.proofs.Options.{some_is_not_none}
 use Rattle.csi_types.proofs.Equality.{same_party-tells}
 use Rattle.csi_types.specs.declared.number.Number.{Number}
@@ -13,16 +13,8 @@ use Rattle.csi_types.specs.Model.Replies.{call_frame}
 use Rattle.csi_types.specs.Model.Same.{same_party}
 use Rattle.csi_fence.specs.Model.Fenced.{Fenced, Machine, answered_in, unanswered, fenced_parts, fenced}
 use Rattle.csi_fence.proofs.Judged.{Judgement, was_over, was_fresh, was_repeated, was_stale, was_answered}
-use Rattle.csi_frames.specs.Public.Lent.{call_in, call_of}
+use Rattle.csi_frames.specs.Public.Lent.{call_in}
 use Rattle.csi_service.specs.Private.Calls.{IsNoCallFor}
-
--- a frame of this party with a call is a frame of the call
-pub is-call : (frame : Frame) (party : Party) (call : Call) → frame.party ≡ party → call_of frame ≡ Some call → frame ≡ call_frame frame.number party call
-is-call frame party call own has = let body = by frame.body has in λ i. record { number = frame.number; party = own i; body = body i }
-  where
-    by : (body : Body) → call_in body ≡ Some call → body ≡ bodies.Call call
-    by (bodies.Call other) e = ap bodies.Call (let same : other ≡ call = cc in same)
-    by (bodies.Reply kind reply) e = absurd (some_is_not_none call (sym e))
 
 module _ {State : Type 0} (machine : Machine State) (state : State) where
   -- by the body, where it is no call
@@ -63,11 +55,6 @@ pub not-for : (result : Bool) (own party : Party) → IsTrue result ↔ (own ≡
 not-for true own party tells e same = cc
 not-for false own party tells e same = let t : false ≡ true = tells.1 same in cc
 
--- where it says so, it is
-pub is-for : (result : Bool) (own party : Party) → IsTrue result ↔ (own ≡ party) → result ≡ true → own ≡ party
-is-for true own party tells e = tells.0 refl
-is-for false own party tells e = absurd cc
-
 -- ---- the answer itself
 
 -- it is there, where its frame is
@@ -78,3 +65,14 @@ some-answer f (Some a) b e = refl
 -- what is so of it if it is there is so of it
 pub told-answer : {A : Type 0} (P : A → Type 0) (o : Option A) (a : A) → o ≡ Some a → IfSome o P → P a
 told-answer P o a is told = subst (λ (x : Option _). IfSome x P) is told
+
+-- what follows of it is so of each that a call may give
+pub answer-weaker : {A E : Type 0} (P Q : A → Type 0) (result : Result (Option A) E) → ((a : A) → P a → Q a) → IfOk result (λ o. IfSome o P) → IfOk result (λ o. IfSome o Q)
+answer-weaker P Q (Ok None) weaker is = tt
+answer-weaker P Q (Ok (Some a)) weaker is = weaker a is
+answer-weaker P Q (Err why) weaker is = tt
+
+-- two facts of a refusal
+pub refusal-both : {A E : Type 0} (P Q : Type 0) (result : Result A E) → OnErr result P → OnErr result Q → OnErr result (P × Q)
+refusal-both P Q (Ok a) is is_too = tt
+refusal-both P Q (Err why) is is_too = (is, is_too)

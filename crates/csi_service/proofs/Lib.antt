@@ -7,11 +7,10 @@ pub mod LoadedParts
 pub mod OpeningAnswers
 pub mod RisingParts
 pub mod StayingRows
-pub mod ControllerChanges
-pub mod SameShown
-pub mod NodeChanges
+pub mod RowChanges
+pub mod ControllerRows
+pub mod NodeRows
 pub mod FitRows
-pub mod SameNode
 pub mod RecordParts
 pub mod RenewedParts
 pub mod MadeCores

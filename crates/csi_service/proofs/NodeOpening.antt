@@ -1,11 +1,10 @@
 -- What is made of the parts of a node's store, where its record is of no earlier session.
 use Rattle.std.proofs.Common.{ℕ, List}
 use Rattle.csi_stores.specs.Public.Part.{StoredPart, StoredChange}
-use Rattle.csi_service.specs.declared.node_service.NodeService.{NodeService}
 use Rattle.csi_service.specs.declared.node_opening.NodeMade.TheVariants.{Opened}
 use Rattle.csi_service.specs.Public.NodeOpening.{joined_head}
 use Rattle.csi_service.specs.Public.Opening.{node_records}
-use Rattle.csi_service.specs.Public.Services.{node_service_parts}
+use Rattle.csi_service.specs.Public.Services.{NodeService, node_service_parts}
 use Rattle.csi_service.specs.Private.NodeOpening.{node_opening}
 use Rattle.csi_service.specs.Private.Opening.{IsMade}
 use Rattle.csi_service.proofs.MadeCores.{IsCoreMade, made-so}

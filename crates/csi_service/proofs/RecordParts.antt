@@ -16,7 +16,7 @@ use Rattle.csi_stores.proofs.RisingChanges.{AreAbove}
 use Rattle.csi_records.specs.declared.version.RecordVersion.{RecordVersion}
 use Rattle.csi_records.specs.Public.Spelling.{present, VolumeRow, volume_part, session_bytes, answered_part, node_parts}
 use Rattle.csi_records.specs.Public.Records.{controller_layout, node_layout, AreControllerRows, IsRecordOf, IsVolumeRow, IsAnsweredRow}
-use Rattle.csi_service.proofs.ControllerChanges.{rising-in}
+use Rattle.csi_service.proofs.ControllerRows.{rising-in}
 
 -- a node's rows stand by rising id
 abbrev pub IsRisingById : List NodeRowShown → Type 0

@@ -12,7 +12,7 @@ use Rattle.csi_types.specs.Public.VolumeId.{IsVolumeId}
 use Rattle.csi_stores.specs.Public.Part.{StoredPart, StoredChange, take_all}
 use Rattle.csi_stores.specs.Public.Content.{take_out, changed_to, all_changed, AreRisingParts}
 use Rattle.csi_stores.proofs.RisingChanges.{AreAbove}
-use Rattle.csi_service.specs.Public.Changed.{head_change}
+use Rattle.csi_service.specs.Public.Plugins.{head_change}
 use Rattle.csi_service.proofs.RisingParts.{none-below, put-head, put-row}
 
 -- ---- parts that are taken out

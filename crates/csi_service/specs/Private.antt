@@ -3,8 +3,7 @@ pub mod Handling
 pub mod Failing
 pub mod Opening
 pub mod Calls
-pub mod Services
-pub mod NodeServices
+pub mod Plugins
 pub mod NodeOpening
 pub mod Worked
 pub mod OrchestratorServices

@@ -3,9 +3,8 @@ pub mod Answering
 pub mod Failing
 pub mod StoreOpening
 pub mod Opening
-pub mod Changed
+pub mod Plugins
 pub mod Services
-pub mod NodeServices
 pub mod NodeOpening
 pub mod WholeRecords
 pub mod OrchestratorServices

@@ -1,9 +1,14 @@
-//! What a frame changed of a plugin's record, whichever plugin it is.
-ghost use Rattle.std.specs.Prelude.{◌≡◌, [], false, None};
+//! What a frame changed of a plugin's record, whichever plugin it is, and the parts that say so.
+ghost use Rattle.std.specs.Prelude.{◌≡◌, ◌++◌, [], false, None, map, option_to_list, IfOk, IfSome, OnOk};
 ghost use Rattle.std.specs.List.{AllByRecursion};
 ghost use Rattle.csi_types.specs.Public.VolumeId.{IsVolumeId};
+ghost use Rattle.csi_stores.specs.Public.Part.{part_change, put_all};
+ghost use Rattle.csi_service.specs.Private.Plugins.{forgotten_by};
+ghost use Rattle.csi_service.specs.Public.Plugins.{at_place, row_id, row_parts, IsNamedFit};
 
-use csi_types::VolumeId;
+use crate::plugin::Plugin;
+use csi_stores::{Part, push_value};
+use csi_types::{NoMemory, Number, VolumeId};
 use std::alloc::Global;
 
 /// What a frame changed of a plugin's record.
@@ -30,8 +35,63 @@ pub(crate) fn nothing(alloc: Global) -> Changed
     }
 }
 
-/// For the proof alone: ids are numbers from 1.
-pub(crate) fn ids_law(ids: &[VolumeId])
+/// Puts the part of the row at a place at the end, if one is named and there. It is no search.
+pub(crate) fn push_row<P: Plugin>(
+    alloc: Global,
+    parts: &mut Vec<Part>,
+    plugin: &P,
+    place: Option<usize>,
+) -> Result<(), NoMemory>
+    ensures parts { OnOk result (map part_change parts.new.items ≡ map part_change parts.old.items ++ put_all (option_to_list (at_place
+        place (row_parts P.view plugin.now)))) }
+    ensures fit { OnOk result (IsNamedFit P.view place plugin.now) }
+{
+    let Some(place) = place else {
+        return Ok(());
+    };
+    match plugin.row_at(place) {
+        Some(row) => {
+            let value = P::value_of(alloc, row)?;
+            push_value(parts, P::id_of(row).number(), value)
+        }
+        None => Ok(()),
+    }
+}
+
+/// For the proof alone: the id of the row at a place is a number from 1.
+pub(crate) fn id_law<P: Plugin>(plugin: &P, place: Option<usize>)
+    ensures { IfSome (row_id P.view place plugin.now) IsVolumeId }
+{
+    if let Some(place) = place {
+        if let Some(row) = plugin.row_at(place) {
+            let _number = P::id_of(row).number();
+        }
+    }
+}
+
+/// The volumes that a call of this number makes the plugin forget. Where it begins no session there are none, and no memory is asked for.
+pub(crate) fn forgotten<P: Plugin>(
+    alloc: Global,
+    plugin: &P,
+    number: Number,
+) -> Result<Vec<VolumeId>, NoMemory>
+    ensures ids { IfOk result (λ ids. ids.items ≡ forgotten_by P.view number plugin.now) }
+    ensures limits { IfOk result (λ ids. AllByRecursion IsVolumeId ids.items) }
+{
+    if number.session <= plugin.numbers().1 {
+        return Ok(Vec::new(alloc));
+    }
+    match plugin.forgettable() {
+        Ok(ids) => {
+            ids_law(&ids);
+            Ok(ids)
+        }
+        Err(_) => Err(NoMemory),
+    }
+}
+
+// For the proof alone: ids are numbers from 1.
+fn ids_law(ids: &[VolumeId])
     ensures { AllByRecursion IsVolumeId ids.now }
 {
     for id in ids {

@@ -3,9 +3,7 @@
 #![tactic(auto)]
 
 mod changed;
-mod controller_changes;
 mod controller_service;
-mod node_changes;
 mod node_opening;
 mod node_service;
 mod node_unopened;
@@ -14,7 +12,9 @@ mod orchestrator_changes;
 mod orchestrator_opening;
 mod orchestrator_service;
 mod orchestrator_unopened;
+mod plugin;
 mod plugin_core;
+mod plugin_service;
 mod replies;
 mod serving;
 mod whole_records;

@@ -130,7 +130,7 @@ undone-ok world base issued run is_sent guarded undoes room reply tabled = by is
             ap (filter (λ (h : Holding). h.volume == id)) (controller-now-holdings world.config issued.number world.controller)
             ∙ unattached world base issued run is_sent id has other guarded.1.detached
 
-        at : (o : Option Volume) → (controller_table.delete now id o).reply.status ≡ Ok
+        at : (o : Option Volume) → (controller_table.delete id (holdings_of id now) o).reply.status ≡ Ok
         at None = refl
         at (Some volume) = ap (λ hs. (controller_table.delete_live id hs).reply.status) none
     by Controller (calls.ControllerUnpublishVolume id node) p c guarded undoes room tabled =

@@ -50,12 +50,25 @@ serves volume required limit capabilities =
     nat_le required volume.capacity && ((limit == 0) || nat_le volume.capacity limit)
     && list_all (has_capability volume.capabilities) capabilities
 
--- a new name
-abbrev pub create_new : Config → ControllerState → List ℕ → ℕ → ℕ → List Capability → Outcome
-create_new config state name required limit capabilities =
-    if nat_lt config.greatest (capacity_wanted required limit) then refused OutOfRange (codes "range")
-    else if nat_le MAX_ROWS (length state.volumes) || nat_le (2 ^ 64) state.next_id then refused ResourceExhausted (codes "volumes")
-    else record { reply = ok_reply_with state.next_id; change = Makes name (capacity_wanted required limit) capabilities }
+-- what is wrong with the arguments of a CreateVolume, if anything is
+abbrev pub argument_fault : ℕ → ℕ → List Capability → Option Outcome
+argument_fault required limit [] = Some (refused InvalidArgument (codes "capabilities"))
+argument_fault required limit (capability ∷ others) =
+    if is_bad_range required limit then Some (refused InvalidArgument (codes "capacity"))
+    else if is_empty_range required limit then Some (refused OutOfRange (codes "range"))
+    else None
+
+-- a fault, or else this
+abbrev pub unless : Option Outcome → Outcome → Outcome
+unless (Some fault) outcome = fault
+unless None outcome = outcome
+
+-- a new name, by the greatest capacity, how many volumes there are, and the id of the next one
+abbrev pub create_new : ℕ → ℕ → ℕ → List ℕ → ℕ → ℕ → List Capability → Outcome
+create_new greatest count next name required limit capabilities =
+    if nat_lt greatest (capacity_wanted required limit) then refused OutOfRange (codes "range")
+    else if nat_le MAX_ROWS count || nat_le (2 ^ 64) next then refused ResourceExhausted (codes "volumes")
+    else record { reply = ok_reply_with next; change = Makes name (capacity_wanted required limit) capabilities }
 
 -- good arguments: by the volume of the name, if there is one
 abbrev pub create_named : Config → ControllerState → List ℕ → ℕ → ℕ → List Capability → Option Volume → Outcome
@@ -63,71 +76,72 @@ create_named config state name required limit capabilities (Some volume) =
     if not volume.is_live then refused AlreadyExists (codes "name")
     else if serves volume required limit capabilities then record { reply = ok_reply_with volume.id; change = Stays }
     else refused AlreadyExists (codes "name")
-create_named config state name required limit capabilities None = create_new config state name required limit capabilities
+create_named config state name required limit capabilities None =
+    create_new config.greatest (length state.volumes) state.next_id name required limit capabilities
 
 -- CreateVolume, by its arguments
 abbrev pub create : Config → ControllerState → List ℕ → ℕ → ℕ → List Capability → Outcome
-create config state name required limit [] = refused InvalidArgument (codes "capabilities")
-create config state name required limit (capability ∷ others) =
-    if is_bad_range required limit then refused InvalidArgument (codes "capacity")
-    else if is_empty_range required limit then refused OutOfRange (codes "range")
-    else create_named config state name required limit (capability ∷ others) (volume_named name state)
+create config state name required limit capabilities =
+    unless (argument_fault required limit capabilities) (create_named config state name required limit capabilities (volume_named name state))
 
 -- a live volume, by where it is attached
 abbrev pub delete_live : ℕ → List Holding → Outcome
 delete_live id (holding ∷ others) = refused FailedPrecondition holding.node
 delete_live id [] = done (Ends id)
 
--- DeleteVolume, by the live volume of the id
-abbrev pub delete : ControllerState → ℕ → Option Volume → Outcome
-delete state id None = met
-delete state id (Some volume) = delete_live id (holdings_of id state)
+-- DeleteVolume, by where the volume is attached, and the live volume of the id
+abbrev pub delete : ℕ → List Holding → Option Volume → Outcome
+delete id held None = met
+delete id held (Some volume) = delete_live id held
 
--- the node takes no more volumes, or the volume is at 64 nodes
-abbrev pub is_full : Config → ControllerState → ℕ → List ℕ → Bool
-is_full config state id node =
-    list_any (λ entry. same_text entry.id node && nat_le entry.slots (held_count_at node state)) config.nodes
-    || nat_le 64 (length (holdings_of id state))
-
--- at a node that is configured, by the first holding that can't be held with it
-abbrev pub attach : Config → ControllerState → Holding → Option Holding → Outcome
-attach config state holding (Some other) = refused FailedPrecondition other.node
-attach config state holding None =
-    if is_full config state holding.volume holding.node then refused ResourceExhausted (codes "slots")
+-- at a node that is configured, by whether it is full, where the volume is held, and the first holding that can't be held with it
+abbrev pub attach : Bool → List Holding → Holding → Option Holding → Outcome
+attach is_full held holding (Some other) = refused FailedPrecondition other.node
+attach is_full held holding None =
+    if is_full || nat_le 64 (length held) then refused ResourceExhausted (codes "slots")
     else done (Attaches holding)
 
 -- by the holding that the volume has at that node
-abbrev pub publish_held : Config → ControllerState → Holding → Option Holding → Outcome
-publish_held config state holding (Some held) =
-    if same_holding held holding then met else refused AlreadyExists (codes "held otherwise")
-publish_held config state holding None =
-    attach config state holding (find (λ other. not (is_compatible holding other)) (holdings_of holding.volume state))
+abbrev pub publish_held : Bool → List Holding → Holding → Option Holding → Outcome
+publish_held is_full held holding (Some there) =
+    if same_holding there holding then met else refused AlreadyExists (codes "held otherwise")
+publish_held is_full held holding None =
+    attach is_full held holding (find (λ other. not (is_compatible holding other)) held)
 
 -- ControllerPublishVolume, by the live volume of the id
-abbrev pub publish : Config → ControllerState → Holding → Option Volume → Outcome
-publish config state holding None = refused NotFound (codes "volume")
-publish config state holding (Some volume) =
+abbrev pub publish : Config → Bool → ControllerState → Holding → Option Volume → Outcome
+publish config is_full state holding None = refused NotFound (codes "volume")
+publish config is_full state holding (Some volume) =
     if not (has_node holding.node config.nodes) then refused NotFound (codes "node")
     else if not (has_capability volume.capabilities holding.capability) then refused InvalidArgument (codes "capability")
-    else publish_held config state holding (holding_at holding.volume holding.node state)
+    else publish_held is_full (holdings_of holding.volume state) holding (holding_at holding.volume holding.node state)
 
 -- ControllerUnpublishVolume, by the holding at that node
 abbrev pub unpublish : ℕ → List ℕ → Option Holding → Outcome
 unpublish id node (Some held) = done (Detaches id node)
 unpublish id node None = met
 
--- the table. Its last four lines make it total: no frame for the controller has a node's call
+-- the table, by which nodes are full: what it asks else of a state is of the call's volume, but where that is made. Its last four
+-- lines make it total: no frame for the controller has a node's call
+abbrev pub lifecycle_row : Config → (List ℕ → Bool) → ControllerState → Call → Outcome
+lifecycle_row config is_full state (calls.CreateVolume name required limit capabilities) = create config state name required limit capabilities
+lifecycle_row config is_full state (calls.DeleteVolume id) = delete id (holdings_of id state) (live_volume id state)
+lifecycle_row config is_full state (calls.ControllerPublishVolume id node capability readonly) =
+    publish config (is_full node) state (record { volume = id; node = node; capability = capability; readonly = readonly }) (live_volume id state)
+lifecycle_row config is_full state (calls.ControllerUnpublishVolume id node) = unpublish id node (holding_at id node state)
+lifecycle_row config is_full state (calls.NodeStageVolume id capability) = refused Unimplemented []
+lifecycle_row config is_full state (calls.NodeUnstageVolume id) = refused Unimplemented []
+lifecycle_row config is_full state (calls.NodePublishVolume id target capability readonly) = refused Unimplemented []
+lifecycle_row config is_full state (calls.NodeUnpublishVolume id target) = refused Unimplemented []
+
+-- the node takes no more volumes, if it is configured
+abbrev pub is_full : Config → ControllerState → List ℕ → Bool
+is_full config state node =
+    list_any (λ entry. same_text entry.id node && nat_le entry.slots (held_count_at node state)) config.nodes
+
+-- the table
 abbrev pub controller_row : Config → ControllerState → Call → Outcome
-controller_row config state (calls.CreateVolume name required limit capabilities) = create config state name required limit capabilities
-controller_row config state (calls.DeleteVolume id) = delete state id (live_volume id state)
-controller_row config state (calls.ControllerPublishVolume id node capability readonly) =
-    let holding : Holding = record { volume = id; node = node; capability = capability; readonly = readonly } in
-    publish config state holding (live_volume id state)
-controller_row config state (calls.ControllerUnpublishVolume id node) = unpublish id node (holding_at id node state)
-controller_row config state (calls.NodeStageVolume id capability) = refused Unimplemented []
-controller_row config state (calls.NodeUnstageVolume id) = refused Unimplemented []
-controller_row config state (calls.NodePublishVolume id target capability readonly) = refused Unimplemented []
-controller_row config state (calls.NodeUnpublishVolume id target) = refused Unimplemented []
+controller_row config state call = lifecycle_row config (is_full config state) state call
 
 -- the volume, deleted if it is the one of this id
 abbrev pub ended_volume : ℕ → Volume → Volume

@@ -1,4 +1,4 @@
--- How many volumes are held at each configured node, as a core keeps it.
+-- How many volumes are held at each configured node, as a table keeps it.
 use Rattle.std.specs.Prelude.{ℕ, ◌+◌, ◌%◌, ◌^◌, List, Bool, nat_le, Option, Some, None, find, false, if◌then◌else◌, slice_index, slice_set}
 use Rattle.csi_types.specs.declared.config.NodeSlots.{NodeSlots}
 use Rattle.csi_types.specs.Model.Same.{same_text}

@@ -1,17 +1,11 @@
 -- What a controller does with a frame: the fence, then the table. This profile's own.
-use Rattle.std.specs.Prelude.{Option}
 use Rattle.csi_types.specs.declared.number.Number.{Number}
 use Rattle.csi_types.specs.declared.call.Call.{Call}
 use Rattle.csi_types.specs.Model.Config.{Config}
-use Rattle.csi_fence.specs.Model.Fence.{Kept}
 use Rattle.csi_fence.specs.Model.Fenced as fence
 use Rattle.csi_fence.specs.Model.Fenced.{Fenced}
 use Rattle.csi_controller.specs.Model.State.{ControllerState}
 use Rattle.csi_controller.specs.Model.Fenced.{controller_with}
-
--- by what is kept for the call's volume, if something is
-abbrev pub fenced_call : Config → ControllerState → Number → Call → Option Kept → Fenced ControllerState
-fenced_call config state number call kept = fence.fenced_call (controller_with config) state number call kept
 
 -- what a call gets, and the state after it
 abbrev pub answered_in : Config → ControllerState → Number → Call → Fenced ControllerState

@@ -1,79 +1,51 @@
--- What a call changes in the row of its volume. Only private functions cite it.
-use Rattle.std.specs.Prelude.{◌≡◌, ℕ, ◌<◌, List, [], ◌∷◌, ◌++◌, filter, find, length, Bool, true, false, not, Option, Some, None, IsTrue}
-use Rattle.csi_types.specs.declared.reply.Reply.{Reply}
-use Rattle.csi_types.specs.declared.status.Status.{Status}
-use Rattle.csi_types.specs.Model.Holding.{is_compatible}
-use Rattle.csi_types.specs.Public.Lent.{lent_capability}
-use Rattle.csi_types.specs.Model.Replies.{plain_reply, ok_reply}
-use Rattle.csi_types.specs.Model.Same.{same_text, has_capability}
-use Rattle.csi_controller.specs.declared.row.NodeHolding.{NodeHolding}
-use Rattle.csi_controller.specs.declared.row.ControllerRow.{ControllerRow}
-use Rattle.csi_controller.specs.Model.Table.{Outcome, Change, Stays, Ends, Attaches, Detaches}
+-- A row of a controller by its parts, what it shows of the state by itself, and what a call changes there. Only private functions cite it.
+use Rattle.std.specs.Prelude.{◌≡◌, ℕ, ◌<◌, List, [], find, length, Bool, true, false, not, is_some, Option, Some, None, IsTrue}
+use Rattle.csi_types.specs.declared.holding.Holding.{Holding}
 use Rattle.csi_types.specs.declared.node_use.NodeUse.{NodeUse}
+use Rattle.csi_types.specs.Model.Holding.{is_compatible}
+use Rattle.csi_types.specs.Model.Same.{same_text, has_capability}
+use Rattle.csi_types.specs.Public.Lent.{lent_capability}
+use Rattle.csi_fence.specs.declared.line.Line.{Line}
+use Rattle.csi_fence.specs.declared.line.Line.TheVariants.{Refused, Met, Done}
+use Rattle.csi_fence.specs.Public.Line.{told_by}
+use Rattle.csi_controller.specs.declared.row.NodeHolding.{NodeHolding}
+use Rattle.csi_controller.specs.Model.Table.{Change, Stays, Makes, Ends, Attaches, Detaches, Outcome, refused, done}
 use Rattle.csi_controller.specs.Public.Core.{volume_holding}
+use Rattle.csi_controller.specs.Public.OneRow.{RowShown}
 
 -- a use of a volume at a node, as a row holds it
 abbrev pub held_so : NodeUse → NodeHolding
 held_so there = record { node = there.node.now; capability = lent_capability there.capability; readonly = there.readonly }
 
--- what a call changes of its row
-pub data RowChange : Type 0 where
-  RowStays : RowChange
-  RowEnds : RowChange
-  RowAttaches : (held : NodeHolding) → RowChange
-  RowDetaches : (node : List ℕ) → RowChange
+-- the table's outcome, where this is the call's change
+abbrev pub outcome_shown : Change → Line → Outcome
+outcome_shown change (Refused status detail) = refused status detail.now
+outcome_shown change (Met id) = record { reply = (told_by (Met id)).reply; change = Stays }
+outcome_shown change Done = done change
 
--- what a row's line of the table answers
-pub record RowOutcome : Type 0 where
-  pub reply : Reply
-  pub change : RowChange
+-- how the row's volume is held at a node, if it is
+abbrev pub held_of_row : RowShown → List ℕ → Option NodeHolding
+held_of_row row node = find (λ (held : NodeHolding). same_text held.node node) row.items
 
--- the same, of the volume of this id
-abbrev pub volume_change : ℕ → RowChange → Change
-volume_change id RowStays = Stays
-volume_change id RowEnds = Ends id
-volume_change id (RowAttaches held) = Attaches (volume_holding id held)
-volume_change id (RowDetaches node) = Detaches id node
+-- the volume can be held so too
+pub record HasRoomFor (row : RowShown) (holding : Holding) : Type 0 where
+  pub own : holding.volume ≡ row.volume.id
+  pub live : row.volume.is_live ≡ true
+  pub free : held_of_row row holding.node ≡ None
+  pub beside : find (λ (other : NodeHolding). not (is_compatible holding (volume_holding row.volume.id other))) row.items ≡ None
+  pub listed : IsTrue (has_capability row.volume.capabilities holding.capability)
+  pub limit : length row.items < 64
 
--- an outcome of the volume of this id
-abbrev pub outcome_of : ℕ → RowOutcome → Outcome
-outcome_of id outcome = record { reply = outcome.reply; change = volume_change id outcome.change }
-
--- a refusal, which changes nothing
-abbrev pub row_refused : Status → List ℕ → RowOutcome
-row_refused status detail = record { reply = plain_reply status detail; change = RowStays }
-
--- an OK, with this change
-abbrev pub row_done : RowChange → RowOutcome
-row_done change = record { reply = ok_reply; change = change }
-
--- whether the volume is live after the change
-abbrev pub live_after : RowChange → Bool → Bool
-live_after RowStays live = live
-live_after RowEnds live = false
-live_after (RowAttaches held) live = live
-live_after (RowDetaches node) live = live
-
--- where it is held after the change
-abbrev pub items_after : RowChange → List NodeHolding → List NodeHolding
-items_after RowStays items = items
-items_after RowEnds items = items
-items_after (RowAttaches held) items = items ++ held ∷ []
-items_after (RowDetaches node) items = filter (λ held. not (same_text held.node node)) items
-
--- what a row of these holdings may change
-abbrev pub IsFit : ControllerRow → RowChange → Type 0
-IsFit row RowStays = Unit {0}
-IsFit row RowEnds = row.holdings.items ≡ []
-IsFit row (RowAttaches held) =
-    (row.live ≡ true) × (find (λ (other : NodeHolding). same_text other.node held.node) row.holdings.items ≡ None)
-    × (find (λ (other : NodeHolding). not (is_compatible (volume_holding row.id held) (volume_holding row.id other))) row.holdings.items ≡ None)
-    × IsTrue (has_capability row.capabilities held.capability) × (length row.holdings.items < 64)
-IsFit row (RowDetaches node) = Unit {0}
+-- the change can be made to the row
+abbrev pub CanChange : RowShown → Change → Type 0
+CanChange row Stays = Unit {0}
+CanChange row (Makes name capacity capabilities) = ⊥
+CanChange row (Ends id) = (id ≡ row.volume.id) × (row.items ≡ [])
+CanChange row (Attaches holding) = HasRoomFor row holding
+CanChange row (Detaches id node) = (id ≡ row.volume.id) × (is_some (held_of_row row node) ≡ true)
 
 -- the node at which the volume comes to be held, or ceases to be
-abbrev pub count_change_by : RowChange → Option (List ℕ × Bool)
-count_change_by RowStays = None
-count_change_by RowEnds = None
-count_change_by (RowAttaches held) = Some (held.node, true)
-count_change_by (RowDetaches node) = Some (node, false)
+abbrev pub moved : Change → Option (List ℕ × Bool)
+moved (Attaches holding) = Some (holding.node, true)
+moved (Detaches id node) = Some (node, false)
+moved change = None

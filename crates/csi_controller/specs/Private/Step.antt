@@ -1,4 +1,4 @@
--- What a core gives for a call. Only private functions cite `IsFencedAnswer`.
+-- What a controller gives for a call. Only private functions cite `IsFencedAnswer`.
 use Rattle.std.specs.Prelude.{◌≡◌, Some}
 use Rattle.csi_types.specs.Model.Frame.{Frame}
 use Rattle.csi_fence.specs.Model.Fenced.{Fenced}

@@ -1,4 +1,4 @@
--- What a core gives for a call. Only private functions cite `Answers`.
+-- What a controller gives for a call.
 use Rattle.csi_types.specs.declared.number.Number.{Number}
 use Rattle.csi_types.specs.declared.call.Party.TheVariants.{Controller}
 use Rattle.csi_fence.specs.declared.answer.Answer.{Answer}

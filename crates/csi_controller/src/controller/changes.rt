@@ -2,12 +2,10 @@
 ghost use Rattle.std.specs.Prelude.{◌≡◌, ◌≤◌, length, not, filter, OnOk, OnErr, IfOk, IsOk};
 ghost use Rattle.csi_types.specs.Public.Lent.{lent_call};
 ghost use Rattle.csi_types.specs.Model.Same.{same_text};
-ghost use Rattle.csi_controller.specs.Private.AtRow.{IsRowLeft};
 ghost use Rattle.csi_controller.specs.Public.Core.{IsUndoing};
-ghost use Rattle.csi_controller.specs.Private.OneRow.{live_after, items_after, held_so, count_change_by};
-ghost use Rattle.csi_controller.specs.Private.RowTable.{row_change};
+ghost use Rattle.csi_controller.specs.Public.OneRow.{row_shown, row_changed, call_change};
+ghost use Rattle.csi_controller.specs.Private.OneRow.{held_so, moved};
 ghost use Rattle.csi_controller.specs.Private.Counts.{recounted};
-ghost use Rattle.csi_controller.specs.Model.Shown.{volume_of_row};
 
 use super::counts::{MAX_NODES, recount};
 use crate::row::{ControllerRow, NodeHolding};
@@ -50,12 +48,10 @@ pub fn change(
     call: &CallRef<'_>,
 ) -> Result<(), CoreFault>
     requires { length nodes.now ≤ 64 }
-    ensures volume { OnOk result (volume_of_row row.new ≡ record (volume_of_row row.old) {
-      is_live = live_after (row_change (lent_call call.now)) row.old.live;
-    }) }
-    ensures items { OnOk result (row.new.holdings.items ≡ items_after (row_change (lent_call call.now)) row.old.holdings.items) }
-    ensures counts { OnOk result (counts.new ≡ recounted nodes.now (count_change_by (row_change (lent_call call.now))) counts.old) }
-    ensures err { OnErr result (IsRowLeft row.old row.new counts.old counts.new) }
+    ensures row { OnOk result (row_shown row.new ≡ row_changed (row_shown row.old) (call_change (lent_call call.now))) }
+    ensures counts { OnOk result (counts.new ≡ recounted nodes.now (moved (call_change (lent_call call.now))) counts.old) }
+    ensures err { OnErr result (row_shown row.new ≡ row_shown row.old) }
+    ensures err_counts { OnErr result (counts.new ≡ counts.old) }
     ensures undone { IsUndoing (lent_call call.now) → IsOk result }
 {
     match call {

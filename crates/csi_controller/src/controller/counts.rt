@@ -1,9 +1,10 @@
 //! How many volumes are held at each configured node.
-ghost use Rattle.std.specs.Prelude.{◌≡◌, ◌≤◌, false, length, is_some, Some, IfSome};
+ghost use Rattle.std.specs.Prelude.{◌≡◌, ◌≤◌, false, length, map, count_by, is_some, Some, IfSome};
 ghost use Rattle.csi_types.specs.Model.Config.{has_node as is_configured};
 ghost use Rattle.csi_types.specs.Public.Config.{has_same_node};
-ghost use Rattle.csi_controller.specs.Public.Counts.{place_of, count_held, AreCounted};
+ghost use Rattle.csi_controller.specs.Public.Counts.{place_of, is_held, AreCounted};
 ghost use Rattle.csi_controller.specs.Private.Counts.{is_node_full, recounted};
+ghost use Rattle.csi_controller.specs.Public.OneRow.{row_shown};
 
 use super::holdings::is_held_at;
 use crate::row::ControllerRow;
@@ -21,7 +22,7 @@ fn place_of_node(nodes: &[NodeSlots], node: &str) -> Option<usize>
 
 // How many volumes are held at the node.
 fn count_in(rows: &[ControllerRow], node: &str) -> usize
-    ensures { result ≡ count_held node.now rows.now }
+    ensures { result ≡ count_by (λ row. is_held node.now (row_shown row)) rows.now }
 {
     let mut count = 0;
     for row in rows {
@@ -36,7 +37,7 @@ fn count_in(rows: &[ControllerRow], node: &str) -> usize
 pub fn counted(nodes: &[NodeSlots], rows: &[ControllerRow]) -> [u64; MAX_NODES]
     requires few { length nodes.now ≤ 64 }
     requires distinct { has_same_node nodes.now ≡ false }
-    ensures { AreCounted nodes.now rows.now result }
+    ensures { AreCounted nodes.now (map row_shown rows.now) result }
 {
     let mut counts = [0; MAX_NODES];
     for (place, entry) in nodes.iter().enumerate() {

@@ -30,7 +30,7 @@ impl Controller {
         ensures sound { AreSoundRows self.now.next_id self.now.rows }
     {
         sound_law(self);
-        self.core.catalog.rows()
+        self.rows.rows.as_slice()
     }
 
     /// How many rows there are: at most as many as there are live volumes, and as there are whose last call is of the greatest session
@@ -40,7 +40,7 @@ impl Controller {
         ensures few { result ≤ count_by (λ row. row.live) self.now.rows + count_by (λ row. row.last.session == self.now.session) self.now.rows }
     {
         current_law(self);
-        self.core.catalog.len()
+        self.rows.rows.as_slice().len()
     }
 
     /// The ids of the rows of volumes that were deleted, by rising id: those that are forgotten where a later session begins.
@@ -49,6 +49,6 @@ impl Controller {
         ensures ids { IfOk result (λ ids. ids.items ≡ map (λ row. row.id) (filter (λ row. not row.live) self.now.rows)) }
         ensures none { filter (λ row. not row.live) self.now.rows ≡ [] → IsOk result }
     {
-        forgettable_ids(self.core.catalog.rows(), self.core.alloc)
+        forgettable_ids(self.rows.rows.as_slice(), self.rows.alloc)
     }
 }

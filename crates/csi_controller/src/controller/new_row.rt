@@ -2,13 +2,24 @@
 ghost use Rattle.std.specs.Prelude.{◌≡◌, [], IfOk};
 ghost use Rattle.csi_types.specs.Public.Lent.{lent_capabilities};
 ghost use Rattle.csi_controller.specs.Model.Shown.{volume_of_row};
-ghost use Rattle.csi_controller.specs.Private.Making.{made_volume};
+ghost use Rattle.csi_controller.specs.Public.Making.{made_volume};
 
-use super::replies::done;
 use crate::row::ControllerRow;
 use csi_fence::CoreFault;
-use csi_types::{CapabilitiesRef, Kind, Name, Number, VolumeId};
+use csi_types::{CapabilitiesRef, Detail, Kind, Name, Number, Reply, Status, VolumeId};
 use std::alloc::Global;
+
+/// Done, with this id. It takes no memory.
+pub fn done(alloc: Global, id: Option<VolumeId>) -> Reply
+    ensures { result ≡ record { status = Status.Ok; id = id; detail = [] } }
+{
+    let detail = Detail::try_new(alloc, "").unwrap();
+    Reply {
+        status: Status::Ok,
+        id,
+        detail,
+    }
+}
 
 /// The row of a volume that is made.
 #[inline(always)]

@@ -1,37 +1,40 @@
-//! The controller's table, for the row of a call's volume: a reply that changes nothing, or `None` where the
-//! call is carried out.
-ghost use Rattle.std.specs.Prelude.{◌≡◌, ◌≤◌, ◌||◌, IsTrue, nat_le, length, IfSome, [], option_map};
+//! The controller's table, for the row of a call's volume.
+ghost use Rattle.std.specs.Prelude.{◌≡◌, ◌≤◌, IsTrue, length, [], Some, None, true, map, if◌then◌else◌};
 ghost use Rattle.csi_types.specs.declared.call.Kind.TheVariants.{DeleteVolume, ControllerPublishVolume, ControllerUnpublishVolume};
 ghost use Rattle.csi_types.specs.Model.Call.{kind_of};
-ghost use Rattle.csi_types.specs.Model.Config.{has_node as is_configured};
 ghost use Rattle.csi_types.specs.Public.Lent.{lent_call};
 ghost use Rattle.csi_types.specs.Public.Reply.{has_id_by_rule};
+ghost use Rattle.csi_controller.specs.Model.State.{holding_at, is_row_for};
+ghost use Rattle.csi_controller.specs.Model.Table.{Attaches, Detaches, Ends, delete, publish, unpublish};
+ghost use Rattle.csi_controller.specs.Model.Shown.{volume_of_row};
+ghost use Rattle.csi_controller.specs.Public.Core.{volume_holding};
 ghost use Rattle.csi_controller.specs.Private.Counts.{is_node_full};
-ghost use Rattle.csi_controller.specs.Private.Line.{reply_shown};
-ghost use Rattle.csi_controller.specs.Private.RowTable.{by_line, row_line, row_change};
-ghost use Rattle.csi_controller.specs.Private.RowTable.{delete_line as delete_told, unpublish_line as unpublish_told, publish_line as publish_told};
-ghost use Rattle.csi_controller.specs.Private.OneRow.{held_so};
-ghost use Rattle.csi_controller.specs.Private.OneRow.RowChange.{RowEnds, RowAttaches, RowDetaches};
+ghost use Rattle.csi_controller.specs.Public.OneRow.{row_shown, state_shown};
+ghost use Rattle.csi_controller.specs.Private.OneRow.{outcome_shown, held_so};
+ghost use Rattle.csi_controller.specs.Public.Plan.{told_in};
+ghost use Rattle.csi_controller.specs.Private.Plan.{row_outcome};
+ghost use Rattle.csi_fence.specs.Public.Line.{told_by};
 
 use super::counts::{MAX_NODES, is_full};
 use super::create_lines::create_line;
-use super::holdings::{MAX_HOLDINGS, excluding, held_at, is_held_at, is_held_so};
-use super::line::{Line, met, refused};
+use super::holdings::{MAX_HOLDINGS, excluding, held_at, is_held_so};
 use crate::row::ControllerRow;
+use csi_fence::Line;
 use csi_types::{CallRef, NodeSlots, NodeUse, Status, has_capability};
 
 // DeleteVolume of this row's volume.
-fn delete_line(row: &ControllerRow) -> Option<Line<'_>>
-    ensures ok { delete_told row.now ≡ by_line RowEnds (option_map reply_shown result) }
-    ensures id { IfSome result (λ line. IsTrue (has_id_by_rule DeleteVolume (reply_shown line))) }
-    ensures plain { IfSome result (λ line. (reply_shown line).status ≡ Status.Ok → (reply_shown line).detail ≡ []) }
+fn delete_line(row: &ControllerRow) -> Line<'_>
+    ensures line { delete row.now.id (map (volume_holding row.now.id) row.now.holdings.items)
+        (if row.now.live then Some (volume_of_row row.now) else None) ≡ outcome_shown (Ends row.now.id) result }
+    ensures id { IsTrue (has_id_by_rule DeleteVolume (told_by result).reply) }
+    ensures plain { (told_by result).reply.status ≡ Status.Ok → (told_by result).reply.detail ≡ [] }
 {
     if !row.live {
-        return Some(met(None));
+        return Line::Met(None);
     }
     match row.holdings.first() {
-        Some(held) => Some(refused(Status::FailedPrecondition, held.node.as_str())),
-        None => None,
+        Some(held) => Line::Refused(Status::FailedPrecondition, held.node.as_str()),
+        None => Line::Done,
     }
 }
 
@@ -41,48 +44,49 @@ fn publish_line<'a>(
     nodes: &[NodeSlots],
     counts: &[u64; MAX_NODES],
     wanted: NodeUse,
-) -> Option<Line<'a>>
+) -> Line<'a>
     requires { length nodes.now ≤ 64 }
-    ensures ok { publish_told row.now (held_so wanted.entry) (is_configured wanted.entry.node.now nodes.now)
-        (is_node_full nodes.now counts.now wanted.entry.node.now || nat_le 64 (length row.now.holdings.items))
-        ≡ by_line (RowAttaches (held_so wanted.entry)) (option_map reply_shown result) }
-    ensures id { IfSome result (λ line. IsTrue (has_id_by_rule ControllerPublishVolume (reply_shown line))) }
-    ensures plain { IfSome result (λ line. (reply_shown line).status ≡ Status.Ok → (reply_shown line).detail ≡ []) }
+    ensures line { publish (record { greatest = 0; nodes = nodes.now }) (is_node_full nodes.now counts.now wanted.entry.node.now)
+        (state_shown (row_shown row.now)) (volume_holding row.now.id (held_so wanted.entry))
+        (if row.now.live then Some (volume_of_row row.now) else None) ≡ outcome_shown (Attaches (volume_holding row.now.id (held_so wanted.entry))) result }
+    ensures id { IsTrue (has_id_by_rule ControllerPublishVolume (told_by result).reply) }
+    ensures plain { (told_by result).reply.status ≡ Status.Ok → (told_by result).reply.detail ≡ [] }
 {
     if !row.live {
-        return Some(refused(Status::NotFound, "volume"));
+        return Line::Refused(Status::NotFound, "volume");
     }
     let Some(is_full) = is_full(counts, nodes, wanted.node) else {
-        return Some(refused(Status::NotFound, "node"));
+        return Line::Refused(Status::NotFound, "node");
     };
     if !has_capability(row.capabilities.as_slice(), wanted.capability) {
-        return Some(refused(Status::InvalidArgument, "capability"));
+        return Line::Refused(Status::InvalidArgument, "capability");
     }
     if let Some(held) = held_at(row, wanted.node) {
         if is_held_so(held, wanted) {
-            return Some(met(None));
+            return Line::Met(None);
         }
-        return Some(refused(Status::AlreadyExists, "held otherwise"));
+        return Line::Refused(Status::AlreadyExists, "held otherwise");
     }
     if let Some(other) = excluding(row, wanted) {
-        return Some(refused(Status::FailedPrecondition, other.node.as_str()));
+        return Line::Refused(Status::FailedPrecondition, other.node.as_str());
     }
     if is_full || row.holdings.len() >= MAX_HOLDINGS {
-        return Some(refused(Status::ResourceExhausted, "slots"));
+        return Line::Refused(Status::ResourceExhausted, "slots");
     }
-    None
+    Line::Done
 }
 
 // ControllerUnpublishVolume of this row's volume.
-fn unpublish_line(row: &ControllerRow, node: &str) -> Option<Line<'static>>
-    ensures ok { unpublish_told row.now node.now ≡ by_line (RowDetaches node.now) (option_map reply_shown result) }
-    ensures id { IfSome result (λ line. IsTrue (has_id_by_rule ControllerUnpublishVolume (reply_shown line))) }
-    ensures plain { IfSome result (λ line. (reply_shown line).status ≡ Status.Ok → (reply_shown line).detail ≡ []) }
+fn unpublish_line(row: &ControllerRow, node: &str) -> Line<'static>
+    ensures line { unpublish row.now.id node.now (holding_at row.now.id node.now (state_shown (row_shown row.now)))
+        ≡ outcome_shown (Detaches row.now.id node.now) result }
+    ensures id { IsTrue (has_id_by_rule ControllerUnpublishVolume (told_by result).reply) }
+    ensures plain { (told_by result).reply.status ≡ Status.Ok → (told_by result).reply.detail ≡ [] }
 {
-    if is_held_at(row, node) {
-        return None;
+    match held_at(row, node) {
+        Some(_) => Line::Done,
+        None => Line::Met(None),
     }
-    Some(met(None))
 }
 
 /// What the table answers to a call of this row's volume, by the nodes and how many volumes are held at each, of which
@@ -92,11 +96,12 @@ pub fn line<'a>(
     nodes: &[NodeSlots],
     counts: &[u64; MAX_NODES],
     call: &CallRef<'_>,
-) -> Option<Line<'a>>
-    requires { length nodes.now ≤ 64 }
-    ensures ok { row_line nodes.now counts.now row.now (lent_call call.now) ≡ by_line (row_change (lent_call call.now)) (option_map reply_shown result) }
-    ensures id { IfSome result (λ line. IsTrue (has_id_by_rule (kind_of (lent_call call.now)) (reply_shown line))) }
-    ensures plain { IfSome result (λ line. (reply_shown line).status ≡ Status.Ok → (reply_shown line).detail ≡ []) }
+) -> Line<'a>
+    requires few { length nodes.now ≤ 64 }
+    requires own { is_row_for (lent_call call.now) (volume_of_row row.now) ≡ true }
+    ensures told { told_by result ≡ told_in (row_outcome nodes.now counts.now (row_shown row.now) (lent_call call.now)) }
+    ensures id { IsTrue (has_id_by_rule (kind_of (lent_call call.now)) (told_by result).reply) }
+    ensures plain { (told_by result).reply.status ≡ Status.Ok → (told_by result).reply.detail ≡ [] }
 {
     match call {
         CallRef::CreateVolume {
@@ -104,7 +109,7 @@ pub fn line<'a>(
             limit,
             capabilities,
             ..
-        } => Some(create_line(row, *required, *limit, *capabilities)),
+        } => create_line(row, *required, *limit, *capabilities),
         CallRef::DeleteVolume { .. } => delete_line(row),
         CallRef::ControllerPublishVolume {
             node,
@@ -120,6 +125,6 @@ pub fn line<'a>(
             publish_line(row, nodes, counts, wanted)
         }
         CallRef::ControllerUnpublishVolume { node, .. } => unpublish_line(row, node),
-        _ => Some(refused(Status::Unimplemented, "")),
+        _ => Line::Refused(Status::Unimplemented, ""),
     }
 }

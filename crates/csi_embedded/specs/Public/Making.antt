@@ -13,9 +13,7 @@ use Rattle.csi_records.specs.declared.version.RecordVersion.{RecordVersion}
 use Rattle.csi_records.specs.Public.Spelling.{present, controller_head, node_head}
 use Rattle.csi_records.specs.Public.Records.{controller_layout, node_layout, IsRecordOf, IsControllerOf, IsNodeOf}
 use Rattle.csi_records.specs.Public.Places.{AreBytesOf, IsBadAt}
-use Rattle.csi_service.specs.declared.controller_service.ControllerService.{ControllerService}
-use Rattle.csi_service.specs.declared.node_service.NodeService.{NodeService}
-use Rattle.csi_service.specs.Public.Services.{controller_service_parts, node_service_parts}
+use Rattle.csi_service.specs.Public.Services.{ControllerService, controller_service_parts, NodeService, node_service_parts}
 use Rattle.csi_embedded.specs.declared.ending.Ending.{Ending}
 use Rattle.csi_embedded.specs.declared.ending.Ending.TheVariants.{Done, NoMemory, Full, BadName, BadRecord, Renewed, EarlierSession}
 use Rattle.csi_embedded.specs.declared.embedded.Embedded.{Embedded}
@@ -43,8 +41,8 @@ IsNoId bytes _ = ⊥
 pub record IsNewController (text : List ℕ) (made : Embedded) : Type 0 where
   pub service : ControllerService
   pub is : made.plugin ≡ Controller service
-  pub config : text_config text ≡ Ok service.controller.config
-  pub shows : Shows service.controller empty_controller
+  pub config : text_config text ≡ Ok service.plugin.config
+  pub shows : Shows service.plugin empty_controller
   pub parts : controller_service_parts service ≡ controller_head present 1 (Some 0) ∷ []
   pub told : told_changes made ≡ put_all (controller_service_parts service)
 
@@ -52,7 +50,7 @@ pub record IsNewController (text : List ℕ) (made : Embedded) : Type 0 where
 pub record IsNewNode (id : List ℕ) (session : ℕ) (made : Embedded) : Type 0 where
   pub service : NodeService
   pub is : made.plugin ≡ Node service
-  pub own : service.node.id ≡ id
+  pub own : service.plugin.id ≡ id
   pub parts : node_service_parts service ≡ node_head present id (Some session) ∷ []
   pub told : told_changes made ≡ put_all (node_service_parts service)
 
@@ -72,7 +70,7 @@ pub record IsReadController (text bytes : List ℕ) (made : Embedded) (ending : 
   pub said : text_config text ≡ Ok config
   pub kept : RecordParts
   pub read : AreBytesOf (λ v. IsRecordOf (controller_layout v)) IsControllerOf version bytes kept
-  pub has : service.controller ≡ record { config = config; next_id = kept.next_id; session = kept.session; rows = kept.rows }
+  pub has : service.plugin ≡ record { config = config; next_id = kept.next_id; session = kept.session; rows = kept.rows }
   pub renews : Renews version (controller_service_parts service) (told_changes made) ending
 
 -- the node of this id, of the record whose bytes these are in some version, and which is of no earlier session than that of its joining
@@ -80,9 +78,9 @@ pub record IsReadNode (id : List ℕ) (session : ℕ) (bytes : List ℕ) (made :
   pub service : NodeService
   pub is : made.plugin ≡ Node service
   pub version : RecordVersion
-  pub read : AreBytesOf (λ v. IsRecordOf (node_layout v None)) (λ v. IsNodeOf v None) version bytes service.node
-  pub own : service.node.id ≡ id
-  pub joined : session ≤ service.node.session
+  pub read : AreBytesOf (λ v. IsRecordOf (node_layout v None)) (λ v. IsNodeOf v None) version bytes service.plugin
+  pub own : service.plugin.id ≡ id
+  pub joined : session ≤ service.plugin.session
   pub renews : Renews version (node_service_parts service) (told_changes made) ending
 
 -- why there is none: as there is no new one, or the bytes are no controller's record in any version

@@ -10,10 +10,7 @@ use Rattle.csi_node.specs.Model.State.{NodeState}
 use Rattle.csi_orchestrator.specs.Model.Shown.{OrchestratorParts}
 use Rattle.csi_stores.specs.Public.Part.{StoredPart, StoredChange}
 use Rattle.csi_records.specs.Public.Spelling.{present, controller_parts, volume_row, record_bytes}
-use Rattle.csi_service.specs.declared.controller_service.ControllerService.{ControllerService}
-use Rattle.csi_service.specs.declared.node_service.NodeService.{NodeService}
-use Rattle.csi_service.specs.Public.Services.{controller_service_parts, controller_service_changes, ControllerAnswers, node_service_parts}
-use Rattle.csi_service.specs.Public.NodeServices.{node_service_changes, NodeServiceAnswers}
+use Rattle.csi_service.specs.Public.Services.{ControllerService, controller_service_parts, controller_service_changes, ControllerAnswers, NodeService, node_service_parts, node_service_changes, NodeServiceAnswers}
 use Rattle.csi_service.specs.Public.OrchestratorServices.{ServedOrchestrator, orchestrator_service_parts, orchestrator_service_changes}
 use Rattle.csi_embedded.specs.declared.plugin.Plugin.{Plugin}
 use Rattle.csi_embedded.specs.declared.plugin.Plugin.TheVariants.{Controller, Node, Orchestrator}
@@ -56,14 +53,14 @@ PluginAnswers (Orchestrator old) frame reply new = ⊥
 
 -- a controller is as it was to its callers
 pub record IsSameControllerService (old new : ControllerService) : Type 0 where
-  pub config : new.controller.config ≡ old.controller.config
-  pub shows : (state : ControllerState) → Shows old.controller state → Shows new.controller state
+  pub config : new.plugin.config ≡ old.plugin.config
+  pub shows : (state : ControllerState) → Shows old.plugin state → Shows new.plugin state
   pub parts : controller_service_parts new ≡ controller_service_parts old
   pub changes : controller_service_changes new ≡ controller_service_changes old
 
 -- a node is as it was to its callers
 pub record IsSameNodeService (old new : NodeService) : Type 0 where
-  pub shows : (state : NodeState) → NodeShows old.node state → NodeShows new.node state
+  pub shows : (state : NodeState) → NodeShows old.plugin state → NodeShows new.plugin state
   pub parts : node_service_parts new ≡ node_service_parts old
   pub changes : node_service_changes new ≡ node_service_changes old
 
@@ -88,7 +85,7 @@ IsAsItWas (Orchestrator old) (Node new) = ⊥
 -- a record of each state that the controller shows
 pub record AreControllerRecordBytes (service : ControllerService) (bytes : List ℕ) : Type 0 where
   pub kept : RecordParts
-  pub shows : (state : ControllerState) → Shows service.controller state → Shows (record { config = service.controller.config; next_id = kept.next_id; session = kept.session; rows = kept.rows }) state
+  pub shows : (state : ControllerState) → Shows service.plugin state → Shows (record { config = service.plugin.config; next_id = kept.next_id; session = kept.session; rows = kept.rows }) state
   pub spelled : bytes ≡ record_bytes present (controller_parts present kept.next_id (Some kept.session) (map volume_row kept.rows))
 
 -- the bytes of its whole record, in the present version

@@ -8,6 +8,15 @@ use Rattle.csi_node.specs.declared.row.NodeTarget.{NodeTarget}
 use Rattle.csi_node.specs.Model.State.{NodeState, StagedVolume, PublishedVolume}
 use Rattle.csi_node.specs.Model.Table.{begins_with_slash}
 use Rattle.csi_node.specs.Model.OneRow.{NodeRowShown}
+use Rattle.std.specs.Prelude.{◌≡◌, ℕ, List, [], ◌∷◌, ◌++◌, filter, find, length, true, not, Option, Some, None}
+use Rattle.csi_types.specs.declared.call.Call.{Call}
+use Rattle.csi_types.specs.declared.call.Call.TheVariants as calls
+use Rattle.csi_types.specs.declared.number.Number.{Number}
+use Rattle.csi_types.specs.declared.call.Kind.{Kind}
+use Rattle.csi_types.specs.Model.Replies.{ok_reply}
+use Rattle.csi_types.specs.Model.Same.{same_text}
+use Rattle.csi_node.specs.Model.State.{PublishedVolume}
+use Rattle.csi_node.specs.Model.Table.{begins_with_slash}
 
 -- how a volume is staged
 abbrev pub staged_by : ℕ → Option Capability → List StagedVolume
@@ -54,3 +63,18 @@ pub record IsSoundRow (row : NodeRowShown) : Type 0 where
   pub kind : is_node_kind row.kept.kind ≡ true
   pub no_id : row.kept.reply.id ≡ None
   pub targets : TargetsFit row.staged row.targets
+
+-- the row after a call's change
+abbrev pub row_changed : NodeRowShown → Call → NodeRowShown
+row_changed row (calls.NodeStageVolume id capability) = record row { staged = Some capability }
+row_changed row (calls.NodeUnstageVolume id) = record row { staged = None }
+row_changed row (calls.NodePublishVolume id target capability readonly) = record row { targets = row.targets ++ (record { target = target; readonly = readonly }) ∷ [] }
+row_changed row (calls.NodeUnpublishVolume id target) = record row { targets = filter (λ there. not (same_text there.target target)) row.targets }
+row_changed row (calls.CreateVolume name required limit capabilities) = row
+row_changed row (calls.DeleteVolume id) = row
+row_changed row (calls.ControllerPublishVolume id node capability readonly) = row
+row_changed row (calls.ControllerUnpublishVolume id node) = row
+
+-- the row of a volume before its first call, of this number and kind
+abbrev pub row_anew : ℕ → Number → Kind → NodeRowShown
+row_anew id number kind = record { id = id; staged = None; targets = []; kept = record { number = number; kind = kind; reply = ok_reply } }

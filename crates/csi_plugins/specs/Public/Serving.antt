@@ -8,20 +8,18 @@ use Rattle.csi_node.specs.Model.Record.{NodeParts, parts}
 use Rattle.csi_records.specs.Public.Spelling.{present, volume_row}
 use Rattle.csi_records.specs.Public.Records.{controller_layout, node_layout, AreParts}
 use Rattle.csi_service.specs.Public.Answering.{AnswersInRecord}
-use Rattle.csi_service.specs.declared.controller_service.ControllerService.{ControllerService}
-use Rattle.csi_service.specs.declared.node_service.NodeService.{NodeService}
-use Rattle.csi_service.specs.Public.Services.{controller_service_parts, AreFitControllerRows, ControllerAnswers, node_service_parts}
-use Rattle.csi_service.specs.Public.NodeServices as nodes
+use Rattle.csi_service.specs.Public.Plugins.{IsFrom}
+use Rattle.csi_service.specs.Public.Services.{ControllerService, controller_service_parts, AreFitControllerRows, ControllerAnswers, NodeService, node_service_parts, AreFitNodeRows, NodeServiceAnswers}
 
 -- ---- a controller
 
 -- all that a controller's record has is within its limits
 abbrev pub IsFitController : ControllerService → Type 0
-IsFitController service = AreFitControllerRows service.controller.rows
+IsFitController service = AreFitControllerRows service.plugin.rows
 
 -- the controller under this configuration, whose record is within its limits
 abbrev pub IsControllerUnder : Config → ControllerService → Type 0
-IsControllerUnder config service = (service.controller.config ≡ config) × IsFitController service
+IsControllerUnder config service = (service.plugin.config ≡ config) × IsFitController service
 
 -- its answers, which lead from record to record
 abbrev pub ControllerServes : ControllerService → Frame → Option Frame → ControllerService → Type 0
@@ -33,14 +31,14 @@ ControllerServes =
 
 -- all that a node's record has is within its limits
 abbrev pub IsFitNode : NodeService → Type 0
-IsFitNode service = nodes.AreFitNodeRows (parts service.node.rows)
+IsFitNode service = AreFitNodeRows (parts service.plugin.rows)
 
 -- the node of this id, which heard of this session, that of its joining, or of a later one, and whose record is within its limits
 abbrev pub IsNodeJoined : List ℕ → ℕ → NodeService → Type 0
-IsNodeJoined id session service = (service.node.id ≡ id) × nodes.IsFrom session service.node.session × IsFitNode service
+IsNodeJoined id session service = (service.plugin.id ≡ id) × IsFrom session service.plugin.session × IsFitNode service
 
 -- its answers, which lead from record to record
 abbrev pub NodeServes : NodeService → Frame → Option Frame → NodeService → Type 0
 NodeServes =
     AnswersInRecord IsFitNode (λ (kept : NodeParts) parts. AreParts (node_layout present None) (record { own = kept.id; session = Some kept.session }) (map node_row_shown kept.rows) parts)
-    node_service_parts nodes.NodeServiceAnswers
+    node_service_parts NodeServiceAnswers

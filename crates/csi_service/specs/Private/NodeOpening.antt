@@ -6,9 +6,9 @@ use Rattle.csi_records.specs.Public.Spelling.{present}
 use Rattle.csi_service.specs.declared.node_opening.NodeMade.{NodeMade}
 use Rattle.csi_service.specs.declared.node_opening.NodeMade.TheVariants.{Opened, EarlierSession}
 use Rattle.csi_service.specs.Public.NodeOpening.{joined_head, IsOfEarlierSession}
-use Rattle.csi_service.specs.Public.NodeServices.{node_service_changes, AreFitNodeRows, IsFrom}
 use Rattle.csi_service.specs.Public.Opening.{node_records, OpensTo, plugin_rules}
-use Rattle.csi_service.specs.Public.Services.{node_service_parts}
+use Rattle.csi_service.specs.Public.Plugins.{IsFrom}
+use Rattle.csi_service.specs.Public.Services.{node_service_parts, node_service_changes, AreFitNodeRows}
 use Rattle.csi_service.specs.Public.StoreOpening.{Opening}
 
 -- a node, or why there is none, of the parts that were found
@@ -35,5 +35,5 @@ node_opening id session =
 -- to be told of it
 abbrev pub IsNewlyMade : List ℕ → ℕ → NodeMade → Type 0
 IsNewlyMade id session (Opened service) =
-    (node_service_changes service ≡ []) × (service.node.id ≡ id) × IsFrom session service.node.session × AreFitNodeRows (parts service.node.rows)
+    (node_service_changes service ≡ []) × (service.plugin.id ≡ id) × IsFrom session service.plugin.session × AreFitNodeRows (parts service.plugin.rows)
 IsNewlyMade id session EarlierSession = Unit {0}

@@ -8,11 +8,10 @@ use Rattle.csi_stores.specs.Public.Stores.{Store}
 use Rattle.csi_records.specs.declared.version.RecordVersion.{RecordVersion}
 use Rattle.csi_records.specs.Public.Records.{IsNodeOf}
 use Rattle.csi_records.specs.Public.Spelling.{present, node_head}
-use Rattle.csi_service.specs.declared.node_service.NodeService.{NodeService}
 use Rattle.csi_service.specs.declared.node_unopened.NodeUnopened.{NodeUnopened}
 use Rattle.csi_service.specs.declared.node_unopened.NodeUnopened.TheVariants.{Keep, EarlierSession}
 use Rattle.csi_service.specs.Public.Opening.{node_records, HasRecord, IsOpenFault, LeavesOpened}
-use Rattle.csi_service.specs.Public.Services.{node_service_parts}
+use Rattle.csi_service.specs.Public.Services.{NodeService, node_service_parts}
 use Rattle.csi_service.specs.Public.StoreOpening.{StaysFor}
 
 -- the head of a node that joins with this session

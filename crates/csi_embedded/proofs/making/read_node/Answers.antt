@@ -11,7 +11,7 @@ pub returns-clause-made : goal.returns-clause-made
 returns-clause-made c =
     let has = c.in_ok-service.ensures.has in
     let same : c.id.result.now ≡ c.in_ok-id.id = search rules in
-    let is : c.in_ok-service.service.node.session ≡ c.session.result = ap (λ (node : NodeParts). node.session) has ∙ sym c.session.ensures in
+    let is : c.in_ok-service.service.plugin.session ≡ c.session.result = ap (λ (node : NodeParts). node.session) has ∙ sym c.session.ensures in
     let from : c.args.session ≤ c.session.result = grind (arith, nat_tests) in
     record {
       service = c.in_ok-service.service;

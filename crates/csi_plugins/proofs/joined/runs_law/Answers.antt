@@ -10,8 +10,7 @@ use Rattle.csi_records.specs.Public.Records.{node_layout, IsRecordOf, IsRefusedA
 use Rattle.csi_records.specs.Public.Spelling.{present, controller_head, volume_row}
 use Rattle.csi_service.specs.Public.Opening.{controller_records, node_records}
 use Rattle.csi_service.specs.Public.NodeOpening.{joined_head, IsOfEarlierSession}
-use Rattle.csi_service.specs.Public.Services.{controller_service_parts, node_service_parts}
-use Rattle.csi_service.specs.declared.node_service.NodeService.{NodeService}
+use Rattle.csi_service.specs.Public.Services.{NodeService, controller_service_parts, node_service_parts}
 use Rattle.csi_service.specs.Public.StoreOpening.{StaysFor}
 use Rattle.csi_service.proofs.JoinedSessions.{not-earlier}
 use Rattle.csi_service.proofs.RecordParts.{node-wanted}
@@ -33,7 +32,7 @@ either seen laws (Controller config) before between again after content first se
     (λ old new frame reply answered asked.
     let next = answered.1 asked.1 in
     let kept = next.1.0 in
-    ((answered.0.config ∙ asked.0, next.0), record { first = record { own = kept.next_id; session = Some kept.session }; rows = map volume_row kept.rows; spelled = next.1.1 }))
+    ((answered.0.own ∙ asked.0, next.0), record { first = record { own = kept.next_id; session = Some kept.session }; rows = map volume_row kept.rows; spelled = next.1.1 }))
     (λ parts version is other. sym (laws.controller.parts present version is.first other.first is.rows other.rows parts is.spelled other.spelled).0)
     (λ parts is none. omega (arith, ap length (sym none ∙ is.spelled.are)))
     (λ parts place is at. (laws.controller.refusals parts).none place (record { version = present; there = is }) at)
@@ -45,10 +44,10 @@ either seen laws (Node id session) before between again after content first seco
     keeps old new frame reply answered asked =
         let next = answered.1 asked.2 in
         let kept = next.1.0 in
-        let own : new.node.id ≡ id = answered.0.id ∙ asked.0 in
+        let own : new.plugin.id ≡ id = answered.0.own ∙ asked.0 in
         let is : IsRecordOf (node_layout present None) (node_service_parts new) = record { first = record { own = kept.id; session = Some kept.session }; rows = map node_row_shown kept.rows; spelled = next.1.1 } in (
           (own, (omega (arith, answered.0.session.0, asked.1.0), answered.0.session.1), next.0),
-          subst (λ (n : List ℕ). IsRecordOf (node_layout present (Some n)) (node_service_parts new)) own (node-wanted new.node.id (Some new.node.session) (map node_row_shown new.node.rows) is),
+          subst (λ (n : List ℕ). IsRecordOf (node_layout present (Some n)) (node_service_parts new)) own (node-wanted new.plugin.id (Some new.plugin.session) (map node_row_shown new.plugin.rows) is),
         )
 
     told : (parts : List StoredPart) (version : RecordVersion) → IsRecordOf (node_layout present (Some id)) parts → IsRecordOf (node_layout version (Some id)) parts → version ≡ present

@@ -8,5 +8,5 @@ pub returns-clause-few : goal.returns-clause-few
 returns-clause-few c =
     let parts = c.args.self.now in
     let few = few-rows parts.session parts.rows c.current_law.ensures in
-    let same = c.len.ensures ∙ ap (λ (k : ControllerParts). length k.rows) c.self.view_is in
+    let same = ap length c.as_slice.ensures.value ∙ ap (λ (k : ControllerParts). length k.rows) c.self.view_is in
     omega (arith, few, same)

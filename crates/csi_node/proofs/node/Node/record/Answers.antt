@@ -13,8 +13,8 @@ invariant_of-result c =
     )
 
 pub returns-clause-rows : goal.returns-clause-rows
-returns-clause-rows c = rw c.self.view_is at (each-copied c.rows.result.now c.in_ok-rows.rows.items c.in_ok-rows.ensures.items ∙ ap parts c.rows.ensures.value)
+returns-clause-rows c = each-copied c.rows.result.now c.in_ok-rows.rows.items c.in_ok-rows.ensures.items ∙ ap parts c.rows.ensures.value
 
 pub returns-clause-shows : goal.returns-clause-shows
 returns-clause-shows c = λ state shows.
-    shows-copy c.args.self.now _ state shows (rw c.self.view_is at (each-copied c.rows.result.now c.in_ok-rows.rows.items c.in_ok-rows.ensures.items ∙ ap parts c.rows.ensures.value)) (rw c.self.view_is at c.session.ensures)
+    shows-copy c.args.self.now _ state shows (each-copied c.rows.result.now c.in_ok-rows.rows.items c.in_ok-rows.ensures.items ∙ ap parts c.rows.ensures.value) c.session.ensures

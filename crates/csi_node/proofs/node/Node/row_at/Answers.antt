@@ -8,7 +8,7 @@ use Rattle.csi_node.specs.Model.OneRow.{node_row_shown}
 use Rattle.csi_node.specs.Public.OneRow.{IsSoundRow}
 use Rattle.csi_node.specs.Model.Record.{parts}
 use Rattle.csi_node.specs.Public.Record.{AreSoundRows}
-use Rattle.csi_node.proofs.AtRow.{parts-at}
+use Rattle.csi_node.proofs.FoundRows.{parts-at}
 use Rattle.csi_node.proofs.node.Node.row_at.Goals as goal
 
 -- so does the one at a place

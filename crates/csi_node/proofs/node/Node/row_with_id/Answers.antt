@@ -1,18 +1,30 @@
 -- The row at the place of an id is the one that is found by it.
-use Rattle.std.proofs.Common.{sym}
-use Rattle.csi_node.proofs.AtRow.{there}
-use Rattle.csi_node.proofs.RecordRules.{absent-gap}
+use Rattle.std.proofs.Common.{◌∙◌, List, subst, sym}
+use Rattle.std.specs.Prelude.{◌==◌}
+use Rattle.csi_lists.proofs.Searches.{find-no_place}
+use Rattle.csi_node.specs.declared.row.NodeRow.{NodeRow}
+use Rattle.csi_node.specs.Model.OneRow.{NodeRowShown, node_row_shown}
 use Rattle.csi_node.specs.Model.Record.{parts}
+use Rattle.csi_node.specs.Public.Record.{AreSoundRows}
+use Rattle.csi_node.proofs.FoundRows.{there-found, there-sound}
+use Rattle.csi_node.proofs.RecordRules.{places-rise}
 use Rattle.csi_node.proofs.node.Node.row_with_id.Goals as goal
 
-pub returns-in-Ok-clause-row : goal.returns-in-Ok-clause-row
-returns-in-Ok-clause-row c =
-    rw (c.rows-rows.ensures.value, c.self.view_is)
-    at (sym (there c.rows-rows.result.now c.args.id c.in-Ok.place c.index-rows-place.result c.index-rows-place.is (rw (← c.rows-rows.ensures.value) at c.rows-rows.ensures.rules) c.in-Ok.ensures.found).found)
+pub place_of-requires : goal.place_of-requires
+place_of-requires c =
+    let rules = subst (λ (l : List NodeRow). AreSoundRows (parts l)) (sym c.rows-rows.ensures.value) c.rows-rows.ensures.rules in
+    record { rising = places-rise (parts c.rows-rows.result.now) rules.rising }
 
-pub returns-in-Ok-clause-rules : goal.returns-in-Ok-clause-rules
-returns-in-Ok-clause-rules c =
-    (there c.rows-rows.result.now c.args.id c.in-Ok.place c.index-rows-place.result c.index-rows-place.is (rw (← c.rows-rows.ensures.value) at c.rows-rows.ensures.rules) c.in-Ok.ensures.found).rules
+pub returns-in-Some-clause-row : goal.returns-in-Some-clause-row
+returns-in-Some-clause-row c =
+    rw c.rows-rows.ensures.value at (sym (there-found c.rows-rows.result.now c.args.id c.in-Some.place c.index-rows-place.result c.index-rows-place.is (sym c.in-Some.is ∙ c.place_of.ensures)))
 
-pub returns-in-Err-clause-row : goal.returns-in-Err-clause-row
-returns-in-Err-clause-row c = rw (c.rows-rows.ensures.value, c.self.view_is) at (sym (absent-gap (parts c.rows-rows.result.now) c.args.id c.in-Err.field-0 c.in-Err.ensures.absent))
+pub returns-in-Some-clause-rules : goal.returns-in-Some-clause-rules
+returns-in-Some-clause-rules c =
+    let rules = subst (λ (l : List NodeRow). AreSoundRows (parts l)) (sym c.rows-rows.ensures.value) c.rows-rows.ensures.rules in
+    there-sound c.rows-rows.result.now c.args.id (node_row_shown c.index-rows-place.result) rules
+    (there-found c.rows-rows.result.now c.args.id c.in-Some.place c.index-rows-place.result c.index-rows-place.is (sym c.in-Some.is ∙ c.place_of.ensures))
+
+pub returns-in-None-clause-row : goal.returns-in-None-clause-row
+returns-in-None-clause-row c =
+    rw c.rows-rows.ensures.value at (sym (find-no_place (λ (row : NodeRowShown). row.id == c.args.id) (parts c.rows-rows.result.now) (sym c.place_of.ensures ∙ c.in-None.is)))

@@ -7,4 +7,4 @@ use Rattle.csi_node.proofs.node.Node.staged.Goals as goal
 pub returns-clause-shows : goal.returns-clause-shows
 returns-clause-shows c = λ state shows.
     IfOk-weaker c.staged_in.result _ _
-    (λ list is. lists-staged c.args.self.now.rows state (map staged_shown list.items) (rw c.self.view_is at c.rows.ensures.rules) shows.shows (rw (c.rows.ensures.value, c.self.view_is) at is)) c.staged_in.ensures
+    (λ list is. lists-staged c.args.self.now.rows state (map staged_shown list.items) c.rows.ensures.rules shows.shows (rw c.rows.ensures.value at is)) c.staged_in.ensures

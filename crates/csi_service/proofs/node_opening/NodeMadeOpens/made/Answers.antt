@@ -5,9 +5,8 @@ use Rattle.std.proofs.lemmas.List.{nil_from_length}
 use Rattle.csi_stores.specs.Public.Part.{all_stored_in, put_all, part_change}
 use Rattle.csi_node.specs.Model.Record.{NodeParts, parts}
 use Rattle.csi_service.specs.Public.NodeOpening.{joined_head}
-use Rattle.csi_service.specs.Public.NodeServices.{AreFitNodeRows}
 use Rattle.csi_service.specs.Public.Opening.{node_records}
-use Rattle.csi_service.specs.Public.Services.{node_service_parts}
+use Rattle.csi_service.specs.Public.Services.{node_service_parts, AreFitNodeRows}
 use Rattle.csi_service.proofs.MadeCores.{made-new, node-made, new-node, of-node}
 use Rattle.csi_service.proofs.NodeOpening.{node-opened}
 use Rattle.csi_service.proofs.FitRows.{node-read}
@@ -44,7 +43,7 @@ returns-in_ok-service-in-Ok-clause-new c =
     let made = c.in_ok-service-in-Ok.ensures in
     let tell = c.in-Ok.ensures.1 in
     let fit = node-read c.in-Ok.field-0.version (Some c.args.joining.id) (all_stored_in c.args.parts.now) c.in-Ok.field-0.kept tell in
-    let is : c.in_ok-service-in-Ok.service.node.session ≡ c.session.result = ap (λ (node : NodeParts). node.session) made.has ∙ sym c.session.ensures in
+    let is : c.in_ok-service-in-Ok.service.plugin.session ≡ c.session.result = ap (λ (node : NodeParts). node.session) made.has ∙ sym c.session.ensures in
     let from : c.args.joining.session ≤ c.session.result = grind (arith, nat_tests) in (
       made.changes,
       ap (λ (node : NodeParts). node.id) made.has ∙ of-node c.in-Ok.field-0.version c.args.joining.id (all_stored_in c.args.parts.now) c.in-Ok.field-0.kept tell,

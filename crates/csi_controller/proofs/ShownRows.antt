@@ -1,0 +1,37 @@
+-- A controller's rows as they are shown, their rules, and the state that they show.
+use Rattle.std.proofs.Common.{◌≡◌, ℕ, List, map}
+use Rattle.std.specs.Prelude.{find, ◌==◌}
+use Rattle.std.specs.List.{AllByRecursion}
+use Rattle.csi_lists.specs.Public.Places.{AtMostOne}
+use Rattle.csi_types.specs.Model.Same.{same_text}
+use Rattle.csi_fence.specs.Public.Rows.{AreRising, RowsState}
+use Rattle.csi_fence.proofs.RisingRows.{once-rise, rows_rise}
+use Rattle.csi_controller.specs.Model.State.{Volume, ControllerState, holdings_of}
+use Rattle.csi_controller.specs.Public.OneRow.{RowShown}
+use Rattle.csi_controller.specs.Public.Plan.{controller_plan, IsSoundBy}
+use Rattle.csi_controller.proofs.Holdings.{held_in}
+
+-- a controller's rows, with the next id and the greatest session that came
+abbrev pub ControllerRows : Type 0
+ControllerRows = RowsState ℕ RowShown
+
+-- the volume of a row
+abbrev pub volume_in : RowShown → Volume
+volume_in row = row.volume
+
+-- they stand by rising id, no name twice, and each keeps the rules of a row
+pub record AreRowsSound (old : ControllerRows) : Type 0 where
+  pub rising : AreRising controller_plan.id old.rows
+  pub unique : (name : List ℕ) → AtMostOne (λ (row : RowShown). same_text row.volume.name name) old.rows
+  pub each : AllByRecursion (IsSoundBy old.own) old.rows
+
+-- they show the state
+pub record RowsShowAll (old : ControllerRows) (state : ControllerState) : Type 0 where
+  pub next : old.own ≡ state.next_id
+  pub session : old.session ≡ state.session
+  pub volumes : map volume_in old.rows ≡ state.volumes
+  pub holdings : (id : ℕ) → held_in (find (λ (row : RowShown). row.volume.id == id) old.rows) ≡ holdings_of id state
+
+-- each id has one row
+pub one-id : (old : ControllerRows) → AreRowsSound old → (id : ℕ) → AtMostOne (λ (row : RowShown). row.volume.id == id) old.rows
+one-id old sound id = once-rise controller_plan.id old.rows (rows_rise controller_plan.id old.rows sound.rising) id

@@ -1,8 +1,0 @@
--- The first rows were added; the others are left.
-use Rattle.std.proofs.Common.{◌≡◌, ◌++◌, length}
-use Rattle.std.specs.Vec.Iter.{into_iter_items, into_iter_len}
-use Rattle.csi_controller.specs.Public.Catalog.{rows_of, IsIndexed}
-use Rattle.csi_controller.proofs.catalog.Catalog.of_rows.Given as goal
-
-abbrev pub invariant-loop-row : goal.invariant-loop-row
-invariant-loop-row l = (rows_of l.catalog ++ into_iter_items l.row-iterator ≡ l.fn.rows.items) × IsIndexed l.catalog × (into_iter_len l.row-iterator ≡ length (into_iter_items l.row-iterator))

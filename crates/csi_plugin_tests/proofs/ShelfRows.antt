@@ -1,0 +1,60 @@
+-- Names of the small plugin's rows, where one changes, is put in or goes.
+use Rattle.std.proofs.Common.{◌≡◌, ℕ, ◌<◌, zero, suc, List, [], ◌∷◌, ◌++◌, map, length, set, Bool, true, false, cond, refl, sym, ◌∙◌, ap, subst, arith}
+use Rattle.std.specs.Prelude.{Option, Some, None, find, filter, nat_lt, ◌==◌}
+use Rattle.csi_lists.specs.Public.Places.{AtMostOne}
+use Rattle.csi_lists.proofs.Options.{some_is_not_none}
+use Rattle.csi_lists.proofs.Searches.{find-missed}
+use Rattle.csi_lists.proofs.Maps.{map-same}
+use Rattle.csi_types.specs.declared.call.Kind.{Kind}
+use Rattle.csi_types.specs.declared.number.Number.{Number}
+use Rattle.csi_types.specs.Model.Same.{same_text}
+use Rattle.csi_types.proofs.Equality.{same_text-tells}
+use Rattle.csi_fence.specs.Public.Rows.{put_row, Made}
+use Rattle.csi_plugin_tests.specs.declared.shelf.ShelfRow.{ShelfRow}
+use Rattle.csi_plugin_tests.specs.Private.Shelf.{HaveNames, Key, Named, absent, is_for}
+use Rattle.csi_plugin_tests.specs.Private.ShelfLaws.{IsMadeBy, made-by}
+
+-- a row that doesn't pass is put in, and none passes still
+put-none : {S : Type 0} (id : S → ℕ) (q : S → Bool) (new : S) (rows : List S) → q new ≡ false → find q rows ≡ None → find q (put_row id new rows) ≡ None
+put-none id q new [] misses none = rw misses refl
+put-none id q new (row ∷ rows) misses none =
+    let parts = find-missed (q row) row (find q rows) none in
+    by parts (put-none id q new rows misses parts.1) (nat_lt (id row) (id new)) (id row == id new)
+  where
+    by : (q row ≡ false) × (find q rows ≡ None) → find q (put_row id new rows) ≡ None
+        → (b c : Bool) → find q (cond b (row ∷ put_row id new rows) (cond c (new ∷ rows) (new ∷ row ∷ rows))) ≡ None
+    by parts rest true c = rw (parts.0) rest
+    by parts rest false true = rw misses (parts.1)
+    by parts rest false false = rw misses (rw (parts.0) (parts.1))
+
+-- a row is put in that passes only where none did: at most one passes still
+pub put-one : {S : Type 0} (id : S → ℕ) (q : S → Bool) (new : S) (rows : List S) → AtMostOne q rows → (q new ≡ true → find q rows ≡ None) → AtMostOne q (put_row id new rows)
+put-one id q new [] one none = (λ e. refl, tt)
+put-one id q new (row ∷ rows) one none =
+    by (put-one id q new rows one.1 (λ e. (find-missed (q row) row (find q rows) (none e)).1)) (nat_lt (id row) (id new)) (id row == id new)
+  where
+    other : q row ≡ true → (b : Bool) → q new ≡ b → find q (put_row id new rows) ≡ None
+    other e true own = absurd (some_is_not_none row (ap (λ (b : Bool). cond b (Some row) (find q rows)) (sym e) ∙ none own))
+    other e false own = put-none id q new rows own (one.0 e)
+
+    by : AtMostOne q (put_row id new rows) → (b c : Bool) → AtMostOne q (cond b (row ∷ put_row id new rows) (cond c (new ∷ rows) (new ∷ row ∷ rows)))
+    by rest true c = (λ e. other e (q new) refl, rest)
+    by rest false true = (λ e. (find-missed (q row) row (find q rows) (none e)).1, one.1)
+    by rest false false = (none, one)
+
+-- the rows as they are shown are the rows
+pub same_rows : (rows : List ShelfRow) → map (λ (row : ShelfRow). row) rows ≡ rows
+same_rows rows = map-same (λ (row : ShelfRow). row) rows (λ row among. refl)
+
+-- a volume that is made has a name of its own
+pub names-put : (own : ℕ) (rows : List ShelfRow) (number : Number) (kind : Kind) (key : Key) (row : ShelfRow) → HaveNames rows → find (is_for key) rows ≡ None
+    → absent own rows number kind key ≡ Made row → HaveNames (put_row (λ (r : ShelfRow). r.id) row rows)
+names-put own rows number kind key row names none made = λ name. put-one (λ (r : ShelfRow). r.id) (λ (r : ShelfRow). same_text r.name name) row rows (names name) (own-name name)
+  where
+    by : IsMadeBy own rows number kind key row
+    by = made-by own rows number kind key row made
+
+    own-name : (name : List ℕ) → same_text row.name name ≡ true → find (λ (r : ShelfRow). same_text r.name name) rows ≡ None
+    own-name name same =
+        let is : by.name ≡ name = sym (ap (λ (r : ShelfRow). r.name) by.is_row) ∙ (same_text-tells row.name name).0 same in
+        subst (λ (k : Key). find (is_for k) rows ≡ None) (by.is_named ∙ ap Named is) none
