@@ -84,5 +84,5 @@ input-becomes law answer shown new posted input occurs answered result is ok err
     sent
 
 -- what comes of an event that is one that came of it
-pub restarted-with : {E : Type 0} (old new : WorldParts) {was is : Occurred} (result : Result Outcome E) → was ≡ is → IfOk result (λ outcome. IsWorldAfter old new outcome was) → IfOk result (λ outcome. IsWorldAfter old new outcome is)
-restarted-with old new result same came = IfOk-weaker result _ _ (λ outcome after. subst (IsWorldAfter old new outcome) same after) came
+pub occurred-as : {E : Type 0} (old new : WorldParts) {was is : Occurred} (result : Result Outcome E) → was ≡ is → IfOk result (λ outcome. IsWorldAfter old new outcome was) → IfOk result (λ outcome. IsWorldAfter old new outcome is)
+occurred-as old new result same came = IfOk-weaker result _ _ (λ outcome after. subst (IsWorldAfter old new outcome) same after) came

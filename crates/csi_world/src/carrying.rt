@@ -1,36 +1,22 @@
-//! How a frame is carried: written as bytes, and read from them.
-ghost use Rattle.std.specs.Prelude.{◌≡◌, IfOk};
+//! How a frame is carried: written as bytes that are read again.
+ghost use Rattle.std.specs.Prelude.{◌≡◌, OnOk};
 ghost use Rattle.csi_frames.specs.Public.Decoding.{no_memory};
 ghost use Rattle.csi_frames.specs.Public.Spelling.{Spells};
 
-use csi_frames::{FrameFault, decode, encode};
+use csi_frames::{FrameFault, encode};
 use csi_types::{Frame, NoMemory};
-use std::alloc::Global;
 
-// Want of memory.
-fn memory_of(_fault: FrameFault) -> NoMemory
+/// Want of memory: bytes that spell a frame have no other fault.
+pub(crate) fn memory_of(_fault: FrameFault) -> NoMemory
     requires { _fault ≡ no_memory }
 {
     NoMemory
 }
 
-// The frame whose spelling the bytes are. They have no other fault than want of memory.
-fn read(alloc: Global, bytes: &[u8], frame: &Frame) -> Result<Frame, NoMemory>
-    requires { Spells frame.now bytes.now }
-    ensures { IfOk result (λ copy. copy ≡ frame.now) }
-{
-    match decode(alloc, bytes) {
-        Ok(read) => Ok(read.0),
-        Err(fault) => Err(memory_of(fault)),
-    }
-}
-
-/// The frame, once it was written as bytes, in place of those that were there, and read from them. An `Err` is an
-/// allocation that was refused.
-pub(crate) fn carried(alloc: Global, bytes: &mut Vec<u8>, frame: &Frame) -> Result<Frame, NoMemory>
-    ensures { IfOk result (λ copy. copy ≡ frame.now) }
+/// Writes the frame as bytes, in place of those that were there. An `Err` is an allocation that was refused.
+pub(crate) fn write(frame: &Frame, bytes: &mut Vec<u8>) -> Result<(), NoMemory>
+    ensures { OnOk result (Spells frame.now bytes.new.items) }
 {
     bytes.clear();
-    encode(frame, bytes)?;
-    read(alloc, bytes.as_slice(), frame)
+    encode(frame, bytes)
 }

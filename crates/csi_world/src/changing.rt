@@ -1,8 +1,9 @@
-//! Plugins that restart, join and are lost.
+//! Parts of a world that restart, join and are lost.
 ghost use Rattle.std.specs.Prelude.{◌≡◌, position};
 ghost use Rattle.csi_world.specs.Model.World.{node_state};
-ghost use Rattle.csi_world.specs.Model.After.{restarted_at, joined_at, lost_by, lost};
-ghost use Rattle.csi_orchestrator.specs.Model.Moves.{Loses, moves};
+ghost use Rattle.csi_world.specs.Model.After.{orchestrated, restarted_at, joined_at, lost_by, lost};
+ghost use Rattle.csi_orchestrator.specs.Model.Moves.{Loses, Restarts, moves};
+ghost use Rattle.csi_orchestrator.specs.Model.Readings.{nodes_of};
 ghost use Rattle.csi_world.specs.Private.Simulating.{Does};
 ghost use Rattle.csi_world.specs.Public.System.{world_parts};
 ghost use Rattle.csi_world.specs.declared.outcomes.Outcome.TheVariants as outcomes;
@@ -10,10 +11,11 @@ ghost use Rattle.std.specs.List.{list_any};
 ghost use Rattle.csi_types.specs.Model.Same.{same_text};
 
 use crate::outcomes::Outcome;
-use crate::plugins::{copied_config, place_of, restarted_controller, restarted_node};
+use crate::plugins::{copied_config, copied_ids, place_of, restarted_controller, restarted_node};
+use crate::sending::settled_restart;
 use crate::system::System;
 use csi_node::Node;
-use csi_types::{Config, NoMemory, NodeId};
+use csi_types::{Config, NoMemory, NodeId, NodeList};
 
 // Whether the node is one of these.
 fn is_listed(nodes: &[NodeId], id: &NodeId) -> bool
@@ -23,6 +25,35 @@ fn is_listed(nodes: &[NodeId], id: &NodeId) -> bool
 }
 
 impl System {
+    // The orchestrator begins the next session, with these nodes.
+    fn begin_session(&mut self, nodes: Vec<NodeId>) -> Result<Outcome, NoMemory>
+        ensures { Does (world_parts self.old) (world_parts self.new) result (λ world. orchestrated world (Restarts nodes.items)) }
+    {
+        csi_orchestrator::form_law();
+        settled_restart(self.orchestrator.restart(nodes))
+    }
+
+    /// The orchestrator restarts with its nodes.
+    #[inline(never)]
+    pub(crate) fn restart_orchestrator(&mut self) -> Result<Outcome, NoMemory>
+        ensures { Does (world_parts self.old) (world_parts self.new) result (λ world. orchestrated world (Restarts (nodes_of world.history))) }
+    {
+        let nodes = copied_ids(self.alloc, self.orchestrator.nodes())?;
+        self.begin_session(nodes)
+    }
+
+    /// The orchestrator restarts with these nodes.
+    #[inline(never)]
+    pub(crate) fn restart_orchestrator_with(
+        &mut self,
+        nodes: &NodeList,
+    ) -> Result<Outcome, NoMemory>
+        ensures { Does (world_parts self.old) (world_parts self.new) result (λ world. orchestrated world (Restarts nodes.now)) }
+    {
+        let nodes = copied_ids(self.alloc, nodes.as_slice())?;
+        self.begin_session(nodes)
+    }
+
     /// The controller restarts, from its record.
     #[inline(never)]
     pub(crate) fn restart_controller(&mut self) -> Result<Outcome, NoMemory>

@@ -1,6 +1,9 @@
 //! What happens in a world.
 ghost use Rattle.std.specs.Prelude.{◌≡◌, ◌<◌, Option, Some, None, IfOk, OnOk};
-ghost use Rattle.csi_orchestrator.specs.Model.Moves.{Restarts};
+ghost use Rattle.csi_types.specs.Model.Frame.{Frame as FrameParts};
+ghost use Rattle.csi_frames.specs.Public.Decoding.{BeginsWithFrame};
+ghost use Rattle.csi_frames.specs.Public.Spelling.{Spells};
+ghost use Rattle.csi_orchestrator.specs.Model.Moves.{ToCreate, ToUse, ToStop, ToDelete, Comes};
 ghost use Rattle.csi_world.specs.Model.World.{World};
 ghost use Rattle.csi_world.specs.Model.After.{orchestrated, called, delivered, delivered_body, frame_numbered, occurs};
 ghost use Rattle.csi_world.specs.Model.Simulated.{ShowsWorld};
@@ -9,12 +12,15 @@ ghost use Rattle.csi_world.specs.Private.Settling.{IsOfOneMake};
 ghost use Rattle.csi_world.specs.Private.Simulating.{Does, IsLogged};
 ghost use Rattle.csi_world.specs.Public.System.{world_parts};
 
-use crate::carrying::carried;
+use crate::carrying::{memory_of, write};
 use crate::outcomes::Outcome;
-use crate::plugins::{copied_ids, place_of, step_controller, step_node};
-use crate::sending::{answered, frame_of, settled, settled_reply, settled_restart};
+use crate::plugins::{place_of, step_controller, step_node};
+use crate::sending::{frame_of, settled, settled_reply};
 use crate::system::System;
-use csi_types::{Body, CapabilityList, Event, Frame, NoMemory, NodeId, Party};
+use csi_frames::decode;
+use csi_types::{
+    Body, Capability, CapabilityList, Event, Frame, Name, NoMemory, NodeId, Party, Target,
+};
 
 // A copy of these capabilities.
 fn copied(capabilities: &CapabilityList) -> Result<CapabilityList, NoMemory>
@@ -30,18 +36,21 @@ impl System {
         ensures make { OnOk result (IsOfOneMake (world_parts self.old) (world_parts self.new)) }
     {
         match frame.party() {
-            Party::Controller => {
-                let reply = step_controller(&mut self.controller, frame)?;
-                answered(&mut self.frames, reply)
-            }
+            Party::Controller => step_controller(&mut self.controller, &mut self.frames, frame),
             Party::Node(id) => match place_of(&self.nodes, id) {
-                Some(place) => {
-                    let reply = step_node(&mut self.nodes[place], frame)?;
-                    answered(&mut self.frames, reply)
-                }
+                Some(place) => step_node(&mut self.nodes[place], &mut self.frames, frame),
                 None => Ok(Outcome::NoSuchNode),
             },
         }
+    }
+
+    // A reply comes to the orchestrator.
+    fn hear(&mut self, frame: &Frame) -> Result<Outcome, NoMemory>
+        ensures does { Does (world_parts self.old) (world_parts self.new) result (λ world. orchestrated world (Comes frame.now)) }
+        ensures make { OnOk result (IsOfOneMake (world_parts self.old) (world_parts self.new)) }
+    {
+        csi_orchestrator::form_law();
+        settled_reply(&mut self.frames, self.orchestrator.deliver(frame))
     }
 
     // A frame comes to its plugin or to the orchestrator.
@@ -49,10 +58,21 @@ impl System {
         ensures does { Does (world_parts self.old) (world_parts self.new) result (λ world. delivered_body world frame.now frame.now.body) }
         ensures make { OnOk result (IsOfOneMake (world_parts self.old) (world_parts self.new)) }
     {
-        csi_orchestrator::form_law();
         match frame.body() {
             Body::Call(_) => self.call(frame),
-            Body::Reply(..) => settled_reply(&mut self.frames, self.orchestrator.deliver(frame)),
+            Body::Reply(..) => self.hear(frame),
+        }
+    }
+
+    // The frame that the bytes spell comes.
+    fn receive(&mut self, bytes: &[u8]) -> Result<Outcome, NoMemory>
+        requires { BeginsWithFrame bytes.now }
+        ensures does { (frame : FrameParts) → Spells frame bytes.now → Does (world_parts self.old) (world_parts self.new) result (λ world. delivered_body world frame frame.body) }
+        ensures make { OnOk result (IsOfOneMake (world_parts self.old) (world_parts self.new)) }
+    {
+        match decode(self.alloc, bytes) {
+            Ok(read) => self.take(&read.0),
+            Err(fault) => Err(memory_of(fault)),
         }
     }
 
@@ -64,71 +84,99 @@ impl System {
     {
         match frame_of(&self.frames, number) {
             Some(sent) => {
-                let frame = carried(self.alloc, bytes, sent)?;
-                let outcome = self.take(&frame);
-                drop(frame);
-                outcome
+                write(sent, bytes)?;
+                self.receive(bytes)
             }
             None => Ok(Outcome::NoSuchFrame),
         }
     }
 
-    // The orchestrator restarts with these nodes.
-    fn restart_orchestrator(&mut self, nodes: Vec<NodeId>) -> Result<Outcome, NoMemory>
-        ensures { Does (world_parts self.old) (world_parts self.new) result (λ world. orchestrated world (Restarts nodes.items)) }
+    // A volume is asked for.
+    fn create(
+        &mut self,
+        name: &Name,
+        required: u64,
+        limit: u64,
+        capabilities: &CapabilityList,
+    ) -> Result<Outcome, NoMemory>
+        ensures { Does (world_parts self.old) (world_parts self.new) result (λ world.
+            orchestrated world (ToCreate name.now (record { required = required; limit = limit; capabilities = capabilities.now }))) }
     {
         csi_orchestrator::form_law();
-        settled_restart(self.orchestrator.restart(nodes))
+        let name = name.clone()?;
+        let capabilities = copied(capabilities)?;
+        let answer = self
+            .orchestrator
+            .create(name, required, limit, capabilities);
+        settled(&mut self.frames, answer)
     }
 
-    // What comes of an event, which isn't logged yet. Only what the orchestrator keeps of it is copied.
+    // A use of a volume is asked for.
+    fn use_at(
+        &mut self,
+        name: &Name,
+        node: &NodeId,
+        target: &Target,
+        capability: &Capability,
+        readonly: bool,
+    ) -> Result<Outcome, NoMemory>
+        ensures { Does (world_parts self.old) (world_parts self.new) result (λ world.
+            orchestrated world (ToUse name.now (record { node = node.now; target = target.now; capability = capability.now; readonly = readonly }))) }
+    {
+        csi_orchestrator::form_law();
+        let node = node.clone()?;
+        let target = target.clone()?;
+        let capability = capability.clone()?;
+        let answer = self
+            .orchestrator
+            .use_at(name, node, target, capability, readonly);
+        settled(&mut self.frames, answer)
+    }
+
+    // The end of a use is asked for.
+    fn stop(&mut self, name: &Name, node: &NodeId, target: &Target) -> Result<Outcome, NoMemory>
+        ensures { Does (world_parts self.old) (world_parts self.new) result (λ world. orchestrated world (ToStop name.now node.now target.now)) }
+    {
+        csi_orchestrator::form_law();
+        let node = node.clone()?;
+        let target = target.clone()?;
+        let answer = self.orchestrator.stop(name, node, target);
+        settled(&mut self.frames, answer)
+    }
+
+    // A volume is to be deleted.
+    fn delete(&mut self, name: &Name) -> Result<Outcome, NoMemory>
+        ensures { Does (world_parts self.old) (world_parts self.new) result (λ world. orchestrated world (ToDelete name.now)) }
+    {
+        csi_orchestrator::form_law();
+        settled(&mut self.frames, self.orchestrator.delete(name))
+    }
+
+    // What comes of an event, which isn't logged yet. Only what the orchestrator keeps of it is copied. Each kind has a function of its
+    // own, so that an event pays for the values that its own kind holds, and for no others.
     fn outcome_of(&mut self, bytes: &mut Vec<u8>, event: &Event) -> Result<Outcome, NoMemory>
         ensures { Does (world_parts self.old) (world_parts self.new) result (λ world. occurs world event.now) }
     {
-        csi_orchestrator::form_law();
-        let orchestrator = &mut self.orchestrator;
-        let frames = &mut self.frames;
         match event {
             Event::Create {
                 name,
                 required,
                 limit,
                 capabilities,
-            } => {
-                let name = name.clone()?;
-                let capabilities = copied(capabilities)?;
-                let answer = orchestrator.create(name, *required, *limit, capabilities);
-                settled(frames, answer)
-            }
+            } => self.create(name, *required, *limit, capabilities),
             Event::Use {
                 name,
                 node,
                 target,
                 capability,
                 readonly,
-            } => {
-                let node = node.clone()?;
-                let target = target.clone()?;
-                let capability = capability.clone()?;
-                let answer = orchestrator.use_at(name, node, target, capability, *readonly);
-                settled(frames, answer)
-            }
-            Event::Stop { name, node, target } => {
-                let node = node.clone()?;
-                let target = target.clone()?;
-                settled(frames, orchestrator.stop(name, node, target))
-            }
-            Event::Delete(name) => settled(frames, orchestrator.delete(name)),
-            Event::Timeout(name) => settled(frames, orchestrator.timeout(name)),
+            } => self.use_at(name, node, target, capability, *readonly),
+            Event::Stop { name, node, target } => self.stop(name, node, target),
+            Event::Delete(name) => self.delete(name),
+            Event::Timeout(name) => self.outcome_of_timeout(name),
             Event::Deliver(number) => self.deliver(bytes, *number),
-            Event::RestartOrchestrator => {
-                let nodes = copied_ids(self.alloc, self.orchestrator.nodes())?;
-                self.restart_orchestrator(nodes)
-            }
-            Event::RestartOrchestratorWith(nodes) => {
-                let nodes = copied_ids(self.alloc, nodes.as_slice())?;
-                self.restart_orchestrator(nodes)
-            }
+            Event::RestartOrchestrator => self.restart_orchestrator(),
+            Event::RestartOrchestratorWith(nodes) => self.restart_orchestrator_with(nodes),
             Event::RestartController => self.restart_controller(),
             Event::RestartControllerWith(config) => self.restart_controller_with(config),
             Event::RestartNode(id) => self.restart_node(id),

@@ -3,8 +3,10 @@ ghost use Rattle.std.specs.Prelude.{◌≡◌, find, map, position, IfOk};
 ghost use Rattle.std.specs.Option.{option_copied};
 ghost use Rattle.csi_types.specs.Model.Same.{same_text};
 ghost use Rattle.csi_world.specs.Model.World.{node_id};
-ghost use Rattle.csi_world.specs.Private.Simulating.{ControllerDoes, NodeDoes, IsSameController, IsSameNode, new_node_parts};
+ghost use Rattle.csi_world.specs.Private.Simulating.{ControllerReplies, NodeReplies, IsSameController, IsSameNode, new_node_parts};
 
+use crate::outcomes::Outcome;
+use crate::sending::answered;
 use csi_controller::{Controller, ControllerRecord};
 use csi_node::Node;
 use csi_types::{Config, Frame, NoMemory, NodeId, NodeSlots};
@@ -75,27 +77,33 @@ pub(crate) fn node_of<'a>(nodes: &'a [Node], id: &NodeId) -> Option<&'a Node>
     }
 }
 
-/// Lets the controller answer a frame.
+/// Lets the controller answer a frame, and sends its reply, if there is one.
 pub(crate) fn step_controller(
     controller: &mut Controller,
+    frames: &mut Vec<Frame>,
     frame: &Frame,
-) -> Result<Option<Frame>, NoMemory>
-    ensures { IfOk result (ControllerDoes controller.old controller.new frame.now) }
+) -> Result<Outcome, NoMemory>
+    ensures { IfOk result (ControllerReplies controller.old controller.new frames.old.items frames.new.items frame.now) }
 {
-    let Ok(reply) = controller.step(frame) else {
-        return Err(NoMemory);
-    };
-    Ok(reply)
+    match controller.step(frame) {
+        Ok(reply) => answered(frames, reply),
+        Err(_) => Err(NoMemory),
+    }
 }
 
-/// Lets a node answer a frame.
-pub(crate) fn step_node(node: &mut Node, frame: &Frame) -> Result<Option<Frame>, NoMemory>
-    ensures { IfOk result (NodeDoes node.old node.new frame.now) }
+/// Lets a node answer a frame, and sends its reply, if there is one.
+pub(crate) fn step_node(
+    node: &mut Node,
+    frames: &mut Vec<Frame>,
+    frame: &Frame,
+) -> Result<Outcome, NoMemory>
+    ensures replies { IfOk result (NodeReplies node.old node.new frames.old.items frames.new.items frame.now) }
+    ensures id { node.new.id ≡ node.old.id }
 {
-    let Ok(reply) = node.step(frame) else {
-        return Err(NoMemory);
-    };
-    Ok(reply)
+    match node.step(frame) {
+        Ok(reply) => answered(frames, reply),
+        Err(_) => Err(NoMemory),
+    }
 }
 
 /// The controller of this record, under a copy of the configuration.

@@ -41,8 +41,8 @@ impl System {
         is_wanted(&self.orchestrator, name) && sent < self.frames.len() as u64
     }
 
-    // What comes of a timeout of the volume, which isn't logged yet.
-    fn outcome_of_timeout(&mut self, name: &Name) -> Result<Outcome, NoMemory>
+    /// What comes of a timeout of the volume, which isn't logged yet.
+    pub(crate) fn outcome_of_timeout(&mut self, name: &Name) -> Result<Outcome, NoMemory>
         ensures does { Does (world_parts self.old) (world_parts self.new) result (λ world. occurs world (Timeout name.now)) }
         ensures make { OnOk result (IsOfOneMake (world_parts self.old) (world_parts self.new)) }
     {

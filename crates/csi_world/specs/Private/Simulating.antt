@@ -60,6 +60,18 @@ pub record NodeDoes (old new : NodeParts) (frame : Frame) (reply : Option Frame)
   pub replies : (state : NodeState) → NodeShows old state → reply ≡ (node.fenced old.id state frame).reply
   pub state : (state : NodeState) → NodeShows old state → NodeShows new (node.fenced old.id state frame).state
 
+-- a controller's reply to a frame is sent, if there is one
+pub record ControllerReplies (old new : ControllerParts) (sent posted : List Frame) (frame : Frame) (outcome : Outcome) : Type 0 where
+  pub reply : Option Frame
+  pub does : ControllerDoes old new frame reply
+  pub posts : IsReplySent sent posted reply outcome
+
+-- a node's reply to a frame is sent, if there is one
+pub record NodeReplies (old new : NodeParts) (sent posted : List Frame) (frame : Frame) (outcome : Outcome) : Type 0 where
+  pub reply : Option Frame
+  pub does : NodeDoes old new frame reply
+  pub posts : IsReplySent sent posted reply outcome
+
 -- a controller is as it was to its callers, but for its configuration, which is this
 pub record IsSameController (given : Config) (old new : ControllerParts) : Type 0 where
   pub config : new.config ≡ given

@@ -3,7 +3,7 @@ use Rattle.std.proofs.Common.{refl}
 use Rattle.csi_orchestrator.specs.Model.Moves.{Restarts, Restarted}
 use Rattle.csi_world.specs.Public.System.{world_parts}
 use Rattle.csi_world.proofs.SystemInputs.{input-becomes}
-use Rattle.csi_world.proofs.system.System.restart_orchestrator.Goals as goal
+use Rattle.csi_world.proofs.system.System.begin_session.Goals as goal
 
 pub returns : goal.returns
 returns c =
