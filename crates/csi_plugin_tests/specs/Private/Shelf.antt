@@ -57,7 +57,7 @@ is_delete _ = false
 
 -- no volume can be made
 abbrev pub is_full : ℕ → List ShelfRow → Bool
-is_full next rows = nat_le MAX_ROWS (length rows) || (next == 0) || nat_le (2 ^ 64 - 1) next
+is_full next rows = nat_le MAX_ROWS (length rows) || ((next == 0) || nat_le (2 ^ 64 - 1) next)
 
 -- the row of a volume that is made
 abbrev pub made_row : Number → Kind → ℕ → List ℕ → ShelfRow

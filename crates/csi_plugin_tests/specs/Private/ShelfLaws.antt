@@ -1,12 +1,14 @@
 -- The laws of the small plugin's table.
 use Rattle.std.proofs.Common.{◌≡◌, ℕ, ◌<◌, zero, suc, List, [], ◌∷◌, length, Bool, true, false, cond, refl, sym, ap, arith}
-use Rattle.std.specs.Prelude.{Some, None, find, slice_get, ◌==◌, codes}
+use Rattle.std.specs.Prelude.{Some, None, find, slice_get, ◌==◌, ◌||◌, ◌-◌, ◌^◌, nat_le, codes}
 use Rattle.std.specs.List.{AllByRecursion}
-use Rattle.std.proofs.lemmas.Bool.Decides.{nat_tests}
+use Rattle.std.proofs.lemmas.Bool.{leb-false, ne_eqb}
 use Rattle.std.proofs.lemmas.List.Elements.{recursion_from_All}
 use Rattle.csi_lists.specs.Public.Places.{AtMostOne, IsAt}
+use Rattle.csi_lists.proofs.Members.{each_of}
 use Rattle.csi_lists.proofs.Options.{some_is_not_none}
 use Rattle.csi_lists.proofs.Places.{AtMostOne-set}
+use Rattle.csi_lists.proofs.Searches.{find-none}
 use Rattle.csi_types.specs.declared.call.Kind.{Kind}
 use Rattle.csi_types.specs.declared.number.Number.{Number}
 use Rattle.csi_types.specs.declared.status.Status.TheVariants.{ResourceExhausted}
@@ -17,7 +19,7 @@ use Rattle.csi_fence.specs.Public.Rows.{AreRising, Answered, Made}
 use Rattle.csi_fence.specs.Public.Table.{IsOrderly, LetsKeep, HasOneRow}
 use Rattle.csi_fence.proofs.RisingRows.{once-rise, rows_rise}
 use Rattle.csi_plugin_tests.specs.declared.shelf.ShelfRow.{ShelfRow}
-use Rattle.csi_plugin_tests.specs.Private.Shelf.{shelf, IsSound, HaveNames, Key, Named, Given, key_of, absent, is_for, is_full, made_row}
+use Rattle.csi_plugin_tests.specs.Private.Shelf.{shelf, IsSound, HaveNames, Key, Named, Given, key_of, absent, is_for, made_row}
 
 -- what is got at a place stands there
 pub got-at : {X : Type 0} (xs : List X) (place : ℕ) (x : X) → slice_get xs place ≡ Some x → IsAt xs place x
@@ -46,18 +48,19 @@ pub record IsMadeBy (own : ℕ) (rows : List ShelfRow) (number : Number) (kind :
 
 -- and no other way
 pub made-by : (own : ℕ) (rows : List ShelfRow) (number : Number) (kind : Kind) (key : Key) (row : ShelfRow) → absent own rows number kind key ≡ Made row → IsMadeBy own rows number kind key row
-made-by own rows number kind (Named name) row h = by (is_full own rows) refl h
+made-by own rows number kind (Named name) row h = by (nat_le 4096 (length rows)) refl ((own == 0) || nat_le (2 ^ 64 - 1) own) h
   where
-    by : (b : Bool) → is_full own rows ≡ b → cond b (Answered (plain_reply ResourceExhausted (codes "volumes"))) (Made (made_row number kind own name)) ≡ Made row
-        → IsMadeBy own rows number kind (Named name) row
-    by true full e = cc
-    by false room e = record { name = name; is_named = refl; is_row = cc; few = grind (arith, nat_tests, room) }
+    by : (full : Bool) → nat_le 4096 (length rows) ≡ full → (given : Bool)
+        → cond (full || given) (Answered (plain_reply ResourceExhausted (codes "volumes"))) (Made (made_row number kind own name)) ≡ Made row → IsMadeBy own rows number kind (Named name) row
+    by true is given e = cc
+    by false is true e = cc
+    by false is false e = record { name = name; is_named = refl; is_row = cc; few = leb-false 4096 (length rows) is }
 made-by own rows number kind (Given id) row h = cc
 
 -- the next id is above all
 next-new : (own id : ℕ) (rows : List ShelfRow) → own ≡ id → AllByRecursion (IsSound own) rows → find (λ (other : ShelfRow). other.id == id) rows ≡ None
-next-new own id [] same sound = refl
-next-new own id (row ∷ rows) same sound = grind (arith, nat_tests, sound.0.below, same, next-new own id rows same sound.1)
+next-new own id rows same sound =
+    find-none (λ (other : ShelfRow). other.id == id) rows (λ other among. ne_eqb other.id id (λ own_id. let lower = (each_of (IsSound own) rows other sound among).below in omega (arith, lower, same, own_id)))
 
 -- what is made keeps the rules, and is new
 pub orderly : IsOrderly shelf IsSound
