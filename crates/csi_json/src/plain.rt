@@ -36,12 +36,10 @@ fn delivery(value: &Value<'_>) -> Option<u64>
     plain_number(text)
 }
 
-fn read_event(alloc: Global, value: &Value<'_>) -> Result<Event, Flaw>
+// An event that is no delivery.
+fn read_other(alloc: Global, value: &Value<'_>) -> Result<Event, Flaw>
     ensures { IfOk result (λ event. event_in value.now ≡ Some event) }
 {
-    if let Some(number) = delivery(value) {
-        return Ok(Event::Deliver(number));
-    }
     match usual_command(alloc, value) {
         Err(Flaw::Bad) => {}
         read => return read,
@@ -50,13 +48,16 @@ fn read_event(alloc: Global, value: &Value<'_>) -> Result<Event, Flaw>
     event(alloc, &value)
 }
 
+// A delivery, of which most events are, is put into its place at once.
 fn read_events(alloc: Global, items: &[Value<'_>]) -> Result<Vec<Event>, Flaw>
     ensures { IfOk result (λ list. map event_in items.now ≡ map Some list.items) }
 {
     let mut list = Vec::with_capacity(alloc, items.len())?;
     for item in items {
-        let event = read_event(alloc, item)?;
-        list.push(event)?;
+        match delivery(item) {
+            Some(number) => list.push(Event::Deliver(number))?,
+            None => list.push(read_other(alloc, item)?)?,
+        }
     }
     Ok(list)
 }

@@ -7,8 +7,8 @@ use csi_frames::{FrameFault, encode};
 use csi_types::{Frame, NoMemory};
 
 /// Want of memory: bytes that spell a frame have no other fault.
-pub(crate) fn memory_of(_fault: FrameFault) -> NoMemory
-    requires { _fault ≡ no_memory }
+pub(crate) fn memory_of(_fault: &FrameFault) -> NoMemory
+    requires { _fault.now ≡ no_memory }
 {
     NoMemory
 }

@@ -26,7 +26,10 @@ use csi_types::{
 fn copied(capabilities: &CapabilityList) -> Result<CapabilityList, NoMemory>
     ensures { IfOk result (λ copy. copy ≡ capabilities.now) }
 {
-    Ok(capabilities.clone()?)
+    match capabilities.clone() {
+        Ok(copy) => Ok(copy),
+        Err(_) => Err(NoMemory),
+    }
 }
 
 impl System {
@@ -70,7 +73,8 @@ impl System {
         ensures does { (frame : FrameParts) → Spells frame bytes.now → Does (world_parts self.old) (world_parts self.new) result (λ world. delivered_body world frame frame.body) }
         ensures make { OnOk result (IsOfOneMake (world_parts self.old) (world_parts self.new)) }
     {
-        match decode(self.alloc, bytes) {
+        let decoded = decode(self.alloc, bytes);
+        match &decoded {
             Ok(read) => self.take(&read.0),
             Err(fault) => Err(memory_of(fault)),
         }
@@ -92,6 +96,7 @@ impl System {
     }
 
     // A volume is asked for.
+    #[inline(never)]
     fn create(
         &mut self,
         name: &Name,
@@ -104,14 +109,18 @@ impl System {
     {
         csi_orchestrator::form_law();
         let name = name.clone()?;
-        let capabilities = copied(capabilities)?;
-        let answer = self
-            .orchestrator
-            .create(name, required, limit, capabilities);
-        settled(&mut self.frames, answer)
+        match copied(capabilities) {
+            Ok(capabilities) => {
+                let orchestrator = &mut self.orchestrator;
+                let answer = orchestrator.create(name, required, limit, capabilities);
+                settled(&mut self.frames, answer)
+            }
+            Err(NoMemory) => Err(NoMemory),
+        }
     }
 
     // A use of a volume is asked for.
+    #[inline(never)]
     fn use_at(
         &mut self,
         name: &Name,
@@ -134,6 +143,7 @@ impl System {
     }
 
     // The end of a use is asked for.
+    #[inline(never)]
     fn stop(&mut self, name: &Name, node: &NodeId, target: &Target) -> Result<Outcome, NoMemory>
         ensures { Does (world_parts self.old) (world_parts self.new) result (λ world. orchestrated world (ToStop name.now node.now target.now)) }
     {
@@ -145,6 +155,7 @@ impl System {
     }
 
     // A volume is to be deleted.
+    #[inline(never)]
     fn delete(&mut self, name: &Name) -> Result<Outcome, NoMemory>
         ensures { Does (world_parts self.old) (world_parts self.new) result (λ world. orchestrated world (ToDelete name.now)) }
     {

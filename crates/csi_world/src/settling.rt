@@ -42,6 +42,7 @@ impl System {
     }
 
     /// What comes of a timeout of the volume, which isn't logged yet.
+    #[inline(never)]
     pub(crate) fn outcome_of_timeout(&mut self, name: &Name) -> Result<Outcome, NoMemory>
         ensures does { Does (world_parts self.old) (world_parts self.new) result (λ world. occurs world (Timeout name.now)) }
         ensures make { OnOk result (IsOfOneMake (world_parts self.old) (world_parts self.new)) }
