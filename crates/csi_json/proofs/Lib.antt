@@ -4,6 +4,7 @@ pub mod ReadLists
 pub mod ReadEvents
 pub mod PlainTexts
 pub mod PlainSchedules
+pub mod EventTokens
 pub mod UsualCommands
 pub mod HexTexts
 pub mod LineTexts

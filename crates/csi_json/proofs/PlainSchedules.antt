@@ -1,15 +1,18 @@
 -- Values of JSON that borrow their texts, read as the parts of a schedule.
-use Rattle.std.proofs.Common.{◌≡◌, ℕ, suc, ◌≤◌, List, [], ◌∷◌, length, map, get_or, Global, Vec, Bor, refl, sym, ap, ap₂, ◌∙◌, arith, le-ltb, true, rules}
+use Rattle.std.proofs.Common.{◌≡◌, ℕ, suc, ◌-◌, ◌<◌, ◌≤◌, List, [], ◌∷◌, length, map, get_or, Global, Vec, Bor, refl, sym, ap, ap₂, ◌∙◌, arith, le-ltb, true, rules}
+use Rattle.std.proofs.lemmas.List.{length-map}
 use Rattle.std.specs.Prelude.{Option, Some, None, option_and_then, Ok, codes, IfSome}
 use Rattle.std.specs.Str.{bytes_eq}
 use Rattle.std.proofs.lemmas.Slice.Eq.{bytes_eq-Decides}
-use Rattle.json.specs.Token.{Token}
+use Rattle.json.specs.Token.{Token, begin_array, begin_object}
 use Rattle.json.specs.Json as json
+use Rattle.json.specs.Json.{read_key}
 use Rattle.json.specs.Lex.{tokens}
 use Rattle.json.specs.Value.{value_view, items_view as items_seen, members_view as members_seen}
 use Rattle.json.specs.declared.value.Value.{Value, the_lemmas}
-use Rattle.json.specs.declared.value.Value.TheVariants.{Number, Array, Object}
-use Rattle.json.proofs.Trees.{view-Array, view-Object}
+use Rattle.json.specs.declared.value.Value.TheVariants.{Number, Object}
+use Rattle.json.proofs.Trees.{view-Object}
+use Rattle.json.proofs.Grammar.{read_key-shorter, value-begin_array, value-begin_object, members_end, members_more}
 use Rattle.serde_json.specs.Data.{Data, Items, no_items, item, unsigned}
 use Rattle.serde_json.specs.Read.{number_of as number_in, of_json, of_items, read}
 use Rattle.csi_types.specs.Model.Config.{Config}
@@ -18,7 +21,7 @@ use Rattle.csi_types.specs.declared.event.Event.TheVariants.{Deliver}
 use Rattle.csi_json.specs.Public.Json.{number_of, sized_object, list_of, items_in, read_all}
 use Rattle.csi_json.specs.Public.Configs.{config_of}
 use Rattle.csi_json.specs.Public.Events.{event_of, event_at, deliver_of}
-use Rattle.csi_json.specs.Private.Plain.{event_in, config_of_value}
+use Rattle.csi_json.specs.Private.Plain.{event_in, SaysConfig, SaysEvents, SaysSchedule}
 use Rattle.csi_json.specs.Public.Schedule.{Schedule, config_and_events, events_of, schedule_read, text_schedule}
 use Rattle.csi_json.proofs.OwnedValues.{Member}
 
@@ -94,34 +97,37 @@ unfolding config_and_events sized_object list_of events_of
 schedule_of_two c js d ds config es one made list read few = rw (one, list) (rw (made) (rw (le-ltb _ _ few) (rw read refl)))
 
 -- an object with a configuration and then events
-pub both : (value : Value Global) (members : Vec Member Global) (items : Vec (Value Global) Global) (m n o p : Member) (config : Config) (es : List Event)
-    → value ≡ Object members → length members.items ≡ 2 → m ≡ get_or members.items 0 m → n ≡ get_or members.items 1 n → o ≡ get_or members.items 1 o → p ≡ get_or members.items 0 p
-    → bytes_eq m.0.now (codes "config") ≡ true → bytes_eq n.0.now (codes "events") ≡ true → o.1 ≡ Array items → length items.items ≤ 100000 → config_of_value p.1 ≡ Some config
-    → map event_in items.items ≡ map Some es → schedule_read (of_json (value_view value)) ≡ Ok (record { config = config; events = es })
-both value members items m n o p config es is two m_is n_is o_is p_is config_key events_key inner few made events =
-    let parts = only members.items two m_is n_is o_is p_is in
-    let config_named : p.0.now ≡ codes "config" = ap (λ x. x.0.now) (sym parts.1) ∙ (bytes_eq-Decides m.0.now (codes "config")).0 config_key in
-    let events_named : o.0.now ≡ codes "events" = ap (λ x. x.0.now) (sym parts.2) ∙ (bytes_eq-Decides n.0.now (codes "events")).0 events_key in
-    let seen : value_view value ≡ json.object (members_seen (p ∷ o ∷ [])) = ap value_view is ∙ view-Object members ∙ ap (λ ms. json.object (members_seen ms)) parts.0 in
-    let listed : value_view o.1 ≡ json.array (items_seen items.items) = ap value_view inner ∙ view-Array items in
-    let plain : value_view value ≡ json.object (json.member (codes "config") (value_view p.1) (json.member (codes "events") (json.array (items_seen items.items)) json.no_members)) =
-    seen ∙ (λ k. json.object (json.member (config_named k) (value_view p.1) (json.member (events_named k) (listed k) json.no_members))) in
-    let d = inside config_of (of_json (value_view p.1)) config made in
-    let ds = all_events items.items es 1 events in
-    ap (λ j. schedule_read (of_json j)) plain ∙ schedule_of_two (value_view p.1) (items_seen items.items) d.0 ds.0 config es d.1 d.2 ds.1 ds.2 (omega (arith, ds.3, few))
+pub said : (ts s t u v w x rest : List Token) (config : Config) (es : List Event) → ts ≡ begin_object ∷ s → read_key s ≡ Some (Some (codes "config"), t) → SaysConfig t config u
+    → read_key u ≡ Some (Some (codes "events"), v) → v ≡ begin_array ∷ w → SaysEvents w es x → read_key x ≡ Some (None, rest) → SaysSchedule ts (record { config = config; events = es }) rest
+said ts s t u v w x rest config es brace first one second bracket many end =
+    let listed = json.array (items_seen many.values) in
+    let configured = value_view one.value in
+    let n = length s in
+    let shorter_t : length t < n = read_key-shorter s (Some (codes "config")) t first in
+    let shorter_v : length v < length u = read_key-shorter u (Some (codes "events")) v second in
+    let opened : length v ≡ suc (length w) = ap length bracket in
+    let lists : json.value 126 v ≡ Some (listed, x) = ap (json.value 126) bracket ∙ value-begin_array 126 w (omega arith) ∙ ap (json.parse_map json.array) many.read in
+    let ends : json.members (json.value 126) (n - 1 - 1) x ≡ Some (json.no_members, rest) = members_end (json.value 126) (n - 1 - 1) x rest (omega (arith, shorter_t, one.shorter, shorter_v, opened, many.shorter)) end in
+    let later : json.members (json.value 126) (n - 1) u ≡ Some (json.member (codes "events") listed json.no_members, rest) =
+    members_more (json.value 126) (n - 1) (codes "events") u v x listed (omega (arith, shorter_t, one.shorter, shorter_v, opened)) second lists ∙ ap (json.parse_map (json.member (codes "events") listed)) ends in
+    let all : json.members (json.value 126) n s ≡ Some (json.member (codes "config") configured (json.member (codes "events") listed json.no_members), rest) =
+    members_more (json.value 126) n (codes "config") s t u configured (omega (arith, shorter_t)) first one.read ∙ ap (json.parse_map (json.member (codes "config") configured)) later in
+    let d = inside config_of (of_json configured) config one.is in
+    let ds = all_events many.values es 1 many.are in
+    record {
+      value = json.object (json.member (codes "config") configured (json.member (codes "events") listed json.no_members));
+      read = ap (json.value 127) brace ∙ value-begin_object 127 s (omega arith) ∙ ap (json.parse_map json.object) all;
+      is = schedule_of_two configured (items_seen many.values) d.0 ds.0 config es d.1 d.2 ds.1 ds.2 (omega (arith, ds.3, counted many.values es many.are, many.few));
+    }
   where
-    only : (ms : List Member) → length ms ≡ 2 → m ≡ get_or ms 0 m → n ≡ get_or ms 1 n → o ≡ get_or ms 1 o → p ≡ get_or ms 0 p → (ms ≡ p ∷ o ∷ []) × (m ≡ p) × (n ≡ o)
-    only [] two m_is n_is o_is p_is = absurd (omega arith)
-    only (x ∷ []) two m_is n_is o_is p_is = absurd (omega arith)
-    only (x ∷ y ∷ []) two m_is n_is o_is p_is = (ap₂ (λ a b. a ∷ b ∷ []) (sym p_is) (sym o_is), m_is ∙ sym p_is, n_is ∙ sym o_is)
-    only (x ∷ y ∷ z ∷ ms) two m_is n_is o_is p_is = absurd (omega arith)
+    counted : (xs : List (Value Global)) (es : List Event) → map event_in xs ≡ map Some es → length xs ≡ length es
+    counted xs es h = sym (length-map xs event_in) ∙ ap length h ∙ length-map es Some
 
 -- ---- a text
 
 -- a text that is one value, with nothing behind it, is read as it
-pub text_is : (text : List ℕ) (value : Value Global) (rest : List Token) (schedule : Schedule) → json.value 127 (tokens text) ≡ Some (value_view value, rest) → rest ≡ []
-    → schedule_read (of_json (value_view value)) ≡ Ok schedule → text_schedule text ≡ Ok schedule
-text_is text value rest schedule h none is = ap schedule_read whole ∙ is
+pub text_is : (text : List ℕ) (rest : List Token) (schedule : Schedule) → SaysSchedule (tokens text) schedule rest → rest ≡ [] → text_schedule text ≡ Ok schedule
+text_is text rest schedule says none = ap schedule_read whole ∙ says.is
   where
-    whole : read text ≡ of_json (value_view value)
-    whole = rw (h, none) refl
+    whole : read text ≡ of_json says.value
+    whole = rw (says.read, none) refl
