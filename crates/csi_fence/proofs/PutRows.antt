@@ -6,7 +6,10 @@ use Rattle.std.proofs.lemmas.Bool.{eqb-true, ltb-true}
 use Rattle.std.proofs.lemmas.Bool.Decides.{nat_tests}
 use Rattle.std.proofs.lemmas.List.Elements.{All-from_recursion, recursion_from_All}
 use Rattle.csi_lists.specs.Model.Members.{EachTwo}
+use Rattle.csi_lists.specs.Public.Places.{AtMostOne}
 use Rattle.csi_lists.proofs.Each.{each-weaker}
+use Rattle.csi_lists.proofs.Options.{some_is_not_none}
+use Rattle.csi_lists.proofs.Searches.{find-missed}
 use Rattle.csi_fence.specs.Public.Rows.{AreRising, IsGapFor, IsPlaceOf, id_of, put_row}
 use Rattle.csi_fence.proofs.RisingRows.{IsBefore, rise-rows, rows_rise}
 
@@ -148,6 +151,34 @@ module _ {S : Type 0} (id : S → ℕ) where
   -- the same, by places
   pub put-rising : (new : S) (rows : List S) → AreRising id rows → AreRising id (put_row id new rows)
   put-rising new rows rising = rise-rows id (put_row id new rows) (put-rise new rows (rows_rise id rows rising))
+
+  -- where the row doesn't pass, and none passes, none passes then
+  put-none : (q : S → Bool) (new : S) (rows : List S) → q new ≡ false → find q rows ≡ None → find q (put_row id new rows) ≡ None
+  put-none q new [] misses none = rw misses refl
+  put-none q new (row ∷ rows) misses none =
+      let parts = find-missed (q row) row (find q rows) none in
+      by parts (put-none q new rows misses parts.1) (nat_lt (id row) (id new)) (id row == id new)
+    where
+      by : (q row ≡ false) × (find q rows ≡ None) → find q (put_row id new rows) ≡ None
+          → (b c : Bool) → find q (cond b (row ∷ put_row id new rows) (cond c (new ∷ rows) (new ∷ row ∷ rows))) ≡ None
+      by parts rest true c = rw (parts.0) rest
+      by parts rest false true = rw misses (parts.1)
+      by parts rest false false = rw misses (rw (parts.0) (parts.1))
+
+  -- where the row passes only if none did, at most one passes still
+  pub put-one : (q : S → Bool) (new : S) (rows : List S) → AtMostOne q rows → (q new ≡ true → find q rows ≡ None) → AtMostOne q (put_row id new rows)
+  put-one q new [] one none = (λ e. refl, tt)
+  put-one q new (row ∷ rows) one none =
+      by (put-one q new rows one.1 (λ e. (find-missed (q row) row (find q rows) (none e)).1)) (nat_lt (id row) (id new)) (id row == id new)
+    where
+      other : q row ≡ true → (b : Bool) → q new ≡ b → find q (put_row id new rows) ≡ None
+      other e true own = absurd (some_is_not_none row (ap (λ (b : Bool). cond b (Some row) (find q rows)) (sym e) ∙ none own))
+      other e false own = put-none q new rows own (one.0 e)
+
+      by : AtMostOne q (put_row id new rows) → (b c : Bool) → AtMostOne q (cond b (row ∷ put_row id new rows) (cond c (new ∷ rows) (new ∷ row ∷ rows)))
+      by rest true c = (λ e. other e (q new) refl, rest)
+      by rest false true = (λ e. (find-missed (q row) row (find q rows) (none e)).1, one.1)
+      by rest false false = (none, one)
 
   -- a row that is there takes its own place
   pub put-limit : (new : S) (rows : List S) (most : ℕ) → AreRising id rows → length rows ≤ most → (row_of (id new) rows ≡ None → length rows < most) → length (put_row id new rows) ≤ most

@@ -1,12 +1,12 @@
 -- The call's row where it is found among rows, and among those that stay.
-use Rattle.std.proofs.Common.{◌≡◌, ◌<◌, ℕ, Bool, true, false, cond, not, List, map, length, get_or, refl, sym, ◌∙◌, ap, subst}
+use Rattle.std.proofs.Common.{◌≡◌, ◌<◌, ℕ, zero, suc, Bool, true, false, cond, not, List, [], ◌∷◌, map, length, get_or, refl, sym, ◌∙◌, ap, subst}
 use Rattle.std.specs.Prelude.{All, Some, None, option_map, find, filter, position, slice_get, nat_lt}
 use Rattle.std.specs.List.{position_or_len}
 use Rattle.std.proofs.lemmas.Bool.{ltb-true}
 use Rattle.std.proofs.lemmas.List.Folds.{find_at}
 use Rattle.std.proofs.lemmas.Option.{same_Some, slice_get-get_or, slice_get-map, slice_get_read, slice_get_within}
 use Rattle.csi_types.specs.declared.number.Number.{Number}
-use Rattle.csi_lists.specs.Public.Places.{AtMostOne}
+use Rattle.csi_lists.specs.Public.Places.{AtMostOne, IsAt}
 use Rattle.csi_lists.proofs.PassingByKey.{find-passing, passing}
 use Rattle.csi_lists.proofs.Searches.{find-none_in_filter, find-no_place}
 use Rattle.csi_fence.specs.Model.Fence.{begins}
@@ -28,6 +28,12 @@ found-there p rows place is = by (nat_lt (position_or_len p rows) (length rows))
         let same : position_or_len p rows ≡ place = sym (same_Some place (position_or_len p rows) at) in
         (find_at p rows ∙ ap (slice_get rows) same, subst (λ (n : ℕ). n < length rows) same (ltb-true (position_or_len p rows) (length rows) inside))
     by false inside at = some_none place at
+
+-- what is got at a place stands there
+pub at-got : {S : Type 0} (rows : List S) (place : ℕ) (row : S) → slice_get rows place ≡ Some row → IsAt rows place row
+at-got [] place row h = some_none row (sym h)
+at-got (other ∷ rows) zero row h = cc
+at-got (other ∷ rows) (suc place) row h = at-got rows place row h
 
 -- where there is no place there is no such row
 pub absent-there : {S : Type 0} (p : S → Bool) (rows : List S) → None ≡ position p rows → find p rows ≡ None

@@ -3,20 +3,18 @@
 #![tactic(auto)]
 
 mod answer;
-mod carrying;
 mod fault;
 mod fence;
 mod line;
 mod places;
 mod rows;
 mod table;
+mod verdicts;
 mod worked;
 
 pub use answer::Answer;
-pub use carrying::carry_out;
 pub use fault::{CoreFault, RecordFault};
 pub use fence::{Verdict, verdict_of};
 pub use line::Line;
-pub use places::place_of;
 pub use rows::Rows;
 pub use table::{Absent, Table};

@@ -10,11 +10,12 @@ ghost use Rattle.csi_fence.specs.Private.Rows.{IsCarriedAt, IsRecounted};
 ghost use Rattle.csi_fence.specs.Public.Rows.{AreKept, AreRising, Answers, put_row, rows_shown, staying, stays_in};
 
 use crate::answer::Answer;
-use crate::carrying::{carry_out, repeated, stale};
 use crate::fault::CoreFault;
 use crate::fence::{Verdict, verdict_of};
+use crate::line::copied;
 use crate::places::place_of;
 use crate::table::{Absent, Table};
+use crate::verdicts::{repeated, stale};
 use csi_types::{CallRef, Number, Reply};
 use std::alloc::Global;
 
@@ -160,13 +161,25 @@ impl<T: Table> Rows<T> {
     {
         let row = &mut self.rows[place];
         let was_empty = T::is_empty(row);
-        match carry_out(&mut self.table, row, self.alloc, number, call) {
-            Ok(reply) => {
-                self.empty = recounted(self.empty, was_empty, T::is_empty(row));
-                Ok(reply)
+        let line = self.table.line(row, call);
+        let is_done = line.is_done();
+        let kept = match line.reply(self.alloc) {
+            Ok(reply) => reply,
+            Err(fault) => return Err(fault),
+        };
+        let reply = match copied(self.alloc, &kept) {
+            Ok(reply) => reply,
+            Err(fault) => return Err(fault),
+        };
+        if is_done {
+            match self.table.change(row, self.alloc, call) {
+                Ok(()) => (),
+                Err(fault) => return Err(fault),
             }
-            Err(fault) => Err(fault),
         }
+        T::keep(row, number, call.kind(), kept);
+        self.empty = recounted(self.empty, was_empty, T::is_empty(row));
+        Ok(reply)
     }
 
     // Answers a call that the fence lets through to the row at this place; where it begins a session, the row isn't empty. An `Err` changes

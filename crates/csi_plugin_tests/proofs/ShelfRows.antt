@@ -10,37 +10,10 @@ use Rattle.csi_types.specs.declared.number.Number.{Number}
 use Rattle.csi_types.specs.Model.Same.{same_text}
 use Rattle.csi_types.proofs.Equality.{same_text-tells}
 use Rattle.csi_fence.specs.Public.Rows.{put_row, Made}
+use Rattle.csi_fence.proofs.PutRows.{put-one}
 use Rattle.csi_plugin_tests.specs.declared.shelf.ShelfRow.{ShelfRow}
 use Rattle.csi_plugin_tests.specs.Private.Shelf.{HaveNames, Key, Named, absent, is_for}
 use Rattle.csi_plugin_tests.specs.Private.ShelfLaws.{IsMadeBy, made-by}
-
--- a row that doesn't pass is put in, and none passes still
-put-none : {S : Type 0} (id : S → ℕ) (q : S → Bool) (new : S) (rows : List S) → q new ≡ false → find q rows ≡ None → find q (put_row id new rows) ≡ None
-put-none id q new [] misses none = rw misses refl
-put-none id q new (row ∷ rows) misses none =
-    let parts = find-missed (q row) row (find q rows) none in
-    by parts (put-none id q new rows misses parts.1) (nat_lt (id row) (id new)) (id row == id new)
-  where
-    by : (q row ≡ false) × (find q rows ≡ None) → find q (put_row id new rows) ≡ None
-        → (b c : Bool) → find q (cond b (row ∷ put_row id new rows) (cond c (new ∷ rows) (new ∷ row ∷ rows))) ≡ None
-    by parts rest true c = rw (parts.0) rest
-    by parts rest false true = rw misses (parts.1)
-    by parts rest false false = rw misses (rw (parts.0) (parts.1))
-
--- a row is put in that passes only where none did: at most one passes still
-pub put-one : {S : Type 0} (id : S → ℕ) (q : S → Bool) (new : S) (rows : List S) → AtMostOne q rows → (q new ≡ true → find q rows ≡ None) → AtMostOne q (put_row id new rows)
-put-one id q new [] one none = (λ e. refl, tt)
-put-one id q new (row ∷ rows) one none =
-    by (put-one id q new rows one.1 (λ e. (find-missed (q row) row (find q rows) (none e)).1)) (nat_lt (id row) (id new)) (id row == id new)
-  where
-    other : q row ≡ true → (b : Bool) → q new ≡ b → find q (put_row id new rows) ≡ None
-    other e true own = absurd (some_is_not_none row (ap (λ (b : Bool). cond b (Some row) (find q rows)) (sym e) ∙ none own))
-    other e false own = put-none id q new rows own (one.0 e)
-
-    by : AtMostOne q (put_row id new rows) → (b c : Bool) → AtMostOne q (cond b (row ∷ put_row id new rows) (cond c (new ∷ rows) (new ∷ row ∷ rows)))
-    by rest true c = (λ e. other e (q new) refl, rest)
-    by rest false true = (λ e. (find-missed (q row) row (find q rows) (none e)).1, one.1)
-    by rest false false = (none, one)
 
 -- the rows as they are shown are the rows
 pub same_rows : (rows : List ShelfRow) → map (λ (row : ShelfRow). row) rows ≡ rows

@@ -67,11 +67,6 @@ abbrev pub row_after : {Fixed Own S : Type 0} → Plan Fixed Own S → Number �
 row_after plan number call told row =
     plan.keep (record { number = number; kind = kind_of call; reply = told.reply }) (if told.is_done then plan.change call row else row)
 
--- a call was carried out at a row as it was told
-pub record IsCarried {Fixed Own S : Type 0} (plan : Plan Fixed Own S) (number : Number) (call : Call) (told : Told) (old new : S) (reply : Reply) : Type 0 where
-  pub is_reply : reply ≡ told.reply
-  pub is_after : new ≡ row_after plan number call told old
-
 -- the reply to a call that is carried out, and the state after it
 pub record Carried (Own S : Type 0) : Type 0 where
   pub reply : Reply

@@ -18,18 +18,13 @@ use Rattle.csi_types.specs.Model.Same.{same_text}
 use Rattle.csi_fence.specs.Public.Rows.{AreRising, Answered, Made}
 use Rattle.csi_fence.specs.Public.Table.{IsOrderly, LetsKeep, HasOneRow}
 use Rattle.csi_fence.proofs.RisingRows.{once-rise, rows_rise}
+use Rattle.csi_fence.proofs.RowsThere.{at-got}
 use Rattle.csi_plugin_tests.specs.declared.shelf.ShelfRow.{ShelfRow}
 use Rattle.csi_plugin_tests.specs.Private.Shelf.{shelf, IsSound, HaveNames, Key, Named, Given, key_of, absent, is_for, made_row}
 
--- what is got at a place stands there
-pub got-at : {X : Type 0} (xs : List X) (place : ℕ) (x : X) → slice_get xs place ≡ Some x → IsAt xs place x
-got-at [] place x h = absurd (some_is_not_none x (sym h))
-got-at (y ∷ ys) zero x h = cc
-got-at (y ∷ ys) (suc place) x h = got-at ys place x h
-
 -- what is kept has no name
 pub lets-keep : LetsKeep shelf HaveNames
-lets-keep rows place row kept names at = λ name. AtMostOne-set (λ (r : ShelfRow). same_text r.name name) rows place row (shelf.keep kept row) (got-at rows place row at) refl (names name)
+lets-keep rows place row kept names at = λ name. AtMostOne-set (λ (r : ShelfRow). same_text r.name name) rows place row (shelf.keep kept row) (at-got rows place row at) refl (names name)
 
 -- at most one row is a call's
 one-row : (key : Key) (rows : List ShelfRow) → HaveNames rows → AreRising (λ (row : ShelfRow). row.id) rows → AtMostOne (is_for key) rows

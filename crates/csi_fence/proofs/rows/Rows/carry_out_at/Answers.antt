@@ -1,22 +1,78 @@
-use Rattle.std.proofs.Common.{◌≡◌, ◌∙◌, ap, sym, subst, arith, Bool, map, slice_set}
-use Rattle.std.specs.Prelude.{count_by}
+use Rattle.std.proofs.Common.{◌≡◌, ◌∙◌, ap, sym, subst, arith, Bool, map, slice_set, true, false, cond, refl, set-set}
+use Rattle.std.specs.Prelude.{count_by, slice_get, Some}
 use Rattle.std.proofs.lemmas.List.{map-set}
-use Rattle.std.proofs.lemmas.Option.{same_Some}
+use Rattle.std.proofs.lemmas.Option.{same_Some, slice_get_within}
 use Rattle.std.proofs.Math.Seq.{map-set_same}
 use Rattle.csi_types.specs.declared.status.Status.TheVariants.{Ok as OkStatus}
+use Rattle.csi_types.specs.Model.Call.{kind_of}
 use Rattle.csi_types.specs.Public.Lent.{lent_call}
+use Rattle.csi_fence.specs.Model.Fence.{Kept}
 use Rattle.csi_fence.specs.Private.Rows.{IsCarriedAt}
+use Rattle.csi_fence.specs.Public.Line.{told_by}
+use Rattle.csi_fence.specs.Public.Rows.{Told, row_after}
+use Rattle.csi_fence.proofs.PlacedRows.{set-got}
 use Rattle.csi_fence.proofs.RowsThere.{all-at, shown-at}
 use Rattle.csi_fence.proofs.StayingRows.{count-set, count-some, one_if}
 use Rattle.csi_fence.proofs.rows.Rows.carry_out_at.Goals as goal
+use Rattle.csi_fence.proofs.rows.Rows.carry_out_at.Goals.{then-is_done+in-Ok-change, else-is_done}
 
-pub carry_out-requires-clause-sound : goal.carry_out-requires-clause-sound
-carry_out-requires-clause-sound g c =
+-- the row is there
+pub line-line-requires-clause-sound : goal.line-line-requires-clause-sound
+line-line-requires-clause-sound g c =
     let shown = g.T.Table.shown in
     let rows = c.args.self.now.rows.items in
     let was = c.index_mut-row.result.now in
     all-at (g.T.Table.is_sound (g.T.Table.own c.args.self.now.table)) (map shown rows) c.args.place (shown was) c.requires.kept.each (shown-at shown rows c.args.place was c.index_mut-row.ensures.value c.requires.place)
 
+pub change-requires-clause-own : goal.change-requires-clause-own
+change-requires-clause-own g c =
+    let was = c.index_mut-row.result.now in
+    c.requires.is_own (g.T.Table.shown was) (shown-at g.T.Table.shown c.args.self.now.rows.items c.args.place was c.index_mut-row.ensures.value c.requires.place)
+
+pub change-requires-clause-sound : goal.change-requires-clause-sound
+change-requires-clause-sound g c =
+    let shown = g.T.Table.shown in
+    let rows = c.args.self.now.rows.items in
+    let was = c.index_mut-row.result.now in
+    all-at (g.T.Table.is_sound (g.T.Table.own c.args.self.now.table)) (map shown rows) c.args.place (shown was) c.requires.kept.each (shown-at shown rows c.args.place was c.index_mut-row.ensures.value c.requires.place)
+
+-- what takes no memory
+pub returns-in-Err-clause-frugal : goal.returns-in-Err-clause-frugal
+returns-in-Err-clause-frugal g c = λ row there frugal ok.
+    let shown = g.T.Table.shown in
+    let rows = c.args.self.now.rows.items in
+    let was = c.index_mut-row.result.now in
+    let at = shown-at shown rows c.args.place was c.index_mut-row.ensures.value c.requires.place in
+    let told = c.line-line.ensures.told (map shown rows) c.requires.kept.fits in
+    let same = same_Some (shown was) row (sym at ∙ there) in
+    c.in-Err.ensures.succeeds (c.line-line.ensures.plain (ap (λ (t : Told). t.reply.status) told
+    ∙ ap (λ (r : g.T.Table.Shown). (g.T.Table.plan.line (g.T.Table.fixed c.args.self.now.table) (map shown rows) r (lent_call c.args.call.now)).reply.status) same ∙ ok))
+
+pub returns-in-Err-copied-clause-frugal : goal.returns-in-Err-copied-clause-frugal
+returns-in-Err-copied-clause-frugal g c = λ row there frugal ok.
+    let shown = g.T.Table.shown in
+    let rows = c.args.self.now.rows.items in
+    let was = c.index_mut-row.result.now in
+    let at = shown-at shown rows c.args.place was c.index_mut-row.ensures.value c.requires.place in
+    let told = c.line-line.ensures.told (map shown rows) c.requires.kept.fits in
+    let same = same_Some (shown was) row (sym at ∙ there) in
+    let plain = c.line-line.ensures.plain (ap (λ (t : Told). t.reply.status) told
+    ∙ ap (λ (r : g.T.Table.Shown). (g.T.Table.plan.line (g.T.Table.fixed c.args.self.now.table) (map shown rows) r (lent_call c.args.call.now)).reply.status) same ∙ ok) in
+    c.in-Err-copied.ensures.succeeds (rw (c.in-Ok.ensures.ok) plain)
+
+-- a change that was refused
+pub returns-in-Err-change-clause-err : goal.returns-in-Err-change-clause-err
+returns-in-Err-change-clause-err g c =
+    map-set_same g.T.Table.shown c.args.self.now.rows.items c.args.place c.change.new.row c.index_mut-row.result.now (c.in-Err-change.ensures.err ∙ ap g.T.Table.shown c.index_mut-row.ensures.value)
+
+pub returns-in-Err-change-clause-empty : goal.returns-in-Err-change-clause-empty
+returns-in-Err-change-clause-empty g c = c.requires.kept.counted ∙ ap (count_by g.T.Table.plan.is_empty) (sym (returns-in-Err-change-clause-err g c))
+
+pub returns-in-Err-change-clause-agrees : goal.returns-in-Err-change-clause-agrees
+returns-in-Err-change-clause-agrees g c =
+    subst (g.T.Table.agrees c.change.new.self) (sym (returns-in-Err-change-clause-err g c)) (c.in-Err-change.ensures.err_agrees (map g.T.Table.shown c.args.self.now.rows.items) c.requires.kept.fits)
+
+-- how many are empty
 pub recounted-self-requires-clause-was : goal.recounted-self-requires-clause-was
 recounted-self-requires-clause-was g c = λ empty.
     let shown = g.T.Table.shown in
@@ -27,64 +83,72 @@ recounted-self-requires-clause-was g c = λ empty.
     let counted = c.requires.kept.counted in
     omega (arith, one, counted)
 
-pub returns-in-Ok-clause-ok : goal.returns-in-Ok-clause-ok
-returns-in-Ok-clause-ok g c = λ row there.
-    let shown = g.T.Table.shown in
-    let rows = c.args.self.now.rows.items in
-    let was = c.index_mut-row.result.now in
-    let call = lent_call c.args.call.now in
-    let at = shown-at shown rows c.args.place was c.index_mut-row.ensures.value c.requires.place in
-    let carried = c.in-Ok.ensures.ok (map shown rows) c.requires.kept.fits in
-    subst
-    (λ (r : g.T.Table.Shown).
-    IsCarriedAt g.T.Table.plan (g.T.Table.is_sound (g.T.Table.own c.args.self.now.table)) c.args.number call (g.T.Table.plan.line (g.T.Table.fixed c.args.self.now.table) (map shown rows) r call) r c.args.place (map shown rows)
-    (map shown (slice_set rows c.args.place c.carry_out.new.row)) c.in-Ok.reply)
-    (same_Some (shown was) row (sym at ∙ there))
-    (record {
-      is_reply = carried.is_reply;
-      rows = map-set shown rows c.args.place c.carry_out.new.row ∙ ap (slice_set (map shown rows) c.args.place) carried.is_after;
-      sound = subst (g.T.Table.is_sound (g.T.Table.own c.args.self.now.table)) carried.is_after c.in-Ok.ensures.sound;
-    })
-
-pub returns-in-Ok-clause-empty : goal.returns-in-Ok-clause-empty
-returns-in-Ok-clause-empty g c =
+pub returns-clause-empty : goal.returns-clause-empty
+returns-clause-empty g c =
     let shown = g.T.Table.shown in
     let rows = c.args.self.now.rows.items in
     let was = c.index_mut-row.result.now in
     let at = shown-at shown rows c.args.place was c.index_mut-row.ensures.value c.requires.place in
-    let sum = count-set g.T.Table.plan.is_empty (map shown rows) c.args.place (shown was) (shown c.carry_out.new.row) at in
+    let sum = count-set g.T.Table.plan.is_empty (map shown rows) c.args.place (shown was) (shown c.keep.new.row) at in
     let before = ap (λ (b : Bool). one_if b) c.is_empty-was_empty.ensures in
     let now = ap (λ (b : Bool). one_if b) c.is_empty.ensures in
     let counted = c.requires.kept.counted in
     let again = c.recounted-self.ensures in
-    let same = ap (count_by g.T.Table.plan.is_empty) (map-set shown rows c.args.place c.carry_out.new.row) in
+    let same = ap (count_by g.T.Table.plan.is_empty) (map-set shown rows c.args.place c.keep.new.row) in
     omega (arith, sum, before, now, counted, again, same)
 
-pub returns-in-Ok-clause-agrees : goal.returns-in-Ok-clause-agrees
-returns-in-Ok-clause-agrees g c =
+-- the row after the call
+pub returns-clause-ok : goal.returns-clause-ok
+returns-clause-ok g c = λ row there.
     let shown = g.T.Table.shown in
-    let rows = c.args.self.now.rows.items in
-    let was = c.index_mut-row.result.now in
-    subst (g.T.Table.agrees c.carry_out.new.table) (sym (map-set shown rows c.args.place c.carry_out.new.row))
-    (c.in-Ok.ensures.agrees (map shown rows) c.args.place c.requires.kept.fits (shown-at shown rows c.args.place was c.index_mut-row.ensures.value c.requires.place))
-
-pub returns-in-Err-clause-err : goal.returns-in-Err-clause-err
-returns-in-Err-clause-err g c =
-    map-set_same g.T.Table.shown c.args.self.now.rows.items c.args.place c.carry_out.new.row c.index_mut-row.result.now (c.in-Err.ensures.err ∙ ap g.T.Table.shown c.index_mut-row.ensures.value)
-
-pub returns-in-Err-clause-empty : goal.returns-in-Err-clause-empty
-returns-in-Err-clause-empty g c = c.requires.kept.counted ∙ ap (count_by g.T.Table.plan.is_empty) (sym (returns-in-Err-clause-err g c))
-
-pub returns-in-Err-clause-agrees : goal.returns-in-Err-clause-agrees
-returns-in-Err-clause-agrees g c =
-    subst (g.T.Table.agrees c.carry_out.new.table) (sym (returns-in-Err-clause-err g c)) (c.in-Err.ensures.err_agrees (map g.T.Table.shown c.args.self.now.rows.items) c.requires.kept.fits)
-
-pub returns-in-Err-clause-frugal : goal.returns-in-Err-clause-frugal
-returns-in-Err-clause-frugal g c = λ row there frugal ok.
-    let shown = g.T.Table.shown in
+    let plan = g.T.Table.plan in
     let rows = c.args.self.now.rows.items in
     let was = c.index_mut-row.result.now in
     let call = lent_call c.args.call.now in
+    let own = g.T.Table.own c.args.self.now.table in
+    let line = told_by c.line-line.result in
     let at = shown-at shown rows c.args.place was c.index_mut-row.ensures.value c.requires.place in
-    c.in-Err.ensures.frugal frugal (map shown rows) c.requires.kept.fits
-    (subst (λ (r : g.T.Table.Shown). (g.T.Table.plan.line (g.T.Table.fixed c.args.self.now.table) (map shown rows) r call).reply.status ≡ OkStatus) (sym (same_Some (shown was) row (sym at ∙ there))) ok)
+    let told = c.line-line.ensures.told (map shown rows) c.requires.kept.fits in
+    let changed : g.T.Table.Shown = cond line.is_done (plan.change call (shown was)) (shown was) in
+    let kept : Kept = record { number = c.args.number; kind = kind_of call; reply = line.reply } in
+    let made : (shown c.if-is_done.row ≡ changed) × (g.T.Table.is_sound own (shown c.if-is_done.row)) =
+    elim c.if-is_done.branch [
+      | then-is_done+in-Ok-change w ↦
+          (ap shown w.row-is ∙ w.in-Ok-change.ensures.row ∙ sym (ap (λ (b : Bool). cond b (plan.change call (shown was)) (shown was)) (sym c.is_done-is_done.ensures ∙ w.if-is_done.true)), rw (w.row-is) w.in-Ok-change.ensures.sound)
+      | else-is_done w ↦ (
+        ap shown w.row-is ∙ sym (ap (λ (b : Bool). cond b (plan.change call (shown was)) (shown was)) (sym c.is_done-is_done.ensures ∙ w.if-is_done.false)),
+        rw (w.row-is) (all-at (g.T.Table.is_sound own) (map shown rows) c.args.place (shown was) c.requires.kept.each at),
+      )
+    ] in
+    let after : shown c.keep.new.row ≡ row_after plan c.args.number call line (shown was) =
+    c.keep.ensures ∙ ap (λ (r : g.T.Table.Shown). plan.keep (record { number = c.args.number; kind = c.kind.result; reply = c.in-Ok.reply }) r) made.0 ∙ rw (c.kind.ensures, c.in-Ok.ensures.ok) refl in
+    subst
+    (λ (r : g.T.Table.Shown).
+    IsCarriedAt plan (g.T.Table.is_sound own) c.args.number call (plan.line (g.T.Table.fixed c.args.self.now.table) (map shown rows) r call) r c.args.place (map shown rows)
+    (map shown (slice_set rows c.args.place c.keep.new.row)) c.in-Ok-copied.reply)
+    (same_Some (shown was) row (sym at ∙ there))
+    (subst
+    (λ (t : Told). IsCarriedAt plan (g.T.Table.is_sound own) c.args.number call t (shown was) c.args.place (map shown rows) (map shown (slice_set rows c.args.place c.keep.new.row)) c.in-Ok-copied.reply)
+    told
+    (record {
+      is_reply = c.in-Ok-copied.ensures.ok ∙ c.in-Ok.ensures.ok;
+      rows = map-set shown rows c.args.place c.keep.new.row ∙ ap (slice_set (map shown rows) c.args.place) after;
+      sound = g.met.T.Table.orderly.keep_sound (g.T.Table.fixed c.args.self.now.table) own kept changed (subst (g.T.Table.is_sound own) made.0 made.1) c.line-line.ensures.allowed;
+    }))
+
+pub returns-clause-agrees : goal.returns-clause-agrees
+returns-clause-agrees g c =
+    let shown = g.T.Table.shown in
+    let rows = c.args.self.now.rows.items in
+    let was = c.index_mut-row.result.now in
+    let at = shown-at shown rows c.args.place was c.index_mut-row.ensures.value c.requires.place in
+    let kept : Kept = record { number = c.args.number; kind = c.kind.result; reply = c.in-Ok.reply } in
+    rw (map-set shown rows c.args.place c.keep.new.row, c.keep.ensures)
+    (elim c.if-is_done.branch [
+      | then-is_done+in-Ok-change w ↦
+          let mid : g.T.Table.Shown = shown w.change.new.row in
+          let changed = w.in-Ok-change.ensures.agrees (map shown rows) c.args.place c.requires.kept.fits at in
+          let there = set-got g.T.Table.plan.id (map shown rows) c.args.place mid (slice_get_within (map shown rows) c.args.place (shown was) at) in
+          rw (w.row-is, w.self-is) (subst (g.T.Table.agrees w.change.new.self) (set-set (map shown rows) c.args.place mid _) (g.met.T.Table.lets_keep w.change.new.self (slice_set (map shown rows) c.args.place mid) c.args.place mid kept changed there))
+      | else-is_done w ↦ rw (w.row-is, w.self-is) (g.met.T.Table.lets_keep c.args.self.now.table (map shown rows) c.args.place (shown was) kept c.requires.kept.fits at)
+    ])

@@ -1,0 +1,39 @@
+//! What a call gets that the fence doesn't let through.
+ghost use Rattle.std.specs.Prelude.{◌≡◌, [], None, IfOk, IsOk};
+ghost use Rattle.csi_types.specs.Model.Replies.{stale_reply};
+
+use crate::answer::Answer;
+use crate::fault::CoreFault;
+use crate::line::{Line, copied};
+use crate::table::Table;
+use csi_types::{Kind, Status};
+use std::alloc::Global;
+
+/// The refusal of a call that came late.
+pub fn stale(alloc: Global, kind: Kind) -> Result<Answer, CoreFault>
+    ensures { IfOk result (λ answer. answer ≡ record { kind = kind; reply = stale_reply; row = None }) }
+{
+    match Line::Refused(Status::Aborted, "stale").reply(alloc) {
+        Ok(reply) => Ok(Answer {
+            kind,
+            reply,
+            row: None,
+        }),
+        Err(fault) => Err(fault),
+    }
+}
+
+/// The reply that a row keeps, again. Without a detail it takes no memory.
+pub fn repeated<T: Table>(alloc: Global, row: &T::Row) -> Result<Answer, CoreFault>
+    ensures ok { IfOk result (λ answer. answer ≡ record { kind = (T.plan.kept (T.shown row.now)).kind; reply = (T.plan.kept (T.shown row.now)).reply; row = None }) }
+    ensures succeeds { (T.plan.kept (T.shown row.now)).reply.detail ≡ [] → IsOk result }
+{
+    match copied(alloc, T::reply(row)) {
+        Ok(reply) => Ok(Answer {
+            kind: T::kind(row),
+            reply,
+            row: None,
+        }),
+        Err(fault) => Err(fault),
+    }
+}
