@@ -2,6 +2,7 @@
 use Rattle.std.proofs.Common.{◌≡◌, ℕ, List, [], ◌∷◌, refl, sym, ◌∙◌, ap, subst, None, Result, Ok, Err}
 use Rattle.std.specs.Prelude.{OnErr, Option, Some, option_map}
 use Rattle.std.specs.List.{AllZip}
+use Rattle.std.proofs.lemmas.Option.{none-some}
 use Rattle.csi_node.specs.declared.row.NodeRow.{NodeRow}
 use Rattle.csi_node.specs.Model.State.{NodeState, row_with_id}
 use Rattle.csi_node.specs.Model.Shown.{RowsShow, row_in, answered_of_row}
@@ -32,10 +33,6 @@ pub err_holds : {T E : Type 0} (r : Result T E) {P : Type 0} → P → OnErr r P
 err_holds (Ok x) h = tt
 err_holds (Err e) h = h
 
--- what is missing isn't there
-none_is_not_some : {X : Type 0} (x : X) → None ≡ Some x → ⊥
-none_is_not_some x h = cc
-
 -- a copy of the row that is found shows what that shows
 pub copy-found : (rows : List NodeRow) (id : ℕ) (row copy : NodeRow) → Some (node_row_shown row) ≡ row_of id (parts rows) → node_row_shown copy ≡ node_row_shown row → Some (node_row_shown copy) ≡ option_map node_row_shown (row_in id rows)
 copy-found rows id row copy found same = ap Some same ∙ found ∙ row_of-shown id rows
@@ -46,7 +43,7 @@ none-found rows id found = found ∙ row_of-shown id rows
 
 -- where one is found there is one
 pub found-clash : (rows : List NodeRow) (id : ℕ) (row : NodeRow) → Some (node_row_shown row) ≡ row_of id (parts rows) → row_in id rows ≡ None → ⊥
-found-clash rows id row found none = none_is_not_some (node_row_shown row) (sym (found ∙ row_of-shown id rows ∙ ap (option_map node_row_shown) none))
+found-clash rows id row found none = none-some (node_row_shown row) (sym (found ∙ row_of-shown id rows ∙ ap (option_map node_row_shown) none))
 
 -- what a copy of a row keeps is what the state keeps
 pub row-shows : (rows : List NodeRow) (state : NodeState) (id : ℕ) → RowsShow rows state → (row : Option NodeRow) → option_map node_row_shown row ≡ option_map node_row_shown (row_in id rows)

@@ -9,33 +9,22 @@ use Rattle.csi_types.specs.declared.call.Party.TheVariants.{Node}
 use Rattle.csi_types.specs.Model.Call.{kind_of}
 use Rattle.csi_types.specs.Model.Frame.{Frame}
 use Rattle.csi_types.specs.Model.Replies.{call_frame, reply_frame, stale_reply}
-use Rattle.csi_fence.specs.Model.Fenced.{Fenced}
 use Rattle.csi_fence.proofs.FramesKeep.{IsKept, frame_keeps, frames_keep}
-use Rattle.csi_node.specs.Model.State.{NodeState, joined_node, volume_of}
-use Rattle.csi_node.specs.Model.Table.{lifecycle_row, node_row, changed}
-use Rattle.csi_node.specs.Model.Fenced.{carried_out, fenced, node_at}
+use Rattle.csi_node.specs.Model.State.{NodeState, joined_node}
+use Rattle.csi_node.specs.Model.Fenced.{fenced, node_at}
 use Rattle.csi_node.specs.Public.Fenced.{after_frames}
-use Rattle.csi_node.proofs.CarriedOut.{Carried, no_room, has_room, was_carried, kept_of}
-use Rattle.csi_node.proofs.LastCalls.{keep-session, changed-session}
+use Rattle.csi_node.proofs.CarriedOut.{keeps-by, session_then}
 use Rattle.csi_node.proofs.OwnFrames.{for_own}
 
 -- the session is this one, or a later one
 abbrev pub IsFrom : ℕ → NodeState → Type 0
 IsFrom session state = session ≤ state.session
 
--- a call that is carried out leaves the session
-carried-session : (node : List ℕ) (state : NodeState) (number : Number) (call : Call) (after : Fenced NodeState) → Carried node state number call after → after.state.session ≡ state.session
-carried-session node state number call _ (no_room full) = refl
-carried-session node state number call _ (has_room room) =
-    keep-session (volume_of call) (kept_of state number call) (changed state (lifecycle_row state call).change) ∙ changed-session state (lifecycle_row state call).change
-
--- so each frame keeps it from this one on
+-- each frame keeps it from this one on
 is_kept : (node : List ℕ) (first : ℕ) → IsKept (node_at node) (IsFrom first)
-is_kept node first = record {
-  sets_session = λ session state. refl;
-  begins = λ session state later so. let less = ltb-true state.session session later in omega (arith, less, so);
-  carries = λ state number call now so. let same = carried-session node state number call (carried_out node state number call (node_row state call)) (was_carried node state number call) in omega (arith, same, so);
-}
+is_kept node first =
+    keeps-by node (IsFrom first) (λ session state later so. let less = ltb-true state.session session later in omega (arith, less, so))
+    (λ state number call now so. let same = session_then state number call in omega (arith, same, so))
 
 -- no frame takes it back
 pub rises : (node : List ℕ) (state : NodeState) (frame : Frame) → state.session ≤ (fenced node state frame).state.session

@@ -1,7 +1,7 @@
 -- What is kept of a call changes the row of its volume, and nothing else.
 use Rattle.std.proofs.Common.{◌≡◌, ◌⊎◌, ℕ, List, [], ◌∷◌, ◌++◌, map, Bool, true, false, cond, not, refl, sym, ◌∙◌, ap, subst, inl, inr}
 use Rattle.std.specs.Prelude.{Option, Some, None, option_map, find, filter, ◌==◌}
-use Rattle.std.proofs.lemmas.Bool.{eq-eqb, eqb-true}
+use Rattle.std.proofs.lemmas.Bool.{eq-eqb, eqb-true, not-true, true≢false}
 use Rattle.csi_lists.specs.Model.Members.{IsAmong}
 use Rattle.csi_lists.proofs.Members.{among-either, among-map, none_passes}
 use Rattle.csi_lists.proofs.Searches.{find-filter, find-append_one, find-map, find-passes}
@@ -73,17 +73,12 @@ pub keep-rows : (volume : Option ℕ) (kept : Kept) (state : NodeState) → HasA
 keep-rows None kept state = inl refl
 keep-rows (Some id) kept state = rows_grown id kept state.rows (row_with_id id state)
 
--- a test whose opposite holds fails
-not_true : (b : Bool) → not b ≡ true → b ≡ false
-not_true true h = cc
-not_true false h = refl
-
 -- a row of another id stays as it was
 kept_in-other : (id : ℕ) (kept : Kept) (row : AnsweredVolume) → not (row.id == id) ≡ true → kept_in id kept row ≡ row
-kept_in-other id kept row h = let other : (row.id == id) ≡ false = not_true (row.id == id) h in rw other refl
+kept_in-other id kept row h = let other : (row.id == id) ≡ false = not-true (row.id == id) h in rw other refl
 
 -- what is kept for a volume leaves the rows of all others as they were
-other_rows : (id : ℕ) (kept : Kept) (rows : List AnsweredVolume) (o : Option AnsweredVolume)
+pub other_rows : (id : ℕ) (kept : Kept) (rows : List AnsweredVolume) (o : Option AnsweredVolume)
     → filter (λ (row : AnsweredVolume). not (row.id == id)) (kept_rows id kept rows o) ≡ filter (λ (row : AnsweredVolume). not (row.id == id)) rows
 other_rows id kept rows None =
     let self : (id == id) ≡ true = eq-eqb id id refl in
@@ -113,13 +108,9 @@ row_kept id kept rows (Some row) h =
 pub keep-own : (id : ℕ) (kept : Kept) (state : NodeState) → kept_in_row id (keep (Some id) kept state) ≡ Some kept
 keep-own id kept state = row_kept id kept state.rows (row_with_id id state) refl
 
--- true isn't false
-not_both : true ≡ false → ⊥
-not_both h = cc
-
 -- an id that is equal to one of two different ids isn't equal to the other
 other_id : (other id n : ℕ) → (other == id) ≡ false → (n == other) ≡ true → not (n == id) ≡ true
-other_id other id n differ same = not-where (n == id) (λ h. not_both (sym (eq-eqb other id (sym (eqb-true n other same) ∙ eqb-true n id h)) ∙ differ))
+other_id other id n differ same = not-where (n == id) (λ h. true≢false (sym (eq-eqb other id (sym (eqb-true n other same) ∙ eqb-true n id h)) ∙ differ))
 
 -- another volume's row is found as it was
 keep-other : (id other : ℕ) (kept : Kept) (state : NodeState) → (other == id) ≡ false → kept_in_row other (keep (Some id) kept state) ≡ kept_in_row other state

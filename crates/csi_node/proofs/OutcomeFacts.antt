@@ -1,7 +1,6 @@
 -- What is so of each outcome of the node's table.
 use Rattle.std.proofs.Common.{◌≡◌, ◌≢◌, ℕ, List, [], Bool, true, false, cond, not, refl, sym, ap, subst}
 use Rattle.std.specs.Prelude.{Option, Some, None, option_map, find, filter, ◌==◌, ◌&&◌, codes}
-use Rattle.std.proofs.lemmas.Bool.{eq-eqb}
 use Rattle.csi_types.proofs.Equality.{same_capability-tells}
 use Rattle.csi_types.specs.declared.capability.Capability.{Capability}
 use Rattle.csi_types.specs.declared.call.Call.{Call}
@@ -13,6 +12,7 @@ use Rattle.csi_types.specs.Model.Same.{same_text, same_flag, same_capability}
 use Rattle.csi_node.specs.Model.State.{NodeState, AnsweredVolume, StagedVolume, PublishedVolume, staged_of, published_of, published_at, is_published_at, volume_of}
 use Rattle.csi_node.specs.Model.Table.{Outcome, Change, Stays, Stages, Unstages, Publishes, Unpublishes, refused, met, done, begins_with_slash, stage, unstage, publish_at_target, publish, unpublish, lifecycle_row, changed}
 use Rattle.csi_node.specs.Public.Laws.{is_another, IsDone}
+use Rattle.csi_node.proofs.OneRow.{itself}
 use Rattle.csi_node.proofs.TableOutcomes.{IsOutcome, at_itself, refuses, was_staged, stages, unstages, was_published, publishes, was_unpublished, unpublishes, lifecycle_outcomes, stage_call, publish_call}
 use Rattle.csi_lists.proofs.Searches.{find-append_one, find-filter_not}
 use Rattle.csi_lists.proofs.Filters.{filter-append_one, filter-filter, filter-not_none}
@@ -29,16 +29,16 @@ IsReady state (calls.NodeUnpublishVolume id target) = published_at id target sta
 IsReady state call = ⊥
 
 -- the other volumes' stagings and targets are as they were
-pub record LeavesRest (old new : NodeState) (call : Call) : Type 0 where
-  pub staged : filter (λ staged. is_another (volume_of call) staged.volume) new.staged ≡ filter (λ staged. is_another (volume_of call) staged.volume) old.staged
-  pub published : filter (λ published. is_another (volume_of call) published.volume) new.published ≡ filter (λ published. is_another (volume_of call) published.volume) old.published
+pub record LeavesRest (old new : NodeState) (volume : Option ℕ) : Type 0 where
+  pub staged : filter (λ staged. is_another volume staged.volume) new.staged ≡ filter (λ staged. is_another volume staged.volume) old.staged
+  pub published : filter (λ published. is_another volume published.volume) new.published ≡ filter (λ published. is_another volume published.volume) old.published
 
 -- a refusal changes nothing; after an OK the reply is the plain one, and the call would be met; and other volumes are as they were
 pub record Facts (state : NodeState) (call : Call) (outcome : Outcome) : Type 0 where
   pub stays : outcome.reply.status ≢ Ok → outcome.change ≡ Stays
   pub plain : outcome.reply.status ≡ Ok → outcome.reply ≡ ok_reply
   pub ready : outcome.reply.status ≡ Ok → IsReady (changed state outcome.change) call
-  pub others : LeavesRest state (changed state outcome.change) call
+  pub others : LeavesRest state (changed state outcome.change) (volume_of call)
 
 -- all that `Facts` says is so of a refusal
 refused_facts : (state : NodeState) (call : Call) (status : Status) (detail : List ℕ) → (status ≡ Ok → ⊥) → Facts state call (refused status detail)
@@ -51,17 +51,13 @@ met_facts state call ready =
     record { stays = λ h. refl; plain = λ h. refl; ready = λ h. ready; others = record { staged = refl; published = refl } }
 
 -- all that `Facts` says is so where the call is carried out
-done_facts : (state : NodeState) (call : Call) (change : Change) → IsReady (changed state change) call → LeavesRest state (changed state change) call → Facts state call (done change)
+done_facts : (state : NodeState) (call : Call) (change : Change) → IsReady (changed state change) call → LeavesRest state (changed state change) (volume_of call) → Facts state call (done change)
 done_facts state call change ready others =
     record { stays = λ h. absurd (h refl); plain = λ h. refl; ready = λ h. ready; others = others }
 
--- an id is equal to itself
-same_id : (id : ℕ) → (id == id) ≡ true
-same_id id = eq-eqb id id refl
-
 -- a volume isn't another one than itself
 not_another : (id : ℕ) → not (id == id) ≡ false
-not_another id = rw (same_id id) refl
+not_another id = rw (itself id) refl
 
 -- what isn't of a volume isn't at a target of it
 not_at : (a b : Bool) → not a ≡ true → not (a && b) ≡ true
@@ -75,7 +71,7 @@ outcome_facts state _ _ (refuses call status detail not_ok) = refused_facts stat
 outcome_facts state _ _ (was_staged staged is) = met_facts state (stage_call staged) is
 outcome_facts state _ _ (stages staged none) =
     let free = none-from_map (λ (s : StagedVolume). s.capability) (find (λ (s : StagedVolume). s.volume == staged.volume) state.staged) none in
-    let found = find-append_one (λ (s : StagedVolume). s.volume == staged.volume) state.staged staged (same_id staged.volume) free in
+    let found = find-append_one (λ (s : StagedVolume). s.volume == staged.volume) state.staged staged (itself staged.volume) free in
     done_facts state (stage_call staged) (Stages staged) (ap (option_map (λ (s : StagedVolume). s.capability)) found)
     (record { staged = filter-append_one (λ (s : StagedVolume). not (s.volume == staged.volume)) state.staged staged (not_another staged.volume); published = refl })
 outcome_facts state _ _ (unstages id none) =

@@ -10,6 +10,7 @@ use Rattle.csi_types.specs.declared.capability.Capability.{Capability}
 use Rattle.csi_lists.specs.Model.Members.{EachTwo}
 use Rattle.csi_lists.proofs.Each.{each-append, each-weaker}
 use Rattle.csi_lists.proofs.Members.{each_of}
+use Rattle.csi_lists.proofs.Maps.{map-same, map-twice}
 use Rattle.csi_lists.proofs.Pairs.{two-joined}
 use Rattle.csi_lists.proofs.Filters.{filter-each, filter-no_one, each-passes}
 use Rattle.csi_node.specs.declared.row.NodeRow.{NodeRow}
@@ -114,28 +115,20 @@ none_before id [] own = tt
 none_before id (x ∷ xs) own =
     (each-weaker (λ (p : PublishedVolume). p.volume ≡ id) (IsPublishedBefore x) xs (λ p e. (let first = own.0 in omega (arith, e, first))) own.1, none_before id xs own.1)
 
+-- a staging of this volume
+abbrev staged_at : ℕ → Capability → StagedVolume
+staged_at id capability = record { volume = id; capability = capability }
+
 -- stagings of one volume are told by their capabilities
+staged_from : (id : ℕ) (xs : List StagedVolume) → AreOf (λ (s : StagedVolume). s.volume) id xs → map (staged_at id) (map (λ (s : StagedVolume). s.capability) xs) ≡ xs
+staged_from id xs own =
+    map-twice (staged_at id) (λ (s : StagedVolume). s.capability) (λ (s : StagedVolume). staged_at id s.capability) xs (λ s. refl)
+    ∙ map-same (λ (s : StagedVolume). staged_at id s.capability) xs (λ s among. ap (λ (n : ℕ). staged_at n s.capability) (sym (each_of (λ (t : StagedVolume). t.volume ≡ id) xs s own among)))
+
+-- so those with the same capabilities are the same
 staged_same : (id : ℕ) (xs ys : List StagedVolume) → AreOf (λ (s : StagedVolume). s.volume) id xs → AreOf (λ (s : StagedVolume). s.volume) id ys
     → map (λ (s : StagedVolume). s.capability) xs ≡ map (λ (s : StagedVolume). s.capability) ys → xs ≡ ys
-staged_same id [] [] own other same = refl
-staged_same id [] (y ∷ ys) own other same = absurd (clash same)
-  where
-    clash : [] ≡ y.capability ∷ map (λ (s : StagedVolume). s.capability) ys → ⊥
-    clash h = cc
-staged_same id (x ∷ xs) [] own other same = absurd (clash same)
-  where
-    clash : x.capability ∷ map (λ (s : StagedVolume). s.capability) xs ≡ [] → ⊥
-    clash h = cc
-staged_same id (x ∷ xs) (y ∷ ys) own other same = joined (first same) (own.0 ∙ sym other.0) (staged_same id xs ys own.1 other.1 (later same))
-  where
-    first : x.capability ∷ map (λ (s : StagedVolume). s.capability) xs ≡ y.capability ∷ map (λ (s : StagedVolume). s.capability) ys → x.capability ≡ y.capability
-    first h = cc
-
-    later : x.capability ∷ map (λ (s : StagedVolume). s.capability) xs ≡ y.capability ∷ map (λ (s : StagedVolume). s.capability) ys → map (λ (s : StagedVolume). s.capability) xs ≡ map (λ (s : StagedVolume). s.capability) ys
-    later h = cc
-
-    joined : x.capability ≡ y.capability → x.volume ≡ y.volume → xs ≡ ys → x ∷ xs ≡ y ∷ ys
-    joined capability volume rest = λ i. (record { volume = volume i; capability = capability i }) ∷ rest i
+staged_same id xs ys own other same = sym (staged_from id xs own) ∙ ap (map (staged_at id)) same ∙ staged_from id ys other
 
 -- what is listed as staged for a volume is what its row alone has staged
 pub staged_part : (o : Option NodeRowShown) → part_in (λ (s : StagedVolume). s.volume) (λ row. (state_shown row).staged) (λ row. staged_own row.id row.staged) o ≡ (alone_in o).staged

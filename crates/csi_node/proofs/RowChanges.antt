@@ -1,6 +1,6 @@
 -- What a call that the table carries out changes in its row is what it changes in the state, and the row keeps its
 -- rules.
-use Rattle.std.proofs.Common.{◌≡◌, ℕ, ◌≤◌, List, [], ◌∷◌, ◌++◌, map, length, Bool, true, false, cond, not, refl, sym, ◌∙◌, ap, arith, length-append}
+use Rattle.std.proofs.Common.{◌≡◌, ℕ, List, [], ◌∷◌, ◌++◌, map, Bool, true, false, cond, not, refl, sym, ◌∙◌, ap, arith, length-append}
 use Rattle.std.specs.Prelude.{Option, Some, None, filter, ◌==◌}
 use Rattle.std.proofs.lemmas.Bool.{both_ways, false_from_ne_true}
 use Rattle.std.proofs.lemmas.List.{map-append}
@@ -14,8 +14,8 @@ use Rattle.csi_types.proofs.Equality.{same_text-tells}
 use Rattle.std.specs.Option.{option_or}
 use Rattle.std.proofs.lemmas.Option.{same_Some}
 use Rattle.std.proofs.lemmas.List.Elements.{filter_agree}
-use Rattle.csi_lists.proofs.Options.{option_or-none}
-use Rattle.csi_lists.proofs.Filters.{filter-of_map}
+use Rattle.csi_lists.proofs.Options.{option_or-none, some_is_not_none}
+use Rattle.csi_lists.proofs.Filters.{filter-no_longer, filter-of_map}
 use Rattle.csi_lists.proofs.Searches.{find-none_in_filter}
 use Rattle.csi_node.specs.declared.row.NodeTarget.{NodeTarget}
 use Rattle.csi_node.specs.Model.State.{NodeState, StagedVolume, PublishedVolume, is_published_at, volume_of}
@@ -121,29 +121,16 @@ filter_absolute p (first ∷ rest) all = step (p first) (filter_absolute p rest 
     step true h = (all.0, h)
     step false h = h
 
--- targets after some are left out are no more
-filter_shorter : (p : NodeTarget → Bool) (targets : List NodeTarget) → length (filter p targets) ≤ length targets
-filter_shorter p [] = omega arith
-filter_shorter p (first ∷ rest) = step (p first) (filter_shorter p rest)
-  where
-    step : (b : Bool) → length (filter p rest) ≤ length rest → length (cond b (first ∷ filter p rest) (filter p rest)) ≤ length (first ∷ rest)
-    step true h = omega arith
-    step false h = omega arith
-
 -- no targets fit however the volume is staged
 pub no_targets : (staged : Option Capability) → TargetsFit staged []
 no_targets staged = record { unstaged = λ _. refl; absolute = tt; distinct = tt; single = λ capability is one. omega arith; limit = omega arith }
-
--- what is there isn't missing
-some_is_not_none : {X : Type 0} (x : X) (o : Option X) → o ≡ Some x → o ≡ None → ⊥
-some_is_not_none x o a b = cc
 
 -- the rules after a change
 pub fits-changed : (row : NodeRowShown) (call : Call) → TargetsFit row.staged row.targets → CanChange row call → TargetsFit (row_changed row call).staged (row_changed row call).targets
 fits-changed row (calls.NodeStageVolume id capability) fits can = let none : row.targets ≡ [] = fits.unstaged can in rw none (no_targets (Some capability))
 fits-changed row (calls.NodeUnstageVolume id) fits can = rw can (no_targets None)
 fits-changed row (calls.NodePublishVolume id target capability readonly) fits can = record {
-  unstaged = λ none. absurd (some_is_not_none capability row.staged can.staged none);
+  unstaged = λ none. absurd (some_is_not_none capability (sym can.staged ∙ none));
   absolute = append_absolute row.targets _ fits.absolute can.absolute;
   distinct = append_distinct row.targets _ fits.distinct can.«new»;
   single = λ other is one.
@@ -156,8 +143,8 @@ fits-changed row (calls.NodeUnpublishVolume id target) fits can = record {
   unstaged = λ none. ap (filter (λ there. not (same_text there.target target))) (fits.unstaged none);
   absolute = filter_absolute _ row.targets fits.absolute;
   distinct = filter_distinct _ row.targets fits.distinct;
-  single = λ capability is one. let few = fits.single capability is one in omega (arith, filter_shorter (λ there. not (same_text there.target target)) row.targets);
-  limit = let few = fits.limit in omega (arith, filter_shorter (λ there. not (same_text there.target target)) row.targets);
+  single = λ capability is one. let few = fits.single capability is one in omega (arith, filter-no_longer (λ (there : NodeTarget). not (same_text there.target target)) row.targets);
+  limit = let few = fits.limit in omega (arith, filter-no_longer (λ (there : NodeTarget). not (same_text there.target target)) row.targets);
 }
 fits-changed row (calls.CreateVolume name required limit capabilities) fits can = absurd can
 fits-changed row (calls.DeleteVolume id) fits can = absurd can

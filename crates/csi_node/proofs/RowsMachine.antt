@@ -1,10 +1,8 @@
 -- A node's rows behind the fence do what the node's state does there.
 use Rattle.std.proofs.Common.{◌≡◌, ℕ, List, length, Bool, true, false, cond, refl, sym, ◌∙◌, ap, subst}
-use Rattle.std.specs.Prelude.{All, Option, Some, None, option_map, find, filter, nat_le, ◌==◌, not, codes}
-use Rattle.std.proofs.lemmas.Bool.{eqb-true}
+use Rattle.std.specs.Prelude.{All, Option, Some, None, option_map, find, filter, nat_le, not, codes}
 use Rattle.std.proofs.lemmas.List.Elements.{All-filter}
-use Rattle.csi_lists.proofs.Members.{among-find, one-of_all}
-use Rattle.csi_lists.proofs.Searches.{find-none, find-passes}
+use Rattle.csi_lists.proofs.Searches.{find-none}
 use Rattle.csi_types.specs.declared.call.Call.{Call}
 use Rattle.csi_types.specs.declared.call.Call.TheVariants as calls
 use Rattle.csi_types.specs.declared.call.Party.TheVariants.{Node}
@@ -35,12 +33,13 @@ use Rattle.csi_node.specs.Public.OneRow.{row_anew}
 use Rattle.csi_node.specs.Public.Plan.{AreNodeRows, is_of, told_at, row_told, lacking, node_plan}
 use Rattle.csi_node.proofs.CarriedOut.{kept_of}
 use Rattle.csi_node.proofs.ChangedRows.{changes-at, full-staged, state_of}
+use Rattle.csi_node.proofs.FoundRows.{there-sound}
 use Rattle.csi_node.proofs.Forgotten.{forgotten-shows}
 use Rattle.csi_node.proofs.LastCalls.{keep-session, changed-session}
 use Rattle.csi_node.specs.Private.PlanLaws.{id-where}
 use Rattle.csi_node.proofs.RowChanges.{no_targets}
 use Rattle.csi_node.proofs.RowsTold.{alone-told}
-use Rattle.csi_node.proofs.ShownAfter.{ShowsAll, RowsAfter, all-from_shows, alone_in, kept-shown_by, part_of, room-by, row_of, shows-from_all, shows_then}
+use Rattle.csi_node.proofs.ShownAfter.{ShowsAll, RowsAfter, all-from_shows, alone_in, kept-shown_by, part_of, room-by, row_of, row_of-id, shows-from_all, shows_then}
 use Rattle.csi_node.proofs.StateChanges.{lifecycle-part}
 
 -- a node's rows, with the greatest session that came
@@ -154,8 +153,8 @@ module _ (node : List ℕ) (number : Number) (call : Call) (old : NodeRows) (sta
     -- a row that is there keeps the rules, and is the volume's
     alike-there : (row : NodeRowShown) → row_of id old.rows ≡ Some row → IsAlike (given_by (Some row))
     alike-there row found =
-        alike-done row (room-by id call old.rows state (Some row) v shows.rows found) (eqb-true row.id id (find-passes (λ (r : NodeRowShown). r.id == id) old.rows row found))
-        (one-of_all IsSoundRow old.rows row sound.each (among-find (λ (r : NodeRowShown). r.id == id) old.rows row found)).targets (ap alone_in (sym found))
+        alike-done row (room-by id call old.rows state (Some row) v shows.rows found) (row_of-id id old.rows row found)
+        (there-sound old.rows id row sound.each found).targets (ap alone_in (sym found))
 
     -- where none is there it is made, if there is room for it
     alike-none : row_of id old.rows ≡ None → IsAlike (given_by None)

@@ -35,7 +35,7 @@ use Rattle.csi_node.proofs.OneRow.{staged_of-alone, published_of-alone, publishe
 use Rattle.csi_node.specs.Private.PlanLaws.{no_id-fits}
 use Rattle.csi_node.proofs.OutcomeFacts.{lifecycle_facts}
 use Rattle.csi_node.proofs.RowChanges.{alone-changed, changed-kept, fits-changed, no_targets}
-use Rattle.csi_node.proofs.TableOutcomes.{IsOutcome, Fits, refuses, was_staged, stages, unstages, was_published, publishes, was_unpublished, unpublishes, lifecycle_outcomes}
+use Rattle.csi_node.proofs.TableOutcomes.{IsOutcome, Fits, refuses, was_staged, stages, unstages, was_published, publishes, was_unpublished, unpublishes, lifecycle_outcomes, reply-no_id}
 
 -- a test that fails doesn't hold: anything follows
 never : {A : Type 0} → false ≡ true → A
@@ -134,20 +134,9 @@ sound-changed row call sound v done =
       targets = fits-changed row call sound.targets (can-change row sound.targets call v done);
     }
 
--- no reply of the table has an id
-no_id : (state : NodeState) (call : Call) (outcome : Outcome) → IsOutcome state call outcome → outcome.reply.id ≡ None
-no_id state _ _ (refuses call status detail not_ok) = refl
-no_id state _ _ (was_staged staged is) = refl
-no_id state _ _ (stages staged is) = refl
-no_id state _ _ (unstages id is) = refl
-no_id state _ _ (was_published published slash is) = refl
-no_id state _ _ (publishes published fits) = refl
-no_id state _ _ (was_unpublished id target is) = refl
-no_id state _ _ (unpublishes id target there is) = refl
-
--- so a node may give each
+-- a node may give each reply of the table
 pub told-allowed : (node : List ℕ) (row : NodeRowShown) (call : Call) → is_node_kind (kind_of call) ≡ true → IsAllowed (Node node) (bodies.Reply (kind_of call) (told_at row call).reply)
-told-allowed node row call own = (own, no_id-fits (kind_of call) (told_at row call).reply own (no_id (state_shown row) call (lifecycle_row (state_shown row) call) (lifecycle_outcomes (state_shown row) call)))
+told-allowed node row call own = (own, no_id-fits (kind_of call) (told_at row call).reply own (reply-no_id (state_shown row) call (lifecycle_row (state_shown row) call) (lifecycle_outcomes (state_shown row) call)))
 
 -- an OK has no detail
 pub told-plain : (row : NodeRowShown) (call : Call) → (told_at row call).reply.status ≡ Ok → (told_at row call).reply.detail ≡ []
@@ -160,7 +149,7 @@ FitWhere row call done = TargetsFit (cond done (row_changed row call) row).stage
 -- the row after a call that is carried out keeps the rules of a row
 pub sound-told : (row : NodeRowShown) (number : Number) (call : Call) → IsSoundRow row → volume_of call ≡ Some row.id → is_node_kind (kind_of call) ≡ true → IsSoundRow (row_told number call (told_at row call) row)
 sound-told row number call sound v own =
-    record { kind = own; no_id = no_id (state_shown row) call (lifecycle_row (state_shown row) call) (lifecycle_outcomes (state_shown row) call); targets = by (told_at row call).is_done refl }
+    record { kind = own; no_id = reply-no_id (state_shown row) call (lifecycle_row (state_shown row) call) (lifecycle_outcomes (state_shown row) call); targets = by (told_at row call).is_done refl }
   where
     by : (b : Bool) → (told_at row call).is_done ≡ b → FitWhere row call (told_at row call).is_done
     by true e = subst (FitWhere row call) (sym e) (sound-changed row call sound v e).targets

@@ -1,14 +1,12 @@
 -- Rows that keep the rules of a record show no state but safe ones.
 use Rattle.std.proofs.Common.{◌≡◌, ℕ, ◌≤◌, List, [], ◌∷◌, map, length, Bool, true, false, refl, sym, ◌∙◌, ap, subst, arith, inl, inr}
 use Rattle.std.specs.Prelude.{Option, Some, None, filter, ◌==◌, All}
-use Rattle.std.proofs.lemmas.Bool.{eq-eqb, eqb-true}
+use Rattle.std.proofs.lemmas.Bool.{eq-eqb}
 use Rattle.std.proofs.lemmas.List.{length-map}
 use Rattle.csi_types.specs.declared.capability.Capability.{Capability}
 use Rattle.csi_lists.specs.Model.Members.{IsAmong, EachTwo}
 use Rattle.csi_types.specs.Model.Sharing.{allows_one_target}
-use Rattle.csi_lists.proofs.Members.{all_of, among-find, in_filter}
-use Rattle.csi_lists.proofs.Searches.{find-passes}
-use Rattle.csi_lists.proofs.Members.{one-of_all}
+use Rattle.csi_lists.proofs.Members.{all_of, in_filter}
 use Rattle.csi_lists.proofs.Counts.{two-pass, no_fewer}
 use Rattle.csi_node.specs.declared.row.NodeRow.{NodeRow}
 use Rattle.csi_node.specs.declared.row.NodeTarget.{NodeTarget}
@@ -19,13 +17,10 @@ use Rattle.csi_node.specs.Public.OneRow.{state_shown, published_so, published_by
 use Rattle.csi_node.specs.Model.Record.{parts}
 use Rattle.csi_node.specs.Public.Record.{AreSoundRows}
 use Rattle.csi_node.specs.Public.Safe.{AllowTwo, IsPublishedRight}
+use Rattle.csi_node.proofs.FoundRows.{there-sound}
 use Rattle.csi_node.proofs.OneRow.{staged_of-alone}
 use Rattle.csi_node.proofs.StateChanges.{part-staged}
-use Rattle.csi_node.proofs.ShownAfter.{ShowsAll, row_of, alone_in, part_of, all-from_shows}
-
--- what is missing isn't there: anything follows
-none_some : {X : Type 0} {Y : Type 0} (x : X) → None ≡ Some x → Y
-none_some x h = cc
+use Rattle.csi_node.proofs.ShownAfter.{ShowsAll, row_of, row_of-id, alone_in, part_of, all-from_shows}
 
 -- where there is one in such a mode, there isn't another
 not_two : (b : Bool) (n : ℕ) → 2 ≤ n → (b ≡ true → n ≤ 1) → b ≡ false
@@ -67,20 +62,12 @@ no_more id None targets = omega arith
 no_more id (Some capability) targets = let same = length-map targets (published_so id capability) in omega arith
 
 module _ (rows : List NodeRowShown) (state : NodeState) (each : All IsSoundRow rows) (all : ShowsAll rows state) where
-  -- the row of an id keeps the rules, and stands for it
-  row_rules : (id : ℕ) (row : NodeRowShown) → row_of id rows ≡ Some row → IsSoundRow row
-  row_rules id row found = one-of_all IsSoundRow rows row each (among-find (λ (r : NodeRowShown). r.id == id) rows row found)
-
-  -- the row that is found for an id has it
-  own : (id : ℕ) (row : NodeRowShown) → row_of id rows ≡ Some row → row.id ≡ id
-  own id row found = eqb-true row.id id (find-passes (λ (r : NodeRowShown). r.id == id) rows row found)
-
   -- the state has a volume staged as its row has it
   row_staged : (id : ℕ) (row : NodeRowShown) → row_of id rows ≡ Some row → staged_of id state ≡ row.staged
   row_staged id row found =
       sym (part-staged id (alone_in (row_of id rows)) state (part_of id rows state all))
       ∙ ap (λ (o : Option NodeRowShown). staged_of id (alone_in o)) found
-      ∙ ap (λ (n : ℕ). staged_of n (state_shown row)) (sym (own id row found))
+      ∙ ap (λ (n : ℕ). staged_of n (state_shown row)) (sym (row_of-id id rows row found))
       ∙ staged_of-alone row
 
   -- what is published of a volume is what its row has
@@ -101,7 +88,7 @@ module _ (rows : List NodeRowShown) (state : NodeState) (each : All IsSoundRow r
   single_by_row : (p : PublishedVolume) (o : Option NodeRowShown) → row_of p.volume rows ≡ o → IsAmong p (alone_in o).published → allows_one_target p.capability.mode ≡ true → count_of p.volume state.published ≤ 1
   single_by_row p None found among one = absurd among
   single_by_row p (Some row) found among one =
-      let few : length row.targets ≤ 1 = (row_rules p.volume row found).targets.single p.capability (so_staged row.id row.staged row.targets p among) one in
+      let few : length row.targets ≤ 1 = (there-sound rows p.volume row each found).targets.single p.capability (so_staged row.id row.staged row.targets p among) one in
       let more = no_more row.id row.staged row.targets in
       let same : length (state_shown row).published ≡ count_of p.volume state.published = ap length (row_published p.volume (Some row) found) in
       omega arith

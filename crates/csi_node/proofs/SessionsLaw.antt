@@ -1,6 +1,6 @@
 -- What a node remembers, whatever frames came: each row's last call is of no later session than the greatest that came; and of that
 -- one, where the volume isn't staged.
-use Rattle.std.proofs.Common.{◌≡◌, ◌⊎◌, ◌≤◌, ℕ, List, Bool, true, refl, sym, ◌∙◌, ap, subst, inl, inr, arith}
+use Rattle.std.proofs.Common.{◌≡◌, ◌⊎◌, ◌≤◌, ℕ, List, Bool, true, sym, ◌∙◌, ap, subst, inl, inr, arith}
 use Rattle.std.specs.Prelude.{option_map, find, filter, is_some, IsSome, ◌==◌}
 use Rattle.std.proofs.lemmas.Bool.{eq-eqb, eqb-true, ltb-true}
 use Rattle.csi_lists.specs.Model.Members.{IsAmong}
@@ -11,16 +11,15 @@ use Rattle.csi_types.specs.declared.number.Number.{Number}
 use Rattle.csi_types.specs.declared.call.Call.{Call}
 use Rattle.csi_types.specs.Model.Frame.{Frame}
 use Rattle.csi_fence.specs.Model.Fence.{Kept}
-use Rattle.csi_fence.specs.Model.Fenced.{Fenced}
 use Rattle.csi_fence.proofs.FramesKeep.{IsKept, frames_keep}
 use Rattle.csi_node.specs.Model.State.{NodeState, AnsweredVolume, StagedVolume, joined_node, staged_of, volume_of}
-use Rattle.csi_node.specs.Model.Table.{lifecycle_row, node_row, changed}
-use Rattle.csi_node.specs.Model.Fenced.{keep, begun, carried_out, node_at}
+use Rattle.csi_node.specs.Model.Table.{lifecycle_row, changed}
+use Rattle.csi_node.specs.Model.Fenced.{keep, begun, node_at}
 use Rattle.csi_node.specs.Public.Fenced.{after_frames}
 use Rattle.csi_node.specs.Public.Laws.{is_another}
 use Rattle.csi_node.specs.Public.Safe.{Remembers}
-use Rattle.csi_node.proofs.CarriedOut.{Carried, no_room, has_room, was_carried, kept_of}
-use Rattle.csi_node.proofs.LastCalls.{keep-each, keep-session, keep-staged, changed-rows, changed-session}
+use Rattle.csi_node.proofs.CarriedOut.{kept_of, keeps-by, session_then}
+use Rattle.csi_node.proofs.LastCalls.{keep-each, keep-staged, changed-rows}
 use Rattle.csi_node.proofs.OutcomeFacts.{lifecycle_facts}
 
 -- the rows are of no later session, and those of volumes that aren't staged of this one
@@ -78,7 +77,7 @@ module _ (state : NodeState) (number : Number) (call : Call) (now : number.sessi
 
   -- the session stays
   same_session : after.session ≡ state.session
-  same_session = keep-session (volume_of call) kept next ∙ changed-session state (lifecycle_row state call).change
+  same_session = session_then state number call
 
   -- and how another volume is staged
   same_staged : (id : ℕ) → is_another (volume_of call) id ≡ true → staged_of id after ≡ staged_of id state
@@ -114,20 +113,9 @@ module _ (state : NodeState) (number : Number) (call : Call) (now : number.sessi
       before row (inl there) = let earlier = current.before row (was_there row there.0) in omega (arith, earlier, same_session)
       before row (inr is) = omega (arith, own_session row is)
 
--- each call that is carried out leaves them so
-carried_current : (node : List ℕ) (state : NodeState) (number : Number) (call : Call) (after : Fenced NodeState) → Carried node state number call after → number.session ≡ state.session
-    → AreCurrent state → AreCurrent after.state
-carried_current node state number call _ (no_room full) now current = current
-carried_current node state number call _ (has_room room) now current = done_current state number call now current
-
 -- and so does each frame
 is_kept : (node : List ℕ) → IsKept (node_at node) AreCurrent
-is_kept node = record {
-  sets_session = λ session state. refl;
-  begins = λ session state later current. begun_current session state (let less = ltb-true state.session session later in omega (arith, less)) current;
-  carries = λ state number call now current.
-      carried_current node state number call (carried_out node state number call (node_row state call)) (was_carried node state number call) now.session current;
-}
+is_kept node = keeps-by node AreCurrent (λ session state later current. begun_current session state (let less = ltb-true state.session session later in omega (arith, less)) current) done_current
 
 -- after any frames to a new node
 pub all_current : (node : List ℕ) (session : ℕ) (frames : List Frame) → AreCurrent (after_frames node (joined_node session) frames)

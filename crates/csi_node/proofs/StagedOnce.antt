@@ -5,30 +5,23 @@ use Rattle.std.proofs.lemmas.Bool.{eqb-true, eq-eqb}
 use Rattle.csi_lists.proofs.Members.{among-either, among-filter}
 use Rattle.csi_lists.proofs.Searches.{find-filter}
 use Rattle.csi_lists.proofs.Searches.{find-append}
-use Rattle.csi_types.specs.declared.capability.Capability.{Capability}
-use Rattle.csi_types.specs.declared.number.Number.{Number}
 use Rattle.csi_types.specs.declared.call.Call.{Call}
 use Rattle.csi_types.specs.Model.Frame.{Frame}
 use Rattle.csi_fence.specs.Model.Fence.{Kept}
-use Rattle.csi_fence.specs.Model.Fenced.{Fenced}
 use Rattle.csi_fence.proofs.FramesKeep.{IsKept, frames_keep}
 use Rattle.csi_lists.specs.Model.Members.{IsAmong}
 use Rattle.csi_lists.proofs.Options.{option_or-none, option_or-read, none-from_map}
 use Rattle.csi_lists.proofs.Members.{passes-filter}
 use Rattle.csi_node.specs.Model.State.{NodeState, StagedVolume, joined_node, staged_of, volume_of}
-use Rattle.csi_node.specs.Model.Table.{Outcome, Stages, Unstages, lifecycle_row, node_row, changed}
-use Rattle.csi_node.specs.Model.Fenced.{keep, carried_out, node_at}
+use Rattle.csi_node.specs.Model.Table.{Outcome, Stages, Unstages, lifecycle_row, changed}
+use Rattle.csi_node.specs.Model.Fenced.{keep, node_at}
 use Rattle.csi_node.specs.Public.Fenced.{after_frames}
 use Rattle.csi_node.proofs.TableOutcomes.{IsOutcome, refuses, was_staged, stages, unstages, was_published, publishes, was_unpublished, unpublishes, lifecycle_outcomes}
-use Rattle.csi_node.proofs.CarriedOut.{Carried, no_room, has_room, was_carried, kept_of}
+use Rattle.csi_node.proofs.CarriedOut.{kept_of, keeps-by}
 
 -- each staged volume is found as it is staged
 abbrev pub AreFound : NodeState → Type 0
 AreFound state = (staged : StagedVolume) → IsAmong staged state.staged → staged_of staged.volume state ≡ Some staged.capability
-
--- the capability with which a volume is staged
-capability_of : StagedVolume → Capability
-capability_of staged = staged.capability
 
 -- where a volume that isn't staged is staged, each staged volume is still found as it is staged
 stages-found : (state : NodeState) (new : StagedVolume) → staged_of new.volume state ≡ None → AreFound state → AreFound (changed state (Stages new))
@@ -77,19 +70,11 @@ keep-found : (volume : Option ℕ) (kept : Kept) (state : NodeState) → AreFoun
 keep-found None kept state found = found
 keep-found (Some id) kept state found = found
 
--- each call that is carried out leaves each staged volume found as it is staged
-carried-found : (node : List ℕ) (state : NodeState) (number : Number) (call : Call) (after : Fenced NodeState) → Carried node state number call after → AreFound state → AreFound after.state
-carried-found node state number call _ (no_room full) found = found
-carried-found node state number call _ (has_room room) found =
-    keep-found (volume_of call) (kept_of state number call) (changed state (lifecycle_row state call).change) (outcome-found state call (lifecycle_row state call) (lifecycle_outcomes state call) found)
-
 -- so does each frame; a session that begins touches the rows alone
 is_kept : (node : List ℕ) → IsKept (node_at node) AreFound
-is_kept node = record {
-  sets_session = λ session state. refl;
-  begins = λ session state later found. found;
-  carries = λ state number call now found. carried-found node state number call (carried_out node state number call (node_row state call)) (was_carried node state number call) found;
-}
+is_kept node =
+    keeps-by node AreFound (λ session state later found. found)
+    (λ state number call now found. keep-found (volume_of call) (kept_of state number call) (changed state (lifecycle_row state call).change) (outcome-found state call (lifecycle_row state call) (lifecycle_outcomes state call) found))
 
 -- after any frames to a new node, each staged volume is found as it is staged
 pub all_found : (node : List ℕ) (session : ℕ) (frames : List Frame) → AreFound (after_frames node (joined_node session) frames)

@@ -4,7 +4,7 @@ use Rattle.std.specs.Prelude.{Option, Some, None, option_map, is_none, filter, c
 use Rattle.csi_types.specs.declared.number.Number.{Number}
 use Rattle.csi_types.specs.declared.call.Call.{Call}
 use Rattle.csi_types.specs.declared.call.Party.TheVariants.{Node}
-use Rattle.csi_types.specs.declared.status.Status.TheVariants.{Ok, ResourceExhausted}
+use Rattle.csi_types.specs.declared.status.Status.TheVariants.{ResourceExhausted}
 use Rattle.csi_types.specs.declared.reply.Reply.{Reply}
 use Rattle.csi_types.specs.Model.Call.{kind_of}
 use Rattle.csi_types.specs.Model.Number.{IsBefore}
@@ -20,9 +20,10 @@ use Rattle.csi_node.specs.Model.Fenced.{carried_out, fenced, kept_for, kept_rows
 use Rattle.csi_node.specs.Private.Fenced.{in_session}
 use Rattle.csi_node.specs.Public.Laws.{plugin_at, IsSameApart, LeavesOthers, HasAtMostOneMore, is_another, table_reply}
 use Rattle.csi_node.specs.Private.Laws.{IsLetThrough}
-use Rattle.csi_node.proofs.CarriedOut.{kept_of, state_then, done_then}
-use Rattle.csi_node.proofs.LastCalls.{keep-staged, keep-published, keep-session, keep-others, keep-own, keep-rows, changed-rows, changed-session}
+use Rattle.csi_node.proofs.CarriedOut.{kept_of, session_then, state_then, done_then}
+use Rattle.csi_node.proofs.LastCalls.{keep-staged, keep-published, keep-others, keep-own, keep-rows, changed-rows}
 use Rattle.csi_node.proofs.OutcomeFacts.{IsReady, lifecycle_facts, ready_met, ready_kept, ready_volume, ready_done}
+use Rattle.csi_node.proofs.TableOutcomes.{exhausted}
 
 -- with room, or without it
 with_room : (node : List ℕ) (state : NodeState) (number : Number) (call : Call) → has_no_room state call ≡ false
@@ -57,12 +58,7 @@ ready_state : (volume : Option ℕ) (kept : Kept) (state : NodeState) (call : Ca
 ready_state None kept state call h = h
 ready_state (Some id) kept state call h = ready_kept state (kept_rows id kept state.rows (row_with_id id state)) call h
 
--- what a call changes and what is kept of it leave the session
-session_then : (state : NodeState) (number : Number) (call : Call) → (state_then state number call).session ≡ state.session
-session_then state number call =
-    keep-session (volume_of call) (kept_of state number call) (changed state (lifecycle_row state call).change) ∙ changed-session state (lifecycle_row state call).change
-
--- and the rows, but for a new one
+-- what a call changes and what is kept of it leave the rows, but for a new one
 rows_then : (state : NodeState) (number : Number) (call : Call) → HasAtMostOneMore state.rows (state_then state number call).rows
 rows_then state number call =
     let change = (lifecycle_row state call).change in
@@ -88,10 +84,6 @@ once_more node after later call kept now is before ready =
             published = sym (keep-published (volume_of call) (kept_of after later call) (changed after (lifecycle_row after call).change) ∙ again.published);
           }),
     )
-
--- the status ResourceExhausted isn't OK
-exhausted : ResourceExhausted ≡ Ok → ⊥
-exhausted h = cc
 
 -- in the state in which a call is judged, which is of its session
 module _ (node : List ℕ) (state : NodeState) (number : Number) (call : Call) (now : number.session ≡ state.session) where

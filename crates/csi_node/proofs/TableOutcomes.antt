@@ -2,7 +2,7 @@
 -- the table isn't unfolded again.
 use Rattle.std.proofs.Common.{◌≡◌, ℕ, List, [], ◌∷◌, Bool, true, false, cond, not, refl, sym, ◌∙◌, ap}
 use Rattle.std.specs.Prelude.{Option, Some, None, ◌==◌, ◌&&◌, nat_le, length, codes}
-use Rattle.std.proofs.lemmas.Bool.{and_parts, and_from, eqb-true, eq-eqb}
+use Rattle.std.proofs.lemmas.Bool.{and_parts, and_from, both_ways, eqb-true, eq-eqb, not-false}
 use Rattle.csi_types.proofs.Equality.{same_text-tells, same_capability-tells}
 use Rattle.csi_lists.proofs.Searches.{find-passes}
 use Rattle.csi_types.specs.declared.capability.Capability.{Capability}
@@ -13,7 +13,7 @@ use Rattle.csi_types.specs.declared.status.Status.TheVariants.{Ok, InvalidArgume
 use Rattle.csi_types.specs.Model.Same.{same_text, same_flag, same_capability}
 use Rattle.csi_types.specs.Model.Sharing.{allows_one_target}
 use Rattle.csi_node.specs.Model.State.{NodeState, StagedVolume, PublishedVolume, staged_of, published_of, published_at, is_published_at}
-use Rattle.csi_node.specs.Model.Table.{Outcome, Stages, Unstages, Publishes, Unpublishes, refused, met, done, begins_with_slash, stage, unstage, publish_new, publish_staged, publish_at_target, publish, unpublish, lifecycle_row, has_no_room, node_row}
+use Rattle.csi_node.specs.Model.Table.{Outcome, Stages, Unstages, Publishes, Unpublishes, refused, met, done, begins_with_slash, stage, unstage, publish_new, publish_staged, publish_at_target, publish, unpublish, lifecycle_row}
 
 -- the calls that stage and publish this
 abbrev pub stage_call : StagedVolume → Call
@@ -42,6 +42,17 @@ pub data IsOutcome (state : NodeState) : Call → Outcome → Type 0 where
   was_unpublished : (id : ℕ) (target : List ℕ) → published_at id target state ≡ None → IsOutcome state (calls.NodeUnpublishVolume id target) met
   unpublishes : (id : ℕ) (target : List ℕ) (there : PublishedVolume) → published_at id target state ≡ Some there → IsOutcome state (calls.NodeUnpublishVolume id target) (done (Unpublishes id target))
 
+-- no reply of the table has an id
+pub reply-no_id : (state : NodeState) (call : Call) (outcome : Outcome) → IsOutcome state call outcome → outcome.reply.id ≡ None
+reply-no_id state _ _ (refuses call status detail not_ok) = refl
+reply-no_id state _ _ (was_staged staged is) = refl
+reply-no_id state _ _ (stages staged is) = refl
+reply-no_id state _ _ (unstages id is) = refl
+reply-no_id state _ _ (was_published published slash is) = refl
+reply-no_id state _ _ (publishes published fits) = refl
+reply-no_id state _ _ (was_unpublished id target is) = refl
+reply-no_id state _ _ (unpublishes id target there is) = refl
+
 -- no status of a refusal is OK: one lemma for each
 invalid : InvalidArgument ≡ Ok → ⊥
 invalid h = cc
@@ -51,7 +62,7 @@ exists : AlreadyExists ≡ Ok → ⊥
 exists h = cc
 
 -- the status ResourceExhausted isn't OK
-exhausted : ResourceExhausted ≡ Ok → ⊥
+pub exhausted : ResourceExhausted ≡ Ok → ⊥
 exhausted h = cc
 
 -- the status FailedPrecondition isn't OK
@@ -61,11 +72,6 @@ failed h = cc
 -- the status Unimplemented isn't OK
 unimplemented : Unimplemented ≡ Ok → ⊥
 unimplemented h = cc
-
--- a test whose opposite fails holds
-not_false : (b : Bool) → not b ≡ false → b ≡ true
-not_false true h = refl
-not_false false h = cc
 
 -- where both of two outcomes are of these kinds, so is the one that a test chooses
 by_if : (state : NodeState) (call : Call) (b : Bool) (x y : Outcome) → (b ≡ true → IsOutcome state call x) → (b ≡ false → IsOutcome state call y) → IsOutcome state call (cond b x y)
@@ -106,11 +112,6 @@ same_published p there here same =
     let readonly = same_flag-then there.readonly p.readonly way.1 in
     λ i. record { volume = volume i; target = target i; capability = capability i; readonly = readonly i }
 
--- a flag isn't both false and true
-not_both : {A : Type 0} (b : Bool) → b ≡ false → b ≡ true → A
-not_both true h k = cc
-not_both false h k = cc
-
 module _ (state : NodeState) (p : PublishedVolume) (slash : begins_with_slash p.target ≡ true) where
   -- what a publication at a new target is answered is one of these
   new_outcomes : published_at p.volume p.target state ≡ None → staged_of p.volume state ≡ Some p.capability → (targets : List PublishedVolume) → published_of p.volume state ≡ targets
@@ -126,7 +127,7 @@ module _ (state : NodeState) (p : PublishedVolume) (slash : begins_with_slash p.
         slash = slash;
         free = free;
         staged = staged;
-        alone = λ one. not_both (allows_one_target p.capability.mode) shared one;
+        alone = λ one. absurd (both_ways (allows_one_target p.capability.mode) shared one);
         room = ap (λ (targets : List PublishedVolume). nat_le 16 (length targets)) is ∙ room;
       })))
 
@@ -136,7 +137,7 @@ module _ (state : NodeState) (p : PublishedVolume) (slash : begins_with_slash p.
   staged_outcomes free (Some capability) is =
       by_if state (publish_call p) (not (same_capability capability p.capability)) (refused FailedPrecondition (codes "staged otherwise")) (publish_new p (published_of p.volume state))
       (λ _. refuses (publish_call p) FailedPrecondition (codes "staged otherwise") failed)
-      (λ same. new_outcomes free (is ∙ ap Some ((same_capability-tells capability p.capability).0 (not_false (same_capability capability p.capability) same))) (published_of p.volume state) refl)
+      (λ same. new_outcomes free (is ∙ ap Some ((same_capability-tells capability p.capability).0 (not-false (same_capability capability p.capability) same))) (published_of p.volume state) refl)
 
   -- so is what it is answered by what is at the target
   target_outcomes : (o : Option PublishedVolume) → published_at p.volume p.target state ≡ o → IsOutcome state (publish_call p) (publish_at_target state p o)
@@ -151,7 +152,7 @@ publish_outcomes : (state : NodeState) (p : PublishedVolume) → IsOutcome state
 publish_outcomes state p =
     by_if state (publish_call p) (not (begins_with_slash p.target)) (refused InvalidArgument (codes "target")) (publish_at_target state p (published_at p.volume p.target state))
     (λ _. refuses (publish_call p) InvalidArgument (codes "target") invalid)
-    (λ slash. target_outcomes state p (not_false (begins_with_slash p.target) slash) (published_at p.volume p.target state) refl)
+    (λ slash. target_outcomes state p (not-false (begins_with_slash p.target) slash) (published_at p.volume p.target state) refl)
 
 -- what NodeUnpublishVolume is answered is one of these
 unpublish_outcomes : (state : NodeState) (id : ℕ) (target : List ℕ) (o : Option PublishedVolume) → published_at id target state ≡ o → IsOutcome state (calls.NodeUnpublishVolume id target) (unpublish id target o)
@@ -168,10 +169,3 @@ lifecycle_outcomes state (calls.CreateVolume name required limit capabilities) =
 lifecycle_outcomes state (calls.DeleteVolume id) = refuses (calls.DeleteVolume id) Unimplemented [] unimplemented
 lifecycle_outcomes state (calls.ControllerPublishVolume id node capability readonly) = refuses (calls.ControllerPublishVolume id node capability readonly) Unimplemented [] unimplemented
 lifecycle_outcomes state (calls.ControllerUnpublishVolume id node) = refuses (calls.ControllerUnpublishVolume id node) Unimplemented [] unimplemented
-
--- at any time
-pub is_outcome : (state : NodeState) (call : Call) → IsOutcome state call (node_row state call)
-is_outcome state call =
-    by_if state call (has_no_room state call) (refused ResourceExhausted (codes "rows")) (lifecycle_row state call)
-    (λ _. refuses call ResourceExhausted (codes "rows") exhausted)
-    (λ _. lifecycle_outcomes state call)
