@@ -15,10 +15,7 @@ pub each-copied : (rows copies : List NodeRow) → AllZip (λ (row copy : NodeRo
 each-copied [] [] same = refl
 each-copied [] (copy ∷ copies) same = absurd same
 each-copied (row ∷ rows) [] same = absurd same
-each-copied (row ∷ rows) (copy ∷ copies) same = cons same.0 (each-copied rows copies same.1)
-  where
-    cons : {X : Type 0} {x y : X} {xs ys : List X} → x ≡ y → xs ≡ ys → x ∷ xs ≡ y ∷ ys
-    cons a b = cc
+each-copied (row ∷ rows) (copy ∷ copies) same = let first = same.0 in let rest = each-copied rows copies same.1 in λ i. first i ∷ rest i
 
 -- rows that are as they were
 pub shows-same : (old new : List NodeRow) (state : NodeState) → RowsShow old state → parts new ≡ parts old → RowsShow new state

@@ -20,6 +20,7 @@ use Rattle.csi_fence.specs.Model.Fenced.{Fenced}
 use Rattle.csi_fence.proofs.Begun.{HasBegun, IsUpTo, has-begun}
 use Rattle.csi_fence.proofs.Delivered.{IsKeptFor, answered-delivered}
 use Rattle.csi_fence.proofs.FramesKeep.{own_session}
+use Rattle.csi_fence.proofs.LetThrough.{is_answered}
 use Rattle.csi_fence.proofs.Spent.{not_over-own}
 use Rattle.csi_fence.proofs.Views.{IsLater, carried-acts, closed-view, empty-view}
 use Rattle.csi_node.specs.Model.State.{NodeState, AnsweredVolume, row_of_volume}
@@ -32,7 +33,6 @@ use Rattle.csi_node.proofs.BegunSessions.{begun-held, begun-kept}
 use Rattle.csi_node.proofs.CarriedOut.{Carried, no_room, has_room, was_carried, kept_of, state_then}
 use Rattle.csi_node.proofs.LastCalls.{keep-own, keep-session, changed-rows, changed-session}
 use Rattle.csi_node.proofs.TableOutcomes.{exhausted, lifecycle_outcomes, reply-no_id}
-use Rattle.csi_node.proofs.OwnFrames.{for_own}
 use Rattle.csi_node.proofs.SessionsLaw.{AreCurrent}
 use Rattle.csi_node.proofs.ThingOutcomes.{Effect, EffectAt, effect}
 use Rattle.csi_node.proofs.ThingRows.{row_id, kept_at, kept_on-at, IsFor, is_for, keep-held, kept_either, kept_none, held_none}
@@ -205,7 +205,7 @@ module _ (node : List ℕ) (state : NodeState) (current : AreCurrent state) wher
 pub delivered : (node : List ℕ) (state : NodeState) (number : Number) (call : Call) → AreCurrent state → IsTrue (is_party_of (kind_of call) (Node node)) → IsDeliveredTo node state number call
 delivered node state number call current party =
     let for = is_for node call party in
-    subst (λ (after : Fenced NodeState). IsDelivered (Node node) number call (thing_of node call) (view_of node state) (view_of node after.state) after.reply) (sym (for_own node state number call))
+    subst (λ (after : Fenced NodeState). IsDelivered (Node node) number call (thing_of node call) (view_of node state) (view_of node after.state) after.reply) (sym (is_answered (node_at node) state number call))
     (delivered_by node state current number call for.0 for.1)
 
 -- a node that has answered nothing holds nothing, has no number spent, and keeps nothing

@@ -2,7 +2,7 @@
 use Rattle.std.proofs.Common.{◌≡◌, ◌<◌, ◌≤◌, ◌+◌, ◌-◌, ℕ, length, get_or, take, drop, true, false, List, [], ◌∷◌, ◌++◌, refl, sym, ◌∙◌, ap, subst, inl, inr, arith}
 use Rattle.std.specs.Prelude.{◌&&◌, ◌||◌, ◌==◌, nat_le, nat_lt, Bool, Option, Some, None, is_some}
 use Rattle.std.proofs.lemmas.Bool.{and_from, and_parts, eq-eqb, eqb-true, false≢true, le-leb, leb-true, lt-ltb, ltb-true}
-use Rattle.std.proofs.lemmas.List.{get_or_push, length-append, length-map, length-take-le, length_push, map_more, take-append-drop, take-map, take_all}
+use Rattle.std.proofs.lemmas.List.{get_or_push, length-append, length-map, length-take-le, length_push, map_more, take-append-drop, take-map}
 use Rattle.std.proofs.lemmas.List.Elements.{All-push, All-take}
 use Rattle.csi_lists.specs.Model.Members.{IsAmong, EachTwo}
 use Rattle.csi_lists.proofs.Members.{all_of, among-append, among-last, each_of}
@@ -169,17 +169,6 @@ same-test session rows place last row so inside =
     let count : length (parts (take place rows)) ≡ place = length-map (take place rows) node_row_shown ∙ length-take-le place rows (omega arith) in
     ap (λ k. may_follow session k (last_id 0 (parts (take place rows))) (node_row_shown row)) count ∙ ap (λ k. may_follow session place k (node_row_shown row)) (sym so.is_last)
 
--- no row, and 0 as the last id, are what the walk begins with
-pub begins : (session : Option ℕ) (rows : List NodeRow) → SoFar session rows 0 0
-begins session rows = record { rules = by session; is_last = refl }
-  where
-    none : AreSoundRows []
-    none = record { rising = λ i j less inside. absurd (omega arith); limit = omega arith; each = λ k d inside. absurd (omega arith) }
-
-    by : (session : Option ℕ) → KeepRules session []
-    by None = none
-    by (Some session) = (none, λ k d inside. absurd (omega arith))
-
 -- where the next row may follow, the rows with it are a record's, and its id is the last
 pub goes_on : (session : Option ℕ) (rows : List NodeRow) (place last : ℕ) (row : NodeRow) → SoFar session rows place last → place < length rows → row ≡ get_or rows place row
     → may_follow session place last (node_row_shown row) ≡ true → SoFar session rows (place + 1) row.id
@@ -203,7 +192,3 @@ refused-there session rows place last row so inside is from fails =
           let more : KeepRules session (parts (take place rows) ++ node_row_shown row ∷ []) = subst (KeepRules session) (one-more rows place row inside is) whole in
           false≢true (sym fails ∙ sym (same-test session rows place last row so inside) ∙ follows-keep session (parts (take place rows)) (node_row_shown row) from more);
     }
-
--- where the walk is through, the rows are a record's
-pub ends : (session : Option ℕ) (rows : List NodeRow) (place last : ℕ) → SoFar session rows place last → length rows ≤ place → KeepRules session (parts rows)
-ends session rows place last so end = subst (λ (l : List NodeRow). KeepRules session (parts l)) (take_all place rows end) so.rules

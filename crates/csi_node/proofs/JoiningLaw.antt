@@ -1,8 +1,7 @@
 -- No frame takes a node's session back, so a call of an earlier session than that of its joining stays over.
-use Rattle.std.proofs.Common.{◌≡◌, ◌∙◌, ◌<◌, ◌≤◌, ℕ, List, true, refl, arith}
-use Rattle.std.specs.Prelude.{Some, nat_lt}
+use Rattle.std.proofs.Common.{◌≡◌, ◌<◌, ◌≤◌, ℕ, List, arith}
+use Rattle.std.specs.Prelude.{Some}
 use Rattle.std.proofs.lemmas.Bool.{ltb-true}
-use Rattle.std.proofs.lemmas.Bool.Decides.{nat_tests}
 use Rattle.csi_types.specs.declared.number.Number.{Number}
 use Rattle.csi_types.specs.declared.call.Call.{Call}
 use Rattle.csi_types.specs.declared.call.Party.TheVariants.{Node}
@@ -14,7 +13,8 @@ use Rattle.csi_node.specs.Model.State.{NodeState, joined_node}
 use Rattle.csi_node.specs.Model.Fenced.{fenced, node_at}
 use Rattle.csi_node.specs.Public.Fenced.{after_frames}
 use Rattle.csi_node.proofs.CarriedOut.{keeps-by, session_then}
-use Rattle.csi_node.proofs.OwnFrames.{for_own}
+use Rattle.csi_fence.proofs.LetThrough.{over_call}
+use Rattle.csi_fence.proofs.Spent.{over-from}
 
 -- the session is this one, or a later one
 abbrev pub IsFrom : ℕ → NodeState → Type 0
@@ -30,15 +30,11 @@ is_kept node first =
 pub rises : (node : List ℕ) (state : NodeState) (frame : Frame) → state.session ≤ (fenced node state frame).state.session
 rises node state frame = frame_keeps (node_at node) (IsFrom state.session) (is_kept node state.session) state frame (omega arith)
 
--- a call of an earlier session than the state's is stale
-over-stale : (node : List ℕ) (state : NodeState) (number : Number) (call : Call) → nat_lt number.session state.session ≡ true
-    → fenced node state (call_frame number (Node node) call) ≡ record { reply = Some (reply_frame number (Node node) (kind_of call) stale_reply); state = state }
-over-stale node state number call over = for_own node state number call ∙ rw over refl
-
--- whatever frames came to a node that joined with a later one
+-- a call of an earlier session is stale, whatever frames came to a node that joined with a later one
 pub stale : (node : List ℕ) (session : ℕ) (frames : List Frame) (number : Number) (call : Call) → number.session < session
     → fenced node (after_frames node (joined_node session) frames) (call_frame number (Node node) call)
     ≡ record { reply = Some (reply_frame number (Node node) (kind_of call) stale_reply); state = after_frames node (joined_node session) frames }
 stale node session frames number call earlier =
     let from = frames_keep (node_at node) (IsFrom session) (is_kept node session) (joined_node session) frames (omega arith) in
-    over-stale node (after_frames node (joined_node session) frames) number call (grind (arith, nat_tests))
+    let state : NodeState = after_frames node (joined_node session) frames in
+    over_call (node_at node) state number call (over-from state.session number (omega (arith, from, earlier)))

@@ -15,7 +15,6 @@ pub mod StateChanges
 pub mod ShownAfter
 pub mod RecordRules
 pub mod FoundRows
-pub mod OwnFrames
 pub mod CopiedRows
 pub mod SafeRows
 pub mod Readers

@@ -29,16 +29,16 @@ IsReady state (calls.NodeUnpublishVolume id target) = published_at id target sta
 IsReady state call = ⊥
 
 -- the other volumes' stagings and targets are as they were
-pub record LeavesRest (old new : NodeState) (volume : Option ℕ) : Type 0 where
-  pub staged : filter (λ staged. is_another volume staged.volume) new.staged ≡ filter (λ staged. is_another volume staged.volume) old.staged
-  pub published : filter (λ published. is_another volume published.volume) new.published ≡ filter (λ published. is_another volume published.volume) old.published
+pub record LeavesRest (old new : NodeState) (call : Call) : Type 0 where
+  pub staged : filter (λ staged. is_another (volume_of call) staged.volume) new.staged ≡ filter (λ staged. is_another (volume_of call) staged.volume) old.staged
+  pub published : filter (λ published. is_another (volume_of call) published.volume) new.published ≡ filter (λ published. is_another (volume_of call) published.volume) old.published
 
 -- a refusal changes nothing; after an OK the reply is the plain one, and the call would be met; and other volumes are as they were
 pub record Facts (state : NodeState) (call : Call) (outcome : Outcome) : Type 0 where
   pub stays : outcome.reply.status ≢ Ok → outcome.change ≡ Stays
   pub plain : outcome.reply.status ≡ Ok → outcome.reply ≡ ok_reply
   pub ready : outcome.reply.status ≡ Ok → IsReady (changed state outcome.change) call
-  pub others : LeavesRest state (changed state outcome.change) (volume_of call)
+  pub others : LeavesRest state (changed state outcome.change) call
 
 -- all that `Facts` says is so of a refusal
 refused_facts : (state : NodeState) (call : Call) (status : Status) (detail : List ℕ) → (status ≡ Ok → ⊥) → Facts state call (refused status detail)
@@ -51,7 +51,7 @@ met_facts state call ready =
     record { stays = λ h. refl; plain = λ h. refl; ready = λ h. ready; others = record { staged = refl; published = refl } }
 
 -- all that `Facts` says is so where the call is carried out
-done_facts : (state : NodeState) (call : Call) (change : Change) → IsReady (changed state change) call → LeavesRest state (changed state change) (volume_of call) → Facts state call (done change)
+done_facts : (state : NodeState) (call : Call) (change : Change) → IsReady (changed state change) call → LeavesRest state (changed state change) call → Facts state call (done change)
 done_facts state call change ready others =
     record { stays = λ h. absurd (h refl); plain = λ h. refl; ready = λ h. ready; others = others }
 

@@ -9,9 +9,8 @@ use Rattle.csi_types.specs.declared.call.Call.{Call}
 use Rattle.csi_types.specs.declared.call.Call.TheVariants as calls
 use Rattle.csi_types.specs.Model.Same.{same_text}
 use Rattle.csi_types.specs.Model.Sharing.{allows_one_target}
-use Rattle.csi_lists.proofs.Searches.{find-append}
+use Rattle.csi_lists.proofs.Searches.{find-append, find-missed}
 use Rattle.csi_types.proofs.Equality.{same_text-tells}
-use Rattle.std.specs.Option.{option_or}
 use Rattle.std.proofs.lemmas.Option.{same_Some}
 use Rattle.std.proofs.lemmas.List.Elements.{filter_agree}
 use Rattle.csi_lists.proofs.Options.{option_or-none, some_is_not_none}
@@ -29,10 +28,6 @@ use Rattle.csi_node.proofs.OneRow.{itself, itself_and}
 -- texts differ both ways
 differs : (a b : List ℕ) → same_text a b ≡ false → same_text b a ≡ false
 differs a b h = false_from_ne_true (same_text b a) (λ same. both_ways (same_text a b) h ((same_text-tells a b).1 (sym ((same_text-tells b a).0 same))))
-
--- of two that are missing, neither is found
-or_none : {X : Type 0} (o other : Option X) → o ≡ None → other ≡ None → option_or o other ≡ None
-or_none o other a b = option_or-none o other a ∙ b
 
 -- a state by what is staged and published
 abbrev of_parts : List StagedVolume → List PublishedVolume → NodeState
@@ -83,20 +78,13 @@ alone-changed row (calls.ControllerUnpublishVolume id node) volume fits can = ab
 -- rules of targets
 append_distinct : (targets : List NodeTarget) (one : NodeTarget) → AreDistinctTargets targets → target_among targets one.target ≡ None → AreDistinctTargets (targets ++ one ∷ [])
 append_distinct [] one distinct none = (refl, tt)
-append_distinct (first ∷ rest) one distinct none = (step (same_text first.target one.target) refl none, append_distinct rest one distinct.1 (later (same_text first.target one.target) none))
-  where
-    later : (b : Bool) → cond b (Some first) (target_among rest one.target) ≡ None → target_among rest one.target ≡ None
-    later true h = let clash : Some first ≡ None = h in cc
-    later false h = h
-
-    other : same_text first.target one.target ≡ false → same_text one.target first.target ≡ false
-    other h = differs first.target one.target h
-
-    step : (b : Bool) → same_text first.target one.target ≡ b → cond b (Some first) (target_among rest one.target) ≡ None → target_among (rest ++ one ∷ []) first.target ≡ None
-    step true e h = let clash : Some first ≡ None = h in cc
-    step false e h =
-        let found = find-append (λ (there : NodeTarget). same_text there.target first.target) rest one in
-        found ∙ or_none _ _ distinct.0 (ap (λ (b : Bool). cond b (Some one) None) (other e))
+append_distinct (first ∷ rest) one distinct none =
+    let missed = find-missed (same_text first.target one.target) first (target_among rest one.target) none in (
+      find-append (λ (there : NodeTarget). same_text there.target first.target) rest one
+          ∙ option_or-none (target_among rest first.target) _ distinct.0
+          ∙ ap (λ (b : Bool). cond b (Some one) None) (differs first.target one.target missed.0),
+      append_distinct rest one distinct.1 missed.1,
+    )
 
 -- absolute targets and one more are absolute
 append_absolute : (targets : List NodeTarget) (one : NodeTarget) → AreAbsolute targets → begins_with_slash one.target ≡ true → AreAbsolute (targets ++ one ∷ [])

@@ -4,7 +4,6 @@ use Rattle.std.specs.Prelude.{All, Option, Some, None, option_map, find, filter,
 use Rattle.std.proofs.lemmas.List.Elements.{All-filter}
 use Rattle.csi_lists.proofs.Searches.{find-none}
 use Rattle.csi_types.specs.declared.call.Call.{Call}
-use Rattle.csi_types.specs.declared.call.Call.TheVariants as calls
 use Rattle.csi_types.specs.declared.call.Party.TheVariants.{Node}
 use Rattle.csi_types.specs.declared.number.Number.{Number}
 use Rattle.csi_types.specs.declared.reply.Reply.{Reply}
@@ -41,6 +40,7 @@ use Rattle.csi_node.proofs.RowChanges.{no_targets}
 use Rattle.csi_node.proofs.RowsTold.{alone-told}
 use Rattle.csi_node.proofs.ShownAfter.{ShowsAll, RowsAfter, all-from_shows, alone_in, kept-shown_by, part_of, room-by, row_of, row_of-id, shows-from_all, shows_then}
 use Rattle.csi_node.proofs.StateChanges.{lifecycle-part}
+use Rattle.csi_node.proofs.ThingRows.{is_for}
 
 -- a node's rows, with the greatest session that came
 abbrev pub NodeRows : Type 0
@@ -90,17 +90,6 @@ kept-same call old state shows = by (volume_of call) refl
         ∙ sym (kept-shown_by id call old.rows state (row_of id old.rows) v shows.rows refl)
 
 -- ---- a call that is carried out
-
--- a call to a node is about a volume
-no_volume : {A : Type 0} (call : Call) → is_node_kind (kind_of call) ≡ true → volume_of call ≡ None → A
-no_volume (calls.NodeStageVolume id capability) own none = cc
-no_volume (calls.NodeUnstageVolume id) own none = cc
-no_volume (calls.NodePublishVolume id target capability readonly) own none = cc
-no_volume (calls.NodeUnpublishVolume id target) own none = cc
-no_volume (calls.CreateVolume name required limit capabilities) own none = cc
-no_volume (calls.DeleteVolume id) own none = cc
-no_volume (calls.ControllerPublishVolume id node capability readonly) own none = cc
-no_volume (calls.ControllerUnpublishVolume id node) own none = cc
 
 -- the rows after one that is put
 after-put : (rows : List NodeRowShown) (id : ℕ) (new : NodeRowShown) → AreRising node_plan.id rows → new.id ≡ id → RowsAfter id rows (put_row node_plan.id new rows) new
@@ -169,15 +158,13 @@ module _ (node : List ℕ) (number : Number) (call : Call) (old : NodeRows) (sta
 
   -- by whether the call's volume has a row
   alike-carried : is_node_kind (kind_of call) ≡ true → IsAlike (given_by (find (node_plan.is_for call) old.rows))
-  alike-carried own = by (volume_of call) refl
+  alike-carried own =
+      let for = (is_for node call own).1 in
+      subst (λ (p : Option ℕ). IsAlike (given_by (find (λ (row : NodeRowShown). is_of p row.id) old.rows))) (sym for.is_volume) (at for.volume for.is_volume (row_of for.volume old.rows) refl)
     where
       at : (id : ℕ) → volume_of call ≡ Some id → (o : Option NodeRowShown) → row_of id old.rows ≡ o → IsAlike (given_by o)
       at id v None none = alike-none id v none
       at id v (Some row) found = alike-there id v row found
-
-      by : (o : Option ℕ) → volume_of call ≡ o → IsAlike (given_by (find (node_plan.is_for call) old.rows))
-      by None v = no_volume call own v
-      by (Some id) v = subst (λ (p : Option ℕ). IsAlike (given_by (find (λ (row : NodeRowShown). is_of p row.id) old.rows))) (sym v) (at id v (row_of id old.rows) refl)
 
 -- the rows do what the state does
 pub rows-simulate : (node : List ℕ) → Simulates (rows_machine node_plan node) (node_at node) AreRowsSound RowsShowAll

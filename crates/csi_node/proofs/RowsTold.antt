@@ -11,15 +11,13 @@ use Rattle.csi_lists.proofs.Places.{position-none}
 use Rattle.csi_types.specs.declared.capability.Capability.{Capability}
 use Rattle.csi_types.specs.declared.call.Call.{Call}
 use Rattle.csi_types.specs.declared.call.Kind.{Kind}
-use Rattle.csi_types.specs.declared.call.Party.TheVariants.{Node}
 use Rattle.csi_types.specs.declared.frame.Body.TheVariants as bodies
 use Rattle.csi_types.specs.declared.number.Number.{Number}
 use Rattle.csi_types.specs.declared.reply.Reply.{Reply}
 use Rattle.csi_types.specs.Model.Call.{kind_of}
 use Rattle.csi_types.specs.Public.Call.{is_node_kind}
-use Rattle.csi_types.specs.Public.Frame.{IsAllowed}
 use Rattle.csi_fence.specs.Model.Fence.{Kept}
-use Rattle.csi_types.specs.declared.status.Status.TheVariants.{Ok, ResourceExhausted}
+use Rattle.csi_types.specs.declared.status.Status.TheVariants.{ResourceExhausted}
 use Rattle.csi_types.specs.Model.Replies.{plain_reply}
 use Rattle.csi_fence.specs.Public.Rows.{Answered, Made}
 use Rattle.csi_fence.specs.Public.Table.{IsMade}
@@ -32,8 +30,6 @@ use Rattle.csi_node.specs.Public.OneRow.{row_anew, row_changed}
 use Rattle.csi_node.specs.Private.OneRow.{call_change, target_of_row, CanChange, HasRoomFor}
 use Rattle.csi_node.specs.Public.Plan.{first_row, is_change, is_of, is_sound_by, lacking, node_plan, told_at, row_told}
 use Rattle.csi_node.proofs.OneRow.{staged_of-alone, published_of-alone, published_at-staged}
-use Rattle.csi_node.specs.Private.PlanLaws.{no_id-fits}
-use Rattle.csi_node.proofs.OutcomeFacts.{lifecycle_facts}
 use Rattle.csi_node.proofs.RowChanges.{alone-changed, changed-kept, fits-changed, no_targets}
 use Rattle.csi_node.proofs.TableOutcomes.{IsOutcome, Fits, refuses, was_staged, stages, unstages, was_published, publishes, was_unpublished, unpublishes, lifecycle_outcomes, reply-no_id}
 
@@ -133,14 +129,6 @@ sound-changed row call sound v done =
       no_id = ap (λ (k : Kept). k.reply.id) same ∙ sound.no_id;
       targets = fits-changed row call sound.targets (can-change row sound.targets call v done);
     }
-
--- a node may give each reply of the table
-pub told-allowed : (node : List ℕ) (row : NodeRowShown) (call : Call) → is_node_kind (kind_of call) ≡ true → IsAllowed (Node node) (bodies.Reply (kind_of call) (told_at row call).reply)
-told-allowed node row call own = (own, no_id-fits (kind_of call) (told_at row call).reply own (reply-no_id (state_shown row) call (lifecycle_row (state_shown row) call) (lifecycle_outcomes (state_shown row) call)))
-
--- an OK has no detail
-pub told-plain : (row : NodeRowShown) (call : Call) → (told_at row call).reply.status ≡ Ok → (told_at row call).reply.detail ≡ []
-told-plain row call ok = ap (λ (r : Reply). r.detail) ((lifecycle_facts (state_shown row) call).plain ok)
 
 -- the targets fit, whether or not the change is made
 abbrev FitWhere : NodeRowShown → Call → Bool → Type 0

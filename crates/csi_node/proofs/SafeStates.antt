@@ -1,8 +1,7 @@
 -- In a node's state what is published is staged, at as many targets as its mode allows, whatever frames came.
 use Rattle.std.proofs.Common.{◌≡◌, ◌⊎◌, ℕ, List, [], false, not, sym, ◌∙◌, ap, subst, inl, inr}
-use Rattle.std.specs.Prelude.{Option, Some, None, option_map, find, ◌==◌}
-use Rattle.std.proofs.lemmas.Bool.{eqb-true, eq-eqb, true≢false, false_from_ne_true}
-use Rattle.csi_lists.proofs.Searches.{find-append}
+use Rattle.std.specs.Prelude.{Option, Some, None, ◌==◌}
+use Rattle.std.proofs.lemmas.Bool.{eq-eqb, true≢false, false_from_ne_true}
 use Rattle.csi_types.specs.declared.capability.Capability.{Capability}
 use Rattle.csi_types.specs.declared.call.Call.{Call}
 use Rattle.csi_types.specs.Model.Frame.{Frame}
@@ -17,12 +16,10 @@ use Rattle.csi_lists.specs.Model.Members.{IsAmong}
 use Rattle.csi_node.specs.Public.Safe.{AllowTwo, IsPublishedRight}
 use Rattle.csi_node.proofs.TableOutcomes.{Fits, IsOutcome, refuses, was_staged, stages, unstages, was_published, publishes, was_unpublished, unpublishes, lifecycle_outcomes}
 use Rattle.csi_node.proofs.CarriedOut.{kept_of, keeps-by}
+use Rattle.csi_node.proofs.StagedOnce.{left-staged, still-staged}
 use Rattle.csi_lists.proofs.Members.{among-either, among-filter, none_kept}
-use Rattle.csi_lists.proofs.Searches.{find-filter}
 use Rattle.csi_lists.proofs.Pairs.{two-append, two-filter}
 use Rattle.std.proofs.lemmas.Option.{same_Some}
-use Rattle.csi_lists.proofs.Options.{option_or-read}
-use Rattle.csi_lists.proofs.Tests.{not-where}
 
 -- a change keeps that
 abbrev Keeps : NodeState → Change → Type 0
@@ -31,21 +28,14 @@ Keeps state change = IsPublishedRight state → IsPublishedRight (changed state 
 -- a staging keeps what is published right
 stages_keeps : (state : NodeState) (staged : StagedVolume) → Keeps state (Stages staged)
 stages_keeps state staged right = record {
-  staged = λ p among.
-      ap (option_map (λ (s : StagedVolume). s.capability)) (find-append (λ (s : StagedVolume). s.volume == p.volume) state.staged staged)
-      ∙ option_or-read (λ (s : StagedVolume). s.capability) (find (λ (s : StagedVolume). s.volume == p.volume) state.staged) _ p.capability (right.staged p among);
+  staged = λ p among. still-staged state staged p.volume p.capability (right.staged p among);
   targets = right.targets;
 }
 
 -- a volume that isn't published is no other's
 unstages_keeps : (state : NodeState) (id : ℕ) → published_of id state ≡ [] → Keeps state (Unstages id)
 unstages_keeps state id none right = record {
-  staged = λ p among.
-      let other : (p.volume == id) ≡ false = none_kept (λ (q : PublishedVolume). q.volume == id) state.published p none among in
-      ap (option_map (λ (s : StagedVolume). s.capability))
-      (find-filter (λ (s : StagedVolume). s.volume == p.volume) (λ (s : StagedVolume). not (s.volume == id)) state.staged
-      (λ s same. not-where (s.volume == id) (λ h. true≢false (sym (eq-eqb p.volume id (sym (eqb-true s.volume p.volume same) ∙ eqb-true s.volume id h)) ∙ other))))
-      ∙ right.staged p among;
+  staged = λ p among. left-staged state id p.volume (none_kept (λ (q : PublishedVolume). q.volume == id) state.published p none among) ∙ right.staged p among;
   targets = right.targets;
 }
 

@@ -1,12 +1,11 @@
 -- What a node remembers, whatever frames came: each row's last call is of no later session than the greatest that came; and of that
 -- one, where the volume isn't staged.
-use Rattle.std.proofs.Common.{◌≡◌, ◌⊎◌, ◌≤◌, ℕ, List, Bool, true, sym, ◌∙◌, ap, subst, inl, inr, arith}
-use Rattle.std.specs.Prelude.{option_map, find, filter, is_some, IsSome, ◌==◌}
-use Rattle.std.proofs.lemmas.Bool.{eq-eqb, eqb-true, ltb-true}
+use Rattle.std.proofs.Common.{◌≡◌, ◌⊎◌, ◌≤◌, ℕ, List, true, sym, ◌∙◌, ap, subst, inl, inr, arith}
+use Rattle.std.specs.Prelude.{option_map, find, is_some, IsSome, ◌==◌}
+use Rattle.std.proofs.lemmas.Bool.{eq-eqb, ltb-true}
 use Rattle.csi_lists.specs.Model.Members.{IsAmong}
 use Rattle.csi_lists.proofs.Counts.{count-either}
 use Rattle.csi_lists.proofs.Members.{among-kept}
-use Rattle.csi_lists.proofs.Searches.{find-filter}
 use Rattle.csi_types.specs.declared.number.Number.{Number}
 use Rattle.csi_types.specs.declared.call.Call.{Call}
 use Rattle.csi_types.specs.Model.Frame.{Frame}
@@ -19,7 +18,7 @@ use Rattle.csi_node.specs.Public.Fenced.{after_frames}
 use Rattle.csi_node.specs.Public.Laws.{is_another}
 use Rattle.csi_node.specs.Public.Safe.{Remembers}
 use Rattle.csi_node.proofs.CarriedOut.{kept_of, keeps-by, session_then}
-use Rattle.csi_node.proofs.LastCalls.{keep-each, keep-staged, changed-rows}
+use Rattle.csi_node.proofs.LastCalls.{find-others, keep-each, keep-staged, changed-rows}
 use Rattle.csi_node.proofs.OutcomeFacts.{lifecycle_facts}
 
 -- the rows are of no later session, and those of volumes that aren't staged of this one
@@ -54,13 +53,7 @@ begun_current session state later current = record {
 other-staged : (state : NodeState) (call : Call) (id : ℕ) → is_another (volume_of call) id ≡ true → staged_of id (changed state (lifecycle_row state call).change) ≡ staged_of id state
 other-staged state call id other =
     ap (option_map (λ (s : StagedVolume). s.capability))
-    (sym (among_others (changed state (lifecycle_row state call).change).staged) ∙ ap (find is_of) (lifecycle_facts state call).others.staged ∙ among_others state.staged)
-  where
-    is_of : StagedVolume → Bool
-    is_of s = s.volume == id
-
-    among_others : (list : List StagedVolume) → find is_of (filter (λ (s : StagedVolume). is_another (volume_of call) s.volume) list) ≡ find is_of list
-    among_others list = find-filter is_of (λ (s : StagedVolume). is_another (volume_of call) s.volume) list (λ s own. ap (is_another (volume_of call)) (eqb-true s.volume id own) ∙ other)
+    (find-others (λ (s : StagedVolume). s.volume) (is_another (volume_of call)) id other state.staged (changed state (lifecycle_row state call).change).staged (lifecycle_facts state call).others.staged)
 
 module _ (state : NodeState) (number : Number) (call : Call) (now : number.session ≡ state.session) (current : AreCurrent state) where
   -- the call, as it is kept, and the state with its change

@@ -1,5 +1,5 @@
 -- A step of a node, from rows that show a state to rows that show the state after it.
-use Rattle.std.proofs.Common.{◌≡◌, ℕ, List, [], ◌∷◌, ◌++◌, map, length, Bool, true, false, not, ◌&&◌, refl, sym, ◌∙◌, ap, subst, arith, length-append}
+use Rattle.std.proofs.Common.{◌≡◌, ℕ, List, [], ◌∷◌, ◌++◌, map, length, Bool, true, false, not, ◌&&◌, refl, sym, ◌∙◌, ap, arith, length-append}
 use Rattle.std.specs.Prelude.{Option, Some, None, option_map, find, filter, ◌==◌, is_none, nat_le, option_to_list}
 use Rattle.std.proofs.lemmas.Bool.{eq-eqb, eqb-true}
 use Rattle.std.proofs.lemmas.List.{length-map}
@@ -10,17 +10,18 @@ use Rattle.std.proofs.lemmas.List.Elements.{filter_agree}
 use Rattle.csi_fence.proofs.PutRows.{grown}
 use Rattle.csi_lists.proofs.PassingByKey.{find-by_key}
 use Rattle.csi_lists.proofs.Searches.{find-of_map, find-passes}
-use Rattle.csi_lists.proofs.Filters.{filter-append_passes, filter-filter, filter-of_map}
+use Rattle.csi_lists.proofs.Filters.{filter-append_passes, filter-of_map}
 use Rattle.csi_node.specs.declared.row.NodeRow.{NodeRow}
 use Rattle.csi_node.specs.Model.State.{NodeState, AnsweredVolume, StagedVolume, PublishedVolume, row_with_id, published_of, volume_of, row_of_volume, row_for}
 use Rattle.csi_node.specs.Public.View.{empty_node}
 use Rattle.csi_node.specs.Model.Table.{Change, Outcome, lifecycle_row, has_no_room, changed}
 use Rattle.csi_node.specs.Model.Fenced.{kept_in, kept_rows, keep, kept_for}
+use Rattle.csi_node.specs.Public.Laws.{is_another}
 use Rattle.csi_node.specs.Model.Shown.{RowsShow, answered_of_row, published_in, staged_in, row_in}
 use Rattle.csi_node.specs.Model.OneRow.{NodeRowShown, node_row_shown}
 use Rattle.csi_node.specs.Public.OneRow.{state_shown}
 use Rattle.csi_node.proofs.OutcomeFacts.{LeavesRest, lifecycle_facts}
-use Rattle.csi_node.proofs.LastCalls.{changed-rows, kept_in-id, other_rows}
+use Rattle.csi_node.proofs.LastCalls.{changed-rows, filter-others, kept_in-id, other_rows}
 use Rattle.csi_node.proofs.OneRow.{itself}
 use Rattle.csi_node.proofs.StateChanges.{IsPart, IsAbout, lifecycle-part, lifecycle-about, changed-published, changed-staged}
 
@@ -165,17 +166,6 @@ kept-here id kept rows (Some row) h own =
     ∙ ap (map (kept_in id kept)) (sym h)
     ∙ rw here (ap (λ (n : ℕ). let a : List AnsweredVolume = (record { id = n; kept = kept }) ∷ [] in a) (own row refl))
 
--- where two lists have the same of all volumes but one, they have the same of each other one
-of_another : {X : Type 0} (volume : X → ℕ) (id k : ℕ) → (k == id) ≡ false → (old new : List X) → filter (λ x. not (volume x == id)) new ≡ filter (λ x. not (volume x == id)) old
-    → filter (λ x. volume x == k) new ≡ filter (λ x. volume x == k) old
-of_another {X} volume id k differ old new same = sym (alone new) ∙ ap (filter (λ x. volume x == k)) same ∙ alone old
-  where
-    apart : (n : ℕ) → (n == k) ≡ true → not (n == id) ≡ true
-    apart n own = ap not (ap (λ (m : ℕ). m == id) (eqb-true n k own) ∙ differ)
-
-    alone : (xs : List X) → filter (λ x. volume x == k) (filter (λ x. not (volume x == id)) xs) ≡ filter (λ x. volume x == k) xs
-    alone xs = filter-filter (λ x. volume x == k) (λ x. not (volume x == id)) xs (λ x own. apart (volume x) own)
-
 -- the state that the table and the fence lead to
 abbrev pub state_then : NodeState → ℕ → Kept → Call → NodeState
 state_then state id kept call = keep (Some id) kept (changed state (lifecycle_row state call).change)
@@ -205,8 +195,11 @@ shows_then id call old new state before after kept v all rows is_before is_id is
     same_change : (lifecycle_row (state_shown before) call).change ≡ change
     same_change = ap (λ (s : NodeState). (lifecycle_row s call).change) is_before ∙ ap (λ (o : Outcome). o.change) (lifecycle-part id (alone_in (row_of id old)) state call v part)
 
-    rest : LeavesRest state (changed state change) (Some id)
-    rest = subst (LeavesRest state (changed state change)) v (lifecycle_facts state call).others
+    others : LeavesRest state (changed state change) call
+    others = (lifecycle_facts state call).others
+
+    another : (k : ℕ) → (k == id) ≡ false → is_another (volume_of call) k ≡ true
+    another k e = ap (λ (o : Option ℕ). is_another o k) v ∙ ap not e
 
     now : alone_in (row_of id new) ≡ changed (alone_in (row_of id old)) change
     now = ap alone_in rows.this ∙ is_after ∙ ap (changed (state_shown before)) same_change ∙ ap (λ (s : NodeState). changed s change) is_before
@@ -228,7 +221,7 @@ shows_then id call old new state before after kept v all rows is_before is_id is
         ap (λ (o : Option NodeRowShown). option_to_list (option_map answered_of o)) (rows.others k e)
         ∙ all.kept k
         ∙ sym (ap (filter (λ (row : AnsweredVolume). row.id == k)) kept_there
-        ∙ of_another (λ (row : AnsweredVolume). row.id) id k e state.rows (kept_rows id kept state.rows (row_with_id id state)) (other_rows id kept state.rows (row_with_id id state)))
+        ∙ filter-others (λ (row : AnsweredVolume). row.id) (is_another (Some id)) k (ap not e) state.rows (kept_rows id kept state.rows (row_with_id id state)) (other_rows id kept state.rows (row_with_id id state)))
 
     by_staged : (k : ℕ) (b : Bool) → (k == id) ≡ b → map (λ (s : StagedVolume). s.capability) (alone_in (row_of k new)).staged ≡ map (λ (s : StagedVolume). s.capability) (filter (λ (s : StagedVolume). s.volume == k) (changed state change).staged)
     by_staged k true e =
@@ -237,7 +230,7 @@ shows_then id call old new state before after kept v all rows is_before is_id is
     by_staged k false e =
         ap (λ (o : Option NodeRowShown). map (λ (s : StagedVolume). s.capability) (alone_in o).staged) (rows.others k e)
         ∙ all.staged k
-        ∙ ap (map (λ (s : StagedVolume). s.capability)) (sym (of_another (λ (s : StagedVolume). s.volume) id k e state.staged (changed state change).staged rest.staged))
+        ∙ ap (map (λ (s : StagedVolume). s.capability)) (sym (filter-others (λ (s : StagedVolume). s.volume) (is_another (volume_of call)) k (another k e) state.staged (changed state change).staged others.staged))
 
     by_published : (k : ℕ) (b : Bool) → (k == id) ≡ b → (alone_in (row_of k new)).published ≡ published_of k (changed state change)
     by_published k true e =
@@ -246,4 +239,4 @@ shows_then id call old new state before after kept v all rows is_before is_id is
     by_published k false e =
         ap (λ (o : Option NodeRowShown). (alone_in o).published) (rows.others k e)
         ∙ all.published k
-        ∙ sym (of_another (λ (p : PublishedVolume). p.volume) id k e state.published (changed state change).published rest.published)
+        ∙ sym (filter-others (λ (p : PublishedVolume). p.volume) (is_another (volume_of call)) k (another k e) state.published (changed state change).published others.published)
