@@ -159,26 +159,14 @@ ready_kept state rows (calls.DeleteVolume id) h = absurd h
 ready_kept state rows (calls.ControllerPublishVolume id node capability readonly) h = absurd h
 ready_kept state rows (calls.ControllerUnpublishVolume id node) h = absurd h
 
--- a call that is ready is about a volume
-pub ready_volume : (state : NodeState) (call : Call) → IsReady state call → (id : ℕ) × (volume_of call ≡ Some id)
+-- a call that is ready is about a volume, and what it does is so already
+pub ready_says : (state : NodeState) (call : Call) → IsReady state call → ((id : ℕ) × (volume_of call ≡ Some id)) × IsDone state call
 unfolding IsReady
-ready_volume state (calls.NodeStageVolume id capability) h = (id, refl)
-ready_volume state (calls.NodeUnstageVolume id) h = (id, refl)
-ready_volume state (calls.NodePublishVolume id target capability readonly) h = (id, refl)
-ready_volume state (calls.NodeUnpublishVolume id target) h = (id, refl)
-ready_volume state (calls.CreateVolume name required limit capabilities) h = absurd h
-ready_volume state (calls.DeleteVolume id) h = absurd h
-ready_volume state (calls.ControllerPublishVolume id node capability readonly) h = absurd h
-ready_volume state (calls.ControllerUnpublishVolume id node) h = absurd h
-
--- what a call that is ready does is so already
-pub ready_done : (state : NodeState) (call : Call) → IsReady state call → IsDone state call
-unfolding IsReady
-ready_done state (calls.NodeStageVolume id capability) h = h
-ready_done state (calls.NodeUnstageVolume id) h = h.0
-ready_done state (calls.NodePublishVolume id target capability readonly) h = h.0
-ready_done state (calls.NodeUnpublishVolume id target) h = h
-ready_done state (calls.CreateVolume name required limit capabilities) h = absurd h
-ready_done state (calls.DeleteVolume id) h = absurd h
-ready_done state (calls.ControllerPublishVolume id node capability readonly) h = absurd h
-ready_done state (calls.ControllerUnpublishVolume id node) h = absurd h
+ready_says state (calls.NodeStageVolume id capability) h = ((id, refl), h)
+ready_says state (calls.NodeUnstageVolume id) h = ((id, refl), h.0)
+ready_says state (calls.NodePublishVolume id target capability readonly) h = ((id, refl), h.0)
+ready_says state (calls.NodeUnpublishVolume id target) h = ((id, refl), h)
+ready_says state (calls.CreateVolume name required limit capabilities) h = absurd h
+ready_says state (calls.DeleteVolume id) h = absurd h
+ready_says state (calls.ControllerPublishVolume id node capability readonly) h = absurd h
+ready_says state (calls.ControllerUnpublishVolume id node) h = absurd h

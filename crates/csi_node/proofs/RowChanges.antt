@@ -138,14 +138,3 @@ fits-changed row (calls.CreateVolume name required limit capabilities) fits can 
 fits-changed row (calls.DeleteVolume id) fits can = absurd can
 fits-changed row (calls.ControllerPublishVolume id node capability readonly) fits can = absurd can
 fits-changed row (calls.ControllerUnpublishVolume id node) fits can = absurd can
-
--- what is kept stays
-pub changed-kept : (row : NodeRowShown) (call : Call) → (row_changed row call).kept ≡ row.kept
-changed-kept row (calls.NodeStageVolume id capability) = refl
-changed-kept row (calls.NodeUnstageVolume id) = refl
-changed-kept row (calls.NodePublishVolume id target capability readonly) = refl
-changed-kept row (calls.NodeUnpublishVolume id target) = refl
-changed-kept row (calls.CreateVolume name required limit capabilities) = refl
-changed-kept row (calls.DeleteVolume id) = refl
-changed-kept row (calls.ControllerPublishVolume id node capability readonly) = refl
-changed-kept row (calls.ControllerUnpublishVolume id node) = refl

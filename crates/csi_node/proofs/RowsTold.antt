@@ -5,7 +5,7 @@ use Rattle.std.specs.Prelude.{Option, Some, None, find, position, codes}
 use Rattle.std.proofs.lemmas.Bool.Decides.{nat_tests}
 use Rattle.std.proofs.lemmas.List.{length-map}
 use Rattle.std.proofs.lemmas.Option.{same_Some}
-use Rattle.std.proofs.lemmas.Bool.{eqb-true, lt-leb}
+use Rattle.std.proofs.lemmas.Bool.{eqb-true, false≢true, lt-leb, true≢false}
 use Rattle.csi_lists.proofs.Options.{none-from_map}
 use Rattle.csi_lists.proofs.Places.{position-none}
 use Rattle.csi_types.specs.declared.capability.Capability.{Capability}
@@ -30,31 +30,28 @@ use Rattle.csi_node.specs.Public.OneRow.{row_anew, row_changed}
 use Rattle.csi_node.specs.Private.OneRow.{call_change, target_of_row, CanChange, HasRoomFor}
 use Rattle.csi_node.specs.Public.Plan.{first_row, is_change, is_of, is_sound_by, lacking, node_plan, told_at, row_told}
 use Rattle.csi_node.proofs.OneRow.{staged_of-alone, published_of-alone, published_at-staged}
-use Rattle.csi_node.proofs.RowChanges.{alone-changed, changed-kept, fits-changed, no_targets}
+use Rattle.csi_node.specs.Private.PlanLaws.{stays-by}
+use Rattle.csi_node.proofs.RowChanges.{alone-changed, fits-changed, no_targets}
 use Rattle.csi_node.proofs.TableOutcomes.{IsOutcome, Fits, refuses, was_staged, stages, unstages, was_published, publishes, was_unpublished, unpublishes, lifecycle_outcomes, reply-no_id}
-
--- a test that fails doesn't hold: anything follows
-never : {A : Type 0} → false ≡ true → A
-never h = cc
 
 -- what changes is the call's change
 is-call_change : (state : NodeState) (call : Call) (outcome : Outcome) → IsOutcome state call outcome → is_change outcome.change ≡ true → outcome.change ≡ call_change call
-is-call_change state _ _ (refuses call status detail not_ok) h = never h
-is-call_change state _ _ (was_staged staged is) h = never h
+is-call_change state _ _ (refuses call status detail not_ok) h = absurd (false≢true h)
+is-call_change state _ _ (was_staged staged is) h = absurd (false≢true h)
 is-call_change state _ _ (stages staged is) h = refl
 is-call_change state _ _ (unstages id is) h = refl
-is-call_change state _ _ (was_published published slash is) h = never h
+is-call_change state _ _ (was_published published slash is) h = absurd (false≢true h)
 is-call_change state _ _ (publishes published fits) h = refl
-is-call_change state _ _ (was_unpublished id target is) h = never h
+is-call_change state _ _ (was_unpublished id target is) h = absurd (false≢true h)
 is-call_change state _ _ (unpublishes id target there is) h = refl
 
 -- what doesn't change stays
 stays : (change : Change) → is_change change ≡ false → change ≡ Stays
 stays Stays h = refl
-stays (Stages staged) h = never (sym h)
-stays (Unstages id) h = never (sym h)
-stays (Publishes published) h = never (sym h)
-stays (Unpublishes id target) h = never (sym h)
+stays (Stages staged) h = absurd (true≢false h)
+stays (Unstages id) h = absurd (true≢false h)
+stays (Publishes published) h = absurd (true≢false h)
+stays (Unpublishes id target) h = absurd (true≢false h)
 
 -- a volume that is published nowhere has no targets, where it has none without being staged
 none-from : (id : ℕ) (staged o : Option Capability) (targets : List NodeTarget) → staged ≡ o → (staged ≡ None → targets ≡ []) → published_by id o targets ≡ [] → targets ≡ []
@@ -93,13 +90,13 @@ module _ (row : NodeRowShown) (fits : TargetsFit row.staged row.targets) where
 
   -- a change that is made can be made
   can-by : (call : Call) (outcome : Outcome) → IsOutcome (state_shown row) call outcome → volume_of call ≡ Some row.id → is_change outcome.change ≡ true → CanChange row call
-  can-by _ _ (refuses call status detail not_ok) v h = never h
-  can-by _ _ (was_staged staged is) v h = never h
+  can-by _ _ (refuses call status detail not_ok) v h = absurd (false≢true h)
+  can-by _ _ (was_staged staged is) v h = absurd (false≢true h)
   can-by _ _ (stages staged is) v h = staged-own staged.volume None v is
   can-by _ _ (unstages id is) v h = none-from row.id row.staged row.staged row.targets refl fits.unstaged (sym (published-own id v) ∙ is)
-  can-by _ _ (was_published published slash is) v h = never h
+  can-by _ _ (was_published published slash is) v h = absurd (false≢true h)
   can-by _ _ (publishes published new) v h = room-own published v new
-  can-by _ _ (was_unpublished id target is) v h = never h
+  can-by _ _ (was_unpublished id target is) v h = absurd (false≢true h)
   can-by _ _ (unpublishes id target there is) v h = tt
 
   -- where the row is told that the change is made
@@ -123,7 +120,7 @@ module _ (row : NodeRowShown) (fits : TargetsFit row.staged row.targets) where
 -- the rules of a row after a change that is made
 pub sound-changed : (row : NodeRowShown) (call : Call) → IsSoundRow row → volume_of call ≡ Some row.id → (told_at row call).is_done ≡ true → IsSoundRow (row_changed row call)
 sound-changed row call sound v done =
-    let same : (row_changed row call).kept ≡ row.kept = changed-kept row call in
+    let same : (row_changed row call).kept ≡ row.kept = (stays-by row call).1 in
     record {
       kind = ap (λ (k : Kept). is_node_kind k.kind) same ∙ sound.kind;
       no_id = ap (λ (k : Kept). k.reply.id) same ∙ sound.no_id;
@@ -156,7 +153,7 @@ pub volume-from : (call : Call) (id : ℕ) → is_of (volume_of call) id ≡ tru
 volume-from call id h = by (volume_of call) refl
   where
     by : (o : Option ℕ) → volume_of call ≡ o → volume_of call ≡ Some id
-    by None v = never (sym (ap (λ (p : Option ℕ). is_of p id) v) ∙ h)
+    by None v = absurd (false≢true (sym (ap (λ (p : Option ℕ). is_of p id) v) ∙ h))
     by (Some volume) v = v ∙ ap Some (sym (eqb-true id volume (sym (ap (λ (p : Option ℕ). is_of p id) v) ∙ h)))
 
 -- a call without a volume has no row

@@ -46,20 +46,20 @@ fits-no_id kind reply own fits = none-from_is_some reply.id (not-true (is_some r
 
 -- ---- ids
 
--- a row that a call changes keeps its id
-id-by : (row : NodeRowShown) (call : Call) → (row_changed row call).id ≡ row.id
-id-by row (calls.NodeStageVolume id capability) = refl
-id-by row (calls.NodeUnstageVolume id) = refl
-id-by row (calls.NodePublishVolume id target capability readonly) = refl
-id-by row (calls.NodeUnpublishVolume id target) = refl
-id-by row (calls.CreateVolume name required limit capabilities) = refl
-id-by row (calls.DeleteVolume id) = refl
-id-by row (calls.ControllerPublishVolume id node capability readonly) = refl
-id-by row (calls.ControllerUnpublishVolume id node) = refl
+-- a row that a call changes keeps its id, and what it keeps
+pub stays-by : (row : NodeRowShown) (call : Call) → ((row_changed row call).id ≡ row.id) × ((row_changed row call).kept ≡ row.kept)
+stays-by row (calls.NodeStageVolume id capability) = (refl, refl)
+stays-by row (calls.NodeUnstageVolume id) = (refl, refl)
+stays-by row (calls.NodePublishVolume id target capability readonly) = (refl, refl)
+stays-by row (calls.NodeUnpublishVolume id target) = (refl, refl)
+stays-by row (calls.CreateVolume name required limit capabilities) = (refl, refl)
+stays-by row (calls.DeleteVolume id) = (refl, refl)
+stays-by row (calls.ControllerPublishVolume id node capability readonly) = (refl, refl)
+stays-by row (calls.ControllerUnpublishVolume id node) = (refl, refl)
 
 -- a row keeps its id, whether or not the call is carried out
 pub id-where : (row : NodeRowShown) (call : Call) (b : Bool) → (cond b (row_changed row call) row).id ≡ row.id
-id-where row call true = id-by row call
+id-where row call true = (stays-by row call).0
 id-where row call false = refl
 
 -- ---- rows that are made
@@ -111,7 +111,7 @@ is_orderly = record {
   keep_id = λ kept row. refl;
   keep_kept = λ kept row. refl;
   keep_empty = λ kept row. refl;
-  change_id = λ call row. id-by row call;
+  change_id = λ call row. (stays-by row call).0;
   keep_sound = λ node own kept row sound allowed. record { kind = allowed.0; no_id = fits-no_id kept.kind kept.reply allowed.0 allowed.1; targets = sound.targets };
   sound_allowed = λ node own row sound. (sound.kind, no_id-fits row.kept.kind row.kept.reply sound.kind sound.no_id);
   line_full = λ node own rows row call sound. refl;
