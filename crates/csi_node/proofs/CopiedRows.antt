@@ -17,13 +17,10 @@ each-copied [] (copy ∷ copies) same = absurd same
 each-copied (row ∷ rows) [] same = absurd same
 each-copied (row ∷ rows) (copy ∷ copies) same = let first = same.0 in let rest = each-copied rows copies same.1 in λ i. first i ∷ rest i
 
--- rows that are as they were
-pub shows-same : (old new : List NodeRow) (state : NodeState) → RowsShow old state → parts new ≡ parts old → RowsShow new state
-shows-same old new state shows same = shows-from_all new state (subst (λ l. ShowsAll l state) (sym same) (all-from_shows old state shows))
-
--- and so do parts with the same session
+-- parts whose rows are as they were, with the same session, show what they showed
 pub shows-copy : (old new : NodeParts) (state : NodeState) → Shows old state → parts new.rows ≡ parts old.rows → new.session ≡ old.session → Shows new state
-shows-copy old new state shows same session = record { shows = shows-same old.rows new.rows state shows.shows same; session = session ∙ shows.session }
+shows-copy old new state shows same session =
+    record { shows = shows-from_all new.rows state (subst (λ l. ShowsAll l state) (sym same) (all-from_shows old.rows state shows.shows)); session = session ∙ shows.session }
 
 -- what is so anyway is so of an error
 pub err_holds : {T E : Type 0} (r : Result T E) {P : Type 0} → P → OnErr r P

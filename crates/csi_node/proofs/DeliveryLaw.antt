@@ -32,14 +32,10 @@ use Rattle.csi_node.specs.Public.View.{held_on, kept_on, view_of, thing_of, IsDe
 use Rattle.csi_node.proofs.BegunSessions.{begun-held, begun-kept}
 use Rattle.csi_node.proofs.CarriedOut.{Carried, no_room, has_room, was_carried, kept_of, state_then}
 use Rattle.csi_node.proofs.LastCalls.{keep-own, keep-session, changed-rows, changed-session}
-use Rattle.csi_node.proofs.TableOutcomes.{exhausted, lifecycle_outcomes, reply-no_id}
+use Rattle.csi_node.proofs.TableOutcomes.{lifecycle_outcomes, refusal, reply-no_id}
 use Rattle.csi_node.proofs.SessionsLaw.{AreCurrent}
 use Rattle.csi_node.proofs.ThingOutcomes.{Effect, EffectAt, effect}
 use Rattle.csi_node.proofs.ThingRows.{row_id, kept_at, kept_on-at, IsFor, is_for, keep-held, kept_either, kept_none, held_none}
-
--- what the table answers to a call has its effect on the call's thing, and none on others
-effect_for : (node : List ℕ) (state : NodeState) (call : Call) (thing : PluginThing) → thing_of node call ≡ Some thing → Effect node state call (lifecycle_row state call) thing
-effect_for node state call thing is = subst (EffectAt node state call (lifecycle_row state call)) is (effect node state call (lifecycle_row state call) (lifecycle_outcomes state call))
 
 -- the thing of a call
 module _ (node : List ℕ) (state : NodeState) (number : Number) (call : Call) (thing : PluginThing) (for : IsFor node call thing) where
@@ -127,7 +123,7 @@ module _ (node : List ℕ) (state : NodeState) (number : Number) (call : Call) (
 
       in_its_session : Acts thing (replied (kind_of call) (lifecycle_row state call).reply) (view_of node state) (view_by state.session (held_on node after) (kept_on node after))
       in_its_session =
-          let does = effect_for node state call thing for.is_thing in
+          let does : Effect node state call (lifecycle_row state call) thing = subst (EffectAt node state call (lifecycle_row state call)) for.is_thing (effect node state call (lifecycle_row state call) (lifecycle_outcomes state call)) in
           carried-acts state.session thing (replied (kind_of call) (lifecycle_row state call).reply) (held_on node state) (held_on node after) (kept_on node state) (kept_on node after) not_over
           (record {
             of_its_kind = refl;
@@ -159,7 +155,7 @@ module _ (node : List ℕ) (state : NodeState) (number : Number) (call : Call) (
       reply = plain_reply ResourceExhausted (codes "rows");
       is_answer = refl;
       becomes = becomes (kind_of call) (plain_reply ResourceExhausted (codes "rows")) (view_of node state)
-          (full_acts fresh (plain_reply ResourceExhausted (codes "rows")) (λ ok. exhausted ok));
+          (full_acts fresh (plain_reply ResourceExhausted (codes "rows")) (refusal ResourceExhausted refl));
     }
     delivered_fresh _ (has_room room) fresh = record {
       kind = kind_of call;

@@ -1,16 +1,18 @@
 -- What is kept of a call changes the row of its volume, and nothing else.
-use Rattle.std.proofs.Common.{◌≡◌, ◌⊎◌, ℕ, List, [], ◌∷◌, ◌++◌, map, Bool, true, false, cond, not, refl, sym, ◌∙◌, ap, subst, inl, inr}
+use Rattle.std.proofs.Common.{◌≡◌, ◌⊎◌, ℕ, List, [], ◌∷◌, Bool, true, false, cond, not, refl, sym, ◌∙◌, ap, subst, inl, inr}
 use Rattle.std.specs.Prelude.{Option, Some, None, option_map, find, filter, ◌==◌}
 use Rattle.std.proofs.lemmas.Bool.{eq-eqb, eqb-true, not-true}
 use Rattle.csi_lists.specs.Model.Members.{IsAmong}
 use Rattle.csi_lists.proofs.Members.{among-either, among-map, none_passes}
 use Rattle.csi_lists.proofs.Searches.{find-filter, find-append_one, find-map, find-passes}
 use Rattle.csi_lists.proofs.Filters.{filter-append_one, filter-filter, filter-map}
+use Rattle.std.proofs.lemmas.List.{map-append}
+use Rattle.csi_lists.proofs.Maps.{map-map}
 use Rattle.csi_fence.specs.Model.Fence.{Kept}
 use Rattle.csi_node.specs.Model.State.{NodeState, AnsweredVolume, row_with_id}
 use Rattle.csi_node.specs.Model.Table.{Change, Stays, Stages, Unstages, Publishes, Unpublishes, changed}
 use Rattle.csi_node.specs.Model.Fenced.{kept_in, kept_rows, keep}
-use Rattle.csi_node.specs.Public.Laws.{is_another, ids_in, HasAtMostOneMore}
+use Rattle.csi_node.specs.Public.Laws.{is_another, HasAtMostOneMore}
 use Rattle.csi_node.specs.Public.View.{kept_in_row}
 
 -- what is kept changes nothing of what is staged
@@ -52,20 +54,10 @@ kept_in-id id kept row = by (row.id == id)
     by true = refl
     by false = refl
 
--- the rows are of the same volumes, but for a new one
-kept_ids : (id : ℕ) (kept : Kept) (rows : List AnsweredVolume) → ids_in (map (kept_in id kept) rows) ≡ ids_in rows
-kept_ids id kept [] = refl
-kept_ids id kept (row ∷ rows) = let first = kept_in-id id kept row in let rest = kept_ids id kept rows in λ i. first i ∷ rest i
-
--- the ids of rows and one row more are theirs, and then that row's
-ids-append_one : (rows : List AnsweredVolume) (row : AnsweredVolume) → ids_in (rows ++ row ∷ []) ≡ ids_in rows ++ row.id ∷ []
-ids-append_one [] row = refl
-ids-append_one (first ∷ rows) row = ap (λ (ids : List ℕ). first.id ∷ ids) (ids-append_one rows row)
-
 -- what is kept in a row of a volume leaves the same volumes in the rows, or one more at the end
 rows_grown : (id : ℕ) (kept : Kept) (rows : List AnsweredVolume) (o : Option AnsweredVolume) → HasAtMostOneMore rows (kept_rows id kept rows o)
-rows_grown id kept rows None = inr (id, ids-append_one rows (record { id = id; kept = kept }))
-rows_grown id kept rows (Some row) = inl (kept_ids id kept rows)
+rows_grown id kept rows None = inr (id, map-append (λ (row : AnsweredVolume). row.id) rows ((record { id = id; kept = kept }) ∷ []))
+rows_grown id kept rows (Some row) = inl (map-map (λ (row : AnsweredVolume). row.id) (kept_in id kept) rows (kept_in-id id kept))
 
 -- what is kept of a call leaves the same volumes in the rows, or one more at the end
 pub keep-rows : (volume : Option ℕ) (kept : Kept) (state : NodeState) → HasAtMostOneMore state.rows (keep volume kept state).rows

@@ -33,21 +33,6 @@ higher n m id same lt = ne_eqb m id (λ e. (let first = eqb-true n id same in om
 abbrev AreOf : {X : Type 0} → (X → ℕ) → ℕ → List X → Type 0
 AreOf volume id xs = AllByRecursion (λ x. volume x ≡ id) xs
 
--- of a list that is all of a volume, what is of that volume is all
-filter_own : {X : Type 0} (volume : X → ℕ) (id own : ℕ) (xs : List X) → (own == id) ≡ true → AreOf volume own xs → filter (λ x. volume x == id) xs ≡ xs
-filter_own volume id own xs same all =
-    filter-each (λ x. volume x == id) xs (each-weaker (λ x. volume x ≡ own) (λ x. (volume x == id) ≡ true) xs (λ x e. eq-eqb (volume x) id (e ∙ eqb-true own id same)) all)
-
--- of a list that is all of a volume, nothing is of another one
-filter_other : {X : Type 0} (volume : X → ℕ) (id own : ℕ) (xs : List X) → (own == id) ≡ false → AreOf volume own xs → filter (λ x. volume x == id) xs ≡ []
-filter_other volume id own xs other all =
-    filter-no_one (λ x. volume x == id) xs (each-weaker (λ x. volume x ≡ own) (λ x. (volume x == id) ≡ false) xs (λ x e. ap (λ n. n == id) e ∙ other) all)
-
--- of a list that is all of higher volumes, nothing is of the volume
-filter_higher : {X : Type 0} (volume : X → ℕ) (id own : ℕ) (xs : List X) → (own == id) ≡ true → AllByRecursion (λ x. own < volume x) xs → filter (λ x. volume x == id) xs ≡ []
-filter_higher volume id own xs same all =
-    filter-no_one (λ x. volume x == id) xs (each-weaker (λ x. own < volume x) (λ x. (volume x == id) ≡ false) xs (λ x lt. higher own (volume x) id same lt) all)
-
 -- what rows have of their volumes, one row after another
 module _ {X : Type 0} (volume : X → ℕ) (part : NodeRowShown → List X) (own : (row : NodeRowShown) → AreOf volume row.id (part row)) where
   -- what the row of a volume has, if it has one
@@ -67,11 +52,15 @@ module _ {X : Type 0} (volume : X → ℕ) (part : NodeRowShown → List X) (own
   of_volume : (id : ℕ) (row : NodeRowShown) (rest : List X) (found : Option NodeRowShown) (b : Bool) → (row.id == id) ≡ b → AllByRecursion (λ x. row.id < volume x) rest → filter (λ x. volume x == id) rest ≡ part_in found
       → filter (λ x. volume x == id) (part row) ++ filter (λ x. volume x == id) rest ≡ part_in (cond b (Some row) found)
   of_volume id row rest found true same above here =
-      ap (λ (first : List X). first ++ filter (λ x. volume x == id) rest) (filter_own volume id row.id (part row) same (own row))
-      ∙ ap (λ (second : List X). part row ++ second) (filter_higher volume id row.id rest same above)
+      ap (λ (first : List X). first ++ filter (λ x. volume x == id) rest)
+      (filter-each (λ x. volume x == id) (part row) (each-weaker (λ x. volume x ≡ row.id) (λ x. (volume x == id) ≡ true) (part row) (λ x e. eq-eqb (volume x) id (e ∙ eqb-true row.id id same)) (own row)))
+      ∙ ap (λ (second : List X). part row ++ second)
+      (filter-no_one (λ x. volume x == id) rest (each-weaker (λ x. row.id < volume x) (λ x. (volume x == id) ≡ false) rest (λ x lt. higher row.id (volume x) id same lt) above))
       ∙ append-nil (part row)
   of_volume id row rest found false other above here =
-      ap (λ (first : List X). first ++ filter (λ x. volume x == id) rest) (filter_other volume id row.id (part row) other (own row)) ∙ here
+      ap (λ (first : List X). first ++ filter (λ x. volume x == id) rest)
+      (filter-no_one (λ x. volume x == id) (part row) (each-weaker (λ x. volume x ≡ row.id) (λ x. (volume x == id) ≡ false) (part row) (λ x e. ap (λ n. n == id) e ∙ other) (own row)))
+      ∙ here
 
   -- of one volume there is what its row has
   pub of_one : (id : ℕ) (rows : List NodeRowShown) → EachTwo IsRowBefore rows → filter (λ x. volume x == id) (flat_map part rows) ≡ part_in (row_of id rows)

@@ -27,8 +27,7 @@ use Rattle.csi_node.specs.Model.OneRow.{NodeRowShown}
 use Rattle.csi_node.specs.Model.Record.{NodeParts, parts}
 use Rattle.csi_node.specs.Private.Fenced.{answered_in}
 use Rattle.csi_node.specs.Private.Step.{AnswersCall}
-use Rattle.csi_node.specs.Public.OneRow.{state_shown, IsSoundRow, TargetsFit}
-use Rattle.csi_node.specs.Public.OneRow.{row_anew}
+use Rattle.csi_node.specs.Public.OneRow.{state_shown, IsSoundRow, TargetsFit, row_anew}
 use Rattle.csi_node.specs.Public.Plan.{AreNodeRows, is_of, told_at, row_told, lacking, node_plan}
 use Rattle.csi_node.proofs.CarriedOut.{kept_of}
 use Rattle.csi_node.proofs.ChangedRows.{changes-at, full-staged, state_of}
@@ -75,16 +74,12 @@ begun-sound session old sound = record {
 
 -- ---- what is kept
 
--- no row is of a call without a volume
-none-for : (rows : List NodeRowShown) → find (λ (row : NodeRowShown). false) rows ≡ None
-none-for rows = find-none (λ (row : NodeRowShown). false) rows (λ row among. refl)
-
 -- what is kept for a call's volume
 kept-same : (call : Call) (old : NodeRows) (state : NodeState) → RowsShowAll old state → option_map node_plan.kept (find (node_plan.is_for call) old.rows) ≡ kept_for call state
 kept-same call old state shows = by (volume_of call) refl
   where
     by : (o : Option ℕ) → volume_of call ≡ o → option_map node_plan.kept (find (λ (row : NodeRowShown). is_of (volume_of call) row.id) old.rows) ≡ kept_for call state
-    by None v = rw v (ap (option_map node_plan.kept) (none-for old.rows))
+    by None v = rw v (ap (option_map node_plan.kept) (find-none (λ (row : NodeRowShown). false) old.rows (λ row among. refl)))
     by (Some id) v =
         ap (λ (p : Option ℕ). option_map node_plan.kept (find (λ (row : NodeRowShown). is_of p row.id) old.rows)) v
         ∙ sym (kept-shown_by id call old.rows state (row_of id old.rows) v shows.rows refl)

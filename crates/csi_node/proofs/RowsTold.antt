@@ -25,8 +25,7 @@ use Rattle.csi_node.specs.declared.row.NodeTarget.{NodeTarget}
 use Rattle.csi_node.specs.Model.State.{NodeState, PublishedVolume, staged_of, published_of, published_at, is_published_at, volume_of}
 use Rattle.csi_node.specs.Model.Table.{Change, Stays, Stages, Unstages, Publishes, Unpublishes, Outcome, lifecycle_row, changed}
 use Rattle.csi_node.specs.Model.OneRow.{NodeRowShown}
-use Rattle.csi_node.specs.Public.OneRow.{state_shown, published_so, published_by, TargetsFit, IsSoundRow}
-use Rattle.csi_node.specs.Public.OneRow.{row_anew, row_changed}
+use Rattle.csi_node.specs.Public.OneRow.{state_shown, published_so, published_by, TargetsFit, IsSoundRow, row_anew, row_changed}
 use Rattle.csi_node.specs.Private.OneRow.{call_change, target_of_row, CanChange, HasRoomFor}
 use Rattle.csi_node.specs.Public.Plan.{first_row, is_change, is_of, is_sound_by, lacking, node_plan, told_at, row_told}
 use Rattle.csi_node.proofs.OneRow.{staged_of-alone, published_of-alone, published_at-staged}

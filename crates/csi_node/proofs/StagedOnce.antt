@@ -3,8 +3,7 @@ use Rattle.std.proofs.Common.{◌≡◌, ◌⊎◌, ℕ, List, cond, false, not,
 use Rattle.std.specs.Prelude.{Option, Some, None, option_map, find, ◌==◌}
 use Rattle.std.proofs.lemmas.Bool.{not-true, eqb-true, eq-eqb}
 use Rattle.csi_lists.proofs.Members.{among-kept, among-either}
-use Rattle.csi_lists.proofs.Searches.{find-append_one, find-filter}
-use Rattle.csi_lists.proofs.Searches.{find-append}
+use Rattle.csi_lists.proofs.Searches.{find-append_one, find-filter, find-append}
 use Rattle.csi_types.specs.declared.capability.Capability.{Capability}
 use Rattle.csi_types.specs.declared.call.Call.{Call}
 use Rattle.csi_types.specs.Model.Frame.{Frame}

@@ -24,7 +24,7 @@ use Rattle.csi_node.specs.Private.Laws.{IsLetThrough}
 use Rattle.csi_node.proofs.CarriedOut.{kept_of, session_then, state_then, done_then}
 use Rattle.csi_node.proofs.LastCalls.{keep-staged, keep-published, keep-others, keep-own, keep-rows, changed-rows}
 use Rattle.csi_node.proofs.OutcomeFacts.{IsReady, lifecycle_facts, ready_met, ready_kept, ready_says}
-use Rattle.csi_node.proofs.TableOutcomes.{exhausted}
+use Rattle.csi_node.proofs.TableOutcomes.{refusal}
 
 -- with room, or without it
 with_room : (node : List ℕ) (state : NodeState) (number : Number) (call : Call) → has_no_room state call ≡ false
@@ -77,8 +77,8 @@ module _ (node : List ℕ) (state : NodeState) (number : Number) (call : Call) (
       let status : (table_reply state call).status ≡ ResourceExhausted = ap (λ (o : Outcome). o.reply.status) row in
       record {
         refused = λ h. subst (IsSameApart state) (sym e) (record { rows = inl refl; session = refl; staged = refl; published = refl });
-        done = λ h. absurd (exhausted (sym status ∙ h));
-        again = λ h. absurd (exhausted (sym status ∙ h));
+        done = λ h. absurd (refusal ResourceExhausted refl (sym status ∙ h));
+        again = λ h. absurd (refusal ResourceExhausted refl (sym status ∙ h));
         others = subst (λ (after : NodeState). LeavesOthers state after call) (sym e) (record { rows = refl; staged = refl; published = refl });
       }
 
