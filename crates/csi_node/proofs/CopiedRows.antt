@@ -1,14 +1,18 @@
 -- What a row that was found, or copied, shows.
-use Rattle.std.proofs.Common.{◌≡◌, ℕ, List, [], ◌∷◌, refl, sym, ◌∙◌, ap, subst, None, Result, Ok, Err}
-use Rattle.std.specs.Prelude.{OnErr, Option, Some, option_map}
+use Rattle.std.proofs.Common.{◌≡◌, ℕ, List, [], ◌∷◌, refl, sym, ◌∙◌, ap, subst, None, Result, Ok, Err, get_or, arith}
+use Rattle.std.specs.Prelude.{OnErr, Option, Some, option_map, All, position, ◌==◌}
 use Rattle.std.specs.List.{AllZip}
 use Rattle.std.proofs.lemmas.Option.{none-some}
 use Rattle.csi_node.specs.declared.row.NodeRow.{NodeRow}
 use Rattle.csi_node.specs.Model.State.{NodeState, row_with_id}
 use Rattle.csi_node.specs.Model.Shown.{RowsShow, row_in, answered_of_row}
-use Rattle.csi_node.specs.Model.OneRow.{node_row_shown}
+use Rattle.csi_node.specs.Model.OneRow.{node_row_shown, NodeRowShown}
 use Rattle.csi_node.specs.Model.Record.{NodeParts, parts, Shows}
 use Rattle.csi_node.proofs.ShownAfter.{ShowsAll, answered_of, row_of, row_of-shown, kept-shown, kept-found, all-from_shows, shows-from_all}
+use Rattle.std.proofs.lemmas.List.{length-map}
+use Rattle.csi_lists.proofs.Members.{among-find, one-of_all}
+use Rattle.csi_fence.proofs.RowsThere.{found-there, shown-at}
+use Rattle.csi_node.specs.Public.OneRow.{IsSoundRow}
 
 -- rows of which each is a copy show what the rows show that were copied
 pub each-copied : (rows copies : List NodeRow) → AllZip (λ (row copy : NodeRow). node_row_shown copy ≡ node_row_shown row) rows copies → parts copies ≡ parts rows
@@ -44,3 +48,14 @@ pub row-shows : (rows : List NodeRow) (state : NodeState) (id : ℕ) → RowsSho
     → option_map answered_of_row row ≡ row_with_id id state
 row-shows rows state id shows row same =
     sym (kept-shown row) ∙ ap (option_map answered_of) (same ∙ sym (row_of-shown id rows)) ∙ kept-found (parts rows) state (all-from_shows rows state shows) id
+
+-- the row at the place of an id is found by it
+pub there-found : (rows : List NodeRow) (id place : ℕ) (row : NodeRow) → row ≡ get_or rows place row → Some place ≡ position (λ (r : NodeRowShown). r.id == id) (parts rows) → row_of id (parts rows) ≡ Some (node_row_shown row)
+there-found rows id place row is at =
+    let found = found-there (λ (r : NodeRowShown). r.id == id) (parts rows) place at in
+    let many = length-map rows node_row_shown in
+    found.0 ∙ shown-at node_row_shown rows place row is (omega (arith, many, found.1))
+
+-- the row of an id keeps the rules of a row, where each does
+pub there-sound : (rows : List NodeRowShown) (id : ℕ) (row : NodeRowShown) → All IsSoundRow rows → row_of id rows ≡ Some row → IsSoundRow row
+there-sound rows id row each found = one-of_all IsSoundRow rows row each (among-find (λ (r : NodeRowShown). r.id == id) rows row found)

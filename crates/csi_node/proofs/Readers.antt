@@ -9,7 +9,7 @@ use Rattle.std.proofs.lemmas.List.Folds.{flat_map-map}
 use Rattle.csi_types.specs.declared.capability.Capability.{Capability}
 use Rattle.csi_lists.specs.Model.Members.{EachTwo}
 use Rattle.csi_lists.proofs.Each.{each-append, each-weaker}
-use Rattle.csi_lists.proofs.Members.{each_of}
+use Rattle.csi_lists.proofs.Members.{all_of, among-map, each_of}
 use Rattle.csi_lists.proofs.Maps.{map-same, map-twice}
 use Rattle.csi_lists.proofs.Pairs.{two-joined}
 use Rattle.csi_lists.proofs.Filters.{filter-each, filter-no_one, each-passes}
@@ -90,8 +90,7 @@ staged_once id (Some capability) = (tt, tt)
 
 -- all that is published at a volume's targets is of that volume
 targets_own : (id : ℕ) (capability : Capability) (targets : List NodeTarget) → AreOf (λ (p : PublishedVolume). p.volume) id (map (published_so id capability) targets)
-targets_own id capability [] = tt
-targets_own id capability (target ∷ targets) = (refl, targets_own id capability targets)
+targets_own id capability targets = all_of (λ (p : PublishedVolume). p.volume ≡ id) (map (published_so id capability) targets) (λ p among. ap (λ (q : PublishedVolume). q.volume) (among-map (published_so id capability) targets p among).2)
 
 -- what a row has published is of its volume
 pub published_own : (id : ℕ) (o : Option Capability) (targets : List NodeTarget) → AreOf (λ (p : PublishedVolume). p.volume) id (published_by id o targets)

@@ -31,7 +31,7 @@ use Rattle.csi_node.specs.Public.OneRow.{state_shown, IsSoundRow, TargetsFit, ro
 use Rattle.csi_node.specs.Public.Plan.{AreNodeRows, is_of, told_at, row_told, lacking, node_plan}
 use Rattle.csi_node.proofs.CarriedOut.{kept_of}
 use Rattle.csi_node.proofs.ChangedRows.{changes-at, full-staged, state_of}
-use Rattle.csi_node.proofs.FoundRows.{there-sound}
+use Rattle.csi_node.proofs.CopiedRows.{there-sound}
 use Rattle.csi_node.proofs.Forgotten.{forgotten-shows}
 use Rattle.csi_node.proofs.LastCalls.{keep-session, changed-session}
 use Rattle.csi_node.specs.Private.PlanLaws.{id-where}

@@ -1,11 +1,11 @@
 -- Rows that keep the rules of a record show no state but safe ones.
-use Rattle.std.proofs.Common.{◌≡◌, ℕ, ◌≤◌, List, [], ◌∷◌, map, length, Bool, true, false, refl, sym, ◌∙◌, ap, subst, arith, inl, inr}
+use Rattle.std.proofs.Common.{◌≡◌, ℕ, ◌≤◌, List, [], ◌∷◌, map, length, Bool, true, false, refl, sym, ◌∙◌, ap, subst, arith}
 use Rattle.std.specs.Prelude.{Option, Some, None, ◌==◌, All}
 use Rattle.std.proofs.lemmas.Bool.{eq-eqb}
 use Rattle.csi_types.specs.declared.capability.Capability.{Capability}
 use Rattle.csi_lists.specs.Model.Members.{IsAmong, EachTwo}
 use Rattle.csi_types.specs.Model.Sharing.{allows_one_target}
-use Rattle.csi_lists.proofs.Members.{all_of, in_filter}
+use Rattle.csi_lists.proofs.Members.{all_of, among-map, in_filter}
 use Rattle.csi_lists.proofs.Pairs.{two-by_key, two-more}
 use Rattle.csi_node.specs.declared.row.NodeRow.{NodeRow}
 use Rattle.csi_node.specs.declared.row.NodeTarget.{NodeTarget}
@@ -16,16 +16,14 @@ use Rattle.csi_node.specs.Public.OneRow.{state_shown, published_so, published_by
 use Rattle.csi_node.specs.Model.Record.{parts}
 use Rattle.csi_node.specs.Public.Record.{AreSoundRows}
 use Rattle.csi_node.specs.Public.Safe.{AllowTwo, IsPublishedRight}
-use Rattle.csi_node.proofs.FoundRows.{there-sound}
+use Rattle.csi_node.proofs.CopiedRows.{there-sound}
 use Rattle.csi_node.proofs.OneRow.{staged_of-alone}
 use Rattle.csi_node.proofs.StateChanges.{part-staged}
 use Rattle.csi_node.proofs.ShownAfter.{ShowsAll, row_of, row_of-id, alone_in, part_of, all-from_shows}
 
 -- targets are published in the capability in which the volume is staged
 in_capability : (id : ℕ) (capability : Capability) (targets : List NodeTarget) (p : PublishedVolume) → IsAmong p (map (published_so id capability) targets) → p.capability ≡ capability
-in_capability id capability [] p among = absurd among
-in_capability id capability (target ∷ targets) p (inl e) = ap (λ (q : PublishedVolume). q.capability) e
-in_capability id capability (target ∷ targets) p (inr among) = in_capability id capability targets p among
+in_capability id capability targets p among = ap (λ (q : PublishedVolume). q.capability) (among-map (published_so id capability) targets p among).2
 
 -- what is published by a row is in the capability in which the row is staged
 so_staged : (id : ℕ) (o : Option Capability) (targets : List NodeTarget) (p : PublishedVolume) → IsAmong p (published_by id o targets) → o ≡ Some p.capability

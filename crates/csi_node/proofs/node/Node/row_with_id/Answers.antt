@@ -6,7 +6,7 @@ use Rattle.csi_node.specs.declared.row.NodeRow.{NodeRow}
 use Rattle.csi_node.specs.Model.OneRow.{NodeRowShown, node_row_shown}
 use Rattle.csi_node.specs.Model.Record.{parts}
 use Rattle.csi_node.specs.Public.Record.{AreSoundRows}
-use Rattle.csi_node.proofs.FoundRows.{there-found, there-sound}
+use Rattle.csi_node.proofs.CopiedRows.{there-found, there-sound}
 use Rattle.csi_node.proofs.RecordRules.{places-rise}
 use Rattle.csi_node.proofs.node.Node.row_with_id.Goals as goal
 
