@@ -1,6 +1,6 @@
 -- The rules of a record are those of rows behind the fence.
-use Rattle.std.proofs.Common.{◌≡◌, ℕ, zero, suc, ◌<◌, List, [], ◌∷◌, length, get_or, true, refl, arith, ◌⊎◌, ◌≤◌, ◌+◌, inl, inr}
-use Rattle.std.specs.Prelude.{Option, Some, None, count_by, is_none, slice_get, is_some, ◌==◌}
+use Rattle.std.proofs.Common.{◌≡◌, ℕ, zero, suc, ◌<◌, List, [], ◌∷◌, length, get_or, true, not, refl, sym, ◌∙◌, ap, arith, ◌⊎◌, ◌≤◌, ◌+◌, inl, inr}
+use Rattle.std.specs.Prelude.{Option, Some, None, count_by, slice_get, is_some, ◌==◌}
 use Rattle.csi_lists.specs.Model.Members.{EachTwo}
 use Rattle.csi_types.specs.declared.capability.Capability.{Capability}
 use Rattle.csi_fence.specs.Public.Rows as rows
@@ -15,6 +15,8 @@ use Rattle.std.proofs.lemmas.Bool.{eq-eqb}
 use Rattle.std.proofs.lemmas.List.{length-map}
 use Rattle.csi_lists.proofs.Counts.{count-either}
 use Rattle.csi_lists.proofs.Members.{one-of_all}
+use Rattle.csi_lists.proofs.Options.{none-from_is_some}
+use Rattle.csi_node.proofs.ChangedRows.{staged-tells}
 
 -- the ids rise
 abbrev pub IsRising : List NodeRowShown → Type 0
@@ -46,14 +48,9 @@ rows_rise rows rising = risen.rows_rise node_plan.id rows (places-rise rows risi
 current-row : (session : ℕ) (row : NodeRowShown) → rows.IsCurrentRow node_plan session row → IsCurrentRow session row
 current-row session row current = record { before = current.before; empty = λ none. current.empty (rw none refl) }
 
--- what is missing is none
-none-from : (o : Option Capability) → is_none o ≡ true → o ≡ None
-none-from None h = refl
-none-from (Some capability) h = cc
-
 -- and the other way round
 row-current : (session : ℕ) (row : NodeRowShown) → IsCurrentRow session row → rows.IsCurrentRow node_plan session row
-row-current session row current = record { before = current.before; empty = λ none. current.empty (none-from row.staged none) }
+row-current session row current = record { before = current.before; empty = λ none. current.empty (none-from_is_some row.staged (sym (staged-tells row.staged) ∙ ap not none)) }
 
 -- rows behind the fence keep the rules of a record
 pub record-rules : (session : ℕ) (old : List NodeRow) (empty : ℕ) → AreNodeRows session old empty → AreSoundRows (parts old)

@@ -29,11 +29,10 @@ use Rattle.csi_node.specs.Private.Fenced.{answered_in}
 use Rattle.csi_node.specs.Private.Step.{AnswersCall}
 use Rattle.csi_node.specs.Public.OneRow.{state_shown, IsSoundRow, TargetsFit, row_anew}
 use Rattle.csi_node.specs.Public.Plan.{AreNodeRows, is_of, told_at, row_told, lacking, node_plan}
-use Rattle.csi_node.proofs.CarriedOut.{kept_of}
+use Rattle.csi_node.proofs.CarriedOut.{kept_of, session_then}
 use Rattle.csi_node.proofs.ChangedRows.{changes-at, full-staged, state_of}
 use Rattle.csi_node.proofs.CopiedRows.{there-sound}
 use Rattle.csi_node.proofs.Forgotten.{forgotten-shows}
-use Rattle.csi_node.proofs.LastCalls.{keep-session, changed-session}
 use Rattle.csi_node.specs.Private.PlanLaws.{id-where}
 use Rattle.csi_node.proofs.RowChanges.{no_targets}
 use Rattle.csi_node.proofs.RowsTold.{alone-told}
@@ -130,7 +129,7 @@ module _ (node : List ℕ) (number : Number) (call : Call) (old : NodeRows) (sta
           reply = ap (λ (r : Reply). Some (reply_frame number (Node node) (kind_of call) r)) same_reply;
           after = record {
             rows = subst (λ (o : Option ℕ). ShowsAll (put_row node_plan.id after old.rows) (keep o kept (changed state (lifecycle_row state call).change))) (sym v) there;
-            session = shows.session ∙ sym (keep-session (volume_of call) kept (changed state (lifecycle_row state call).change) ∙ changed-session state (lifecycle_row state call).change);
+            session = shows.session ∙ sym (session_then state number call);
           };
         })
 

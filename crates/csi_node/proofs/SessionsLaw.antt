@@ -49,12 +49,6 @@ begun_current session state later current = record {
       omega (arith, earlier, later);
 }
 
--- a call leaves how other volumes are staged
-other-staged : (state : NodeState) (call : Call) (id : ℕ) → is_another (volume_of call) id ≡ true → staged_of id (changed state (lifecycle_row state call).change) ≡ staged_of id state
-other-staged state call id other =
-    ap (option_map (λ (s : StagedVolume). s.capability))
-    (find-others (λ (s : StagedVolume). s.volume) (is_another (volume_of call)) id other state.staged (changed state (lifecycle_row state call).change).staged (lifecycle_facts state call).others.staged)
-
 module _ (state : NodeState) (number : Number) (call : Call) (now : number.session ≡ state.session) (current : AreCurrent state) where
   -- the call, as it is kept, and the state with its change
   abbrev kept : Kept
@@ -76,7 +70,7 @@ module _ (state : NodeState) (number : Number) (call : Call) (now : number.sessi
   same_staged : (id : ℕ) → is_another (volume_of call) id ≡ true → staged_of id after ≡ staged_of id state
   same_staged id other =
       ap (λ (list : List StagedVolume). option_map (λ (s : StagedVolume). s.capability) (find (λ (s : StagedVolume). s.volume == id) list)) (keep-staged (volume_of call) kept next)
-      ∙ other-staged state call id other
+      ∙ ap (option_map (λ (s : StagedVolume). s.capability)) (find-others (λ (s : StagedVolume). s.volume) (is_another (volume_of call)) id other state.staged next.staged (lifecycle_facts state call).others.staged)
 
   -- a row from before was there
   was_there : (row : AnsweredVolume) → IsAmong row next.rows → IsAmong row state.rows
