@@ -89,22 +89,13 @@ append_absolute : (targets : List NodeTarget) (one : NodeTarget) → AreAbsolute
 append_absolute [] one all h = (h, tt)
 append_absolute (first ∷ rest) one all h = (all.0, append_absolute rest one all.1 h)
 
--- targets that are each there once still are after some are left out
-filter_distinct : (p : NodeTarget → Bool) (targets : List NodeTarget) → AreDistinctTargets targets → AreDistinctTargets (filter p targets)
-filter_distinct p [] distinct = tt
-filter_distinct p (first ∷ rest) distinct = step (p first) (filter_distinct p rest distinct.1)
+-- absolute targets that are each there once still are so after some are left out
+filter_fit : (p : NodeTarget → Bool) (targets : List NodeTarget) → AreAbsolute targets → AreDistinctTargets targets → AreAbsolute (filter p targets) × AreDistinctTargets (filter p targets)
+filter_fit p [] all distinct = (tt, tt)
+filter_fit p (first ∷ rest) all distinct = step (p first) (filter_fit p rest all.1 distinct.1)
   where
-    step : (b : Bool) → AreDistinctTargets (filter p rest) → AreDistinctTargets (cond b (first ∷ filter p rest) (filter p rest))
-    step true h = (find-none_in_filter (λ there. same_text there.target first.target) p rest distinct.0, h)
-    step false h = h
-
--- absolute targets still are after some are left out
-filter_absolute : (p : NodeTarget → Bool) (targets : List NodeTarget) → AreAbsolute targets → AreAbsolute (filter p targets)
-filter_absolute p [] all = tt
-filter_absolute p (first ∷ rest) all = step (p first) (filter_absolute p rest all.1)
-  where
-    step : (b : Bool) → AreAbsolute (filter p rest) → AreAbsolute (cond b (first ∷ filter p rest) (filter p rest))
-    step true h = (all.0, h)
+    step : (b : Bool) → AreAbsolute (filter p rest) × AreDistinctTargets (filter p rest) → AreAbsolute (cond b (first ∷ filter p rest) (filter p rest)) × AreDistinctTargets (cond b (first ∷ filter p rest) (filter p rest))
+    step true h = ((all.0, h.0), (find-none_in_filter (λ there. same_text there.target first.target) p rest distinct.0, h.1))
     step false h = h
 
 -- no targets fit however the volume is staged
@@ -127,8 +118,8 @@ fits-changed row (calls.NodePublishVolume id target capability readonly) fits ca
 }
 fits-changed row (calls.NodeUnpublishVolume id target) fits can = record {
   unstaged = λ none. ap (filter (λ there. not (same_text there.target target))) (fits.unstaged none);
-  absolute = filter_absolute _ row.targets fits.absolute;
-  distinct = filter_distinct _ row.targets fits.distinct;
+  absolute = (filter_fit (λ there. not (same_text there.target target)) row.targets fits.absolute fits.distinct).0;
+  distinct = (filter_fit (λ there. not (same_text there.target target)) row.targets fits.absolute fits.distinct).1;
   single = λ capability is one. let few = fits.single capability is one in omega (arith, filter-no_longer (λ (there : NodeTarget). not (same_text there.target target)) row.targets);
   limit = let few = fits.limit in omega (arith, filter-no_longer (λ (there : NodeTarget). not (same_text there.target target)) row.targets);
 }

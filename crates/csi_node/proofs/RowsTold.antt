@@ -21,7 +21,7 @@ use Rattle.csi_types.specs.Model.Replies.{plain_reply}
 use Rattle.csi_fence.specs.Public.Rows.{Answered, Made}
 use Rattle.csi_fence.specs.Public.Table.{IsMade}
 use Rattle.csi_node.specs.declared.row.NodeTarget.{NodeTarget}
-use Rattle.csi_node.specs.Model.State.{NodeState, PublishedVolume, staged_of, published_of, published_at, is_published_at, volume_of}
+use Rattle.csi_node.specs.Model.State.{PublishedVolume, staged_of, published_of, published_at, is_published_at, volume_of}
 use Rattle.csi_node.specs.Model.Table.{Change, Stays, Stages, Unstages, Publishes, Unpublishes, Outcome, lifecycle_row, changed}
 use Rattle.csi_node.specs.Model.OneRow.{NodeRowShown}
 use Rattle.csi_node.specs.Public.OneRow.{state_shown, published_so, published_by, TargetsFit, IsSoundRow, row_anew, row_changed}
@@ -31,17 +31,6 @@ use Rattle.csi_node.proofs.OneRow.{staged_of-alone, published_of-alone, publishe
 use Rattle.csi_node.specs.Private.PlanLaws.{stays-by}
 use Rattle.csi_node.proofs.RowChanges.{alone-changed, fits-changed, no_targets}
 use Rattle.csi_node.proofs.TableOutcomes.{IsOutcome, Fits, refuses, was_staged, stages, unstages, was_published, publishes, was_unpublished, unpublishes, lifecycle_outcomes, reply-no_id}
-
--- what changes is the call's change
-is-call_change : (state : NodeState) (call : Call) (outcome : Outcome) → IsOutcome state call outcome → is_change outcome.change ≡ true → outcome.change ≡ call_change call
-is-call_change state _ _ (refuses call status detail not_ok) h = absurd (false≢true h)
-is-call_change state _ _ (was_staged staged is) h = absurd (false≢true h)
-is-call_change state _ _ (stages staged is) h = refl
-is-call_change state _ _ (unstages id is) h = refl
-is-call_change state _ _ (was_published published slash is) h = absurd (false≢true h)
-is-call_change state _ _ (publishes published fits) h = refl
-is-call_change state _ _ (was_unpublished id target is) h = absurd (false≢true h)
-is-call_change state _ _ (unpublishes id target there is) h = refl
 
 -- what doesn't change stays
 stays : (change : Change) → is_change change ≡ false → change ≡ Stays
@@ -86,19 +75,19 @@ module _ (row : NodeRowShown) (fits : TargetsFit row.staged row.targets) where
             let few = new.room in grind (arith, nat_tests, many, few);
       }
 
-  -- a change that is made can be made
-  can-by : (call : Call) (outcome : Outcome) → IsOutcome (state_shown row) call outcome → volume_of call ≡ Some row.id → is_change outcome.change ≡ true → CanChange row call
+  -- a change that is made is the call's, and can be made
+  can-by : (call : Call) (outcome : Outcome) → IsOutcome (state_shown row) call outcome → volume_of call ≡ Some row.id → is_change outcome.change ≡ true → (outcome.change ≡ call_change call) × CanChange row call
   can-by _ _ (refuses call status detail not_ok) v h = absurd (false≢true h)
   can-by _ _ (was_staged staged is) v h = absurd (false≢true h)
-  can-by _ _ (stages staged is) v h = staged-own staged.volume None v is
-  can-by _ _ (unstages id is) v h = none-from row.id row.staged row.staged row.targets refl fits.unstaged (sym (published-own id v) ∙ is)
+  can-by _ _ (stages staged is) v h = (refl, staged-own staged.volume None v is)
+  can-by _ _ (unstages id is) v h = (refl, none-from row.id row.staged row.staged row.targets refl fits.unstaged (sym (published-own id v) ∙ is))
   can-by _ _ (was_published published slash is) v h = absurd (false≢true h)
-  can-by _ _ (publishes published new) v h = room-own published v new
+  can-by _ _ (publishes published new) v h = (refl, room-own published v new)
   can-by _ _ (was_unpublished id target is) v h = absurd (false≢true h)
-  can-by _ _ (unpublishes id target there is) v h = tt
+  can-by _ _ (unpublishes id target there is) v h = (refl, tt)
 
   -- where the row is told that the change is made
-  pub can-change : (call : Call) → volume_of call ≡ Some row.id → (told_at row call).is_done ≡ true → CanChange row call
+  can-change : (call : Call) → volume_of call ≡ Some row.id → (told_at row call).is_done ≡ true → ((lifecycle_row (state_shown row) call).change ≡ call_change call) × CanChange row call
   can-change call v done = can-by call (lifecycle_row (state_shown row) call) (lifecycle_outcomes (state_shown row) call) v done
 
   -- the state of the row alone is then the one after the table's change
@@ -111,8 +100,8 @@ module _ (row : NodeRowShown) (fits : TargetsFit row.staged row.targets) where
       by : (b : Bool) → is_change change ≡ b → state_shown (row_told number call (told_at row call) row) ≡ changed (state_shown row) change
       by true e =
           ap (λ (b : Bool). state_shown (cond b (row_changed row call) row)) e
-          ∙ alone-changed row call v fits (can-change call v e)
-          ∙ ap (changed (state_shown row)) (sym (is-call_change (state_shown row) call (lifecycle_row (state_shown row) call) (lifecycle_outcomes (state_shown row) call) e))
+          ∙ alone-changed row call v fits (can-change call v e).1
+          ∙ ap (changed (state_shown row)) (sym (can-change call v e).0)
       by false e = ap (λ (b : Bool). state_shown (cond b (row_changed row call) row)) e ∙ ap (changed (state_shown row)) (sym (stays change e))
 
 -- the rules of a row after a change that is made
@@ -122,7 +111,7 @@ sound-changed row call sound v done =
     record {
       kind = ap (λ (k : Kept). is_node_kind k.kind) same ∙ sound.kind;
       no_id = ap (λ (k : Kept). k.reply.id) same ∙ sound.no_id;
-      targets = fits-changed row call sound.targets (can-change row sound.targets call v done);
+      targets = fits-changed row call sound.targets (can-change row sound.targets call v done).1;
     }
 
 -- the targets fit, whether or not the change is made

@@ -42,21 +42,14 @@ mode-fits (Some own) targets unstaged single = by (allows_one_target own.mode) r
 
 -- ---- the targets
 
--- the three parts of the test of the first target
-fit-parts : (there : NodeTarget) (later : List NodeTarget) → are_fit (there ∷ later) ≡ true
-    → (begins_with_slash there.target ≡ true) × (is_some (target_among later there.target) ≡ false) × (are_fit later ≡ true)
-fit-parts there later h =
-    let both = and_parts (begins_with_slash there.target && not (is_some (target_among later there.target))) (are_fit later) h in
-    let one = and_parts (begins_with_slash there.target) (not (is_some (target_among later there.target))) both.0 in
-    (one.0, not-true (is_some (target_among later there.target)) one.1, both.1)
-
 -- targets that pass the test are paths from the root, and each is there once
 fit-where : (targets : List NodeTarget) → are_fit targets ≡ true → AreAbsolute targets × AreDistinctTargets targets
 fit-where [] h = (tt, tt)
 fit-where (there ∷ later) h =
-    let parts = fit-parts there later h in
-    let rest = fit-where later parts.2 in
-    ((parts.0, rest.0), (none-from_is_some (target_among later there.target) parts.1, rest.1))
+    let both = and_parts (begins_with_slash there.target && not (is_some (target_among later there.target))) (are_fit later) h in
+    let one = and_parts (begins_with_slash there.target) (not (is_some (target_among later there.target))) both.0 in
+    let rest = fit-where later both.1 in
+    ((one.0, rest.0), (none-from_is_some (target_among later there.target) (not-true (is_some (target_among later there.target)) one.1), rest.1))
 
 -- paths from the root that are each there once pass the test
 fit-tested : (targets : List NodeTarget) → AreAbsolute targets → AreDistinctTargets targets → are_fit targets ≡ true
