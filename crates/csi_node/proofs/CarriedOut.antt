@@ -1,7 +1,7 @@
 -- A call that a node carries out gets what the table says, or is refused where there is no room for a row. What is so of every
 -- call that is carried out is shown by cases of these.
 use Rattle.std.proofs.Common.{◌≡◌, ℕ, List, Bool, true, false, refl, ◌∙◌}
-use Rattle.std.specs.Prelude.{Some, codes, nat_lt}
+use Rattle.std.specs.Prelude.{Option, Some, None, codes, nat_lt}
 use Rattle.csi_types.specs.declared.number.Number.{Number}
 use Rattle.csi_types.specs.declared.call.Call.{Call}
 use Rattle.csi_types.specs.declared.call.Party.TheVariants.{Node}
@@ -11,7 +11,7 @@ use Rattle.csi_types.specs.Model.Replies.{plain_reply, reply_frame}
 use Rattle.csi_fence.specs.Model.Fence.{Kept}
 use Rattle.csi_fence.specs.Model.Fenced.{Fenced}
 use Rattle.csi_fence.proofs.FramesKeep.{IsKept}
-use Rattle.csi_node.specs.Model.State.{NodeState, volume_of}
+use Rattle.csi_node.specs.Model.State.{NodeState, AnsweredVolume, volume_of}
 use Rattle.csi_node.specs.Model.Table.{lifecycle_row, node_row, has_no_room, changed}
 use Rattle.csi_node.specs.Model.Fenced.{begun, carried_out, keep, node_at}
 use Rattle.csi_node.proofs.LastCalls.{keep-session, changed-session}
@@ -64,3 +64,14 @@ keeps-by node I begins carries = record {
     by : (state : NodeState) (number : Number) (call : Call) → number.session ≡ state.session → I state → (after : Fenced NodeState) → Carried node state number call after → I after.state
     by state number call now so _ (no_room full) = so
     by state number call now so _ (has_room room) = carries state number call now so
+
+-- so does what is told by what is staged and published alone
+pub keeps-apart : (node : List ℕ) (I : NodeState → Type 0) → ((state : NodeState) (rows : List AnsweredVolume) (session : ℕ) → I state → I (record state { rows = rows; session = session }))
+    → ((state : NodeState) (call : Call) → I state → I (changed state (lifecycle_row state call).change)) → IsKept (node_at node) I
+keeps-apart node I apart carries =
+    keeps-by node I (λ session state later so. apart state (begun session state).rows session so)
+    (λ state number call now so. by (volume_of call) (kept_of state number call) (changed state (lifecycle_row state call).change) (carries state call so))
+  where
+    by : (volume : Option ℕ) (kept : Kept) (state : NodeState) → I state → I (keep volume kept state)
+    by None kept state so = so
+    by (Some id) kept state so = apart state (keep (Some id) kept state).rows state.session so

@@ -1,21 +1,20 @@
 -- In a node's state what is published is staged, at as many targets as its mode allows, whatever frames came.
 use Rattle.std.proofs.Common.{◌≡◌, ◌⊎◌, ℕ, List, [], false, not, sym, ◌∙◌, ap, subst, inl, inr}
-use Rattle.std.specs.Prelude.{Option, Some, None, ◌==◌}
+use Rattle.std.specs.Prelude.{Some, ◌==◌}
 use Rattle.std.proofs.lemmas.Bool.{eq-eqb, true≢false, false_from_ne_true}
 use Rattle.csi_types.specs.declared.capability.Capability.{Capability}
 use Rattle.csi_types.specs.declared.call.Call.{Call}
 use Rattle.csi_types.specs.Model.Frame.{Frame}
 use Rattle.csi_types.specs.Model.Sharing.{allows_one_target}
-use Rattle.csi_fence.specs.Model.Fence.{Kept}
 use Rattle.csi_fence.proofs.FramesKeep.{IsKept, frames_keep}
-use Rattle.csi_node.specs.Model.State.{NodeState, StagedVolume, PublishedVolume, joined_node, staged_of, published_of, is_published_at, volume_of}
+use Rattle.csi_node.specs.Model.State.{NodeState, StagedVolume, PublishedVolume, joined_node, staged_of, published_of, is_published_at}
 use Rattle.csi_node.specs.Model.Table.{Outcome, Change, Stages, Unstages, Publishes, Unpublishes, lifecycle_row, changed}
-use Rattle.csi_node.specs.Model.Fenced.{keep, begun, node_at}
+use Rattle.csi_node.specs.Model.Fenced.{node_at}
 use Rattle.csi_node.specs.Public.Fenced.{after_frames}
 use Rattle.csi_lists.specs.Model.Members.{IsAmong}
 use Rattle.csi_node.specs.Public.Safe.{AllowTwo, IsPublishedRight}
 use Rattle.csi_node.proofs.TableOutcomes.{Fits, IsOutcome, refuses, was_staged, stages, unstages, was_published, publishes, was_unpublished, unpublishes, lifecycle_outcomes}
-use Rattle.csi_node.proofs.CarriedOut.{kept_of, keeps-by}
+use Rattle.csi_node.proofs.CarriedOut.{keeps-apart}
 use Rattle.csi_node.proofs.StagedOnce.{left-staged, still-staged}
 use Rattle.csi_lists.proofs.Members.{among-either, among-filter, none_kept}
 use Rattle.csi_lists.proofs.Pairs.{two-append, two-filter}
@@ -82,21 +81,11 @@ outcome_keeps state _ _ (publishes p fits) right = publishes_keeps state p fits 
 outcome_keeps state _ _ (was_unpublished id target none) right = right
 outcome_keeps state _ _ (unpublishes id target there is) right = unpublishes_keeps state id target right
 
--- what is kept touches the rows alone
-keep_keeps : (volume : Option ℕ) (kept : Kept) (state : NodeState) → IsPublishedRight state → IsPublishedRight (keep volume kept state)
-keep_keeps None kept state right = right
-keep_keeps (Some id) kept state right = record { staged = right.staged; targets = right.targets }
-
--- and so does a session that begins
-begun_keeps : (session : ℕ) (state : NodeState) → IsPublishedRight state → IsPublishedRight (begun session state)
-begun_keeps session state right = record { staged = right.staged; targets = right.targets }
-
 -- so each frame does
 is_kept : (node : List ℕ) → IsKept (node_at node) IsPublishedRight
 is_kept node =
-    keeps-by node IsPublishedRight (λ session state later right. begun_keeps session state right)
-    (λ state number call now right.
-    keep_keeps (volume_of call) (kept_of state number call) (changed state (lifecycle_row state call).change) (outcome_keeps state call (lifecycle_row state call) (lifecycle_outcomes state call) right))
+    keeps-apart node IsPublishedRight (λ state rows session right. record { staged = right.staged; targets = right.targets })
+    (λ state call right. outcome_keeps state call (lifecycle_row state call) (lifecycle_outcomes state call) right)
 
 -- in a node that has answered nothing, what is published is right
 joined_right : (session : ℕ) → IsPublishedRight (joined_node session)

@@ -1,22 +1,21 @@
 -- In a node's state each volume is staged at most once: what the list has is what is found, whatever frames came.
 use Rattle.std.proofs.Common.{◌≡◌, ◌⊎◌, ℕ, List, cond, false, not, refl, sym, ◌∙◌, ap, subst, inl, inr}
-use Rattle.std.specs.Prelude.{Option, Some, None, option_map, find, ◌==◌}
+use Rattle.std.specs.Prelude.{Some, None, option_map, find, ◌==◌}
 use Rattle.std.proofs.lemmas.Bool.{not-true, eqb-true, eq-eqb}
 use Rattle.csi_lists.proofs.Members.{among-kept, among-either}
 use Rattle.csi_lists.proofs.Searches.{find-append_one, find-filter, find-append}
 use Rattle.csi_types.specs.declared.capability.Capability.{Capability}
 use Rattle.csi_types.specs.declared.call.Call.{Call}
 use Rattle.csi_types.specs.Model.Frame.{Frame}
-use Rattle.csi_fence.specs.Model.Fence.{Kept}
 use Rattle.csi_fence.proofs.FramesKeep.{IsKept, frames_keep}
 use Rattle.csi_lists.specs.Model.Members.{IsAmong}
 use Rattle.csi_lists.proofs.Options.{option_or-read, none-from_map}
-use Rattle.csi_node.specs.Model.State.{NodeState, StagedVolume, joined_node, staged_of, volume_of}
+use Rattle.csi_node.specs.Model.State.{NodeState, StagedVolume, joined_node, staged_of}
 use Rattle.csi_node.specs.Model.Table.{Outcome, Stages, Unstages, lifecycle_row, changed}
-use Rattle.csi_node.specs.Model.Fenced.{keep, node_at}
+use Rattle.csi_node.specs.Model.Fenced.{node_at}
 use Rattle.csi_node.specs.Public.Fenced.{after_frames}
 use Rattle.csi_node.proofs.TableOutcomes.{IsOutcome, refuses, was_staged, stages, unstages, was_published, publishes, was_unpublished, unpublishes, lifecycle_outcomes}
-use Rattle.csi_node.proofs.CarriedOut.{kept_of, keeps-by}
+use Rattle.csi_node.proofs.CarriedOut.{keeps-apart}
 
 -- each staged volume is found as it is staged
 abbrev pub AreFound : NodeState → Type 0
@@ -64,16 +63,9 @@ outcome-found state _ _ (publishes p fits) found = found
 outcome-found state _ _ (was_unpublished id target none) found = found
 outcome-found state _ _ (unpublishes id target there is) found = found
 
--- what is kept touches the rows alone
-keep-found : (volume : Option ℕ) (kept : Kept) (state : NodeState) → AreFound state → AreFound (keep volume kept state)
-keep-found None kept state found = found
-keep-found (Some id) kept state found = found
-
 -- so does each frame; a session that begins touches the rows alone
 is_kept : (node : List ℕ) → IsKept (node_at node) AreFound
-is_kept node =
-    keeps-by node AreFound (λ session state later found. found)
-    (λ state number call now found. keep-found (volume_of call) (kept_of state number call) (changed state (lifecycle_row state call).change) (outcome-found state call (lifecycle_row state call) (lifecycle_outcomes state call) found))
+is_kept node = keeps-apart node AreFound (λ state rows session found. found) (λ state call found. outcome-found state call (lifecycle_row state call) (lifecycle_outcomes state call) found)
 
 -- after any frames to a new node, each staged volume is found as it is staged
 pub all_found : (node : List ℕ) (session : ℕ) (frames : List Frame) → AreFound (after_frames node (joined_node session) frames)
