@@ -25,23 +25,15 @@ module _ (session id : ℕ) (state : NodeState) where
   abbrev stays : AnsweredVolume → Bool
   stays row = is_some (staged_of row.id state)
 
-  -- the row of a volume that is staged stays
-  pub begun-staged : is_some (staged_of id state) ≡ true → row_with_id id (begun session state) ≡ row_with_id id state
-  begun-staged staged = find-filter is_own stays state.rows (λ row own. ap (λ (n : ℕ). is_some (staged_of n state)) (eqb-true row.id id own) ∙ staged)
-
-  -- the row of a volume that isn't staged is gone
-  pub begun-unstaged : is_some (staged_of id state) ≡ false → row_with_id id (begun session state) ≡ None
-  begun-unstaged unstaged =
-      find-filtered is_own stays state.rows (λ row kept. false_from_ne_true (row.id == id) (λ own.
-      true≢false (sym kept ∙ ap (λ (n : ℕ). is_some (staged_of n state)) (eqb-true row.id id own) ∙ unstaged)))
-
-  -- so each row stays, or is gone
+  -- each row stays, or is gone
   pub begun-row : (row_with_id id (begun session state) ≡ row_with_id id state) ⊎ (row_with_id id (begun session state) ≡ None)
   begun-row = by (is_some (staged_of id state)) refl
     where
       by : (b : Bool) → is_some (staged_of id state) ≡ b → (row_with_id id (begun session state) ≡ row_with_id id state) ⊎ (row_with_id id (begun session state) ≡ None)
-      by true staged = inl (begun-staged staged)
-      by false unstaged = inr (begun-unstaged unstaged)
+      by true staged = inl (find-filter is_own stays state.rows (λ row own. ap (λ (n : ℕ). is_some (staged_of n state)) (eqb-true row.id id own) ∙ staged))
+      by false unstaged =
+          inr (find-filtered is_own stays state.rows (λ row kept. false_from_ne_true (row.id == id) (λ own.
+          true≢false (sym kept ∙ ap (λ (n : ℕ). is_some (staged_of n state)) (eqb-true row.id id own) ∙ unstaged))))
 
 -- and what is kept for each thing
 pub begun-kept : (node : List ℕ) (session : ℕ) (state : NodeState) (thing : PluginThing) → (kept_on node (begun session state) thing ≡ kept_on node state thing) ⊎ (kept_on node (begun session state) thing ≡ None)

@@ -1,7 +1,7 @@
 -- What an answer changed of a node's rows: it put one row among those that stay, or none.
 use Rattle.std.proofs.Common.{◌≡◌, ℕ, List, [], ◌∷◌, cond, not, refl, sym, ◌∙◌, ap, subst, Result, Ok, Err}
 use Rattle.std.specs.Prelude.{Option, Some, None, filter, nat_lt, ◌==◌, is_some, is_none, OnOk}
-use Rattle.std.proofs.lemmas.Option.{same_Some}
+use Rattle.std.proofs.lemmas.Option.{none-some, same_Some}
 use Rattle.std.proofs.lemmas.List.Elements.{filter_agree}
 use Rattle.csi_types.specs.declared.capability.Capability.{Capability}
 use Rattle.csi_types.specs.declared.number.Number.{Number}
@@ -12,10 +12,6 @@ use Rattle.csi_node.specs.Model.OneRow.{NodeRowShown}
 use Rattle.csi_node.specs.Model.Record.{NodeParts, parts}
 use Rattle.csi_node.specs.Public.Changes.{ChangesAt, put_row, row_by_id, staying}
 use Rattle.csi_node.specs.Public.Plan.{node_plan}
-
--- what is missing isn't there: anything follows
-none_some : {X : Type 0} {A : Type 0} (x : X) → None ≡ Some x → A
-none_some x h = cc
 
 -- what is so anyway is so of an OK
 pub on_ok_holds : {T E : Type 0} (r : Result T E) {P : Type 0} → P → OnOk r P
@@ -49,15 +45,15 @@ pub changes-at : (place : Option ℕ) (number : Number) (old new : NodeParts) �
 changes-at None number old new puts = record {
   session = puts.session;
   same = λ is. puts.rows ∙ staying-same old.session number (parts old.rows);
-  put = λ id is. none_some id is;
-  fresh = λ id was is found. none_some id is;
+  put = λ id is. absurd (none-some id is);
+  fresh = λ id was is found. absurd (none-some id is);
 }
 changes-at (Some place) number old new (row, at, puts) = (
   row,
   at,
   record {
     session = puts.session;
-    same = λ is. none_some row.id (sym is);
+    same = λ is. absurd (none-some row.id (sym is));
     put = λ id is. (row, same_Some row.id id is, puts.has_number, put);
     fresh = λ id was is found. puts.fresh was (subst (λ (n : ℕ). row_by_id n (parts old.rows) ≡ Some was) (sym (same_Some row.id id is)) found);
   },

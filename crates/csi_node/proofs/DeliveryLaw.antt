@@ -1,12 +1,11 @@
 -- A call that is delivered to a node is carried out there, or rests.
 use Rattle.std.proofs.Common.{◌≡◌, ◌⊎◌, ◌≤◌, ℕ, List, true, false, refl, sym, ◌∙◌, ap, subst, inl, inr}
-use Rattle.std.specs.Prelude.{Option, Some, None, option_map, find, is_some, not, ◌==◌, IsTrue, codes}
+use Rattle.std.specs.Prelude.{Option, Some, None, option_map, find, ◌==◌, IsTrue, codes}
 use Rattle.std.proofs.lemmas.Option.{none-some}
 use Rattle.csi_lists.proofs.Members.{among-find}
 use Rattle.csi_lists.proofs.Options.{some-from_map}
 use Rattle.csi_types.specs.declared.number.Number.{Number}
 use Rattle.csi_types.specs.declared.call.Call.{Call}
-use Rattle.csi_types.specs.declared.call.Call.TheVariants as calls
 use Rattle.csi_types.specs.declared.call.Kind.{Kind}
 use Rattle.csi_types.specs.declared.call.Party.TheVariants.{Node}
 use Rattle.csi_types.specs.declared.status.Status.TheVariants.{Ok, ResourceExhausted}
@@ -14,7 +13,6 @@ use Rattle.csi_types.specs.declared.reply.Reply.{Reply}
 use Rattle.csi_types.specs.Model.Call.{kind_of}
 use Rattle.csi_types.specs.Public.Call.{is_party_of}
 use Rattle.csi_types.specs.Public.PluginThing.{PluginThing}
-use Rattle.csi_types.specs.Public.Reply.{has_id_by_rule}
 use Rattle.csi_types.specs.Model.Replies.{plain_reply}
 use Rattle.csi_fence.specs.Public.Delivery.{PluginView, view_by, Delivery, Acts, CallBecomes, IsDelivered, IsEmpty, IsClosed, last_of}
 use Rattle.csi_fence.specs.Model.Fence.{Kept, is_spent, is_over, begins}
@@ -22,55 +20,22 @@ use Rattle.csi_fence.specs.Model.Fenced.{Fenced}
 use Rattle.csi_fence.proofs.Begun.{HasBegun, IsUpTo, has-begun}
 use Rattle.csi_fence.proofs.Delivered.{IsKeptFor, answered-delivered}
 use Rattle.csi_fence.proofs.FramesKeep.{own_session}
+use Rattle.csi_fence.proofs.LetThrough.{is_answered}
 use Rattle.csi_fence.proofs.Spent.{not_over-own}
 use Rattle.csi_fence.proofs.Views.{IsLater, carried-acts, closed-view, empty-view}
 use Rattle.csi_node.specs.Model.State.{NodeState, AnsweredVolume, row_of_volume}
-use Rattle.csi_node.specs.Model.Table.{Outcome, lifecycle_row, node_row, changed}
+use Rattle.csi_node.specs.Model.Table.{lifecycle_row, node_row, changed}
 use Rattle.csi_node.specs.Private.Fenced.{answered_in, in_session}
+use Rattle.csi_node.specs.Private.PlanLaws.{no_id-fits}
 use Rattle.csi_node.specs.Model.Fenced.{begun, carried_out, keep, kept_for, node_at}
 use Rattle.csi_node.specs.Public.View.{held_on, kept_on, view_of, thing_of, IsDeliveredTo, empty_node}
 use Rattle.csi_node.proofs.BegunSessions.{begun-held, begun-kept}
 use Rattle.csi_node.proofs.CarriedOut.{Carried, no_room, has_room, was_carried, kept_of, state_then}
 use Rattle.csi_node.proofs.LastCalls.{keep-own, keep-session, changed-rows, changed-session}
-use Rattle.csi_node.proofs.TableOutcomes.{IsOutcome, refuses, was_staged, stages, unstages, was_published, publishes, was_unpublished, unpublishes, lifecycle_outcomes}
-use Rattle.csi_node.proofs.OwnFrames.{for_own}
+use Rattle.csi_node.proofs.TableOutcomes.{lifecycle_outcomes, refusal, reply-no_id}
 use Rattle.csi_node.proofs.SessionsLaw.{AreCurrent}
 use Rattle.csi_node.proofs.ThingOutcomes.{Effect, EffectAt, effect}
 use Rattle.csi_node.proofs.ThingRows.{row_id, kept_at, kept_on-at, IsFor, is_for, keep-held, kept_either, kept_none, held_none}
-
--- ResourceExhausted isn't OK
-exhausted : ResourceExhausted ≡ Ok → ⊥
-exhausted h = cc
-
--- where there is no thing, there isn't one
-no_thing : (thing : PluginThing) → None ≡ Some thing → ⊥
-no_thing thing h = cc
-
--- no call of a node's is answered with an id
-reply_id : (state : NodeState) (call : Call) (outcome : Outcome) → IsOutcome state call outcome → outcome.reply.id ≡ None
-reply_id state _ _ (refuses call status detail not_ok) = refl
-reply_id state _ _ (was_staged staged is) = refl
-reply_id state _ _ (stages staged none) = refl
-reply_id state _ _ (unstages id none) = refl
-reply_id state _ _ (was_published p slash is) = refl
-reply_id state _ _ (publishes p fits) = refl
-reply_id state _ _ (was_unpublished id target none) = refl
-reply_id state _ _ (unpublishes id target there is) = refl
-
--- for a node's call, a reply without an id is as the rule asks
-without_id : (node : List ℕ) (call : Call) (thing : PluginThing) (reply : Reply) → thing_of node call ≡ Some thing → reply.id ≡ None → IsTrue (has_id_by_rule (kind_of call) reply)
-without_id node (calls.NodeStageVolume id capability) thing reply is none = ap (λ (o : Option ℕ). not (is_some o)) none
-without_id node (calls.NodeUnstageVolume id) thing reply is none = ap (λ (o : Option ℕ). not (is_some o)) none
-without_id node (calls.NodePublishVolume id target capability readonly) thing reply is none = ap (λ (o : Option ℕ). not (is_some o)) none
-without_id node (calls.NodeUnpublishVolume id target) thing reply is none = ap (λ (o : Option ℕ). not (is_some o)) none
-without_id node (calls.CreateVolume name required limit capabilities) thing reply is none = absurd (no_thing thing is)
-without_id node (calls.DeleteVolume id) thing reply is none = absurd (no_thing thing is)
-without_id node (calls.ControllerPublishVolume id there capability readonly) thing reply is none = absurd (no_thing thing is)
-without_id node (calls.ControllerUnpublishVolume id there) thing reply is none = absurd (no_thing thing is)
-
--- what the table answers to a call has its effect on the call's thing, and none on others
-effect_for : (node : List ℕ) (state : NodeState) (call : Call) (thing : PluginThing) → thing_of node call ≡ Some thing → Effect node state call (lifecycle_row state call) thing
-effect_for node state call thing is = subst (EffectAt node state call (lifecycle_row state call)) is (effect node state call (lifecycle_row state call) (lifecycle_outcomes state call))
 
 -- the thing of a call
 module _ (node : List ℕ) (state : NodeState) (number : Number) (call : Call) (thing : PluginThing) (for : IsFor node call thing) where
@@ -158,11 +123,11 @@ module _ (node : List ℕ) (state : NodeState) (number : Number) (call : Call) (
 
       in_its_session : Acts thing (replied (kind_of call) (lifecycle_row state call).reply) (view_of node state) (view_by state.session (held_on node after) (kept_on node after))
       in_its_session =
-          let does = effect_for node state call thing for.is_thing in
+          let does : Effect node state call (lifecycle_row state call) thing = subst (EffectAt node state call (lifecycle_row state call)) for.is_thing (effect node state call (lifecycle_row state call) (lifecycle_outcomes state call)) in
           carried-acts state.session thing (replied (kind_of call) (lifecycle_row state call).reply) (held_on node state) (held_on node after) (kept_on node state) (kept_on node after) not_over
           (record {
             of_its_kind = refl;
-            with_id = λ ok. without_id node call thing (lifecycle_row state call).reply for.is_thing (reply_id state call (lifecycle_row state call) (lifecycle_outcomes state call));
+            with_id = λ ok. no_id-fits (kind_of call) (lifecycle_row state call).reply for.is_own (reply-no_id state call (lifecycle_row state call) (lifecycle_outcomes state call));
             was_fresh = spent_by number is_kept ∙ fresh;
             done = λ ok. held_after thing ∙ does.done ok;
             refused = λ not_ok. held_after thing ∙ does.refused not_ok;
@@ -190,7 +155,7 @@ module _ (node : List ℕ) (state : NodeState) (number : Number) (call : Call) (
       reply = plain_reply ResourceExhausted (codes "rows");
       is_answer = refl;
       becomes = becomes (kind_of call) (plain_reply ResourceExhausted (codes "rows")) (view_of node state)
-          (full_acts fresh (plain_reply ResourceExhausted (codes "rows")) (λ ok. exhausted ok));
+          (full_acts fresh (plain_reply ResourceExhausted (codes "rows")) (refusal ResourceExhausted refl));
     }
     delivered_fresh _ (has_room room) fresh = record {
       kind = kind_of call;
@@ -236,7 +201,7 @@ module _ (node : List ℕ) (state : NodeState) (current : AreCurrent state) wher
 pub delivered : (node : List ℕ) (state : NodeState) (number : Number) (call : Call) → AreCurrent state → IsTrue (is_party_of (kind_of call) (Node node)) → IsDeliveredTo node state number call
 delivered node state number call current party =
     let for = is_for node call party in
-    subst (λ (after : Fenced NodeState). IsDelivered (Node node) number call (thing_of node call) (view_of node state) (view_of node after.state) after.reply) (sym (for_own node state number call))
+    subst (λ (after : Fenced NodeState). IsDelivered (Node node) number call (thing_of node call) (view_of node state) (view_of node after.state) after.reply) (sym (is_answered (node_at node) state number call))
     (delivered_by node state current number call for.0 for.1)
 
 -- a node that has answered nothing holds nothing, has no number spent, and keeps nothing

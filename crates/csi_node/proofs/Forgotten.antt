@@ -1,41 +1,28 @@
 -- The rows of volumes that aren't staged are forgotten: the rest shows the state in which a session has begun.
-use Rattle.std.proofs.Common.{◌≡◌, ℕ, List, [], ◌∷◌, map, Bool, cond, ◌||◌, refl, sym, ◌∙◌, ap, arith, inl, inr}
+use Rattle.std.proofs.Common.{◌≡◌, ℕ, List, [], ◌∷◌, map, Bool, cond, refl, sym, ◌∙◌, ap, arith, inl, inr}
 use Rattle.std.specs.Prelude.{Option, Some, None, filter, ◌==◌, is_some}
 use Rattle.std.proofs.lemmas.Bool.{eq-eqb, ne_eqb}
-use Rattle.std.proofs.lemmas.List.Elements.{All-filter}
 use Rattle.csi_types.specs.declared.capability.Capability.{Capability}
 use Rattle.csi_lists.specs.Model.Members.{IsAmong, EachTwo}
-use Rattle.csi_lists.specs.Public.Places.{AtMostOne}
-use Rattle.csi_lists.proofs.Filters.{filter-no_longer, filter-of_map}
 use Rattle.csi_lists.proofs.Members.{each_of}
-use Rattle.csi_fence.proofs.RisingRows.{rising-filter}
-use Rattle.csi_lists.proofs.PassingByKey.{find-passing, length-by_key, once-rising, passing, passing-by_key}
-use Rattle.csi_node.specs.declared.row.NodeRow.{NodeRow}
+use Rattle.csi_fence.proofs.RisingRows.{once-rise}
+use Rattle.csi_lists.proofs.PassingByKey.{find-passing, length-by_key, passing, passing-by_key}
 use Rattle.csi_node.specs.Model.State.{NodeState, AnsweredVolume, StagedVolume, staged_of}
 use Rattle.csi_node.specs.Public.View.{empty_node}
 use Rattle.csi_node.specs.Model.Fenced.{begun}
-use Rattle.csi_node.specs.Model.OneRow.{NodeRowShown, node_row_shown}
-use Rattle.csi_node.specs.Public.OneRow.{state_shown, staged_by, published_by, IsSoundRow}
-use Rattle.csi_node.specs.Model.Record.{parts}
-use Rattle.csi_node.specs.Public.Record.{AreSoundRows}
+use Rattle.csi_node.specs.Model.OneRow.{NodeRowShown}
+use Rattle.csi_node.specs.Public.OneRow.{state_shown, staged_by, published_by}
 use Rattle.csi_node.specs.Public.Plan.{node_plan}
-use Rattle.csi_node.specs.Public.WithoutSession.{stays_in}
 use Rattle.csi_node.proofs.OneRow.{staged_of-alone}
 use Rattle.csi_node.proofs.StateChanges.{part-staged}
 use Rattle.csi_node.proofs.ShownAfter.{ShowsAll, row_of, alone_in, answered_of, part_of}
-use Rattle.csi_node.proofs.RecordRules.{IsRowBefore, places-rise, rise-places}
+use Rattle.csi_node.proofs.RecordRules.{IsRowBefore}
 
 -- the volume is staged
 abbrev pub is_staged : NodeRowShown → Bool
 is_staged row = is_some row.staged
 
--- ---- rows by rising id
-
--- each id is there once
-once-rise : (rows : List NodeRowShown) → EachTwo IsRowBefore rows → (k : ℕ) → AtMostOne (λ (row : NodeRowShown). row.id == k) rows
-once-rise = once-rising (λ (row : NodeRowShown). row.id)
-
--- a row among them is found by its id
+-- a row among rows by rising id is found by its id
 found-among : (rows : List NodeRowShown) → EachTwo IsRowBefore rows → (row : NodeRowShown) → IsAmong row rows → row_of row.id rows ≡ Some row
 found-among [] rise row among = absurd among
 found-among (first ∷ rows) rise row (inl same) =
@@ -45,7 +32,7 @@ found-among (first ∷ rows) rise row (inr among) =
     ap (λ (b : Bool). cond b (Some first) (row_of row.id rows)) (ne_eqb first.id row.id (λ e. omega (arith, e, before))) ∙ found-among rows rise.1 row among
 
 -- a row that isn't staged has nothing of the state
-pub alone-unstaged : (row : NodeRowShown) → row.staged ≡ None → state_shown row ≡ empty_node
+alone-unstaged : (row : NodeRowShown) → row.staged ≡ None → state_shown row ≡ empty_node
 alone-unstaged row e = λ i. record { rows = []; session = 0; staged = staged_by row.id (e i); published = published_by row.id (e i) row.targets }
 
 -- so it is the same of the state whether it is there or not
@@ -62,8 +49,8 @@ alone-passing (Some row) = by row.staged refl
 -- what isn't staged is forgotten there too
 pub forgotten-shows : (session : ℕ) (rows : List NodeRowShown) (state : NodeState) → EachTwo IsRowBefore rows → ShowsAll rows state → ShowsAll (filter is_staged rows) (begun session state)
 forgotten-shows session rows state rise all = record {
-  count = length-by_key answered_of (λ (row : NodeRowShown). row.id) (λ (row : AnsweredVolume). row.id) is_staged stays rows state.rows (once-rise rows rise) all.kept alike;
-  kept = passing-by_key answered_of (λ (row : NodeRowShown). row.id) (λ (row : AnsweredVolume). row.id) is_staged stays rows state.rows (once-rise rows rise) all.kept alike;
+  count = length-by_key answered_of (λ (row : NodeRowShown). row.id) (λ (row : AnsweredVolume). row.id) is_staged stays rows state.rows (once-rise node_plan.id rows rise) all.kept alike;
+  kept = passing-by_key answered_of (λ (row : NodeRowShown). row.id) (λ (row : AnsweredVolume). row.id) is_staged stays rows state.rows (once-rise node_plan.id rows rise) all.kept alike;
   staged = λ id. ap (λ (s : NodeState). map (λ (v : StagedVolume). v.capability) s.staged) (same id) ∙ all.staged id;
   published = λ id. ap (λ (s : NodeState). s.published) (same id) ∙ all.published id;
 }
@@ -78,22 +65,4 @@ forgotten-shows session rows state rise all = record {
         ∙ staged_of-alone row)
 
     same : (id : ℕ) → alone_in (row_of id (filter is_staged rows)) ≡ alone_in (row_of id rows)
-    same id = ap alone_in (find-passing (λ (row : NodeRowShown). row.id == id) is_staged rows (once-rise rows rise id)) ∙ alone-passing (row_of id rows)
-
--- rows that pass a test keep the rules
-pub rules-filter : (p : NodeRowShown → Bool) (rows : List NodeRowShown) → AreSoundRows rows → AreSoundRows (filter p rows)
-rules-filter p rows rules = record {
-  rising = rise-places (filter p rows) (rising-filter node_plan.id p rows (places-rise rows rules.rising));
-  limit = let fewer = filter-no_longer p rows in let few = rules.limit in omega (arith, fewer, few);
-  each = All-filter p IsSoundRow rows rules.each;
-}
-
--- ---- rows of a record that are forgotten
-
--- the volume is staged, or its last call is of this session
-abbrev pub is_kept : ℕ → NodeRowShown → Bool
-is_kept session row = is_some row.staged || (row.kept.number.session == session)
-
--- rows that are forgotten, as they are shown
-pub parts-forgotten : (session : ℕ) (rows : List NodeRow) → parts (filter (stays_in session) rows) ≡ filter (is_kept session) (parts rows)
-parts-forgotten session rows = sym (filter-of_map (is_kept session) node_row_shown rows)
+    same id = ap alone_in (find-passing (λ (row : NodeRowShown). row.id == id) is_staged rows (once-rise node_plan.id rows rise id)) ∙ alone-passing (row_of id rows)

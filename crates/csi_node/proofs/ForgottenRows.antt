@@ -1,5 +1,5 @@
 -- A node of which no volume is staged has no row once a session begins, and then the row of its call at most.
-use Rattle.std.proofs.Common.{◌≡◌, ◌≤◌, ℕ, List, [], ◌∷◌, true, length, refl, sym, ◌∙◌, ap, subst, arith}
+use Rattle.std.proofs.Common.{◌≡◌, ◌≤◌, ℕ, List, [], ◌∷◌, true, length, refl, sym, ap, subst, arith}
 use Rattle.std.specs.Prelude.{Option, Some, None, option_map, find, ◌==◌, codes}
 use Rattle.csi_types.specs.declared.number.Number.{Number}
 use Rattle.csi_types.specs.declared.call.Call.{Call}
@@ -16,8 +16,8 @@ use Rattle.csi_node.specs.Model.Table.{Change, changed, lifecycle_row, node_row}
 use Rattle.csi_node.specs.Public.Fenced.{after_frames}
 use Rattle.csi_node.specs.Model.Fenced.{carried_out, keep, kept_for, kept_rows, node_at}
 use Rattle.csi_node.specs.Private.Worked.{ForgottenRow, block, first_session_call, forgotten, number}
-use Rattle.csi_node.proofs.CarriedOut.{Carried, no_room, has_room, was_carried, kept_of}
-use Rattle.csi_node.proofs.LastCalls.{changed-rows, changed-session, keep-session}
+use Rattle.csi_node.proofs.CarriedOut.{Carried, no_room, has_room, was_carried, kept_of, session_then}
+use Rattle.csi_node.proofs.LastCalls.{changed-rows}
 
 -- a node that has nothing, of session 2
 abbrev bare : NodeState
@@ -51,7 +51,7 @@ pub record IsBare (state : NodeState) : Type 0 where
 carried_bare : (call : Call) (after : Fenced NodeState) → Carried (codes "n1") bare first call after → IsBare after.state
 carried_bare call _ (no_room full) = record { session = refl; few = omega arith }
 carried_bare call _ (has_room room) = record {
-  session = keep-session (volume_of call) (kept_of bare first call) (changed bare (lifecycle_row bare call).change) ∙ changed-session bare (lifecycle_row bare call).change;
+  session = session_then bare first call;
   few = one_row (volume_of call) (kept_of bare first call) (lifecycle_row bare call).change;
 }
 

@@ -1,17 +1,18 @@
 -- What is kept of a call changes the row of its volume, and nothing else.
-use Rattle.std.proofs.Common.{◌≡◌, ◌⊎◌, ℕ, List, [], ◌∷◌, ◌++◌, map, Bool, true, false, cond, not, refl, sym, ◌∙◌, ap, subst, inl, inr}
+use Rattle.std.proofs.Common.{◌≡◌, ◌⊎◌, ℕ, List, [], ◌∷◌, Bool, true, false, cond, not, refl, sym, ◌∙◌, ap, subst, inl, inr}
 use Rattle.std.specs.Prelude.{Option, Some, None, option_map, find, filter, ◌==◌}
-use Rattle.std.proofs.lemmas.Bool.{eq-eqb, eqb-true}
+use Rattle.std.proofs.lemmas.Bool.{eq-eqb, eqb-true, not-true}
 use Rattle.csi_lists.specs.Model.Members.{IsAmong}
 use Rattle.csi_lists.proofs.Members.{among-either, among-map, none_passes}
 use Rattle.csi_lists.proofs.Searches.{find-filter, find-append_one, find-map, find-passes}
-use Rattle.csi_lists.proofs.Filters.{filter-append_one, filter-map}
+use Rattle.csi_lists.proofs.Filters.{filter-append_one, filter-filter, filter-map}
+use Rattle.std.proofs.lemmas.List.{map-append}
+use Rattle.csi_lists.proofs.Maps.{map-map}
 use Rattle.csi_fence.specs.Model.Fence.{Kept}
-use Rattle.csi_lists.proofs.Tests.{not-where}
 use Rattle.csi_node.specs.Model.State.{NodeState, AnsweredVolume, row_with_id}
 use Rattle.csi_node.specs.Model.Table.{Change, Stays, Stages, Unstages, Publishes, Unpublishes, changed}
 use Rattle.csi_node.specs.Model.Fenced.{kept_in, kept_rows, keep}
-use Rattle.csi_node.specs.Public.Laws.{is_another, ids_in, HasAtMostOneMore}
+use Rattle.csi_node.specs.Public.Laws.{is_another, HasAtMostOneMore}
 use Rattle.csi_node.specs.Public.View.{kept_in_row}
 
 -- what is kept changes nothing of what is staged
@@ -53,37 +54,22 @@ kept_in-id id kept row = by (row.id == id)
     by true = refl
     by false = refl
 
--- the rows are of the same volumes, but for a new one
-kept_ids : (id : ℕ) (kept : Kept) (rows : List AnsweredVolume) → ids_in (map (kept_in id kept) rows) ≡ ids_in rows
-kept_ids id kept [] = refl
-kept_ids id kept (row ∷ rows) = let first = kept_in-id id kept row in let rest = kept_ids id kept rows in λ i. first i ∷ rest i
-
--- the ids of rows and one row more are theirs, and then that row's
-ids-append_one : (rows : List AnsweredVolume) (row : AnsweredVolume) → ids_in (rows ++ row ∷ []) ≡ ids_in rows ++ row.id ∷ []
-ids-append_one [] row = refl
-ids-append_one (first ∷ rows) row = ap (λ (ids : List ℕ). first.id ∷ ids) (ids-append_one rows row)
-
 -- what is kept in a row of a volume leaves the same volumes in the rows, or one more at the end
 rows_grown : (id : ℕ) (kept : Kept) (rows : List AnsweredVolume) (o : Option AnsweredVolume) → HasAtMostOneMore rows (kept_rows id kept rows o)
-rows_grown id kept rows None = inr (id, ids-append_one rows (record { id = id; kept = kept }))
-rows_grown id kept rows (Some row) = inl (kept_ids id kept rows)
+rows_grown id kept rows None = inr (id, map-append (λ (row : AnsweredVolume). row.id) rows ((record { id = id; kept = kept }) ∷ []))
+rows_grown id kept rows (Some row) = inl (map-map (λ (row : AnsweredVolume). row.id) (kept_in id kept) rows (kept_in-id id kept))
 
 -- what is kept of a call leaves the same volumes in the rows, or one more at the end
 pub keep-rows : (volume : Option ℕ) (kept : Kept) (state : NodeState) → HasAtMostOneMore state.rows (keep volume kept state).rows
 keep-rows None kept state = inl refl
 keep-rows (Some id) kept state = rows_grown id kept state.rows (row_with_id id state)
 
--- a test whose opposite holds fails
-not_true : (b : Bool) → not b ≡ true → b ≡ false
-not_true true h = cc
-not_true false h = refl
-
 -- a row of another id stays as it was
 kept_in-other : (id : ℕ) (kept : Kept) (row : AnsweredVolume) → not (row.id == id) ≡ true → kept_in id kept row ≡ row
-kept_in-other id kept row h = let other : (row.id == id) ≡ false = not_true (row.id == id) h in rw other refl
+kept_in-other id kept row h = let other : (row.id == id) ≡ false = not-true (row.id == id) h in rw other refl
 
 -- what is kept for a volume leaves the rows of all others as they were
-other_rows : (id : ℕ) (kept : Kept) (rows : List AnsweredVolume) (o : Option AnsweredVolume)
+pub other_rows : (id : ℕ) (kept : Kept) (rows : List AnsweredVolume) (o : Option AnsweredVolume)
     → filter (λ (row : AnsweredVolume). not (row.id == id)) (kept_rows id kept rows o) ≡ filter (λ (row : AnsweredVolume). not (row.id == id)) rows
 other_rows id kept rows None =
     let self : (id == id) ≡ true = eq-eqb id id refl in
@@ -113,21 +99,18 @@ row_kept id kept rows (Some row) h =
 pub keep-own : (id : ℕ) (kept : Kept) (state : NodeState) → kept_in_row id (keep (Some id) kept state) ≡ Some kept
 keep-own id kept state = row_kept id kept state.rows (row_with_id id state) refl
 
--- true isn't false
-not_both : true ≡ false → ⊥
-not_both h = cc
+-- where two lists have the same of the volumes that pass a test, they have the same of each of these
+module _ {X : Type 0} (volume : X → ℕ) (q : ℕ → Bool) (k : ℕ) (passes : q k ≡ true) where
+  within : (x : X) → (volume x == k) ≡ true → q (volume x) ≡ true
+  within x own = ap q (eqb-true (volume x) k own) ∙ passes
 
--- an id that is equal to one of two different ids isn't equal to the other
-other_id : (other id n : ℕ) → (other == id) ≡ false → (n == other) ≡ true → not (n == id) ≡ true
-other_id other id n differ same = not-where (n == id) (λ h. not_both (sym (eq-eqb other id (sym (eqb-true n other same) ∙ eqb-true n id h)) ∙ differ))
+  pub filter-others : (old new : List X) → filter (λ x. q (volume x)) new ≡ filter (λ x. q (volume x)) old → filter (λ x. volume x == k) new ≡ filter (λ x. volume x == k) old
+  filter-others old new same =
+      sym (filter-filter (λ x. volume x == k) (λ x. q (volume x)) new within) ∙ ap (filter (λ x. volume x == k)) same ∙ filter-filter (λ x. volume x == k) (λ x. q (volume x)) old within
 
--- another volume's row is found as it was
-keep-other : (id other : ℕ) (kept : Kept) (state : NodeState) → (other == id) ≡ false → kept_in_row other (keep (Some id) kept state) ≡ kept_in_row other state
-keep-other id other kept state differ =
-    let found : (rows : List AnsweredVolume) → find (λ row. row.id == other) (filter (λ row. not (row.id == id)) rows) ≡ find (λ row. row.id == other) rows =
-    λ rows. find-filter (λ (row : AnsweredVolume). row.id == other) (λ (row : AnsweredVolume). not (row.id == id)) rows (λ row same. other_id other id row.id differ same) in
-    ap (option_map (λ (row : AnsweredVolume). row.kept))
-    (sym (found (keep (Some id) kept state).rows) ∙ ap (find (λ (row : AnsweredVolume). row.id == other)) (keep-others (Some id) kept state) ∙ found state.rows)
+  -- and find the same
+  pub find-others : (old new : List X) → filter (λ x. q (volume x)) new ≡ filter (λ x. q (volume x)) old → find (λ x. volume x == k) new ≡ find (λ x. volume x == k) old
+  find-others old new same = sym (find-filter (λ x. volume x == k) (λ x. q (volume x)) new within) ∙ ap (find (λ x. volume x == k)) same ∙ find-filter (λ x. volume x == k) (λ x. q (volume x)) old within
 
 -- a row keeps what it kept, or is the volume's, which keeps the call
 pub keep-either : (id other : ℕ) (kept : Kept) (state : NodeState) → (kept_in_row other (keep (Some id) kept state) ≡ kept_in_row other state) ⊎ (other ≡ id)
@@ -135,7 +118,9 @@ keep-either id other kept state = by (other == id) refl
   where
     by : (b : Bool) → (other == id) ≡ b → (kept_in_row other (keep (Some id) kept state) ≡ kept_in_row other state) ⊎ (other ≡ id)
     by true same = inr (eqb-true other id same)
-    by false differ = inl (keep-other id other kept state differ)
+    by false differ =
+        inl (ap (option_map (λ (row : AnsweredVolume). row.kept))
+        (find-others (λ (row : AnsweredVolume). row.id) (is_another (Some id)) other (ap not differ) state.rows (keep (Some id) kept state).rows (keep-others (Some id) kept state)))
 
 -- once a call is kept, each row is as it was, of another volume, or keeps the call
 pub keep-each : (volume : Option ℕ) (kept : Kept) (state : NodeState) (row : AnsweredVolume) → IsAmong row (keep volume kept state).rows

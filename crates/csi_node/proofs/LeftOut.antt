@@ -1,18 +1,20 @@
 -- What stays of rows that were kept without a session: they are of the greatest session of all.
-use Rattle.std.proofs.Common.{◌≡◌, ◌≤◌, ℕ, List, [], ◌∷◌, true, max, ◌||◌, ◌∙◌, ap, sym, subst, arith}
-use Rattle.std.specs.Prelude.{Option, Some, None, filter, is_some, ◌==◌}
+use Rattle.std.proofs.Common.{◌≡◌, ◌≤◌, ℕ, List, [], ◌∷◌, max, Bool, ◌||◌, ◌∙◌, ap, refl, sym, subst, arith}
+use Rattle.std.specs.Prelude.{All, count_by, filter, is_some, ◌==◌}
 use Rattle.std.specs.List.{AllByRecursion}
-use Rattle.std.proofs.lemmas.Bool.{eqb-true}
-use Rattle.std.proofs.lemmas.List.Elements.{All-from_recursion}
-use Rattle.csi_types.specs.declared.capability.Capability.{Capability}
+use Rattle.std.proofs.lemmas.List.Elements.{All-from_recursion, filter_agree}
 use Rattle.csi_lists.proofs.Each.{each-map, each-weaker}
-use Rattle.csi_lists.proofs.Members.{all_of, among-filter, each_of, passes-filter}
+use Rattle.csi_lists.proofs.Filters.{filter-of_map}
+use Rattle.csi_fence.specs.Public.Rows as behind
+use Rattle.csi_fence.proofs.KeptRows.{IsUpTo, kept-filter}
 use Rattle.csi_node.specs.declared.row.NodeRow.{NodeRow}
-use Rattle.csi_node.specs.Model.OneRow.{node_row_shown}
+use Rattle.csi_node.specs.Model.OneRow.{NodeRowShown, node_row_shown}
 use Rattle.csi_node.specs.Model.Record.{parts}
-use Rattle.csi_node.specs.Public.Record.{IsCurrent, IsCurrentRow, AreSoundRows}
+use Rattle.csi_node.specs.Public.Plan.{AreNodeRows, is_sound_by, node_plan}
+use Rattle.csi_node.specs.Public.Record.{IsCurrent, AreSoundRows}
 use Rattle.csi_node.specs.Public.WithoutSession.{latest_session, stays_in}
-use Rattle.csi_node.proofs.Forgotten.{is_kept, parts-forgotten, rules-filter}
+use Rattle.csi_node.proofs.ChangedRows.{staged-tells}
+use Rattle.csi_node.proofs.RecordRules.{places-rise, record-current, record-rules}
 
 -- no row's last call is of a later session than the greatest
 latest-most : (rows : List NodeRow) → AllByRecursion (λ (row : NodeRow). row.last.session ≤ latest_session rows) rows
@@ -22,28 +24,29 @@ latest-most (row ∷ rows) = (
   each-weaker (λ (r : NodeRow). r.last.session ≤ latest_session rows) (λ (r : NodeRow). r.last.session ≤ max row.last.session (latest_session rows)) rows (λ r le. omega (arith, le)) (latest-most rows),
 )
 
--- one that stays and isn't staged is of that session
-stays-unstaged : (session : ℕ) (row : NodeRow) → stays_in session row ≡ true → row.staged ≡ None → row.last.session ≡ session
-stays-unstaged session row stays none = eqb-true row.last.session session (by row.staged none stays)
-  where
-    by : (o : Option Capability) → o ≡ None → (is_some o || (row.last.session == session)) ≡ true → (row.last.session == session) ≡ true
-    by None e h = h
-    by (Some capability) e h = cc
+-- so do the rows as they are shown
+latest-shown : (rows : List NodeRow) → All (IsUpTo node_plan (latest_session rows)) (parts rows)
+latest-shown rows =
+    All-from_recursion (IsUpTo node_plan (latest_session rows)) (parts rows)
+    (each-map (λ (row : NodeRow). row.last.session ≤ latest_session rows) (IsUpTo node_plan (latest_session rows)) node_row_shown rows (λ row most. most) (latest-most rows))
 
--- so those that stay are of that session
-current-left : (rows : List NodeRow) → IsCurrent (latest_session rows) (parts (filter (stays_in (latest_session rows)) rows))
-current-left rows =
-    All-from_recursion (IsCurrentRow (latest_session rows)) (parts (filter (stays_in (latest_session rows)) rows))
-    (each-map (λ (row : NodeRow). IsCurrentRow (latest_session rows) (node_row_shown row)) (IsCurrentRow (latest_session rows)) node_row_shown (filter (stays_in (latest_session rows)) rows) (λ row current. current)
-    (all_of (λ (row : NodeRow). IsCurrentRow (latest_session rows) (node_row_shown row)) (filter (stays_in (latest_session rows)) rows) (λ row among. record {
-      before = each_of (λ (r : NodeRow). r.last.session ≤ latest_session rows) rows row (latest-most rows) (among-filter (stays_in (latest_session rows)) rows row among);
-      empty = λ none. stays-unstaged (latest_session rows) row (passes-filter (stays_in (latest_session rows)) rows row among) none;
-    })))
+-- rows that stay, as they are shown
+parts-left : (session : ℕ) (rows : List NodeRow) → parts (filter (stays_in session) rows) ≡ filter (behind.stays_in node_plan session) (parts rows)
+parts-left session rows =
+    sym (filter-of_map (λ (row : NodeRowShown). is_some row.staged || (row.kept.number.session == session)) node_row_shown rows)
+    ∙ filter_agree (λ (row : NodeRowShown). is_some row.staged || (row.kept.number.session == session)) (behind.stays_in node_plan session)
+    (λ row. ap (λ (b : Bool). b || (row.kept.number.session == session)) (sym (staged-tells row.staged))) (parts rows)
 
--- and keep the rules of a record
+-- they keep the rules of a record of that session
 rules-left : (rows : List NodeRow) → AreSoundRows (parts rows)
     → AreSoundRows (parts (filter (stays_in (latest_session rows)) rows)) × IsCurrent (latest_session rows) (parts (filter (stays_in (latest_session rows)) rows))
-rules-left rows rules = (subst AreSoundRows (sym (parts-forgotten (latest_session rows) rows)) (rules-filter (is_kept (latest_session rows)) (parts rows) rules), current-left rows)
+rules-left rows rules =
+    let session : ℕ = latest_session rows in
+    let left : List NodeRow = filter (stays_in session) rows in
+    let kept : AreNodeRows session left (count_by node_plan.is_empty (parts left)) =
+    kept-filter node_plan is_sound_by (λ l. Unit {0}) session (parts rows) (record { own = tt; session = session; rows = parts left }) (count_by node_plan.is_empty (parts left))
+    (places-rise (parts rows) rules.rising) rules.limit rules.each (latest-shown rows) refl (parts-left session rows) tt refl in
+    (record-rules session left (count_by node_plan.is_empty (parts left)) kept, record-current session left (count_by node_plan.is_empty (parts left)) kept)
 
 -- so do those that were found so, in the session that was found
 pub rules-found : (rows left : List NodeRow) (session : ℕ) → session ≡ latest_session rows → left ≡ filter (stays_in session) rows → AreSoundRows (parts rows)

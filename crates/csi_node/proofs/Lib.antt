@@ -14,8 +14,6 @@ pub mod RowChanges
 pub mod StateChanges
 pub mod ShownAfter
 pub mod RecordRules
-pub mod FoundRows
-pub mod OwnFrames
 pub mod CopiedRows
 pub mod SafeRows
 pub mod Readers
@@ -27,7 +25,6 @@ pub mod JoiningLaw
 mod SoundRow
 pub mod Forgotten
 pub mod LeftOut
-pub mod FewRows
 pub mod ChangedRows
 pub mod FirstRefused
 pub mod RowsMachine

@@ -1,7 +1,6 @@
 -- What is so of each outcome of the node's table.
 use Rattle.std.proofs.Common.{◌≡◌, ◌≢◌, ℕ, List, [], Bool, true, false, cond, not, refl, sym, ap, subst}
 use Rattle.std.specs.Prelude.{Option, Some, None, option_map, find, filter, ◌==◌, ◌&&◌, codes}
-use Rattle.std.proofs.lemmas.Bool.{eq-eqb}
 use Rattle.csi_types.proofs.Equality.{same_capability-tells}
 use Rattle.csi_types.specs.declared.capability.Capability.{Capability}
 use Rattle.csi_types.specs.declared.call.Call.{Call}
@@ -13,6 +12,7 @@ use Rattle.csi_types.specs.Model.Same.{same_text, same_flag, same_capability}
 use Rattle.csi_node.specs.Model.State.{NodeState, AnsweredVolume, StagedVolume, PublishedVolume, staged_of, published_of, published_at, is_published_at, volume_of}
 use Rattle.csi_node.specs.Model.Table.{Outcome, Change, Stays, Stages, Unstages, Publishes, Unpublishes, refused, met, done, begins_with_slash, stage, unstage, publish_at_target, publish, unpublish, lifecycle_row, changed}
 use Rattle.csi_node.specs.Public.Laws.{is_another, IsDone}
+use Rattle.csi_node.proofs.OneRow.{itself}
 use Rattle.csi_node.proofs.TableOutcomes.{IsOutcome, at_itself, refuses, was_staged, stages, unstages, was_published, publishes, was_unpublished, unpublishes, lifecycle_outcomes, stage_call, publish_call}
 use Rattle.csi_lists.proofs.Searches.{find-append_one, find-filter_not}
 use Rattle.csi_lists.proofs.Filters.{filter-append_one, filter-filter, filter-not_none}
@@ -55,13 +55,9 @@ done_facts : (state : NodeState) (call : Call) (change : Change) → IsReady (ch
 done_facts state call change ready others =
     record { stays = λ h. absurd (h refl); plain = λ h. refl; ready = λ h. ready; others = others }
 
--- an id is equal to itself
-same_id : (id : ℕ) → (id == id) ≡ true
-same_id id = eq-eqb id id refl
-
 -- a volume isn't another one than itself
 not_another : (id : ℕ) → not (id == id) ≡ false
-not_another id = rw (same_id id) refl
+not_another id = rw (itself id) refl
 
 -- what isn't of a volume isn't at a target of it
 not_at : (a b : Bool) → not a ≡ true → not (a && b) ≡ true
@@ -75,7 +71,7 @@ outcome_facts state _ _ (refuses call status detail not_ok) = refused_facts stat
 outcome_facts state _ _ (was_staged staged is) = met_facts state (stage_call staged) is
 outcome_facts state _ _ (stages staged none) =
     let free = none-from_map (λ (s : StagedVolume). s.capability) (find (λ (s : StagedVolume). s.volume == staged.volume) state.staged) none in
-    let found = find-append_one (λ (s : StagedVolume). s.volume == staged.volume) state.staged staged (same_id staged.volume) free in
+    let found = find-append_one (λ (s : StagedVolume). s.volume == staged.volume) state.staged staged (itself staged.volume) free in
     done_facts state (stage_call staged) (Stages staged) (ap (option_map (λ (s : StagedVolume). s.capability)) found)
     (record { staged = filter-append_one (λ (s : StagedVolume). not (s.volume == staged.volume)) state.staged staged (not_another staged.volume); published = refl })
 outcome_facts state _ _ (unstages id none) =
@@ -163,26 +159,14 @@ ready_kept state rows (calls.DeleteVolume id) h = absurd h
 ready_kept state rows (calls.ControllerPublishVolume id node capability readonly) h = absurd h
 ready_kept state rows (calls.ControllerUnpublishVolume id node) h = absurd h
 
--- a call that is ready is about a volume
-pub ready_volume : (state : NodeState) (call : Call) → IsReady state call → (id : ℕ) × (volume_of call ≡ Some id)
+-- a call that is ready is about a volume, and what it does is so already
+pub ready_says : (state : NodeState) (call : Call) → IsReady state call → ((id : ℕ) × (volume_of call ≡ Some id)) × IsDone state call
 unfolding IsReady
-ready_volume state (calls.NodeStageVolume id capability) h = (id, refl)
-ready_volume state (calls.NodeUnstageVolume id) h = (id, refl)
-ready_volume state (calls.NodePublishVolume id target capability readonly) h = (id, refl)
-ready_volume state (calls.NodeUnpublishVolume id target) h = (id, refl)
-ready_volume state (calls.CreateVolume name required limit capabilities) h = absurd h
-ready_volume state (calls.DeleteVolume id) h = absurd h
-ready_volume state (calls.ControllerPublishVolume id node capability readonly) h = absurd h
-ready_volume state (calls.ControllerUnpublishVolume id node) h = absurd h
-
--- what a call that is ready does is so already
-pub ready_done : (state : NodeState) (call : Call) → IsReady state call → IsDone state call
-unfolding IsReady
-ready_done state (calls.NodeStageVolume id capability) h = h
-ready_done state (calls.NodeUnstageVolume id) h = h.0
-ready_done state (calls.NodePublishVolume id target capability readonly) h = h.0
-ready_done state (calls.NodeUnpublishVolume id target) h = h
-ready_done state (calls.CreateVolume name required limit capabilities) h = absurd h
-ready_done state (calls.DeleteVolume id) h = absurd h
-ready_done state (calls.ControllerPublishVolume id node capability readonly) h = absurd h
-ready_done state (calls.ControllerUnpublishVolume id node) h = absurd h
+ready_says state (calls.NodeStageVolume id capability) h = ((id, refl), h)
+ready_says state (calls.NodeUnstageVolume id) h = ((id, refl), h.0)
+ready_says state (calls.NodePublishVolume id target capability readonly) h = ((id, refl), h.0)
+ready_says state (calls.NodeUnpublishVolume id target) h = ((id, refl), h)
+ready_says state (calls.CreateVolume name required limit capabilities) h = absurd h
+ready_says state (calls.DeleteVolume id) h = absurd h
+ready_says state (calls.ControllerPublishVolume id node capability readonly) h = absurd h
+ready_says state (calls.ControllerUnpublishVolume id node) h = absurd h

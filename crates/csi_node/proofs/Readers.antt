@@ -9,7 +9,8 @@ use Rattle.std.proofs.lemmas.List.Folds.{flat_map-map}
 use Rattle.csi_types.specs.declared.capability.Capability.{Capability}
 use Rattle.csi_lists.specs.Model.Members.{EachTwo}
 use Rattle.csi_lists.proofs.Each.{each-append, each-weaker}
-use Rattle.csi_lists.proofs.Members.{each_of}
+use Rattle.csi_lists.proofs.Members.{all_of, among-map, each_of}
+use Rattle.csi_lists.proofs.Maps.{map-same, map-twice}
 use Rattle.csi_lists.proofs.Pairs.{two-joined}
 use Rattle.csi_lists.proofs.Filters.{filter-each, filter-no_one, each-passes}
 use Rattle.csi_node.specs.declared.row.NodeRow.{NodeRow}
@@ -32,21 +33,6 @@ higher n m id same lt = ne_eqb m id (λ e. (let first = eqb-true n id same in om
 abbrev AreOf : {X : Type 0} → (X → ℕ) → ℕ → List X → Type 0
 AreOf volume id xs = AllByRecursion (λ x. volume x ≡ id) xs
 
--- of a list that is all of a volume, what is of that volume is all
-filter_own : {X : Type 0} (volume : X → ℕ) (id own : ℕ) (xs : List X) → (own == id) ≡ true → AreOf volume own xs → filter (λ x. volume x == id) xs ≡ xs
-filter_own volume id own xs same all =
-    filter-each (λ x. volume x == id) xs (each-weaker (λ x. volume x ≡ own) (λ x. (volume x == id) ≡ true) xs (λ x e. eq-eqb (volume x) id (e ∙ eqb-true own id same)) all)
-
--- of a list that is all of a volume, nothing is of another one
-filter_other : {X : Type 0} (volume : X → ℕ) (id own : ℕ) (xs : List X) → (own == id) ≡ false → AreOf volume own xs → filter (λ x. volume x == id) xs ≡ []
-filter_other volume id own xs other all =
-    filter-no_one (λ x. volume x == id) xs (each-weaker (λ x. volume x ≡ own) (λ x. (volume x == id) ≡ false) xs (λ x e. ap (λ n. n == id) e ∙ other) all)
-
--- of a list that is all of higher volumes, nothing is of the volume
-filter_higher : {X : Type 0} (volume : X → ℕ) (id own : ℕ) (xs : List X) → (own == id) ≡ true → AllByRecursion (λ x. own < volume x) xs → filter (λ x. volume x == id) xs ≡ []
-filter_higher volume id own xs same all =
-    filter-no_one (λ x. volume x == id) xs (each-weaker (λ x. own < volume x) (λ x. (volume x == id) ≡ false) xs (λ x lt. higher own (volume x) id same lt) all)
-
 -- what rows have of their volumes, one row after another
 module _ {X : Type 0} (volume : X → ℕ) (part : NodeRowShown → List X) (own : (row : NodeRowShown) → AreOf volume row.id (part row)) where
   -- what the row of a volume has, if it has one
@@ -66,11 +52,15 @@ module _ {X : Type 0} (volume : X → ℕ) (part : NodeRowShown → List X) (own
   of_volume : (id : ℕ) (row : NodeRowShown) (rest : List X) (found : Option NodeRowShown) (b : Bool) → (row.id == id) ≡ b → AllByRecursion (λ x. row.id < volume x) rest → filter (λ x. volume x == id) rest ≡ part_in found
       → filter (λ x. volume x == id) (part row) ++ filter (λ x. volume x == id) rest ≡ part_in (cond b (Some row) found)
   of_volume id row rest found true same above here =
-      ap (λ (first : List X). first ++ filter (λ x. volume x == id) rest) (filter_own volume id row.id (part row) same (own row))
-      ∙ ap (λ (second : List X). part row ++ second) (filter_higher volume id row.id rest same above)
+      ap (λ (first : List X). first ++ filter (λ x. volume x == id) rest)
+      (filter-each (λ x. volume x == id) (part row) (each-weaker (λ x. volume x ≡ row.id) (λ x. (volume x == id) ≡ true) (part row) (λ x e. eq-eqb (volume x) id (e ∙ eqb-true row.id id same)) (own row)))
+      ∙ ap (λ (second : List X). part row ++ second)
+      (filter-no_one (λ x. volume x == id) rest (each-weaker (λ x. row.id < volume x) (λ x. (volume x == id) ≡ false) rest (λ x lt. higher row.id (volume x) id same lt) above))
       ∙ append-nil (part row)
   of_volume id row rest found false other above here =
-      ap (λ (first : List X). first ++ filter (λ x. volume x == id) rest) (filter_other volume id row.id (part row) other (own row)) ∙ here
+      ap (λ (first : List X). first ++ filter (λ x. volume x == id) rest)
+      (filter-no_one (λ x. volume x == id) (part row) (each-weaker (λ x. volume x ≡ row.id) (λ x. (volume x == id) ≡ false) (part row) (λ x e. ap (λ n. n == id) e ∙ other) (own row)))
+      ∙ here
 
   -- of one volume there is what its row has
   pub of_one : (id : ℕ) (rows : List NodeRowShown) → EachTwo IsRowBefore rows → filter (λ x. volume x == id) (flat_map part rows) ≡ part_in (row_of id rows)
@@ -100,8 +90,7 @@ staged_once id (Some capability) = (tt, tt)
 
 -- all that is published at a volume's targets is of that volume
 targets_own : (id : ℕ) (capability : Capability) (targets : List NodeTarget) → AreOf (λ (p : PublishedVolume). p.volume) id (map (published_so id capability) targets)
-targets_own id capability [] = tt
-targets_own id capability (target ∷ targets) = (refl, targets_own id capability targets)
+targets_own id capability targets = all_of (λ (p : PublishedVolume). p.volume ≡ id) (map (published_so id capability) targets) (λ p among. ap (λ (q : PublishedVolume). q.volume) (among-map (published_so id capability) targets p among).2)
 
 -- what a row has published is of its volume
 pub published_own : (id : ℕ) (o : Option Capability) (targets : List NodeTarget) → AreOf (λ (p : PublishedVolume). p.volume) id (published_by id o targets)
@@ -114,28 +103,20 @@ none_before id [] own = tt
 none_before id (x ∷ xs) own =
     (each-weaker (λ (p : PublishedVolume). p.volume ≡ id) (IsPublishedBefore x) xs (λ p e. (let first = own.0 in omega (arith, e, first))) own.1, none_before id xs own.1)
 
+-- a staging of this volume
+abbrev staged_at : ℕ → Capability → StagedVolume
+staged_at id capability = record { volume = id; capability = capability }
+
 -- stagings of one volume are told by their capabilities
+staged_from : (id : ℕ) (xs : List StagedVolume) → AreOf (λ (s : StagedVolume). s.volume) id xs → map (staged_at id) (map (λ (s : StagedVolume). s.capability) xs) ≡ xs
+staged_from id xs own =
+    map-twice (staged_at id) (λ (s : StagedVolume). s.capability) (λ (s : StagedVolume). staged_at id s.capability) xs (λ s. refl)
+    ∙ map-same (λ (s : StagedVolume). staged_at id s.capability) xs (λ s among. ap (λ (n : ℕ). staged_at n s.capability) (sym (each_of (λ (t : StagedVolume). t.volume ≡ id) xs s own among)))
+
+-- so those with the same capabilities are the same
 staged_same : (id : ℕ) (xs ys : List StagedVolume) → AreOf (λ (s : StagedVolume). s.volume) id xs → AreOf (λ (s : StagedVolume). s.volume) id ys
     → map (λ (s : StagedVolume). s.capability) xs ≡ map (λ (s : StagedVolume). s.capability) ys → xs ≡ ys
-staged_same id [] [] own other same = refl
-staged_same id [] (y ∷ ys) own other same = absurd (clash same)
-  where
-    clash : [] ≡ y.capability ∷ map (λ (s : StagedVolume). s.capability) ys → ⊥
-    clash h = cc
-staged_same id (x ∷ xs) [] own other same = absurd (clash same)
-  where
-    clash : x.capability ∷ map (λ (s : StagedVolume). s.capability) xs ≡ [] → ⊥
-    clash h = cc
-staged_same id (x ∷ xs) (y ∷ ys) own other same = joined (first same) (own.0 ∙ sym other.0) (staged_same id xs ys own.1 other.1 (later same))
-  where
-    first : x.capability ∷ map (λ (s : StagedVolume). s.capability) xs ≡ y.capability ∷ map (λ (s : StagedVolume). s.capability) ys → x.capability ≡ y.capability
-    first h = cc
-
-    later : x.capability ∷ map (λ (s : StagedVolume). s.capability) xs ≡ y.capability ∷ map (λ (s : StagedVolume). s.capability) ys → map (λ (s : StagedVolume). s.capability) xs ≡ map (λ (s : StagedVolume). s.capability) ys
-    later h = cc
-
-    joined : x.capability ≡ y.capability → x.volume ≡ y.volume → xs ≡ ys → x ∷ xs ≡ y ∷ ys
-    joined capability volume rest = λ i. (record { volume = volume i; capability = capability i }) ∷ rest i
+staged_same id xs ys own other same = sym (staged_from id xs own) ∙ ap (map (staged_at id)) same ∙ staged_from id ys other
 
 -- what is listed as staged for a volume is what its row alone has staged
 pub staged_part : (o : Option NodeRowShown) → part_in (λ (s : StagedVolume). s.volume) (λ row. (state_shown row).staged) (λ row. staged_own row.id row.staged) o ≡ (alone_in o).staged

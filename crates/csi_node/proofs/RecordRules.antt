@@ -1,19 +1,22 @@
 -- The rules of a record are those of rows behind the fence.
-use Rattle.std.proofs.Common.{◌≡◌, ℕ, zero, suc, ◌<◌, List, [], ◌∷◌, length, get_or, true, refl, sym, ◌∙◌, arith}
-use Rattle.std.specs.Prelude.{Option, Some, None, count_by, is_none, slice_get}
-use Rattle.std.proofs.lemmas.Option.{slice_get-get_or}
+use Rattle.std.proofs.Common.{◌≡◌, ℕ, zero, suc, ◌<◌, List, [], ◌∷◌, length, get_or, true, not, refl, sym, ◌∙◌, ap, arith, ◌⊎◌, ◌≤◌, ◌+◌, inl, inr}
+use Rattle.std.specs.Prelude.{Option, Some, None, count_by, slice_get, is_some, ◌==◌}
 use Rattle.csi_lists.specs.Model.Members.{EachTwo}
 use Rattle.csi_types.specs.declared.capability.Capability.{Capability}
 use Rattle.csi_fence.specs.Public.Rows as rows
 use Rattle.csi_fence.specs.Public.Rows.{AreRising, id_of}
-use Rattle.csi_fence.proofs.PlacedRows as placed
 use Rattle.csi_fence.proofs.RisingRows as risen
 use Rattle.csi_node.specs.declared.row.NodeRow.{NodeRow}
-use Rattle.csi_node.specs.Model.OneRow.{NodeRowShown}
+use Rattle.csi_node.specs.Model.OneRow.{NodeRowShown, node_row_shown}
 use Rattle.csi_node.specs.Model.Record.{parts}
 use Rattle.csi_node.specs.Public.Record.{row_id_at, AreSoundRows, IsCurrent, IsCurrentRow}
 use Rattle.csi_node.specs.Public.Plan.{node_plan, AreNodeRows}
-use Rattle.csi_node.proofs.ShownAfter.{row_of}
+use Rattle.std.proofs.lemmas.Bool.{eq-eqb}
+use Rattle.std.proofs.lemmas.List.{length-map}
+use Rattle.csi_lists.proofs.Counts.{count-either}
+use Rattle.csi_lists.proofs.Members.{one-of_all}
+use Rattle.csi_lists.proofs.Options.{none-from_is_some}
+use Rattle.csi_node.proofs.ChangedRows.{staged-tells}
 
 -- the ids rise
 abbrev pub IsRising : List NodeRowShown → Type 0
@@ -23,20 +26,11 @@ IsRising rows = (i j : ℕ) → i < j → j < length rows → row_id_at rows i <
 abbrev pub IsRowBefore : NodeRowShown → NodeRowShown → Type 0
 IsRowBefore a b = a.id < b.id
 
--- the row of the id is at this place
-pub record IsRowAt (rows : List NodeRowShown) (id place : ℕ) : Type 0 where
-  pub within : place < length rows
-  pub has_id : row_id_at rows place ≡ id
-
 -- the id at a place
 pub id_at : (rows : List NodeRowShown) (place : ℕ) → row_id_at rows place ≡ id_of node_plan.id (slice_get rows place)
 id_at [] place = refl
 id_at (row ∷ rows) zero = refl
 id_at (row ∷ rows) (suc place) = id_at rows place
-
--- the id at a place is that of the row there
-pub id_at-row : (rows : List NodeRowShown) (place : ℕ) (d : NodeRowShown) → place < length rows → row_id_at rows place ≡ (get_or rows place d).id
-id_at-row rows place d within = id_at rows place ∙ risen.id_at-row node_plan.id rows place d within
 
 -- ids that rise do so by places
 pub places-rise : (rows : List NodeRowShown) → IsRising rows → AreRising node_plan.id rows
@@ -50,24 +44,13 @@ rise-places rows rising i j lt within = omega (arith, rising i j lt within, id_a
 pub rows_rise : (rows : List NodeRowShown) → IsRising rows → EachTwo IsRowBefore rows
 rows_rise rows rising = risen.rows_rise node_plan.id rows (places-rise rows rising)
 
--- a row that is there is found
-pub found-at : (rows : List NodeRowShown) (id place : ℕ) (d : NodeRowShown) → IsRising rows → IsRowAt rows id place → row_of id rows ≡ Some (get_or rows place d)
-found-at rows id place d rising at =
-    placed.found-at node_plan.id rows id place (places-rise rows rising) (record { within = at.within; has_id = sym (id_at rows place) ∙ at.has_id })
-    ∙ slice_get-get_or rows place d at.within
-
 -- a row that is current by one definition is so by the other
 current-row : (session : ℕ) (row : NodeRowShown) → rows.IsCurrentRow node_plan session row → IsCurrentRow session row
 current-row session row current = record { before = current.before; empty = λ none. current.empty (rw none refl) }
 
--- what is missing is none
-none-from : (o : Option Capability) → is_none o ≡ true → o ≡ None
-none-from None h = refl
-none-from (Some capability) h = cc
-
 -- and the other way round
 row-current : (session : ℕ) (row : NodeRowShown) → IsCurrentRow session row → rows.IsCurrentRow node_plan session row
-row-current session row current = record { before = current.before; empty = λ none. current.empty (none-from row.staged none) }
+row-current session row current = record { before = current.before; empty = λ none. current.empty (none-from_is_some row.staged (sym (staged-tells row.staged) ∙ ap not none)) }
 
 -- rows behind the fence keep the rules of a record
 pub record-rules : (session : ℕ) (old : List NodeRow) (empty : ℕ) → AreNodeRows session old empty → AreSoundRows (parts old)
@@ -87,3 +70,16 @@ node-rows session old empty rules current counted = record {
   fits = tt;
   counted = counted;
 }
+
+-- a record has at most as many rows as are of staged volumes and as are of its session
+pub few-rows : (session : ℕ) (rows : List NodeRow) → IsCurrent session (parts rows)
+    → length rows ≤ count_by (λ (row : NodeRowShown). is_some row.staged) (parts rows) + count_by (λ (row : NodeRowShown). row.kept.number.session == session) (parts rows)
+few-rows session rows current =
+    let same = length-map rows node_row_shown in
+    let few = count-either (λ (row : NodeRowShown). is_some row.staged) (λ (row : NodeRowShown). row.kept.number.session == session) (parts rows)
+    (λ row among. by row.staged row (one-of_all (IsCurrentRow session) (parts rows) row current among).empty) in
+    omega (arith, same, few)
+  where
+    by : (o : Option Capability) (row : NodeRowShown) → (o ≡ None → row.kept.number.session ≡ session) → (is_some o ≡ true) ⊎ ((row.kept.number.session == session) ≡ true)
+    by None row own = inr (eq-eqb row.kept.number.session session (own refl))
+    by (Some capability) row own = inl refl

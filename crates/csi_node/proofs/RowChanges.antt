@@ -1,6 +1,6 @@
 -- What a call that the table carries out changes in its row is what it changes in the state, and the row keeps its
 -- rules.
-use Rattle.std.proofs.Common.{◌≡◌, ℕ, ◌≤◌, List, [], ◌∷◌, ◌++◌, map, length, Bool, true, false, cond, not, refl, sym, ◌∙◌, ap, arith, length-append}
+use Rattle.std.proofs.Common.{◌≡◌, ℕ, List, [], ◌∷◌, ◌++◌, map, Bool, true, false, cond, not, refl, sym, ◌∙◌, ap, arith, length-append}
 use Rattle.std.specs.Prelude.{Option, Some, None, filter, ◌==◌}
 use Rattle.std.proofs.lemmas.Bool.{both_ways, false_from_ne_true}
 use Rattle.std.proofs.lemmas.List.{map-append}
@@ -9,30 +9,23 @@ use Rattle.csi_types.specs.declared.call.Call.{Call}
 use Rattle.csi_types.specs.declared.call.Call.TheVariants as calls
 use Rattle.csi_types.specs.Model.Same.{same_text}
 use Rattle.csi_types.specs.Model.Sharing.{allows_one_target}
-use Rattle.csi_lists.proofs.Searches.{find-append}
+use Rattle.csi_lists.proofs.Searches.{find-append, find-missed, find-none_in_filter}
 use Rattle.csi_types.proofs.Equality.{same_text-tells}
-use Rattle.std.specs.Option.{option_or}
 use Rattle.std.proofs.lemmas.Option.{same_Some}
 use Rattle.std.proofs.lemmas.List.Elements.{filter_agree}
-use Rattle.csi_lists.proofs.Options.{option_or-none}
-use Rattle.csi_lists.proofs.Filters.{filter-of_map}
-use Rattle.csi_lists.proofs.Searches.{find-none_in_filter}
+use Rattle.csi_lists.proofs.Options.{option_or-none, some_is_not_none}
+use Rattle.csi_lists.proofs.Filters.{filter-no_longer, filter-of_map}
 use Rattle.csi_node.specs.declared.row.NodeTarget.{NodeTarget}
 use Rattle.csi_node.specs.Model.State.{NodeState, StagedVolume, PublishedVolume, is_published_at, volume_of}
 use Rattle.csi_node.specs.Model.Table.{changed, begins_with_slash}
 use Rattle.csi_node.specs.Model.OneRow.{NodeRowShown}
-use Rattle.csi_node.specs.Public.OneRow.{state_shown, staged_by, published_so, published_by, target_among, AreDistinctTargets, AreAbsolute, TargetsFit}
-use Rattle.csi_node.specs.Public.OneRow.{row_changed}
+use Rattle.csi_node.specs.Public.OneRow.{state_shown, staged_by, published_so, published_by, target_among, AreDistinctTargets, AreAbsolute, TargetsFit, row_changed}
 use Rattle.csi_node.specs.Private.OneRow.{call_change, CanChange}
 use Rattle.csi_node.proofs.OneRow.{itself, itself_and}
 
 -- texts differ both ways
 differs : (a b : List ℕ) → same_text a b ≡ false → same_text b a ≡ false
 differs a b h = false_from_ne_true (same_text b a) (λ same. both_ways (same_text a b) h ((same_text-tells a b).1 (sym ((same_text-tells b a).0 same))))
-
--- of two that are missing, neither is found
-or_none : {X : Type 0} (o other : Option X) → o ≡ None → other ≡ None → option_or o other ≡ None
-or_none o other a b = option_or-none o other a ∙ b
 
 -- a state by what is staged and published
 abbrev of_parts : List StagedVolume → List PublishedVolume → NodeState
@@ -83,67 +76,38 @@ alone-changed row (calls.ControllerUnpublishVolume id node) volume fits can = ab
 -- rules of targets
 append_distinct : (targets : List NodeTarget) (one : NodeTarget) → AreDistinctTargets targets → target_among targets one.target ≡ None → AreDistinctTargets (targets ++ one ∷ [])
 append_distinct [] one distinct none = (refl, tt)
-append_distinct (first ∷ rest) one distinct none = (step (same_text first.target one.target) refl none, append_distinct rest one distinct.1 (later (same_text first.target one.target) none))
-  where
-    later : (b : Bool) → cond b (Some first) (target_among rest one.target) ≡ None → target_among rest one.target ≡ None
-    later true h = let clash : Some first ≡ None = h in cc
-    later false h = h
-
-    other : same_text first.target one.target ≡ false → same_text one.target first.target ≡ false
-    other h = differs first.target one.target h
-
-    step : (b : Bool) → same_text first.target one.target ≡ b → cond b (Some first) (target_among rest one.target) ≡ None → target_among (rest ++ one ∷ []) first.target ≡ None
-    step true e h = let clash : Some first ≡ None = h in cc
-    step false e h =
-        let found = find-append (λ (there : NodeTarget). same_text there.target first.target) rest one in
-        found ∙ or_none _ _ distinct.0 (ap (λ (b : Bool). cond b (Some one) None) (other e))
+append_distinct (first ∷ rest) one distinct none =
+    let missed = find-missed (same_text first.target one.target) first (target_among rest one.target) none in (
+      find-append (λ (there : NodeTarget). same_text there.target first.target) rest one
+          ∙ option_or-none (target_among rest first.target) _ distinct.0
+          ∙ ap (λ (b : Bool). cond b (Some one) None) (differs first.target one.target missed.0),
+      append_distinct rest one distinct.1 missed.1,
+    )
 
 -- absolute targets and one more are absolute
 append_absolute : (targets : List NodeTarget) (one : NodeTarget) → AreAbsolute targets → begins_with_slash one.target ≡ true → AreAbsolute (targets ++ one ∷ [])
 append_absolute [] one all h = (h, tt)
 append_absolute (first ∷ rest) one all h = (all.0, append_absolute rest one all.1 h)
 
--- targets that are each there once still are after some are left out
-filter_distinct : (p : NodeTarget → Bool) (targets : List NodeTarget) → AreDistinctTargets targets → AreDistinctTargets (filter p targets)
-filter_distinct p [] distinct = tt
-filter_distinct p (first ∷ rest) distinct = step (p first) (filter_distinct p rest distinct.1)
+-- absolute targets that are each there once still are so after some are left out
+filter_fit : (p : NodeTarget → Bool) (targets : List NodeTarget) → AreAbsolute targets → AreDistinctTargets targets → AreAbsolute (filter p targets) × AreDistinctTargets (filter p targets)
+filter_fit p [] all distinct = (tt, tt)
+filter_fit p (first ∷ rest) all distinct = step (p first) (filter_fit p rest all.1 distinct.1)
   where
-    step : (b : Bool) → AreDistinctTargets (filter p rest) → AreDistinctTargets (cond b (first ∷ filter p rest) (filter p rest))
-    step true h = (find-none_in_filter (λ there. same_text there.target first.target) p rest distinct.0, h)
+    step : (b : Bool) → AreAbsolute (filter p rest) × AreDistinctTargets (filter p rest) → AreAbsolute (cond b (first ∷ filter p rest) (filter p rest)) × AreDistinctTargets (cond b (first ∷ filter p rest) (filter p rest))
+    step true h = ((all.0, h.0), (find-none_in_filter (λ there. same_text there.target first.target) p rest distinct.0, h.1))
     step false h = h
-
--- absolute targets still are after some are left out
-filter_absolute : (p : NodeTarget → Bool) (targets : List NodeTarget) → AreAbsolute targets → AreAbsolute (filter p targets)
-filter_absolute p [] all = tt
-filter_absolute p (first ∷ rest) all = step (p first) (filter_absolute p rest all.1)
-  where
-    step : (b : Bool) → AreAbsolute (filter p rest) → AreAbsolute (cond b (first ∷ filter p rest) (filter p rest))
-    step true h = (all.0, h)
-    step false h = h
-
--- targets after some are left out are no more
-filter_shorter : (p : NodeTarget → Bool) (targets : List NodeTarget) → length (filter p targets) ≤ length targets
-filter_shorter p [] = omega arith
-filter_shorter p (first ∷ rest) = step (p first) (filter_shorter p rest)
-  where
-    step : (b : Bool) → length (filter p rest) ≤ length rest → length (cond b (first ∷ filter p rest) (filter p rest)) ≤ length (first ∷ rest)
-    step true h = omega arith
-    step false h = omega arith
 
 -- no targets fit however the volume is staged
 pub no_targets : (staged : Option Capability) → TargetsFit staged []
 no_targets staged = record { unstaged = λ _. refl; absolute = tt; distinct = tt; single = λ capability is one. omega arith; limit = omega arith }
-
--- what is there isn't missing
-some_is_not_none : {X : Type 0} (x : X) (o : Option X) → o ≡ Some x → o ≡ None → ⊥
-some_is_not_none x o a b = cc
 
 -- the rules after a change
 pub fits-changed : (row : NodeRowShown) (call : Call) → TargetsFit row.staged row.targets → CanChange row call → TargetsFit (row_changed row call).staged (row_changed row call).targets
 fits-changed row (calls.NodeStageVolume id capability) fits can = let none : row.targets ≡ [] = fits.unstaged can in rw none (no_targets (Some capability))
 fits-changed row (calls.NodeUnstageVolume id) fits can = rw can (no_targets None)
 fits-changed row (calls.NodePublishVolume id target capability readonly) fits can = record {
-  unstaged = λ none. absurd (some_is_not_none capability row.staged can.staged none);
+  unstaged = λ none. absurd (some_is_not_none capability (sym can.staged ∙ none));
   absolute = append_absolute row.targets _ fits.absolute can.absolute;
   distinct = append_distinct row.targets _ fits.distinct can.«new»;
   single = λ other is one.
@@ -154,23 +118,12 @@ fits-changed row (calls.NodePublishVolume id target capability readonly) fits ca
 }
 fits-changed row (calls.NodeUnpublishVolume id target) fits can = record {
   unstaged = λ none. ap (filter (λ there. not (same_text there.target target))) (fits.unstaged none);
-  absolute = filter_absolute _ row.targets fits.absolute;
-  distinct = filter_distinct _ row.targets fits.distinct;
-  single = λ capability is one. let few = fits.single capability is one in omega (arith, filter_shorter (λ there. not (same_text there.target target)) row.targets);
-  limit = let few = fits.limit in omega (arith, filter_shorter (λ there. not (same_text there.target target)) row.targets);
+  absolute = (filter_fit (λ there. not (same_text there.target target)) row.targets fits.absolute fits.distinct).0;
+  distinct = (filter_fit (λ there. not (same_text there.target target)) row.targets fits.absolute fits.distinct).1;
+  single = λ capability is one. let few = fits.single capability is one in omega (arith, filter-no_longer (λ (there : NodeTarget). not (same_text there.target target)) row.targets);
+  limit = let few = fits.limit in omega (arith, filter-no_longer (λ (there : NodeTarget). not (same_text there.target target)) row.targets);
 }
 fits-changed row (calls.CreateVolume name required limit capabilities) fits can = absurd can
 fits-changed row (calls.DeleteVolume id) fits can = absurd can
 fits-changed row (calls.ControllerPublishVolume id node capability readonly) fits can = absurd can
 fits-changed row (calls.ControllerUnpublishVolume id node) fits can = absurd can
-
--- what is kept stays
-pub changed-kept : (row : NodeRowShown) (call : Call) → (row_changed row call).kept ≡ row.kept
-changed-kept row (calls.NodeStageVolume id capability) = refl
-changed-kept row (calls.NodeUnstageVolume id) = refl
-changed-kept row (calls.NodePublishVolume id target capability readonly) = refl
-changed-kept row (calls.NodeUnpublishVolume id target) = refl
-changed-kept row (calls.CreateVolume name required limit capabilities) = refl
-changed-kept row (calls.DeleteVolume id) = refl
-changed-kept row (calls.ControllerPublishVolume id node capability readonly) = refl
-changed-kept row (calls.ControllerUnpublishVolume id node) = refl

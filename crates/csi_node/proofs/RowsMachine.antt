@@ -1,12 +1,9 @@
 -- A node's rows behind the fence do what the node's state does there.
 use Rattle.std.proofs.Common.{◌≡◌, ℕ, List, length, Bool, true, false, cond, refl, sym, ◌∙◌, ap, subst}
-use Rattle.std.specs.Prelude.{All, Option, Some, None, option_map, find, filter, nat_le, ◌==◌, not, codes}
-use Rattle.std.proofs.lemmas.Bool.{eqb-true}
+use Rattle.std.specs.Prelude.{All, Option, Some, None, option_map, find, filter, nat_le, not, codes}
 use Rattle.std.proofs.lemmas.List.Elements.{All-filter}
-use Rattle.csi_lists.proofs.Members.{among-find, one-of_all}
-use Rattle.csi_lists.proofs.Searches.{find-none, find-passes}
+use Rattle.csi_lists.proofs.Searches.{find-none}
 use Rattle.csi_types.specs.declared.call.Call.{Call}
-use Rattle.csi_types.specs.declared.call.Call.TheVariants as calls
 use Rattle.csi_types.specs.declared.call.Party.TheVariants.{Node}
 use Rattle.csi_types.specs.declared.number.Number.{Number}
 use Rattle.csi_types.specs.declared.reply.Reply.{Reply}
@@ -30,18 +27,18 @@ use Rattle.csi_node.specs.Model.OneRow.{NodeRowShown}
 use Rattle.csi_node.specs.Model.Record.{NodeParts, parts}
 use Rattle.csi_node.specs.Private.Fenced.{answered_in}
 use Rattle.csi_node.specs.Private.Step.{AnswersCall}
-use Rattle.csi_node.specs.Public.OneRow.{state_shown, IsSoundRow, TargetsFit}
-use Rattle.csi_node.specs.Public.OneRow.{row_anew}
+use Rattle.csi_node.specs.Public.OneRow.{state_shown, IsSoundRow, TargetsFit, row_anew}
 use Rattle.csi_node.specs.Public.Plan.{AreNodeRows, is_of, told_at, row_told, lacking, node_plan}
-use Rattle.csi_node.proofs.CarriedOut.{kept_of}
+use Rattle.csi_node.proofs.CarriedOut.{kept_of, session_then}
 use Rattle.csi_node.proofs.ChangedRows.{changes-at, full-staged, state_of}
+use Rattle.csi_node.proofs.CopiedRows.{there-sound}
 use Rattle.csi_node.proofs.Forgotten.{forgotten-shows}
-use Rattle.csi_node.proofs.LastCalls.{keep-session, changed-session}
 use Rattle.csi_node.specs.Private.PlanLaws.{id-where}
 use Rattle.csi_node.proofs.RowChanges.{no_targets}
 use Rattle.csi_node.proofs.RowsTold.{alone-told}
-use Rattle.csi_node.proofs.ShownAfter.{ShowsAll, RowsAfter, all-from_shows, alone_in, kept-shown_by, part_of, room-by, row_of, shows-from_all, shows_then}
+use Rattle.csi_node.proofs.ShownAfter.{ShowsAll, RowsAfter, all-from_shows, alone_in, kept-shown_by, part_of, room-by, row_of, row_of-id, shows-from_all, shows_then}
 use Rattle.csi_node.proofs.StateChanges.{lifecycle-part}
+use Rattle.csi_node.proofs.ThingRows.{is_for}
 
 -- a node's rows, with the greatest session that came
 abbrev pub NodeRows : Type 0
@@ -76,32 +73,17 @@ begun-sound session old sound = record {
 
 -- ---- what is kept
 
--- no row is of a call without a volume
-none-for : (rows : List NodeRowShown) → find (λ (row : NodeRowShown). false) rows ≡ None
-none-for rows = find-none (λ (row : NodeRowShown). false) rows (λ row among. refl)
-
 -- what is kept for a call's volume
 kept-same : (call : Call) (old : NodeRows) (state : NodeState) → RowsShowAll old state → option_map node_plan.kept (find (node_plan.is_for call) old.rows) ≡ kept_for call state
 kept-same call old state shows = by (volume_of call) refl
   where
     by : (o : Option ℕ) → volume_of call ≡ o → option_map node_plan.kept (find (λ (row : NodeRowShown). is_of (volume_of call) row.id) old.rows) ≡ kept_for call state
-    by None v = rw v (ap (option_map node_plan.kept) (none-for old.rows))
+    by None v = rw v (ap (option_map node_plan.kept) (find-none (λ (row : NodeRowShown). false) old.rows (λ row among. refl)))
     by (Some id) v =
         ap (λ (p : Option ℕ). option_map node_plan.kept (find (λ (row : NodeRowShown). is_of p row.id) old.rows)) v
         ∙ sym (kept-shown_by id call old.rows state (row_of id old.rows) v shows.rows refl)
 
 -- ---- a call that is carried out
-
--- a call to a node is about a volume
-no_volume : {A : Type 0} (call : Call) → is_node_kind (kind_of call) ≡ true → volume_of call ≡ None → A
-no_volume (calls.NodeStageVolume id capability) own none = cc
-no_volume (calls.NodeUnstageVolume id) own none = cc
-no_volume (calls.NodePublishVolume id target capability readonly) own none = cc
-no_volume (calls.NodeUnpublishVolume id target) own none = cc
-no_volume (calls.CreateVolume name required limit capabilities) own none = cc
-no_volume (calls.DeleteVolume id) own none = cc
-no_volume (calls.ControllerPublishVolume id node capability readonly) own none = cc
-no_volume (calls.ControllerUnpublishVolume id node) own none = cc
 
 -- the rows after one that is put
 after-put : (rows : List NodeRowShown) (id : ℕ) (new : NodeRowShown) → AreRising node_plan.id rows → new.id ≡ id → RowsAfter id rows (put_row node_plan.id new rows) new
@@ -147,15 +129,15 @@ module _ (node : List ℕ) (number : Number) (call : Call) (old : NodeRows) (sta
           reply = ap (λ (r : Reply). Some (reply_frame number (Node node) (kind_of call) r)) same_reply;
           after = record {
             rows = subst (λ (o : Option ℕ). ShowsAll (put_row node_plan.id after old.rows) (keep o kept (changed state (lifecycle_row state call).change))) (sym v) there;
-            session = shows.session ∙ sym (keep-session (volume_of call) kept (changed state (lifecycle_row state call).change) ∙ changed-session state (lifecycle_row state call).change);
+            session = shows.session ∙ sym (session_then state number call);
           };
         })
 
     -- a row that is there keeps the rules, and is the volume's
     alike-there : (row : NodeRowShown) → row_of id old.rows ≡ Some row → IsAlike (given_by (Some row))
     alike-there row found =
-        alike-done row (room-by id call old.rows state (Some row) v shows.rows found) (eqb-true row.id id (find-passes (λ (r : NodeRowShown). r.id == id) old.rows row found))
-        (one-of_all IsSoundRow old.rows row sound.each (among-find (λ (r : NodeRowShown). r.id == id) old.rows row found)).targets (ap alone_in (sym found))
+        alike-done row (room-by id call old.rows state (Some row) v shows.rows found) (row_of-id id old.rows row found)
+        (there-sound old.rows id row sound.each found).targets (ap alone_in (sym found))
 
     -- where none is there it is made, if there is room for it
     alike-none : row_of id old.rows ≡ None → IsAlike (given_by None)
@@ -170,15 +152,13 @@ module _ (node : List ℕ) (number : Number) (call : Call) (old : NodeRows) (sta
 
   -- by whether the call's volume has a row
   alike-carried : is_node_kind (kind_of call) ≡ true → IsAlike (given_by (find (node_plan.is_for call) old.rows))
-  alike-carried own = by (volume_of call) refl
+  alike-carried own =
+      let for = (is_for node call own).1 in
+      subst (λ (p : Option ℕ). IsAlike (given_by (find (λ (row : NodeRowShown). is_of p row.id) old.rows))) (sym for.is_volume) (at for.volume for.is_volume (row_of for.volume old.rows) refl)
     where
       at : (id : ℕ) → volume_of call ≡ Some id → (o : Option NodeRowShown) → row_of id old.rows ≡ o → IsAlike (given_by o)
       at id v None none = alike-none id v none
       at id v (Some row) found = alike-there id v row found
-
-      by : (o : Option ℕ) → volume_of call ≡ o → IsAlike (given_by (find (node_plan.is_for call) old.rows))
-      by None v = no_volume call own v
-      by (Some id) v = subst (λ (p : Option ℕ). IsAlike (given_by (find (λ (row : NodeRowShown). is_of p row.id) old.rows))) (sym v) (at id v (row_of id old.rows) refl)
 
 -- the rows do what the state does
 pub rows-simulate : (node : List ℕ) → Simulates (rows_machine node_plan node) (node_at node) AreRowsSound RowsShowAll

@@ -5,60 +5,40 @@ use Rattle.std.specs.Prelude.{Option, Some, None, find, position, codes}
 use Rattle.std.proofs.lemmas.Bool.Decides.{nat_tests}
 use Rattle.std.proofs.lemmas.List.{length-map}
 use Rattle.std.proofs.lemmas.Option.{same_Some}
-use Rattle.std.proofs.lemmas.Bool.{eqb-true, lt-leb}
+use Rattle.std.proofs.lemmas.Bool.{eqb-true, false≢true, lt-leb, true≢false}
 use Rattle.csi_lists.proofs.Options.{none-from_map}
 use Rattle.csi_lists.proofs.Places.{position-none}
 use Rattle.csi_types.specs.declared.capability.Capability.{Capability}
 use Rattle.csi_types.specs.declared.call.Call.{Call}
 use Rattle.csi_types.specs.declared.call.Kind.{Kind}
-use Rattle.csi_types.specs.declared.call.Party.TheVariants.{Node}
-use Rattle.csi_types.specs.declared.frame.Body.TheVariants as bodies
 use Rattle.csi_types.specs.declared.number.Number.{Number}
 use Rattle.csi_types.specs.declared.reply.Reply.{Reply}
 use Rattle.csi_types.specs.Model.Call.{kind_of}
 use Rattle.csi_types.specs.Public.Call.{is_node_kind}
-use Rattle.csi_types.specs.Public.Frame.{IsAllowed}
 use Rattle.csi_fence.specs.Model.Fence.{Kept}
-use Rattle.csi_types.specs.declared.status.Status.TheVariants.{Ok, ResourceExhausted}
+use Rattle.csi_types.specs.declared.status.Status.TheVariants.{ResourceExhausted}
 use Rattle.csi_types.specs.Model.Replies.{plain_reply}
 use Rattle.csi_fence.specs.Public.Rows.{Answered, Made}
 use Rattle.csi_fence.specs.Public.Table.{IsMade}
 use Rattle.csi_node.specs.declared.row.NodeTarget.{NodeTarget}
-use Rattle.csi_node.specs.Model.State.{NodeState, PublishedVolume, staged_of, published_of, published_at, is_published_at, volume_of}
+use Rattle.csi_node.specs.Model.State.{PublishedVolume, staged_of, published_of, published_at, is_published_at, volume_of}
 use Rattle.csi_node.specs.Model.Table.{Change, Stays, Stages, Unstages, Publishes, Unpublishes, Outcome, lifecycle_row, changed}
 use Rattle.csi_node.specs.Model.OneRow.{NodeRowShown}
-use Rattle.csi_node.specs.Public.OneRow.{state_shown, published_so, published_by, TargetsFit, IsSoundRow}
-use Rattle.csi_node.specs.Public.OneRow.{row_anew, row_changed}
+use Rattle.csi_node.specs.Public.OneRow.{state_shown, published_so, published_by, TargetsFit, IsSoundRow, row_anew, row_changed}
 use Rattle.csi_node.specs.Private.OneRow.{call_change, target_of_row, CanChange, HasRoomFor}
 use Rattle.csi_node.specs.Public.Plan.{first_row, is_change, is_of, is_sound_by, lacking, node_plan, told_at, row_told}
 use Rattle.csi_node.proofs.OneRow.{staged_of-alone, published_of-alone, published_at-staged}
-use Rattle.csi_node.specs.Private.PlanLaws.{no_id-fits}
-use Rattle.csi_node.proofs.OutcomeFacts.{lifecycle_facts}
-use Rattle.csi_node.proofs.RowChanges.{alone-changed, changed-kept, fits-changed, no_targets}
-use Rattle.csi_node.proofs.TableOutcomes.{IsOutcome, Fits, refuses, was_staged, stages, unstages, was_published, publishes, was_unpublished, unpublishes, lifecycle_outcomes}
-
--- a test that fails doesn't hold: anything follows
-never : {A : Type 0} → false ≡ true → A
-never h = cc
-
--- what changes is the call's change
-is-call_change : (state : NodeState) (call : Call) (outcome : Outcome) → IsOutcome state call outcome → is_change outcome.change ≡ true → outcome.change ≡ call_change call
-is-call_change state _ _ (refuses call status detail not_ok) h = never h
-is-call_change state _ _ (was_staged staged is) h = never h
-is-call_change state _ _ (stages staged is) h = refl
-is-call_change state _ _ (unstages id is) h = refl
-is-call_change state _ _ (was_published published slash is) h = never h
-is-call_change state _ _ (publishes published fits) h = refl
-is-call_change state _ _ (was_unpublished id target is) h = never h
-is-call_change state _ _ (unpublishes id target there is) h = refl
+use Rattle.csi_node.specs.Private.PlanLaws.{stays-by}
+use Rattle.csi_node.proofs.RowChanges.{alone-changed, fits-changed, no_targets}
+use Rattle.csi_node.proofs.TableOutcomes.{IsOutcome, Fits, refuses, was_staged, stages, unstages, was_published, publishes, was_unpublished, unpublishes, lifecycle_outcomes, reply-no_id}
 
 -- what doesn't change stays
 stays : (change : Change) → is_change change ≡ false → change ≡ Stays
 stays Stays h = refl
-stays (Stages staged) h = never (sym h)
-stays (Unstages id) h = never (sym h)
-stays (Publishes published) h = never (sym h)
-stays (Unpublishes id target) h = never (sym h)
+stays (Stages staged) h = absurd (true≢false h)
+stays (Unstages id) h = absurd (true≢false h)
+stays (Publishes published) h = absurd (true≢false h)
+stays (Unpublishes id target) h = absurd (true≢false h)
 
 -- a volume that is published nowhere has no targets, where it has none without being staged
 none-from : (id : ℕ) (staged o : Option Capability) (targets : List NodeTarget) → staged ≡ o → (staged ≡ None → targets ≡ []) → published_by id o targets ≡ [] → targets ≡ []
@@ -95,19 +75,19 @@ module _ (row : NodeRowShown) (fits : TargetsFit row.staged row.targets) where
             let few = new.room in grind (arith, nat_tests, many, few);
       }
 
-  -- a change that is made can be made
-  can-by : (call : Call) (outcome : Outcome) → IsOutcome (state_shown row) call outcome → volume_of call ≡ Some row.id → is_change outcome.change ≡ true → CanChange row call
-  can-by _ _ (refuses call status detail not_ok) v h = never h
-  can-by _ _ (was_staged staged is) v h = never h
-  can-by _ _ (stages staged is) v h = staged-own staged.volume None v is
-  can-by _ _ (unstages id is) v h = none-from row.id row.staged row.staged row.targets refl fits.unstaged (sym (published-own id v) ∙ is)
-  can-by _ _ (was_published published slash is) v h = never h
-  can-by _ _ (publishes published new) v h = room-own published v new
-  can-by _ _ (was_unpublished id target is) v h = never h
-  can-by _ _ (unpublishes id target there is) v h = tt
+  -- a change that is made is the call's, and can be made
+  can-by : (call : Call) (outcome : Outcome) → IsOutcome (state_shown row) call outcome → volume_of call ≡ Some row.id → is_change outcome.change ≡ true → (outcome.change ≡ call_change call) × CanChange row call
+  can-by _ _ (refuses call status detail not_ok) v h = absurd (false≢true h)
+  can-by _ _ (was_staged staged is) v h = absurd (false≢true h)
+  can-by _ _ (stages staged is) v h = (refl, staged-own staged.volume None v is)
+  can-by _ _ (unstages id is) v h = (refl, none-from row.id row.staged row.staged row.targets refl fits.unstaged (sym (published-own id v) ∙ is))
+  can-by _ _ (was_published published slash is) v h = absurd (false≢true h)
+  can-by _ _ (publishes published new) v h = (refl, room-own published v new)
+  can-by _ _ (was_unpublished id target is) v h = absurd (false≢true h)
+  can-by _ _ (unpublishes id target there is) v h = (refl, tt)
 
   -- where the row is told that the change is made
-  pub can-change : (call : Call) → volume_of call ≡ Some row.id → (told_at row call).is_done ≡ true → CanChange row call
+  can-change : (call : Call) → volume_of call ≡ Some row.id → (told_at row call).is_done ≡ true → ((lifecycle_row (state_shown row) call).change ≡ call_change call) × CanChange row call
   can-change call v done = can-by call (lifecycle_row (state_shown row) call) (lifecycle_outcomes (state_shown row) call) v done
 
   -- the state of the row alone is then the one after the table's change
@@ -120,38 +100,19 @@ module _ (row : NodeRowShown) (fits : TargetsFit row.staged row.targets) where
       by : (b : Bool) → is_change change ≡ b → state_shown (row_told number call (told_at row call) row) ≡ changed (state_shown row) change
       by true e =
           ap (λ (b : Bool). state_shown (cond b (row_changed row call) row)) e
-          ∙ alone-changed row call v fits (can-change call v e)
-          ∙ ap (changed (state_shown row)) (sym (is-call_change (state_shown row) call (lifecycle_row (state_shown row) call) (lifecycle_outcomes (state_shown row) call) e))
+          ∙ alone-changed row call v fits (can-change call v e).1
+          ∙ ap (changed (state_shown row)) (sym (can-change call v e).0)
       by false e = ap (λ (b : Bool). state_shown (cond b (row_changed row call) row)) e ∙ ap (changed (state_shown row)) (sym (stays change e))
 
 -- the rules of a row after a change that is made
 pub sound-changed : (row : NodeRowShown) (call : Call) → IsSoundRow row → volume_of call ≡ Some row.id → (told_at row call).is_done ≡ true → IsSoundRow (row_changed row call)
 sound-changed row call sound v done =
-    let same : (row_changed row call).kept ≡ row.kept = changed-kept row call in
+    let same : (row_changed row call).kept ≡ row.kept = (stays-by row call).1 in
     record {
       kind = ap (λ (k : Kept). is_node_kind k.kind) same ∙ sound.kind;
       no_id = ap (λ (k : Kept). k.reply.id) same ∙ sound.no_id;
-      targets = fits-changed row call sound.targets (can-change row sound.targets call v done);
+      targets = fits-changed row call sound.targets (can-change row sound.targets call v done).1;
     }
-
--- no reply of the table has an id
-no_id : (state : NodeState) (call : Call) (outcome : Outcome) → IsOutcome state call outcome → outcome.reply.id ≡ None
-no_id state _ _ (refuses call status detail not_ok) = refl
-no_id state _ _ (was_staged staged is) = refl
-no_id state _ _ (stages staged is) = refl
-no_id state _ _ (unstages id is) = refl
-no_id state _ _ (was_published published slash is) = refl
-no_id state _ _ (publishes published fits) = refl
-no_id state _ _ (was_unpublished id target is) = refl
-no_id state _ _ (unpublishes id target there is) = refl
-
--- so a node may give each
-pub told-allowed : (node : List ℕ) (row : NodeRowShown) (call : Call) → is_node_kind (kind_of call) ≡ true → IsAllowed (Node node) (bodies.Reply (kind_of call) (told_at row call).reply)
-told-allowed node row call own = (own, no_id-fits (kind_of call) (told_at row call).reply own (no_id (state_shown row) call (lifecycle_row (state_shown row) call) (lifecycle_outcomes (state_shown row) call)))
-
--- an OK has no detail
-pub told-plain : (row : NodeRowShown) (call : Call) → (told_at row call).reply.status ≡ Ok → (told_at row call).reply.detail ≡ []
-told-plain row call ok = ap (λ (r : Reply). r.detail) ((lifecycle_facts (state_shown row) call).plain ok)
 
 -- the targets fit, whether or not the change is made
 abbrev FitWhere : NodeRowShown → Call → Bool → Type 0
@@ -160,7 +121,7 @@ FitWhere row call done = TargetsFit (cond done (row_changed row call) row).stage
 -- the row after a call that is carried out keeps the rules of a row
 pub sound-told : (row : NodeRowShown) (number : Number) (call : Call) → IsSoundRow row → volume_of call ≡ Some row.id → is_node_kind (kind_of call) ≡ true → IsSoundRow (row_told number call (told_at row call) row)
 sound-told row number call sound v own =
-    record { kind = own; no_id = no_id (state_shown row) call (lifecycle_row (state_shown row) call) (lifecycle_outcomes (state_shown row) call); targets = by (told_at row call).is_done refl }
+    record { kind = own; no_id = reply-no_id (state_shown row) call (lifecycle_row (state_shown row) call) (lifecycle_outcomes (state_shown row) call); targets = by (told_at row call).is_done refl }
   where
     by : (b : Bool) → (told_at row call).is_done ≡ b → FitWhere row call (told_at row call).is_done
     by true e = subst (FitWhere row call) (sym e) (sound-changed row call sound v e).targets
@@ -179,7 +140,7 @@ pub volume-from : (call : Call) (id : ℕ) → is_of (volume_of call) id ≡ tru
 volume-from call id h = by (volume_of call) refl
   where
     by : (o : Option ℕ) → volume_of call ≡ o → volume_of call ≡ Some id
-    by None v = never (sym (ap (λ (p : Option ℕ). is_of p id) v) ∙ h)
+    by None v = absurd (false≢true (sym (ap (λ (p : Option ℕ). is_of p id) v) ∙ h))
     by (Some volume) v = v ∙ ap Some (sym (eqb-true id volume (sym (ap (λ (p : Option ℕ). is_of p id) v) ∙ h)))
 
 -- a call without a volume has no row

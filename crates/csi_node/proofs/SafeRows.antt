@@ -1,15 +1,12 @@
 -- Rows that keep the rules of a record show no state but safe ones.
-use Rattle.std.proofs.Common.{◌≡◌, ℕ, ◌≤◌, List, [], ◌∷◌, map, length, Bool, true, false, refl, sym, ◌∙◌, ap, subst, arith, inl, inr}
-use Rattle.std.specs.Prelude.{Option, Some, None, filter, ◌==◌, All}
-use Rattle.std.proofs.lemmas.Bool.{eq-eqb, eqb-true}
-use Rattle.std.proofs.lemmas.List.{length-map}
+use Rattle.std.proofs.Common.{◌≡◌, ℕ, ◌≤◌, List, [], ◌∷◌, map, length, Bool, true, false, refl, sym, ◌∙◌, ap, subst, arith}
+use Rattle.std.specs.Prelude.{Option, Some, None, ◌==◌, All}
+use Rattle.std.proofs.lemmas.Bool.{eq-eqb}
 use Rattle.csi_types.specs.declared.capability.Capability.{Capability}
 use Rattle.csi_lists.specs.Model.Members.{IsAmong, EachTwo}
 use Rattle.csi_types.specs.Model.Sharing.{allows_one_target}
-use Rattle.csi_lists.proofs.Members.{all_of, among-find, in_filter}
-use Rattle.csi_lists.proofs.Searches.{find-passes}
-use Rattle.csi_lists.proofs.Members.{one-of_all}
-use Rattle.csi_lists.proofs.Counts.{two-pass, no_fewer}
+use Rattle.csi_lists.proofs.Members.{all_of, among-map, in_filter}
+use Rattle.csi_lists.proofs.Pairs.{two-by_key, two-more}
 use Rattle.csi_node.specs.declared.row.NodeRow.{NodeRow}
 use Rattle.csi_node.specs.declared.row.NodeTarget.{NodeTarget}
 use Rattle.csi_node.specs.Model.State.{NodeState, PublishedVolume, staged_of, published_of}
@@ -19,68 +16,55 @@ use Rattle.csi_node.specs.Public.OneRow.{state_shown, published_so, published_by
 use Rattle.csi_node.specs.Model.Record.{parts}
 use Rattle.csi_node.specs.Public.Record.{AreSoundRows}
 use Rattle.csi_node.specs.Public.Safe.{AllowTwo, IsPublishedRight}
+use Rattle.csi_node.proofs.CopiedRows.{there-sound}
 use Rattle.csi_node.proofs.OneRow.{staged_of-alone}
 use Rattle.csi_node.proofs.StateChanges.{part-staged}
-use Rattle.csi_node.proofs.ShownAfter.{ShowsAll, row_of, alone_in, part_of, all-from_shows}
-
--- what is missing isn't there: anything follows
-none_some : {X : Type 0} {Y : Type 0} (x : X) → None ≡ Some x → Y
-none_some x h = cc
-
--- where there is one in such a mode, there isn't another
-not_two : (b : Bool) (n : ℕ) → 2 ≤ n → (b ≡ true → n ≤ 1) → b ≡ false
-not_two true n two one = let few = one refl in absurd (omega arith)
-not_two false n two one = refl
-
--- of a list, how many are of a volume
-abbrev count_of : ℕ → List PublishedVolume → ℕ
-count_of id list = length (filter (λ (p : PublishedVolume). p.volume == id) list)
-
--- where a mode that allows one target has at most one, each two are in modes that allow more
-two_allowed : (list : List PublishedVolume) → ((p : PublishedVolume) → IsAmong p list → allows_one_target p.capability.mode ≡ true → count_of p.volume list ≤ 1) → EachTwo AllowTwo list
-two_allowed [] few = tt
-two_allowed (p ∷ ps) few = (
-  all_of (AllowTwo p) ps (λ q among. record {
-    first = λ same. not_two (allows_one_target p.capability.mode) (count_of p.volume (p ∷ ps)) (both q same among) (few p (inl refl));
-    second = λ same. not_two (allows_one_target q.capability.mode) (count_of p.volume (p ∷ ps)) (both q same among) (λ one. subst (λ (n : ℕ). count_of n (p ∷ ps) ≤ 1) (sym same) (few q (inr among) one));
-  }),
-  two_allowed ps (λ q among one. (let fewer = no_fewer (λ (r : PublishedVolume). r.volume == q.volume) p ps in let small = few q (inr among) one in omega arith)),
-)
-  where
-    both : (q : PublishedVolume) → p.volume ≡ q.volume → IsAmong q ps → 2 ≤ count_of p.volume (p ∷ ps)
-    both q same among = two-pass (λ (r : PublishedVolume). r.volume == p.volume) p q ps (eq-eqb p.volume p.volume refl) (eq-eqb q.volume p.volume (sym same)) among
+use Rattle.csi_node.proofs.ShownAfter.{ShowsAll, row_of, row_of-id, alone_in, part_of, all-from_shows}
 
 -- targets are published in the capability in which the volume is staged
 in_capability : (id : ℕ) (capability : Capability) (targets : List NodeTarget) (p : PublishedVolume) → IsAmong p (map (published_so id capability) targets) → p.capability ≡ capability
-in_capability id capability [] p among = absurd among
-in_capability id capability (target ∷ targets) p (inl e) = ap (λ (q : PublishedVolume). q.capability) e
-in_capability id capability (target ∷ targets) p (inr among) = in_capability id capability targets p among
+in_capability id capability targets p among = ap (λ (q : PublishedVolume). q.capability) (among-map (published_so id capability) targets p among).2
 
 -- what is published by a row is in the capability in which the row is staged
 so_staged : (id : ℕ) (o : Option Capability) (targets : List NodeTarget) (p : PublishedVolume) → IsAmong p (published_by id o targets) → o ≡ Some p.capability
 so_staged id None targets p among = absurd among
 so_staged id (Some capability) targets p among = ap Some (sym (in_capability id capability targets p among))
 
--- a row publishes no more than it has targets
-no_more : (id : ℕ) (o : Option Capability) (targets : List NodeTarget) → length (published_by id o targets) ≤ length targets
-no_more id None targets = omega arith
-no_more id (Some capability) targets = let same = length-map targets (published_so id capability) in omega arith
+-- neither is in a mode that allows one target
+abbrev AreShared : PublishedVolume → PublishedVolume → Type 0
+AreShared a b = (allows_one_target a.capability.mode ≡ false) × (allows_one_target b.capability.mode ≡ false)
+
+-- so it is of each two targets of a volume whose mode allows more
+each-shared : (id : ℕ) (capability : Capability) (targets : List NodeTarget) → allows_one_target capability.mode ≡ false → EachTwo AreShared (map (published_so id capability) targets)
+each-shared id capability [] shared = tt
+each-shared id capability (target ∷ targets) shared = (
+  all_of (AreShared (published_so id capability target)) (map (published_so id capability) targets)
+      (λ p among. (shared, ap (λ (c : Capability). allows_one_target c.mode) (in_capability id capability targets p among) ∙ shared)),
+  each-shared id capability targets shared,
+)
+
+-- and where there is one target at most, no two are to be looked at
+one-shared : (id : ℕ) (capability : Capability) (targets : List NodeTarget) → length targets ≤ 1 → EachTwo AreShared (map (published_so id capability) targets)
+one-shared id capability [] few = tt
+one-shared id capability (target ∷ []) few = (tt, tt)
+one-shared id capability (target ∷ next ∷ targets) few = absurd (omega arith)
+
+-- so it is of what a row that keeps the rules has published
+row-shared : (id : ℕ) (o : Option Capability) (targets : List NodeTarget) → ((capability : Capability) → o ≡ Some capability → allows_one_target capability.mode ≡ true → length targets ≤ 1) → EachTwo AreShared (published_by id o targets)
+row-shared id None targets single = tt
+row-shared id (Some capability) targets single = by (allows_one_target capability.mode) refl
+  where
+    by : (b : Bool) → allows_one_target capability.mode ≡ b → EachTwo AreShared (map (published_so id capability) targets)
+    by true one = one-shared id capability targets (single capability refl one)
+    by false shared = each-shared id capability targets shared
 
 module _ (rows : List NodeRowShown) (state : NodeState) (each : All IsSoundRow rows) (all : ShowsAll rows state) where
-  -- the row of an id keeps the rules, and stands for it
-  row_rules : (id : ℕ) (row : NodeRowShown) → row_of id rows ≡ Some row → IsSoundRow row
-  row_rules id row found = one-of_all IsSoundRow rows row each (among-find (λ (r : NodeRowShown). r.id == id) rows row found)
-
-  -- the row that is found for an id has it
-  own : (id : ℕ) (row : NodeRowShown) → row_of id rows ≡ Some row → row.id ≡ id
-  own id row found = eqb-true row.id id (find-passes (λ (r : NodeRowShown). r.id == id) rows row found)
-
   -- the state has a volume staged as its row has it
   row_staged : (id : ℕ) (row : NodeRowShown) → row_of id rows ≡ Some row → staged_of id state ≡ row.staged
   row_staged id row found =
       sym (part-staged id (alone_in (row_of id rows)) state (part_of id rows state all))
       ∙ ap (λ (o : Option NodeRowShown). staged_of id (alone_in o)) found
-      ∙ ap (λ (n : ℕ). staged_of n (state_shown row)) (sym (own id row found))
+      ∙ ap (λ (n : ℕ). staged_of n (state_shown row)) (sym (row_of-id id rows row found))
       ∙ staged_of-alone row
 
   -- what is published of a volume is what its row has
@@ -97,20 +81,18 @@ module _ (rows : List NodeRowShown) (state : NodeState) (each : All IsSoundRow r
   staged_by_row p None found among = absurd among
   staged_by_row p (Some row) found among = row_staged p.volume row found ∙ so_staged row.id row.staged row.targets p among
 
-  -- the volume of a publication whose mode allows one target is at one at most
-  single_by_row : (p : PublishedVolume) (o : Option NodeRowShown) → row_of p.volume rows ≡ o → IsAmong p (alone_in o).published → allows_one_target p.capability.mode ≡ true → count_of p.volume state.published ≤ 1
-  single_by_row p None found among one = absurd among
-  single_by_row p (Some row) found among one =
-      let few : length row.targets ≤ 1 = (row_rules p.volume row found).targets.single p.capability (so_staged row.id row.staged row.targets p among) one in
-      let more = no_more row.id row.staged row.targets in
-      let same : length (state_shown row).published ≡ count_of p.volume state.published = ap length (row_published p.volume (Some row) found) in
-      omega arith
+  -- no two targets of a volume are in a mode that allows one
+  shared_in : (id : ℕ) (o : Option NodeRowShown) → row_of id rows ≡ o → EachTwo AreShared (alone_in o).published
+  shared_in id None found = tt
+  shared_in id (Some row) found = row-shared row.id row.staged row.targets (there-sound rows id row each found).targets.single
 
   -- each publication of the state is right
   published_right : IsPublishedRight state
   published_right = record {
     staged = λ p among. staged_by_row p (row_of p.volume rows) refl (among_own p (row_of p.volume rows) refl among);
-    targets = two_allowed state.published (λ p among one. single_by_row p (row_of p.volume rows) refl (among_own p (row_of p.volume rows) refl among) one);
+    targets =
+        two-more (λ (a b : PublishedVolume). a.volume ≡ b.volume → AreShared a b) AllowTwo state.published (λ a b shared. record { first = λ same. (shared same).0; second = λ same. (shared same).1 })
+        (two-by_key AreShared (λ (p : PublishedVolume). p.volume) state.published (λ id. subst (EachTwo AreShared) (all.published id) (shared_in id (row_of id rows) refl)));
   }
 
 -- in a state that a record's rows show, what is published is right

@@ -1,30 +1,24 @@
 -- In a node's state what is published is staged, at as many targets as its mode allows, whatever frames came.
-use Rattle.std.proofs.Common.{◌≡◌, ◌⊎◌, ℕ, List, [], false, not, refl, sym, ◌∙◌, ap, subst, inl, inr}
-use Rattle.std.specs.Prelude.{Option, Some, None, option_map, find, ◌==◌}
-use Rattle.std.proofs.lemmas.Bool.{eqb-true, eq-eqb, true≢false, false_from_ne_true}
-use Rattle.csi_lists.proofs.Searches.{find-append}
+use Rattle.std.proofs.Common.{◌≡◌, ◌⊎◌, ℕ, List, [], false, not, sym, ◌∙◌, ap, subst, inl, inr}
+use Rattle.std.specs.Prelude.{Some, ◌==◌}
+use Rattle.std.proofs.lemmas.Bool.{eq-eqb, true≢false, false_from_ne_true}
 use Rattle.csi_types.specs.declared.capability.Capability.{Capability}
-use Rattle.csi_types.specs.declared.number.Number.{Number}
 use Rattle.csi_types.specs.declared.call.Call.{Call}
 use Rattle.csi_types.specs.Model.Frame.{Frame}
 use Rattle.csi_types.specs.Model.Sharing.{allows_one_target}
-use Rattle.csi_fence.specs.Model.Fence.{Kept}
-use Rattle.csi_fence.specs.Model.Fenced.{Fenced}
 use Rattle.csi_fence.proofs.FramesKeep.{IsKept, frames_keep}
-use Rattle.csi_node.specs.Model.State.{NodeState, StagedVolume, PublishedVolume, joined_node, staged_of, published_of, is_published_at, volume_of}
-use Rattle.csi_node.specs.Model.Table.{Outcome, Change, Stages, Unstages, Publishes, Unpublishes, lifecycle_row, node_row, changed}
-use Rattle.csi_node.specs.Model.Fenced.{keep, begun, carried_out, node_at}
+use Rattle.csi_node.specs.Model.State.{NodeState, StagedVolume, PublishedVolume, joined_node, staged_of, published_of, is_published_at}
+use Rattle.csi_node.specs.Model.Table.{Outcome, Change, Stages, Unstages, Publishes, Unpublishes, lifecycle_row, changed}
+use Rattle.csi_node.specs.Model.Fenced.{node_at}
 use Rattle.csi_node.specs.Public.Fenced.{after_frames}
 use Rattle.csi_lists.specs.Model.Members.{IsAmong}
 use Rattle.csi_node.specs.Public.Safe.{AllowTwo, IsPublishedRight}
 use Rattle.csi_node.proofs.TableOutcomes.{Fits, IsOutcome, refuses, was_staged, stages, unstages, was_published, publishes, was_unpublished, unpublishes, lifecycle_outcomes}
-use Rattle.csi_node.proofs.CarriedOut.{Carried, no_room, has_room, was_carried, kept_of}
+use Rattle.csi_node.proofs.CarriedOut.{keeps-apart}
+use Rattle.csi_node.proofs.StagedOnce.{left-staged, still-staged}
 use Rattle.csi_lists.proofs.Members.{among-either, among-filter, none_kept}
-use Rattle.csi_lists.proofs.Searches.{find-filter}
 use Rattle.csi_lists.proofs.Pairs.{two-append, two-filter}
 use Rattle.std.proofs.lemmas.Option.{same_Some}
-use Rattle.csi_lists.proofs.Options.{option_or-read}
-use Rattle.csi_lists.proofs.Tests.{not-where}
 
 -- a change keeps that
 abbrev Keeps : NodeState → Change → Type 0
@@ -33,21 +27,14 @@ Keeps state change = IsPublishedRight state → IsPublishedRight (changed state 
 -- a staging keeps what is published right
 stages_keeps : (state : NodeState) (staged : StagedVolume) → Keeps state (Stages staged)
 stages_keeps state staged right = record {
-  staged = λ p among.
-      ap (option_map (λ (s : StagedVolume). s.capability)) (find-append (λ (s : StagedVolume). s.volume == p.volume) state.staged staged)
-      ∙ option_or-read (λ (s : StagedVolume). s.capability) (find (λ (s : StagedVolume). s.volume == p.volume) state.staged) _ p.capability (right.staged p among);
+  staged = λ p among. still-staged state staged p.volume p.capability (right.staged p among);
   targets = right.targets;
 }
 
 -- a volume that isn't published is no other's
 unstages_keeps : (state : NodeState) (id : ℕ) → published_of id state ≡ [] → Keeps state (Unstages id)
 unstages_keeps state id none right = record {
-  staged = λ p among.
-      let other : (p.volume == id) ≡ false = none_kept (λ (q : PublishedVolume). q.volume == id) state.published p none among in
-      ap (option_map (λ (s : StagedVolume). s.capability))
-      (find-filter (λ (s : StagedVolume). s.volume == p.volume) (λ (s : StagedVolume). not (s.volume == id)) state.staged
-      (λ s same. not-where (s.volume == id) (λ h. true≢false (sym (eq-eqb p.volume id (sym (eqb-true s.volume p.volume same) ∙ eqb-true s.volume id h)) ∙ other))))
-      ∙ right.staged p among;
+  staged = λ p among. left-staged state id p.volume (none_kept (λ (q : PublishedVolume). q.volume == id) state.published p none among) ∙ right.staged p among;
   targets = right.targets;
 }
 
@@ -94,28 +81,11 @@ outcome_keeps state _ _ (publishes p fits) right = publishes_keeps state p fits 
 outcome_keeps state _ _ (was_unpublished id target none) right = right
 outcome_keeps state _ _ (unpublishes id target there is) right = unpublishes_keeps state id target right
 
--- what is kept touches the rows alone
-keep_keeps : (volume : Option ℕ) (kept : Kept) (state : NodeState) → IsPublishedRight state → IsPublishedRight (keep volume kept state)
-keep_keeps None kept state right = right
-keep_keeps (Some id) kept state right = record { staged = right.staged; targets = right.targets }
-
--- and so does a session that begins
-begun_keeps : (session : ℕ) (state : NodeState) → IsPublishedRight state → IsPublishedRight (begun session state)
-begun_keeps session state right = record { staged = right.staged; targets = right.targets }
-
--- each call that is carried out keeps what is published right
-carried_keeps : (node : List ℕ) (state : NodeState) (number : Number) (call : Call) (after : Fenced NodeState) → Carried node state number call after → IsPublishedRight state → IsPublishedRight after.state
-carried_keeps node state number call _ (no_room full) right = right
-carried_keeps node state number call _ (has_room room) right =
-    keep_keeps (volume_of call) (kept_of state number call) (changed state (lifecycle_row state call).change) (outcome_keeps state call (lifecycle_row state call) (lifecycle_outcomes state call) right)
-
 -- so each frame does
 is_kept : (node : List ℕ) → IsKept (node_at node) IsPublishedRight
-is_kept node = record {
-  sets_session = λ session state. refl;
-  begins = λ session state later right. begun_keeps session state right;
-  carries = λ state number call now right. carried_keeps node state number call (carried_out node state number call (node_row state call)) (was_carried node state number call) right;
-}
+is_kept node =
+    keeps-apart node IsPublishedRight (λ state rows session right. record { staged = right.staged; targets = right.targets })
+    (λ state call right. outcome_keeps state call (lifecycle_row state call) (lifecycle_outcomes state call) right)
 
 -- in a node that has answered nothing, what is published is right
 joined_right : (session : ℕ) → IsPublishedRight (joined_node session)

@@ -1,26 +1,24 @@
 -- What a node remembers, whatever frames came: each row's last call is of no later session than the greatest that came; and of that
 -- one, where the volume isn't staged.
-use Rattle.std.proofs.Common.{◌≡◌, ◌⊎◌, ◌≤◌, ℕ, List, Bool, true, refl, sym, ◌∙◌, ap, subst, inl, inr, arith}
-use Rattle.std.specs.Prelude.{option_map, find, filter, is_some, IsSome, ◌==◌}
-use Rattle.std.proofs.lemmas.Bool.{eq-eqb, eqb-true, ltb-true}
+use Rattle.std.proofs.Common.{◌≡◌, ◌⊎◌, ◌≤◌, ℕ, List, true, sym, ◌∙◌, ap, subst, inl, inr, arith}
+use Rattle.std.specs.Prelude.{option_map, find, is_some, IsSome, ◌==◌}
+use Rattle.std.proofs.lemmas.Bool.{eq-eqb, ltb-true}
 use Rattle.csi_lists.specs.Model.Members.{IsAmong}
 use Rattle.csi_lists.proofs.Counts.{count-either}
 use Rattle.csi_lists.proofs.Members.{among-kept}
-use Rattle.csi_lists.proofs.Searches.{find-filter}
 use Rattle.csi_types.specs.declared.number.Number.{Number}
 use Rattle.csi_types.specs.declared.call.Call.{Call}
 use Rattle.csi_types.specs.Model.Frame.{Frame}
 use Rattle.csi_fence.specs.Model.Fence.{Kept}
-use Rattle.csi_fence.specs.Model.Fenced.{Fenced}
 use Rattle.csi_fence.proofs.FramesKeep.{IsKept, frames_keep}
 use Rattle.csi_node.specs.Model.State.{NodeState, AnsweredVolume, StagedVolume, joined_node, staged_of, volume_of}
-use Rattle.csi_node.specs.Model.Table.{lifecycle_row, node_row, changed}
-use Rattle.csi_node.specs.Model.Fenced.{keep, begun, carried_out, node_at}
+use Rattle.csi_node.specs.Model.Table.{lifecycle_row, changed}
+use Rattle.csi_node.specs.Model.Fenced.{keep, begun, node_at}
 use Rattle.csi_node.specs.Public.Fenced.{after_frames}
 use Rattle.csi_node.specs.Public.Laws.{is_another}
 use Rattle.csi_node.specs.Public.Safe.{Remembers}
-use Rattle.csi_node.proofs.CarriedOut.{Carried, no_room, has_room, was_carried, kept_of}
-use Rattle.csi_node.proofs.LastCalls.{keep-each, keep-session, keep-staged, changed-rows, changed-session}
+use Rattle.csi_node.proofs.CarriedOut.{kept_of, keeps-by, session_then}
+use Rattle.csi_node.proofs.LastCalls.{find-others, keep-each, keep-staged, changed-rows}
 use Rattle.csi_node.proofs.OutcomeFacts.{lifecycle_facts}
 
 -- the rows are of no later session, and those of volumes that aren't staged of this one
@@ -51,18 +49,6 @@ begun_current session state later current = record {
       omega (arith, earlier, later);
 }
 
--- a call leaves how other volumes are staged
-other-staged : (state : NodeState) (call : Call) (id : ℕ) → is_another (volume_of call) id ≡ true → staged_of id (changed state (lifecycle_row state call).change) ≡ staged_of id state
-other-staged state call id other =
-    ap (option_map (λ (s : StagedVolume). s.capability))
-    (sym (among_others (changed state (lifecycle_row state call).change).staged) ∙ ap (find is_of) (lifecycle_facts state call).others.staged ∙ among_others state.staged)
-  where
-    is_of : StagedVolume → Bool
-    is_of s = s.volume == id
-
-    among_others : (list : List StagedVolume) → find is_of (filter (λ (s : StagedVolume). is_another (volume_of call) s.volume) list) ≡ find is_of list
-    among_others list = find-filter is_of (λ (s : StagedVolume). is_another (volume_of call) s.volume) list (λ s own. ap (is_another (volume_of call)) (eqb-true s.volume id own) ∙ other)
-
 module _ (state : NodeState) (number : Number) (call : Call) (now : number.session ≡ state.session) (current : AreCurrent state) where
   -- the call, as it is kept, and the state with its change
   abbrev kept : Kept
@@ -78,13 +64,13 @@ module _ (state : NodeState) (number : Number) (call : Call) (now : number.sessi
 
   -- the session stays
   same_session : after.session ≡ state.session
-  same_session = keep-session (volume_of call) kept next ∙ changed-session state (lifecycle_row state call).change
+  same_session = session_then state number call
 
   -- and how another volume is staged
   same_staged : (id : ℕ) → is_another (volume_of call) id ≡ true → staged_of id after ≡ staged_of id state
   same_staged id other =
       ap (λ (list : List StagedVolume). option_map (λ (s : StagedVolume). s.capability) (find (λ (s : StagedVolume). s.volume == id) list)) (keep-staged (volume_of call) kept next)
-      ∙ other-staged state call id other
+      ∙ ap (option_map (λ (s : StagedVolume). s.capability)) (find-others (λ (s : StagedVolume). s.volume) (is_another (volume_of call)) id other state.staged next.staged (lifecycle_facts state call).others.staged)
 
   -- a row from before was there
   was_there : (row : AnsweredVolume) → IsAmong row next.rows → IsAmong row state.rows
@@ -114,20 +100,9 @@ module _ (state : NodeState) (number : Number) (call : Call) (now : number.sessi
       before row (inl there) = let earlier = current.before row (was_there row there.0) in omega (arith, earlier, same_session)
       before row (inr is) = omega (arith, own_session row is)
 
--- each call that is carried out leaves them so
-carried_current : (node : List ℕ) (state : NodeState) (number : Number) (call : Call) (after : Fenced NodeState) → Carried node state number call after → number.session ≡ state.session
-    → AreCurrent state → AreCurrent after.state
-carried_current node state number call _ (no_room full) now current = current
-carried_current node state number call _ (has_room room) now current = done_current state number call now current
-
 -- and so does each frame
 is_kept : (node : List ℕ) → IsKept (node_at node) AreCurrent
-is_kept node = record {
-  sets_session = λ session state. refl;
-  begins = λ session state later current. begun_current session state (let less = ltb-true state.session session later in omega (arith, less)) current;
-  carries = λ state number call now current.
-      carried_current node state number call (carried_out node state number call (node_row state call)) (was_carried node state number call) now.session current;
-}
+is_kept node = keeps-by node AreCurrent (λ session state later current. begun_current session state (let less = ltb-true state.session session later in omega (arith, less)) current) done_current
 
 -- after any frames to a new node
 pub all_current : (node : List ℕ) (session : ℕ) (frames : List Frame) → AreCurrent (after_frames node (joined_node session) frames)

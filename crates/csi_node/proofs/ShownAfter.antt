@@ -2,7 +2,6 @@
 use Rattle.std.proofs.Common.{◌≡◌, ℕ, List, [], ◌∷◌, ◌++◌, map, length, Bool, true, false, not, ◌&&◌, refl, sym, ◌∙◌, ap, arith, length-append}
 use Rattle.std.specs.Prelude.{Option, Some, None, option_map, find, filter, ◌==◌, is_none, nat_le, option_to_list}
 use Rattle.std.proofs.lemmas.Bool.{eq-eqb, eqb-true}
-use Rattle.std.proofs.lemmas.Bool.Decides.{nat_tests}
 use Rattle.std.proofs.lemmas.List.{length-map}
 use Rattle.csi_types.specs.declared.capability.Capability.{Capability}
 use Rattle.csi_types.specs.declared.call.Call.{Call}
@@ -11,7 +10,7 @@ use Rattle.std.proofs.lemmas.List.Elements.{filter_agree}
 use Rattle.csi_fence.proofs.PutRows.{grown}
 use Rattle.csi_lists.proofs.PassingByKey.{find-by_key}
 use Rattle.csi_lists.proofs.Searches.{find-of_map, find-passes}
-use Rattle.csi_lists.proofs.Filters.{filter-append_one, filter-append_passes, filter-filter, filter-map, filter-of_map}
+use Rattle.csi_lists.proofs.Filters.{filter-append_passes, filter-of_map}
 use Rattle.csi_node.specs.declared.row.NodeRow.{NodeRow}
 use Rattle.csi_node.specs.Model.State.{NodeState, AnsweredVolume, StagedVolume, PublishedVolume, row_with_id, published_of, volume_of, row_of_volume, row_for}
 use Rattle.csi_node.specs.Public.View.{empty_node}
@@ -21,14 +20,18 @@ use Rattle.csi_node.specs.Public.Laws.{is_another}
 use Rattle.csi_node.specs.Model.Shown.{RowsShow, answered_of_row, published_in, staged_in, row_in}
 use Rattle.csi_node.specs.Model.OneRow.{NodeRowShown, node_row_shown}
 use Rattle.csi_node.specs.Public.OneRow.{state_shown}
-use Rattle.csi_node.proofs.OutcomeFacts.{lifecycle_facts}
-use Rattle.csi_node.proofs.LastCalls.{changed-rows, kept_in-id}
+use Rattle.csi_node.proofs.OutcomeFacts.{LeavesRest, lifecycle_facts}
+use Rattle.csi_node.proofs.LastCalls.{changed-rows, filter-others, kept_in-id, other_rows}
 use Rattle.csi_node.proofs.OneRow.{itself}
 use Rattle.csi_node.proofs.StateChanges.{IsPart, IsAbout, lifecycle-part, lifecycle-about, changed-published, changed-staged}
 
 -- the row of an id
 abbrev pub row_of : ℕ → List NodeRowShown → Option NodeRowShown
 row_of id rows = find (λ row. row.id == id) rows
+
+-- it has this id
+pub row_of-id : (id : ℕ) (rows : List NodeRowShown) (row : NodeRowShown) → row_of id rows ≡ Some row → row.id ≡ id
+row_of-id id rows row found = eqb-true row.id id (find-passes (λ (r : NodeRowShown). r.id == id) rows row found)
 
 -- the state of a volume alone, with a row or without
 abbrev pub alone_in : Option NodeRowShown → NodeState
@@ -105,7 +108,7 @@ pub record RowsAfter (id : ℕ) (old new : List NodeRowShown) (row : NodeRowShow
 pub part_of : (id : ℕ) (rows : List NodeRowShown) (state : NodeState) → ShowsAll rows state → IsPart id (alone_in (row_of id rows)) state
 part_of id rows state all = record {
   staged = all.staged id;
-  of_id = own (row_of id rows) (λ row found. eqb-true row.id id (find-passes (λ (r : NodeRowShown). r.id == id) rows row found));
+  of_id = own (row_of id rows) (row_of-id id rows);
   published = all.published id;
 }
   where
@@ -163,52 +166,6 @@ kept-here id kept rows (Some row) h own =
     ∙ ap (map (kept_in id kept)) (sym h)
     ∙ rw here (ap (λ (n : ℕ). let a : List AnsweredVolume = (record { id = n; kept = kept }) ∷ [] in a) (own row refl))
 
--- a row of another id stays as it was
-kept_in-other : (id : ℕ) (kept : Kept) (row : AnsweredVolume) → (row.id == id) ≡ false → kept_in id kept row ≡ row
-kept_in-other id kept row h = rw h refl
-
--- ids that differ one way differ the other way
-turned : (k id : ℕ) → (k == id) ≡ false → (id == k) ≡ false
-turned k id h = grind (arith, nat_tests)
-
--- an id that is equal to one of two different ids isn't equal to the other
-apart : (k id n : ℕ) → (k == id) ≡ false → (n == k) ≡ true → (n == id) ≡ false
-apart k id n h e = grind (arith, nat_tests)
-
--- a volume that isn't the call's is another one
-another : (id k n : ℕ) (call : Call) → volume_of call ≡ Some id → (k == id) ≡ false → (n == k) ≡ true → is_another (volume_of call) n ≡ true
-another id k n call v h e =
-    ap (λ (o : Option ℕ). is_another o n) v ∙ ap not (apart k id n h e)
-
--- what is kept for a volume leaves what there is of each other volume as it was
-kept-elsewhere : (id k : ℕ) (kept : Kept) (rows : List AnsweredVolume) (o : Option AnsweredVolume) → (k == id) ≡ false
-    → filter (λ (row : AnsweredVolume). row.id == k) (kept_rows id kept rows o) ≡ filter (λ (row : AnsweredVolume). row.id == k) rows
-kept-elsewhere id k kept rows None h = filter-append_one (λ (row : AnsweredVolume). row.id == k) rows (record { id = id; kept = kept }) (turned k id h)
-kept-elsewhere id k kept rows (Some there) h =
-    filter-map (λ (row : AnsweredVolume). row.id == k) (kept_in id kept) rows (λ row. ap (λ n. n == k) (kept_in-id id kept row)) (λ row e. kept_in-other id kept row (apart k id row.id h e))
-
--- the other volumes' stagings and targets
-other_staged : (id k : ℕ) (state : NodeState) (call : Call) → volume_of call ≡ Some id → (k == id) ≡ false
-    → filter (λ (s : StagedVolume). s.volume == k) (changed state (lifecycle_row state call).change).staged ≡ filter (λ (s : StagedVolume). s.volume == k) state.staged
-other_staged id k state call v h =
-    let same : (old new : List StagedVolume) → filter (λ (s : StagedVolume). is_another (volume_of call) s.volume) new ≡ filter (λ (s : StagedVolume). is_another (volume_of call) s.volume) old
-    → filter (λ (s : StagedVolume). s.volume == k) new ≡ filter (λ (s : StagedVolume). s.volume == k) old = λ old new e.
-    sym (filter-filter (λ (s : StagedVolume). s.volume == k) (λ (s : StagedVolume). is_another (volume_of call) s.volume) new (λ s e. another id k s.volume call v h e))
-    ∙ ap (filter (λ (s : StagedVolume). s.volume == k)) e
-    ∙ filter-filter (λ (s : StagedVolume). s.volume == k) (λ (s : StagedVolume). is_another (volume_of call) s.volume) old (λ s e. another id k s.volume call v h e) in
-    same state.staged (changed state (lifecycle_row state call).change).staged (lifecycle_facts state call).others.staged
-
--- a call leaves what is published of other volumes as it was
-other_published : (id k : ℕ) (state : NodeState) (call : Call) → volume_of call ≡ Some id → (k == id) ≡ false
-    → published_of k (changed state (lifecycle_row state call).change) ≡ published_of k state
-other_published id k state call v h =
-    let same : (old new : List PublishedVolume) → filter (λ (p : PublishedVolume). is_another (volume_of call) p.volume) new ≡ filter (λ (p : PublishedVolume). is_another (volume_of call) p.volume) old
-    → filter (λ (p : PublishedVolume). p.volume == k) new ≡ filter (λ (p : PublishedVolume). p.volume == k) old = λ old new e.
-    sym (filter-filter (λ (p : PublishedVolume). p.volume == k) (λ (p : PublishedVolume). is_another (volume_of call) p.volume) new (λ p e. another id k p.volume call v h e))
-    ∙ ap (filter (λ (p : PublishedVolume). p.volume == k)) e
-    ∙ filter-filter (λ (p : PublishedVolume). p.volume == k) (λ (p : PublishedVolume). is_another (volume_of call) p.volume) old (λ p e. another id k p.volume call v h e) in
-    same state.published (changed state (lifecycle_row state call).change).published (lifecycle_facts state call).others.published
-
 -- the state that the table and the fence lead to
 abbrev pub state_then : NodeState → ℕ → Kept → Call → NodeState
 state_then state id kept call = keep (Some id) kept (changed state (lifecycle_row state call).change)
@@ -238,6 +195,12 @@ shows_then id call old new state before after kept v all rows is_before is_id is
     same_change : (lifecycle_row (state_shown before) call).change ≡ change
     same_change = ap (λ (s : NodeState). (lifecycle_row s call).change) is_before ∙ ap (λ (o : Outcome). o.change) (lifecycle-part id (alone_in (row_of id old)) state call v part)
 
+    others : LeavesRest state (changed state change) call
+    others = (lifecycle_facts state call).others
+
+    another : (k : ℕ) → (k == id) ≡ false → is_another (volume_of call) k ≡ true
+    another k e = ap (λ (o : Option ℕ). is_another o k) v ∙ ap not e
+
     now : alone_in (row_of id new) ≡ changed (alone_in (row_of id old)) change
     now = ap alone_in rows.this ∙ is_after ∙ ap (changed (state_shown before)) same_change ∙ ap (λ (s : NodeState). changed s change) is_before
 
@@ -257,7 +220,8 @@ shows_then id call old new state before after kept v all rows is_before is_id is
     by_kept k false e =
         ap (λ (o : Option NodeRowShown). option_to_list (option_map answered_of o)) (rows.others k e)
         ∙ all.kept k
-        ∙ sym (ap (filter (λ (row : AnsweredVolume). row.id == k)) kept_there ∙ kept-elsewhere id k kept state.rows (row_with_id id state) e)
+        ∙ sym (ap (filter (λ (row : AnsweredVolume). row.id == k)) kept_there
+        ∙ filter-others (λ (row : AnsweredVolume). row.id) (is_another (Some id)) k (ap not e) state.rows (kept_rows id kept state.rows (row_with_id id state)) (other_rows id kept state.rows (row_with_id id state)))
 
     by_staged : (k : ℕ) (b : Bool) → (k == id) ≡ b → map (λ (s : StagedVolume). s.capability) (alone_in (row_of k new)).staged ≡ map (λ (s : StagedVolume). s.capability) (filter (λ (s : StagedVolume). s.volume == k) (changed state change).staged)
     by_staged k true e =
@@ -266,7 +230,7 @@ shows_then id call old new state before after kept v all rows is_before is_id is
     by_staged k false e =
         ap (λ (o : Option NodeRowShown). map (λ (s : StagedVolume). s.capability) (alone_in o).staged) (rows.others k e)
         ∙ all.staged k
-        ∙ ap (map (λ (s : StagedVolume). s.capability)) (sym (other_staged id k state call v e))
+        ∙ ap (map (λ (s : StagedVolume). s.capability)) (sym (filter-others (λ (s : StagedVolume). s.volume) (is_another (volume_of call)) k (another k e) state.staged (changed state change).staged others.staged))
 
     by_published : (k : ℕ) (b : Bool) → (k == id) ≡ b → (alone_in (row_of k new)).published ≡ published_of k (changed state change)
     by_published k true e =
@@ -275,4 +239,4 @@ shows_then id call old new state before after kept v all rows is_before is_id is
     by_published k false e =
         ap (λ (o : Option NodeRowShown). (alone_in o).published) (rows.others k e)
         ∙ all.published k
-        ∙ sym (other_published id k state call v e)
+        ∙ sym (filter-others (λ (p : PublishedVolume). p.volume) (is_another (volume_of call)) k (another k e) state.published (changed state change).published others.published)

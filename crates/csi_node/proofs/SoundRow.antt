@@ -42,23 +42,14 @@ mode-fits (Some own) targets unstaged single = by (allows_one_target own.mode) r
 
 -- ---- the targets
 
--- the three parts of the test of the first target
-fit-parts : (there : NodeTarget) (later : List NodeTarget) → are_fit (there ∷ later) ≡ true
-    → (begins_with_slash there.target ≡ true) × (is_some (target_among later there.target) ≡ false) × (are_fit later ≡ true)
-fit-parts there later h =
+-- targets that pass the test are paths from the root, and each is there once
+fit-where : (targets : List NodeTarget) → are_fit targets ≡ true → AreAbsolute targets × AreDistinctTargets targets
+fit-where [] h = (tt, tt)
+fit-where (there ∷ later) h =
     let both = and_parts (begins_with_slash there.target && not (is_some (target_among later there.target))) (are_fit later) h in
     let one = and_parts (begins_with_slash there.target) (not (is_some (target_among later there.target))) both.0 in
-    (one.0, not-true (is_some (target_among later there.target)) one.1, both.1)
-
--- targets that pass the test are paths from the root
-absolute-where : (targets : List NodeTarget) → are_fit targets ≡ true → AreAbsolute targets
-absolute-where [] h = tt
-absolute-where (there ∷ later) h = let parts = fit-parts there later h in (parts.0, absolute-where later parts.2)
-
--- and each is there once
-distinct-where : (targets : List NodeTarget) → are_fit targets ≡ true → AreDistinctTargets targets
-distinct-where [] h = tt
-distinct-where (there ∷ later) h = let parts = fit-parts there later h in (none-from_is_some (target_among later there.target) parts.1, distinct-where later parts.2)
+    let rest = fit-where later both.1 in
+    ((one.0, rest.0), (none-from_is_some (target_among later there.target) (not-true (is_some (target_among later there.target)) one.1), rest.1))
 
 -- paths from the root that are each there once pass the test
 fit-tested : (targets : List NodeTarget) → AreAbsolute targets → AreDistinctTargets targets → are_fit targets ≡ true
@@ -83,8 +74,8 @@ sound-row row h =
       no_id = none-from_is_some row.kept.reply.id (not-true (is_some row.kept.reply.id) reply.1);
       targets = record {
         unstaged = none-unstaged row.staged row.targets few.1;
-        absolute = absolute-where row.targets two.1;
-        distinct = distinct-where row.targets two.1;
+        absolute = (fit-where row.targets two.1).0;
+        distinct = (fit-where row.targets two.1).1;
         single = single-where row.staged (length row.targets) few.1;
         limit = leb-true (length row.targets) 16 few.0;
       };

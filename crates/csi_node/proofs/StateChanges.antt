@@ -1,19 +1,19 @@
 -- What the table reads of a state is what it reads of the volume alone, and what it changes is what it changes there.
-use Rattle.std.proofs.Common.{◌≡◌, ℕ, List, [], ◌∷◌, ◌++◌, map, length, Bool, true, false, cond, not, ◌&&◌, refl, sym, ◌∙◌, ap}
-use Rattle.std.specs.Prelude.{Option, Some, None, find, filter, ◌==◌, nat_le, codes}
+use Rattle.std.proofs.Common.{◌≡◌, ℕ, List, [], ◌∷◌, ◌++◌, map, cond, not, refl, sym, ◌∙◌, ap}
+use Rattle.std.specs.Prelude.{Option, Some, None, find, filter, ◌==◌, codes}
 use Rattle.std.proofs.lemmas.Bool.{eq-eqb, and_parts}
 use Rattle.std.proofs.lemmas.List.{map-append}
 use Rattle.csi_types.specs.declared.capability.Capability.{Capability}
 use Rattle.csi_types.specs.declared.call.Call.{Call}
 use Rattle.csi_types.specs.declared.call.Call.TheVariants as calls
-use Rattle.csi_types.specs.declared.status.Status.TheVariants.{InvalidArgument, AlreadyExists, FailedPrecondition, ResourceExhausted}
-use Rattle.csi_types.specs.Model.Same.{same_text, same_capability, same_flag}
-use Rattle.csi_types.specs.Model.Sharing.{allows_one_target}
+use Rattle.csi_types.specs.declared.status.Status.TheVariants.{InvalidArgument, FailedPrecondition}
+use Rattle.csi_types.specs.Model.Same.{same_text, same_capability}
 use Rattle.csi_lists.proofs.Filters.{filter-filter, filter-swap, filter-none, filter-append_passes}
 use Rattle.std.proofs.lemmas.Option.{same_Some}
 use Rattle.csi_lists.proofs.Searches.{find-first, find-filter, first_of_list}
 use Rattle.csi_node.specs.Model.State.{NodeState, StagedVolume, PublishedVolume, staged_of, published_of, published_at, is_published_at, volume_of}
-use Rattle.csi_node.specs.Model.Table.{Change, Stays, Stages, Unstages, Publishes, Unpublishes, Outcome, refused, met, done, stage, unstage, publish, publish_at_target, publish_staged, publish_new, unpublish, lifecycle_row, changed, begins_with_slash}
+use Rattle.csi_node.specs.Model.Table.{Change, Stays, Stages, Unstages, Publishes, Unpublishes, Outcome, refused, stage, unstage, publish, publish_at_target, publish_staged, publish_new, unpublish, lifecycle_row, changed, begins_with_slash}
+use Rattle.csi_node.proofs.TableOutcomes.{IsOutcome, refuses, was_staged, stages, unstages, was_published, publishes, was_unpublished, unpublishes, lifecycle_outcomes}
 
 -- the part of a state that is the volume's, in another state
 pub record IsPart (id : ℕ) (part state : NodeState) : Type 0 where
@@ -62,10 +62,6 @@ publish-same part state p s h at =
     ap (λ (o : Outcome). cond (not (begins_with_slash p.target)) (refused InvalidArgument (codes "target")) o)
     (ap (publish_at_target part p) at ∙ publish_at-same part state p (published_at p.volume p.target state) s h)
 
--- a call without a volume isn't of one: anything follows
-no_volume : {id : ℕ} {X : Type 0} → None ≡ Some id → X
-no_volume h = cc
-
 -- the table answers by the volume alone
 pub lifecycle-part : (id : ℕ) (part state : NodeState) (call : Call) → volume_of call ≡ Some id → IsPart id part state → lifecycle_row part call ≡ lifecycle_row state call
 lifecycle-part id part state (calls.NodeStageVolume volume capability) v is = rw (same_Some volume id v) (ap (stage (record { volume = id; capability = capability })) (part-staged id part state is))
@@ -86,67 +82,21 @@ IsAbout id (Unstages volume) = volume ≡ id
 IsAbout id (Publishes published) = published.volume ≡ id
 IsAbout id (Unpublishes volume target) = volume ≡ id
 
--- where both of two outcomes change that volume at most, so does the one that a test chooses
-about_if : (id : ℕ) (b : Bool) (x y : Outcome) → IsAbout id x.change → IsAbout id y.change → IsAbout id (cond b x y).change
-about_if id true x y a c = a
-about_if id false x y a c = c
-
--- what each line of the table changes is of the call's volume: one lemma for each line
-about_stage : (id : ℕ) (s : StagedVolume) (o : Option Capability) → s.volume ≡ id → IsAbout id (stage s o).change
+-- what an outcome changes is of the call's volume
+outcome-about : (id : ℕ) (state : NodeState) (call : Call) (outcome : Outcome) → IsOutcome state call outcome → volume_of call ≡ Some id → IsAbout id outcome.change
 unfolding IsAbout
-about_stage id s None h = h
-about_stage id s (Some capability) h = about_if id (same_capability capability s.capability) met (refused AlreadyExists (codes "staged otherwise")) tt tt
-
--- the line of NodeUnstageVolume
-about_unstage : (id volume : ℕ) (l : List PublishedVolume) → volume ≡ id → IsAbout id (unstage volume l).change
-unfolding IsAbout
-about_unstage id volume [] h = h
-about_unstage id volume (p ∷ l) h = tt
-
--- the line of NodePublishVolume at a target that the volume isn't at
-about_new : (id : ℕ) (p : PublishedVolume) (l : List PublishedVolume) → p.volume ≡ id → IsAbout id (publish_new p l).change
-unfolding IsAbout
-about_new id p [] h = h
-about_new id p (q ∷ l) h =
-    about_if id (allows_one_target p.capability.mode) (refused FailedPrecondition q.target)
-    (cond (nat_le 16 (length (q ∷ l))) (refused ResourceExhausted (codes "targets")) (done (Publishes p))) tt
-    (about_if id (nat_le 16 (length (q ∷ l))) (refused ResourceExhausted (codes "targets")) (done (Publishes p)) tt h)
-
--- the line of NodePublishVolume, by how the volume is staged
-about_staged : (id : ℕ) (state : NodeState) (p : PublishedVolume) (o : Option Capability) → p.volume ≡ id → IsAbout id (publish_staged state p o).change
-unfolding IsAbout
-about_staged id state p None h = tt
-about_staged id state p (Some capability) h = about_if id (not (same_capability capability p.capability)) (refused FailedPrecondition (codes "staged otherwise")) (publish_new p (published_of p.volume state)) tt (about_new id p (published_of p.volume state) h)
-
--- the line of NodePublishVolume, by what is at the target
-about_at : (id : ℕ) (state : NodeState) (p : PublishedVolume) (o : Option PublishedVolume) → p.volume ≡ id → IsAbout id (publish_at_target state p o).change
-unfolding IsAbout
-about_at id state p (Some there) h = about_if id (same_capability there.capability p.capability && same_flag there.readonly p.readonly) met (refused AlreadyExists (codes "published otherwise")) tt tt
-about_at id state p None h = about_staged id state p (staged_of p.volume state) h
-
--- the line of NodePublishVolume
-about_publish : (id : ℕ) (state : NodeState) (p : PublishedVolume) → p.volume ≡ id → IsAbout id (publish state p).change
-unfolding IsAbout
-about_publish id state p h =
-    about_if id (not (begins_with_slash p.target)) (refused InvalidArgument (codes "target")) (publish_at_target state p (published_at p.volume p.target state)) tt (about_at id state p (published_at p.volume p.target state) h)
-
--- the line of NodeUnpublishVolume
-about_unpublish : (id volume : ℕ) (target : List ℕ) (o : Option PublishedVolume) → volume ≡ id → IsAbout id (unpublish volume target o).change
-unfolding IsAbout
-about_unpublish id volume target None h = tt
-about_unpublish id volume target (Some there) h = h
+outcome-about id state _ _ (refuses call status detail not_ok) v = tt
+outcome-about id state _ _ (was_staged staged is) v = tt
+outcome-about id state _ _ (stages staged is) v = same_Some staged.volume id v
+outcome-about id state _ _ (unstages volume is) v = same_Some volume id v
+outcome-about id state _ _ (was_published published slash is) v = tt
+outcome-about id state _ _ (publishes published fits) v = same_Some published.volume id v
+outcome-about id state _ _ (was_unpublished volume target is) v = tt
+outcome-about id state _ _ (unpublishes volume target there is) v = same_Some volume id v
 
 -- the table changes nothing but the call's volume
 pub lifecycle-about : (id : ℕ) (state : NodeState) (call : Call) → volume_of call ≡ Some id → IsAbout id (lifecycle_row state call).change
-unfolding IsAbout
-lifecycle-about id state (calls.NodeStageVolume volume capability) v = about_stage id (record { volume = volume; capability = capability }) (staged_of volume state) (same_Some volume id v)
-lifecycle-about id state (calls.NodeUnstageVolume volume) v = about_unstage id volume (published_of volume state) (same_Some volume id v)
-lifecycle-about id state (calls.NodePublishVolume volume target capability readonly) v = about_publish id state (record { volume = volume; target = target; capability = capability; readonly = readonly }) (same_Some volume id v)
-lifecycle-about id state (calls.NodeUnpublishVolume volume target) v = about_unpublish id volume target (published_at volume target state) (same_Some volume id v)
-lifecycle-about id state (calls.CreateVolume name required limit capabilities) v = tt
-lifecycle-about id state (calls.DeleteVolume volume) v = tt
-lifecycle-about id state (calls.ControllerPublishVolume volume node capability readonly) v = tt
-lifecycle-about id state (calls.ControllerUnpublishVolume volume node) v = tt
+lifecycle-about id state call v = outcome-about id state call (lifecycle_row state call) (lifecycle_outcomes state call) v
 
 -- what is published of the volume after a change
 pub changed-published : (id : ℕ) (part state : NodeState) (change : Change) → IsAbout id change → IsPart id part state → (changed part change).published ≡ published_of id (changed state change)

@@ -1,10 +1,11 @@
 -- The laws of the node's table, from what is so of each of its outcomes.
 use Rattle.std.proofs.Common.{◌≡◌, ℕ, List, Bool, true, false, refl, sym, ◌∙◌, ap, subst, inl}
 use Rattle.std.specs.Prelude.{Option, Some, None, option_map, is_none, filter, codes}
+use Rattle.csi_lists.proofs.Options.{some-from_map}
 use Rattle.csi_types.specs.declared.number.Number.{Number}
 use Rattle.csi_types.specs.declared.call.Call.{Call}
 use Rattle.csi_types.specs.declared.call.Party.TheVariants.{Node}
-use Rattle.csi_types.specs.declared.status.Status.TheVariants.{Ok, ResourceExhausted}
+use Rattle.csi_types.specs.declared.status.Status.TheVariants.{ResourceExhausted}
 use Rattle.csi_types.specs.declared.reply.Reply.{Reply}
 use Rattle.csi_types.specs.Model.Call.{kind_of}
 use Rattle.csi_types.specs.Model.Number.{IsBefore}
@@ -20,49 +21,22 @@ use Rattle.csi_node.specs.Model.Fenced.{carried_out, fenced, kept_for, kept_rows
 use Rattle.csi_node.specs.Private.Fenced.{in_session}
 use Rattle.csi_node.specs.Public.Laws.{plugin_at, IsSameApart, LeavesOthers, HasAtMostOneMore, is_another, table_reply}
 use Rattle.csi_node.specs.Private.Laws.{IsLetThrough}
-use Rattle.csi_node.proofs.CarriedOut.{kept_of, state_then, done_then}
-use Rattle.csi_node.proofs.LastCalls.{keep-staged, keep-published, keep-session, keep-others, keep-own, keep-rows, changed-rows, changed-session}
-use Rattle.csi_node.proofs.OutcomeFacts.{IsReady, lifecycle_facts, ready_met, ready_kept, ready_volume, ready_done}
+use Rattle.csi_node.proofs.CarriedOut.{kept_of, session_then, state_then, done_then}
+use Rattle.csi_node.proofs.LastCalls.{keep-staged, keep-published, keep-others, keep-own, keep-rows, changed-rows}
+use Rattle.csi_node.proofs.OutcomeFacts.{IsReady, lifecycle_facts, ready_met, ready_kept, ready_says}
+use Rattle.csi_node.proofs.TableOutcomes.{refusal}
 
 -- with room, or without it
 with_room : (node : List ℕ) (state : NodeState) (number : Number) (call : Call) → has_no_room state call ≡ false
     → carried_out node state number call (node_row state call) ≡ done_then node state number call
 with_room node state number call h = simp h
 
--- where there is room, the table answers by the lifecycle
-row_with_room : (state : NodeState) (call : Call) → has_no_room state call ≡ false → node_row state call ≡ lifecycle_row state call
-row_with_room state call h = rw h refl
-
--- where there is no room, the table refuses
-row_without : (state : NodeState) (call : Call) → has_no_room state call ≡ true → node_row state call ≡ refused ResourceExhausted (codes "rows")
-row_without state call h = rw h refl
-
--- where there is no room, the state stays as it was
-state_without : (node : List ℕ) (state : NodeState) (number : Number) (call : Call) (outcome : Outcome) → has_no_room state call ≡ true → (carried_out node state number call outcome).state ≡ state
-state_without node state number call outcome h = rw h refl
-
--- the row of the call's volume keeps the call
-volume_kept : (volume : Option ℕ) (id : ℕ) (kept : Kept) (state : NodeState) → volume ≡ Some id
-    → option_map (λ (row : AnsweredVolume). row.kept) (row_of_volume volume (keep volume kept state)) ≡ Some kept
-volume_kept None id kept state h = cc
-volume_kept (Some other) id kept state h = keep-own other kept state
-
--- where something of a row is found, the row is there
-found_then : {X Y : Type 0} (f : X → Y) (o : Option X) (y : Y) → option_map f o ≡ Some y → is_none o ≡ false
-found_then f None y h = cc
-found_then f (Some x) y h = refl
-
 -- a call that would be answered OK, with no change, still would be once another reply is kept
 ready_state : (volume : Option ℕ) (kept : Kept) (state : NodeState) (call : Call) → IsReady state call → IsReady (keep volume kept state) call
 ready_state None kept state call h = h
 ready_state (Some id) kept state call h = ready_kept state (kept_rows id kept state.rows (row_with_id id state)) call h
 
--- what a call changes and what is kept of it leave the session
-session_then : (state : NodeState) (number : Number) (call : Call) → (state_then state number call).session ≡ state.session
-session_then state number call =
-    keep-session (volume_of call) (kept_of state number call) (changed state (lifecycle_row state call).change) ∙ changed-session state (lifecycle_row state call).change
-
--- and the rows, but for a new one
+-- what a call changes and what is kept of it leave the rows, but for a new one
 rows_then : (state : NodeState) (number : Number) (call : Call) → HasAtMostOneMore state.rows (state_then state number call).rows
 rows_then state number call =
     let change = (lifecycle_row state call).change in
@@ -75,7 +49,7 @@ once_more : (node : List ℕ) (after : NodeState) (later : Number) (call : Call)
     → ((fenced node after (call_frame later (Node node) call)).reply ≡ Some (reply_frame later (Node node) (kind_of call) ok_reply))
     × IsSameApart after (fenced node after (call_frame later (Node node) call)).state
 once_more node after later call kept now is before ready =
-    let found : is_none (row_for call after) ≡ false = found_then (λ (row : AnsweredVolume). row.kept) (row_for call after) kept is in
+    let found : is_none (row_for call after) ≡ false = ap is_none (some-from_map (λ (row : AnsweredVolume). row.kept) (row_for call after) kept is).1 in
     let room : has_no_room after call ≡ false = rw found refl in
     let e = later-carried_out (node_at node) after later call kept now is before ∙ with_room node after later call room in
     let again = ready_met after call ready in (
@@ -89,10 +63,6 @@ once_more node after later call kept now is before ready =
           }),
     )
 
--- the status ResourceExhausted isn't OK
-exhausted : ResourceExhausted ≡ Ok → ⊥
-exhausted h = cc
-
 -- in the state in which a call is judged, which is of its session
 module _ (node : List ℕ) (state : NodeState) (number : Number) (call : Call) (now : number.session ≡ state.session) where
   -- a call that is carried out keeps the laws
@@ -102,12 +72,13 @@ module _ (node : List ℕ) (state : NodeState) (number : Number) (call : Call) (
   -- where there is no room
   without_room : has_no_room state call ≡ true → IsLawfulHere (carried_out node state number call (node_row state call)).state
   without_room full =
-      let e : (carried_out node state number call (node_row state call)).state ≡ state = state_without node state number call (node_row state call) full in
-      let status : (table_reply state call).status ≡ ResourceExhausted = ap (λ (o : Outcome). o.reply.status) (row_without state call full) in
+      let e : (carried_out node state number call (node_row state call)).state ≡ state = rw full refl in
+      let row : node_row state call ≡ refused ResourceExhausted (codes "rows") = rw full refl in
+      let status : (table_reply state call).status ≡ ResourceExhausted = ap (λ (o : Outcome). o.reply.status) row in
       record {
         refused = λ h. subst (IsSameApart state) (sym e) (record { rows = inl refl; session = refl; staged = refl; published = refl });
-        done = λ h. absurd (exhausted (sym status ∙ h));
-        again = λ h. absurd (exhausted (sym status ∙ h));
+        done = λ h. absurd (refusal ResourceExhausted refl (sym status ∙ h));
+        again = λ h. absurd (refusal ResourceExhausted refl (sym status ∙ h));
         others = subst (λ (after : NodeState). LeavesOthers state after call) (sym e) (record { rows = refl; staged = refl; published = refl });
       }
 
@@ -115,7 +86,7 @@ module _ (node : List ℕ) (state : NodeState) (number : Number) (call : Call) (
   having_room : has_no_room state call ≡ false → IsLawfulHere (carried_out node state number call (node_row state call)).state
   having_room room =
       let e : (carried_out node state number call (node_row state call)).state ≡ state_then state number call = ap (λ (f : Fenced NodeState). f.state) (with_room node state number call room) in
-      let row : node_row state call ≡ lifecycle_row state call = row_with_room state call room in
+      let row : node_row state call ≡ lifecycle_row state call = rw room refl in
       let status : (table_reply state call).status ≡ (lifecycle_row state call).reply.status = ap (λ (o : Outcome). o.reply.status) row in
       let facts = lifecycle_facts state call in
       let next : NodeState = changed state (lifecycle_row state call).change in
@@ -127,11 +98,12 @@ module _ (node : List ℕ) (state : NodeState) (number : Number) (call : Call) (
           staged = sym (keep-staged (volume_of call) kept next ∙ ap (λ (c : Change). (changed state c).staged) stays);
           published = sym (keep-published (volume_of call) kept next ∙ ap (λ (c : Change). (changed state c).published) stays);
         };
-        done = λ h. ready_done (state_then state number call) call (ready_state (volume_of call) kept next call (facts.ready (sym status ∙ h)));
+        done = λ h. (ready_says (state_then state number call) call (ready_state (volume_of call) kept next call (facts.ready (sym status ∙ h)))).1;
         again = λ h.
             let ready = facts.ready (sym status ∙ h) in
-            let volume = ready_volume next call ready in
-            let is : kept_for call (state_then state number call) ≡ Some kept = volume_kept (volume_of call) volume.0 kept next volume.1 in
+            let volume = (ready_says next call ready).0 in
+            let is : kept_for call (state_then state number call) ≡ Some kept =
+            subst (λ (v : Option ℕ). option_map (λ (row : AnsweredVolume). row.kept) (row_of_volume v (keep v kept next)) ≡ Some kept) (sym volume.1) (keep-own volume.0 kept next) in
             let plain : table_reply state call ≡ ok_reply = ap (λ (o : Outcome). o.reply) row ∙ facts.plain (sym status ∙ h) in
             subst (λ (reply : Reply). IsIdempotent (plugin_at node) (state_then state number call) reply number call) (sym plain)
             (λ later same before.

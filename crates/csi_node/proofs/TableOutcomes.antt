@@ -2,7 +2,7 @@
 -- the table isn't unfolded again.
 use Rattle.std.proofs.Common.{◌≡◌, ℕ, List, [], ◌∷◌, Bool, true, false, cond, not, refl, sym, ◌∙◌, ap}
 use Rattle.std.specs.Prelude.{Option, Some, None, ◌==◌, ◌&&◌, nat_le, length, codes}
-use Rattle.std.proofs.lemmas.Bool.{and_parts, and_from, eqb-true, eq-eqb}
+use Rattle.std.proofs.lemmas.Bool.{and_parts, and_from, both_ways, eqb-true, eq-eqb, not-false, true≢false}
 use Rattle.csi_types.proofs.Equality.{same_text-tells, same_capability-tells}
 use Rattle.csi_lists.proofs.Searches.{find-passes}
 use Rattle.csi_types.specs.declared.capability.Capability.{Capability}
@@ -12,8 +12,9 @@ use Rattle.csi_types.specs.declared.status.Status.{Status}
 use Rattle.csi_types.specs.declared.status.Status.TheVariants.{Ok, InvalidArgument, AlreadyExists, ResourceExhausted, FailedPrecondition, Unimplemented}
 use Rattle.csi_types.specs.Model.Same.{same_text, same_flag, same_capability}
 use Rattle.csi_types.specs.Model.Sharing.{allows_one_target}
+use Rattle.csi_types.specs.Model.Reply.{is_ok_status}
 use Rattle.csi_node.specs.Model.State.{NodeState, StagedVolume, PublishedVolume, staged_of, published_of, published_at, is_published_at}
-use Rattle.csi_node.specs.Model.Table.{Outcome, Stages, Unstages, Publishes, Unpublishes, refused, met, done, begins_with_slash, stage, unstage, publish_new, publish_staged, publish_at_target, publish, unpublish, lifecycle_row, has_no_room, node_row}
+use Rattle.csi_node.specs.Model.Table.{Outcome, Stages, Unstages, Publishes, Unpublishes, refused, met, done, begins_with_slash, stage, unstage, publish_new, publish_staged, publish_at_target, publish, unpublish, lifecycle_row}
 
 -- the calls that stage and publish this
 abbrev pub stage_call : StagedVolume → Call
@@ -42,30 +43,20 @@ pub data IsOutcome (state : NodeState) : Call → Outcome → Type 0 where
   was_unpublished : (id : ℕ) (target : List ℕ) → published_at id target state ≡ None → IsOutcome state (calls.NodeUnpublishVolume id target) met
   unpublishes : (id : ℕ) (target : List ℕ) (there : PublishedVolume) → published_at id target state ≡ Some there → IsOutcome state (calls.NodeUnpublishVolume id target) (done (Unpublishes id target))
 
--- no status of a refusal is OK: one lemma for each
-invalid : InvalidArgument ≡ Ok → ⊥
-invalid h = cc
+-- no reply of the table has an id
+pub reply-no_id : (state : NodeState) (call : Call) (outcome : Outcome) → IsOutcome state call outcome → outcome.reply.id ≡ None
+reply-no_id state _ _ (refuses call status detail not_ok) = refl
+reply-no_id state _ _ (was_staged staged is) = refl
+reply-no_id state _ _ (stages staged is) = refl
+reply-no_id state _ _ (unstages id is) = refl
+reply-no_id state _ _ (was_published published slash is) = refl
+reply-no_id state _ _ (publishes published fits) = refl
+reply-no_id state _ _ (was_unpublished id target is) = refl
+reply-no_id state _ _ (unpublishes id target there is) = refl
 
--- the status AlreadyExists isn't OK
-exists : AlreadyExists ≡ Ok → ⊥
-exists h = cc
-
--- the status ResourceExhausted isn't OK
-exhausted : ResourceExhausted ≡ Ok → ⊥
-exhausted h = cc
-
--- the status FailedPrecondition isn't OK
-failed : FailedPrecondition ≡ Ok → ⊥
-failed h = cc
-
--- the status Unimplemented isn't OK
-unimplemented : Unimplemented ≡ Ok → ⊥
-unimplemented h = cc
-
--- a test whose opposite fails holds
-not_false : (b : Bool) → not b ≡ false → b ≡ true
-not_false true h = refl
-not_false false h = cc
+-- no status of a refusal is OK
+pub refusal : (status : Status) → is_ok_status status ≡ false → status ≡ Ok → ⊥
+refusal status refused ok = true≢false (sym (ap is_ok_status ok) ∙ refused)
 
 -- where both of two outcomes are of these kinds, so is the one that a test chooses
 by_if : (state : NodeState) (call : Call) (b : Bool) (x y : Outcome) → (b ≡ true → IsOutcome state call x) → (b ≡ false → IsOutcome state call y) → IsOutcome state call (cond b x y)
@@ -78,11 +69,11 @@ stage_outcomes state staged None is = stages staged is
 stage_outcomes state staged (Some here) is =
     by_if state (stage_call staged) (same_capability here staged.capability) met (refused AlreadyExists (codes "staged otherwise"))
     (λ same. was_staged staged (is ∙ ap Some ((same_capability-tells here staged.capability).0 same)))
-    (λ _. refuses (stage_call staged) AlreadyExists (codes "staged otherwise") exists)
+    (λ _. refuses (stage_call staged) AlreadyExists (codes "staged otherwise") (refusal AlreadyExists refl))
 
 -- what NodeUnstageVolume is answered, by where the volume is published, is one of these
 unstage_outcomes : (state : NodeState) (id : ℕ) (targets : List PublishedVolume) → published_of id state ≡ targets → IsOutcome state (calls.NodeUnstageVolume id) (unstage id targets)
-unstage_outcomes state id (first ∷ others) is = refuses (calls.NodeUnstageVolume id) FailedPrecondition first.target failed
+unstage_outcomes state id (first ∷ others) is = refuses (calls.NodeUnstageVolume id) FailedPrecondition first.target (refusal FailedPrecondition refl)
 unstage_outcomes state id [] is = unstages id is
 
 -- flags that the test finds the same are equal
@@ -106,11 +97,6 @@ same_published p there here same =
     let readonly = same_flag-then there.readonly p.readonly way.1 in
     λ i. record { volume = volume i; target = target i; capability = capability i; readonly = readonly i }
 
--- a flag isn't both false and true
-not_both : {A : Type 0} (b : Bool) → b ≡ false → b ≡ true → A
-not_both true h k = cc
-not_both false h k = cc
-
 module _ (state : NodeState) (p : PublishedVolume) (slash : begins_with_slash p.target ≡ true) where
   -- what a publication at a new target is answered is one of these
   new_outcomes : published_at p.volume p.target state ≡ None → staged_of p.volume state ≡ Some p.capability → (targets : List PublishedVolume) → published_of p.volume state ≡ targets
@@ -119,24 +105,24 @@ module _ (state : NodeState) (p : PublishedVolume) (slash : begins_with_slash p.
       publishes p (record { slash = slash; free = free; staged = staged; alone = λ _. is; room = ap (λ (targets : List PublishedVolume). nat_le 16 (length targets)) is })
   new_outcomes free staged (first ∷ others) is =
       by_if state (publish_call p) (allows_one_target p.capability.mode) (refused FailedPrecondition first.target) _
-      (λ _. refuses (publish_call p) FailedPrecondition first.target failed)
+      (λ _. refuses (publish_call p) FailedPrecondition first.target (refusal FailedPrecondition refl))
       (λ shared. by_if state (publish_call p) (nat_le 16 (length (first ∷ others))) (refused ResourceExhausted (codes "targets")) (done (Publishes p))
-      (λ _. refuses (publish_call p) ResourceExhausted (codes "targets") exhausted)
+      (λ _. refuses (publish_call p) ResourceExhausted (codes "targets") (refusal ResourceExhausted refl))
       (λ room. publishes p (record {
         slash = slash;
         free = free;
         staged = staged;
-        alone = λ one. not_both (allows_one_target p.capability.mode) shared one;
+        alone = λ one. absurd (both_ways (allows_one_target p.capability.mode) shared one);
         room = ap (λ (targets : List PublishedVolume). nat_le 16 (length targets)) is ∙ room;
       })))
 
   -- so is what it is answered by how the volume is staged
   staged_outcomes : published_at p.volume p.target state ≡ None → (o : Option Capability) → staged_of p.volume state ≡ o → IsOutcome state (publish_call p) (publish_staged state p o)
-  staged_outcomes free None is = refuses (publish_call p) FailedPrecondition (codes "not staged") failed
+  staged_outcomes free None is = refuses (publish_call p) FailedPrecondition (codes "not staged") (refusal FailedPrecondition refl)
   staged_outcomes free (Some capability) is =
       by_if state (publish_call p) (not (same_capability capability p.capability)) (refused FailedPrecondition (codes "staged otherwise")) (publish_new p (published_of p.volume state))
-      (λ _. refuses (publish_call p) FailedPrecondition (codes "staged otherwise") failed)
-      (λ same. new_outcomes free (is ∙ ap Some ((same_capability-tells capability p.capability).0 (not_false (same_capability capability p.capability) same))) (published_of p.volume state) refl)
+      (λ _. refuses (publish_call p) FailedPrecondition (codes "staged otherwise") (refusal FailedPrecondition refl))
+      (λ same. new_outcomes free (is ∙ ap Some ((same_capability-tells capability p.capability).0 (not-false (same_capability capability p.capability) same))) (published_of p.volume state) refl)
 
   -- so is what it is answered by what is at the target
   target_outcomes : (o : Option PublishedVolume) → published_at p.volume p.target state ≡ o → IsOutcome state (publish_call p) (publish_at_target state p o)
@@ -144,14 +130,14 @@ module _ (state : NodeState) (p : PublishedVolume) (slash : begins_with_slash p.
   target_outcomes (Some there) is =
       by_if state (publish_call p) (same_capability there.capability p.capability && same_flag there.readonly p.readonly) met (refused AlreadyExists (codes "published otherwise"))
       (λ same. was_published p slash (is ∙ ap Some (same_published p there (find-passes (is_published_at p.volume p.target) state.published there is) same)))
-      (λ _. refuses (publish_call p) AlreadyExists (codes "published otherwise") exists)
+      (λ _. refuses (publish_call p) AlreadyExists (codes "published otherwise") (refusal AlreadyExists refl))
 
 -- what NodePublishVolume is answered is one of these
 publish_outcomes : (state : NodeState) (p : PublishedVolume) → IsOutcome state (publish_call p) (publish state p)
 publish_outcomes state p =
     by_if state (publish_call p) (not (begins_with_slash p.target)) (refused InvalidArgument (codes "target")) (publish_at_target state p (published_at p.volume p.target state))
-    (λ _. refuses (publish_call p) InvalidArgument (codes "target") invalid)
-    (λ slash. target_outcomes state p (not_false (begins_with_slash p.target) slash) (published_at p.volume p.target state) refl)
+    (λ _. refuses (publish_call p) InvalidArgument (codes "target") (refusal InvalidArgument refl))
+    (λ slash. target_outcomes state p (not-false (begins_with_slash p.target) slash) (published_at p.volume p.target state) refl)
 
 -- what NodeUnpublishVolume is answered is one of these
 unpublish_outcomes : (state : NodeState) (id : ℕ) (target : List ℕ) (o : Option PublishedVolume) → published_at id target state ≡ o → IsOutcome state (calls.NodeUnpublishVolume id target) (unpublish id target o)
@@ -164,14 +150,7 @@ lifecycle_outcomes state (calls.NodeStageVolume id capability) = stage_outcomes 
 lifecycle_outcomes state (calls.NodeUnstageVolume id) = unstage_outcomes state id (published_of id state) refl
 lifecycle_outcomes state (calls.NodePublishVolume id target capability readonly) = publish_outcomes state (record { volume = id; target = target; capability = capability; readonly = readonly })
 lifecycle_outcomes state (calls.NodeUnpublishVolume id target) = unpublish_outcomes state id target (published_at id target state) refl
-lifecycle_outcomes state (calls.CreateVolume name required limit capabilities) = refuses (calls.CreateVolume name required limit capabilities) Unimplemented [] unimplemented
-lifecycle_outcomes state (calls.DeleteVolume id) = refuses (calls.DeleteVolume id) Unimplemented [] unimplemented
-lifecycle_outcomes state (calls.ControllerPublishVolume id node capability readonly) = refuses (calls.ControllerPublishVolume id node capability readonly) Unimplemented [] unimplemented
-lifecycle_outcomes state (calls.ControllerUnpublishVolume id node) = refuses (calls.ControllerUnpublishVolume id node) Unimplemented [] unimplemented
-
--- at any time
-pub is_outcome : (state : NodeState) (call : Call) → IsOutcome state call (node_row state call)
-is_outcome state call =
-    by_if state call (has_no_room state call) (refused ResourceExhausted (codes "rows")) (lifecycle_row state call)
-    (λ _. refuses call ResourceExhausted (codes "rows") exhausted)
-    (λ _. lifecycle_outcomes state call)
+lifecycle_outcomes state (calls.CreateVolume name required limit capabilities) = refuses (calls.CreateVolume name required limit capabilities) Unimplemented [] (refusal Unimplemented refl)
+lifecycle_outcomes state (calls.DeleteVolume id) = refuses (calls.DeleteVolume id) Unimplemented [] (refusal Unimplemented refl)
+lifecycle_outcomes state (calls.ControllerPublishVolume id node capability readonly) = refuses (calls.ControllerPublishVolume id node capability readonly) Unimplemented [] (refusal Unimplemented refl)
+lifecycle_outcomes state (calls.ControllerUnpublishVolume id node) = refuses (calls.ControllerUnpublishVolume id node) Unimplemented [] (refusal Unimplemented refl)

@@ -1,17 +1,15 @@
 -- What an outcome of the table does to the things of a node.
 use Rattle.std.proofs.Common.{◌≡◌, ◌≢◌, ℕ, List, Bool, true, false, cond, not, refl, sym, ◌∙◌, ap}
 use Rattle.std.specs.Prelude.{Option, Some, None, option_map, find, ◌==◌}
-use Rattle.std.proofs.lemmas.Bool.{and_parts, eqb-true, eq-eqb, false_from_ne_true}
-use Rattle.csi_lists.proofs.Searches.{find-filter}
+use Rattle.std.proofs.lemmas.Bool.{and_parts, eqb-true, eq-eqb, false_from_ne_true, true≢false}
+use Rattle.csi_lists.proofs.Searches.{find-filter, find-append_one, find-filter_not, find-append_other}
 use Rattle.csi_types.proofs.Equality.{same_text-tells, same_plugin_thing-tells}
-use Rattle.csi_lists.proofs.Searches.{find-append_one, find-filter_not}
 use Rattle.csi_types.specs.declared.call.Call.{Call}
 use Rattle.csi_types.specs.declared.call.Call.TheVariants as calls
 use Rattle.csi_types.specs.declared.status.Status.TheVariants.{Ok}
 use Rattle.csi_types.specs.Public.PluginThing.{PluginThing, Exists, Attached, Staged, Published, ThingForm, StagedAs, PublishedAs, same_plugin_thing, asked}
 use Rattle.csi_types.specs.Model.Same.{same_text}
 use Rattle.csi_lists.proofs.Options.{none-from_map}
-use Rattle.csi_lists.proofs.Searches.{find-append_other}
 use Rattle.csi_lists.proofs.Tests.{not-where}
 use Rattle.csi_node.specs.Model.State.{NodeState, StagedVolume, PublishedVolume, is_published_at}
 use Rattle.csi_node.specs.Model.Table.{Outcome, Change, Stays, Stages, Unstages, Publishes, Unpublishes, refused, met, done, changed}
@@ -32,10 +30,7 @@ EffectAt node state call outcome (Some thing) = Effect node state call outcome t
 
 -- things that the test tells apart aren't equal
 is_not : (a b : PluginThing) → same_plugin_thing a b ≡ false → a ≡ b → ⊥
-is_not a b other same = clash (sym ((same_plugin_thing-tells a b).1 same) ∙ other)
-  where
-    clash : true ≡ false → ⊥
-    clash h = cc
+is_not a b other same = true≢false (sym ((same_plugin_thing-tells a b).1 same) ∙ other)
 
 -- a place is this node, or nothing is there
 by_place : (b : Bool) (x y : Option ThingForm) → (b ≡ true → x ≡ y) → cond b x None ≡ cond b y None

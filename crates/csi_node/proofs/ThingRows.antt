@@ -1,12 +1,13 @@
 -- The things of a node, and the rows that tell what is kept for them.
 use Rattle.std.proofs.Common.{◌≡◌, ◌⊎◌, ℕ, List, Bool, true, false, cond, refl, ◌∙◌, ap, inl, inr}
 use Rattle.std.specs.Prelude.{Option, Some, None, IsTrue}
+use Rattle.std.proofs.lemmas.Bool.{false≢true}
 use Rattle.csi_types.proofs.Equality.{same_text-tells}
 use Rattle.csi_types.specs.declared.call.Call.{Call}
 use Rattle.csi_types.specs.declared.call.Call.TheVariants as calls
 use Rattle.csi_types.specs.declared.call.Party.TheVariants.{Node}
 use Rattle.csi_types.specs.Model.Call.{kind_of}
-use Rattle.csi_types.specs.Public.Call.{is_party_of}
+use Rattle.csi_types.specs.Public.Call.{is_node_kind, is_party_of}
 use Rattle.csi_fence.specs.Model.Fence.{Kept}
 use Rattle.csi_types.specs.Public.PluginThing.{PluginThing, Exists, Attached, Staged, Published}
 use Rattle.csi_types.specs.Model.Same.{same_text}
@@ -31,20 +32,17 @@ abbrev pub kept_at : Option ℕ → NodeState → Option Kept
 kept_at None state = None
 kept_at (Some id) state = kept_in_row id state
 
+-- a row is looked at where the thing is on this node
+kept_where : (b : Bool) (id : ℕ) (state : NodeState) → cond b (kept_in_row id state) None ≡ kept_at (cond b (Some id) None) state
+kept_where true id state = refl
+kept_where false id state = refl
+
 -- what is kept for a thing is what the row that tells it keeps
 pub kept_on-at : (node : List ℕ) (state : NodeState) (thing : PluginThing) → kept_on node state thing ≡ kept_at (row_id node thing) state
 kept_on-at node state (Exists name) = refl
 kept_on-at node state (Attached id there) = refl
-kept_on-at node state (Staged id there) = by (same_text there node)
-  where
-    by : (b : Bool) → cond b (kept_in_row id state) None ≡ kept_at (cond b (Some id) None) state
-    by true = refl
-    by false = refl
-kept_on-at node state (Published id there target) = by (same_text there node)
-  where
-    by : (b : Bool) → cond b (kept_in_row id state) None ≡ kept_at (cond b (Some id) None) state
-    by true = refl
-    by false = refl
+kept_on-at node state (Staged id there) = kept_where (same_text there node) id state
+kept_on-at node state (Published id there target) = kept_where (same_text there node) id state
 
 -- a call to a node is about a thing there, and a volume whose row tells what is kept for both
 pub record IsFor (node : List ℕ) (call : Call) (thing : PluginThing) : Type 0 where
@@ -52,30 +50,23 @@ pub record IsFor (node : List ℕ) (call : Call) (thing : PluginThing) : Type 0 
   pub volume : ℕ
   pub is_volume : volume_of call ≡ Some volume
   pub is_row : row_id node thing ≡ Some volume
+  pub is_own : is_node_kind (kind_of call) ≡ true
 
--- a call about a staging is for that thing, and the row of its volume tells what is kept for both
-staged_for : (node : List ℕ) (call : Call) (id : ℕ) → thing_of node call ≡ Some (Staged id node) → volume_of call ≡ Some id → IsFor node call (Staged id node)
-staged_for node call id is_thing is_volume = record { is_thing = is_thing; volume = id; is_volume = is_volume; is_row = rw (here node) refl }
-
--- a call about a target is for that thing, and the row of its volume tells what is kept for both
-published_for : (node : List ℕ) (call : Call) (id : ℕ) (target : List ℕ) → thing_of node call ≡ Some (Published id node target) → volume_of call ≡ Some id → IsFor node call (Published id node target)
-published_for node call id target is_thing is_volume = record { is_thing = is_thing; volume = id; is_volume = is_volume; is_row = rw (here node) refl }
-
--- a call that isn't for the node has no case: anything follows
-not_its_party : {A : Type 0} → false ≡ true → A
-not_its_party h = cc
+-- a call of a volume is for a thing of which the volume's row tells what is kept
+thing_for : (node : List ℕ) (call : Call) (thing : PluginThing) (id : ℕ) → thing_of node call ≡ Some thing → volume_of call ≡ Some id → row_id node thing ≡ Some id → is_node_kind (kind_of call) ≡ true → IsFor node call thing
+thing_for node call thing id is_thing is_volume is_row is_own = record { is_thing = is_thing; volume = id; is_volume = is_volume; is_row = is_row; is_own = is_own }
 
 -- a controller's call isn't for a node
 pub is_for : (node : List ℕ) (call : Call) → IsTrue (is_party_of (kind_of call) (Node node)) → (thing : PluginThing) × IsFor node call thing
-is_for node (calls.CreateVolume name required limit capabilities) party = not_its_party party
-is_for node (calls.DeleteVolume id) party = not_its_party party
-is_for node (calls.ControllerPublishVolume id there capability readonly) party = not_its_party party
-is_for node (calls.ControllerUnpublishVolume id there) party = not_its_party party
-is_for node (calls.NodeStageVolume id capability) party = (Staged id node, staged_for node (calls.NodeStageVolume id capability) id refl refl)
-is_for node (calls.NodeUnstageVolume id) party = (Staged id node, staged_for node (calls.NodeUnstageVolume id) id refl refl)
+is_for node (calls.CreateVolume name required limit capabilities) party = absurd (false≢true party)
+is_for node (calls.DeleteVolume id) party = absurd (false≢true party)
+is_for node (calls.ControllerPublishVolume id there capability readonly) party = absurd (false≢true party)
+is_for node (calls.ControllerUnpublishVolume id there) party = absurd (false≢true party)
+is_for node (calls.NodeStageVolume id capability) party = (Staged id node, thing_for node (calls.NodeStageVolume id capability) (Staged id node) id refl refl (rw (here node) refl) party)
+is_for node (calls.NodeUnstageVolume id) party = (Staged id node, thing_for node (calls.NodeUnstageVolume id) (Staged id node) id refl refl (rw (here node) refl) party)
 is_for node (calls.NodePublishVolume id target capability readonly) party =
-    (Published id node target, published_for node (calls.NodePublishVolume id target capability readonly) id target refl refl)
-is_for node (calls.NodeUnpublishVolume id target) party = (Published id node target, published_for node (calls.NodeUnpublishVolume id target) id target refl refl)
+    (Published id node target, thing_for node (calls.NodePublishVolume id target capability readonly) (Published id node target) id refl refl (rw (here node) refl) party)
+is_for node (calls.NodeUnpublishVolume id target) party = (Published id node target, thing_for node (calls.NodeUnpublishVolume id target) (Published id node target) id refl refl (rw (here node) refl) party)
 
 -- what is kept of a call isn't one of the things
 pub keep-held : (node : List ℕ) (volume : Option ℕ) (kept : Kept) (state : NodeState) (thing : PluginThing) → held_on node (keep volume kept state) thing ≡ held_on node state thing

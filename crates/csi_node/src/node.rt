@@ -229,11 +229,11 @@ impl Node {
     }
 
     /// The node that has this record: it shows what the record shows. It takes no memory.
-    pub fn from_record(alloc: Global, record: NodeRecord) -> Result<Node, CoreFault>
-        ensures value { result ≡ Ok «record» }
+    pub fn from_record(alloc: Global, kept: NodeRecord) -> Result<Node, CoreFault>
+        ensures value { result ≡ Ok kept }
         ensures current { IfOk result (λ made. IsCurrent made.session (parts made.rows)) }
     {
-        let rows = record.into_rows(alloc);
+        let rows = kept.into_rows(alloc);
         Ok(Node { rows })
     }
 

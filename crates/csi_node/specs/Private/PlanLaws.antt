@@ -1,8 +1,9 @@
 -- The laws of a node's plan, which its table cites: a row keeps its id, a row that is made is its volume's first, and at most one row is of a volume.
 use Rattle.std.proofs.Common.{◌≡◌, ℕ, ◌<◌, List, [], ◌∷◌, length, Bool, true, false, cond, not, refl, sym, ◌∙◌, ap}
 use Rattle.std.specs.Prelude.{Option, Some, None, find, nat_le, codes, ◌==◌, is_some}
-use Rattle.std.proofs.lemmas.Bool.{leb-false, true≢false}
+use Rattle.std.proofs.lemmas.Bool.{leb-false, not-true, true≢false}
 use Rattle.csi_lists.specs.Public.Places.{AtMostOne}
+use Rattle.csi_lists.proofs.Options.{none-from_is_some}
 use Rattle.csi_types.specs.declared.number.Number.{Number}
 use Rattle.csi_types.specs.declared.call.Call.{Call}
 use Rattle.csi_types.specs.declared.call.Call.TheVariants as calls
@@ -24,49 +25,41 @@ use Rattle.csi_node.specs.Public.Plan.{is_of, told_at, first_row, lacking, node_
 
 -- ---- replies
 
--- a reply of a node's kind without an id is as it must be
+-- a reply of a node's kind is as it must be exactly where it has no id
+has_none-by : (kind : Kind) (reply : Reply) → is_node_kind kind ≡ true → has_id_by_rule kind reply ≡ not (is_some reply.id)
+has_none-by kinds.CreateVolume reply own = absurd (true≢false (sym own))
+has_none-by kinds.DeleteVolume reply own = absurd (true≢false (sym own))
+has_none-by kinds.ControllerPublishVolume reply own = absurd (true≢false (sym own))
+has_none-by kinds.ControllerUnpublishVolume reply own = absurd (true≢false (sym own))
+has_none-by kinds.NodeStageVolume reply own = refl
+has_none-by kinds.NodeUnstageVolume reply own = refl
+has_none-by kinds.NodePublishVolume reply own = refl
+has_none-by kinds.NodeUnpublishVolume reply own = refl
+
+-- so one without an id is
 pub no_id-fits : (kind : Kind) (reply : Reply) → is_node_kind kind ≡ true → reply.id ≡ None → has_id_by_rule kind reply ≡ true
-no_id-fits kinds.CreateVolume reply own none = absurd (true≢false (sym own))
-no_id-fits kinds.DeleteVolume reply own none = absurd (true≢false (sym own))
-no_id-fits kinds.ControllerPublishVolume reply own none = absurd (true≢false (sym own))
-no_id-fits kinds.ControllerUnpublishVolume reply own none = absurd (true≢false (sym own))
-no_id-fits kinds.NodeStageVolume reply own none = ap (λ (id : Option ℕ). not (is_some id)) none
-no_id-fits kinds.NodeUnstageVolume reply own none = ap (λ (id : Option ℕ). not (is_some id)) none
-no_id-fits kinds.NodePublishVolume reply own none = ap (λ (id : Option ℕ). not (is_some id)) none
-no_id-fits kinds.NodeUnpublishVolume reply own none = ap (λ (id : Option ℕ). not (is_some id)) none
+no_id-fits kind reply own none = has_none-by kind reply own ∙ ap (λ (id : Option ℕ). not (is_some id)) none
 
--- what isn't there
-not_some : (id : Option ℕ) → not (is_some id) ≡ true → id ≡ None
-not_some None h = refl
-not_some (Some id) h = absurd (true≢false (sym h))
-
--- one that is as it must be has none
+-- and one that is has none
 pub fits-no_id : (kind : Kind) (reply : Reply) → is_node_kind kind ≡ true → has_id_by_rule kind reply ≡ true → reply.id ≡ None
-fits-no_id kinds.CreateVolume reply own fits = absurd (true≢false (sym own))
-fits-no_id kinds.DeleteVolume reply own fits = absurd (true≢false (sym own))
-fits-no_id kinds.ControllerPublishVolume reply own fits = absurd (true≢false (sym own))
-fits-no_id kinds.ControllerUnpublishVolume reply own fits = absurd (true≢false (sym own))
-fits-no_id kinds.NodeStageVolume reply own fits = not_some reply.id fits
-fits-no_id kinds.NodeUnstageVolume reply own fits = not_some reply.id fits
-fits-no_id kinds.NodePublishVolume reply own fits = not_some reply.id fits
-fits-no_id kinds.NodeUnpublishVolume reply own fits = not_some reply.id fits
+fits-no_id kind reply own fits = none-from_is_some reply.id (not-true (is_some reply.id) (sym (has_none-by kind reply own) ∙ fits))
 
 -- ---- ids
 
--- a row that a call changes keeps its id
-id-by : (row : NodeRowShown) (call : Call) → (row_changed row call).id ≡ row.id
-id-by row (calls.NodeStageVolume id capability) = refl
-id-by row (calls.NodeUnstageVolume id) = refl
-id-by row (calls.NodePublishVolume id target capability readonly) = refl
-id-by row (calls.NodeUnpublishVolume id target) = refl
-id-by row (calls.CreateVolume name required limit capabilities) = refl
-id-by row (calls.DeleteVolume id) = refl
-id-by row (calls.ControllerPublishVolume id node capability readonly) = refl
-id-by row (calls.ControllerUnpublishVolume id node) = refl
+-- a row that a call changes keeps its id, and what it keeps
+pub stays-by : (row : NodeRowShown) (call : Call) → ((row_changed row call).id ≡ row.id) × ((row_changed row call).kept ≡ row.kept)
+stays-by row (calls.NodeStageVolume id capability) = (refl, refl)
+stays-by row (calls.NodeUnstageVolume id) = (refl, refl)
+stays-by row (calls.NodePublishVolume id target capability readonly) = (refl, refl)
+stays-by row (calls.NodeUnpublishVolume id target) = (refl, refl)
+stays-by row (calls.CreateVolume name required limit capabilities) = (refl, refl)
+stays-by row (calls.DeleteVolume id) = (refl, refl)
+stays-by row (calls.ControllerPublishVolume id node capability readonly) = (refl, refl)
+stays-by row (calls.ControllerUnpublishVolume id node) = (refl, refl)
 
 -- a row keeps its id, whether or not the call is carried out
 pub id-where : (row : NodeRowShown) (call : Call) (b : Bool) → (cond b (row_changed row call) row).id ≡ row.id
-id-where row call true = id-by row call
+id-where row call true = (stays-by row call).0
 id-where row call false = refl
 
 -- ---- rows that are made
@@ -118,7 +111,7 @@ is_orderly = record {
   keep_id = λ kept row. refl;
   keep_kept = λ kept row. refl;
   keep_empty = λ kept row. refl;
-  change_id = λ call row. id-by row call;
+  change_id = λ call row. (stays-by row call).0;
   keep_sound = λ node own kept row sound allowed. record { kind = allowed.0; no_id = fits-no_id kept.kind kept.reply allowed.0 allowed.1; targets = sound.targets };
   sound_allowed = λ node own row sound. (sound.kind, no_id-fits row.kept.kind row.kept.reply sound.kind sound.no_id);
   line_full = λ node own rows row call sound. refl;

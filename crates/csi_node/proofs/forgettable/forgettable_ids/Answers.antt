@@ -1,19 +1,13 @@
 -- A row of a volume that isn't staged is met where there was said to be none.
-use Rattle.std.proofs.Common.{◌≡◌, ◌∙◌, Bool, false, List, is_none, not, ap, get_or, arith}
-use Rattle.std.specs.Prelude.{Option, Some, None, is_some}
+use Rattle.std.proofs.Common.{◌≡◌, ◌∙◌, Bool, false, List, is_none, not, ap, get_or, sym, arith}
 use Rattle.std.proofs.lemmas.Bool.{true≢false}
 use Rattle.csi_lists.proofs.Each.{each-place}
 use Rattle.csi_lists.proofs.Members.{all_of, in-map, none_kept}
-use Rattle.csi_types.specs.declared.capability.Capability.{Capability}
 use Rattle.csi_node.specs.declared.row.NodeRow.{NodeRow}
 use Rattle.csi_node.specs.Model.OneRow.{NodeRowShown, node_row_shown}
 use Rattle.csi_node.specs.Model.Record.{parts}
+use Rattle.csi_node.proofs.ChangedRows.{staged-tells}
 use Rattle.csi_node.proofs.forgettable.forgettable_ids.Goals as goal
-
--- a capability is there or not
-one_of_both : (o : Option Capability) → is_some o ≡ false → is_none o ≡ false → ⊥
-one_of_both None is isnt = true≢false isnt
-one_of_both (Some capability) is isnt = true≢false is
 
 pub returns-in_err-push-clause-none : goal.returns-in_err-push-clause-none
 returns-in_err-push-clause-none c = λ none.
@@ -23,4 +17,4 @@ returns-in_err-push-clause-none c = λ none.
     let own : is_empty (node_row_shown (get_or rows c.loop-row.row-index row)) ≡ false =
     each-place (λ (r : NodeRow). is_empty (node_row_shown r) ≡ false) rows c.loop-row.row-index row
     (all_of (λ (r : NodeRow). is_empty (node_row_shown r) ≡ false) rows (λ r among. none_kept is_empty (parts rows) (node_row_shown r) none (in-map node_row_shown rows r among))) (omega arith) in
-    absurd (one_of_both row.staged (c.is_none.ensures ∙ ap not c.if-is_none.true) (ap (λ (r : NodeRow). is_empty (node_row_shown r)) c.row-item.is ∙ own))
+    absurd (true≢false (sym (ap not (ap (λ (r : NodeRow). is_empty (node_row_shown r)) c.row-item.is ∙ own)) ∙ staged-tells row.staged ∙ (c.is_none.ensures ∙ ap not c.if-is_none.true)))

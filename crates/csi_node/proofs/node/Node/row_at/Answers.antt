@@ -1,14 +1,13 @@
 -- Each row keeps the rules of a row.
-use Rattle.std.proofs.Common.{◌≡◌, ◌∙◌, ℕ, ◌<◌, List, length, get_or, true, Option, Some, None, IfSome, is_some, ltb, Bor, sym, ap, subst, arith}
+use Rattle.std.proofs.Common.{◌≡◌, ℕ, ◌<◌, List, length, get_or, true, Option, Some, None, IfSome, is_some, ltb, Bor, sym, subst, arith}
 use Rattle.std.specs.Option.{option_copied}
 use Rattle.std.proofs.lemmas.Bool.Decides.{nat_tests}
-use Rattle.std.proofs.lemmas.List.{length-map}
+use Rattle.csi_fence.proofs.RowsThere.{all-at, shown-at}
 use Rattle.csi_node.specs.declared.row.NodeRow.{NodeRow}
 use Rattle.csi_node.specs.Model.OneRow.{node_row_shown}
 use Rattle.csi_node.specs.Public.OneRow.{IsSoundRow}
 use Rattle.csi_node.specs.Model.Record.{parts}
 use Rattle.csi_node.specs.Public.Record.{AreSoundRows}
-use Rattle.csi_node.proofs.FoundRows.{parts-at}
 use Rattle.csi_node.proofs.node.Node.row_at.Goals as goal
 
 -- so does the one at a place
@@ -16,11 +15,9 @@ sound-got : (rows : List NodeRow) (place : ℕ) (found : Option (Bor NodeRow)) �
     → IfSome (option_copied found) (λ row. IsSoundRow (node_row_shown row))
 sound-got rows place None rules some at = tt
 sound-got rows place (Some x) rules some at =
-    let many = length-map rows node_row_shown in
     let tells : ltb place (length rows) ≡ true = sym some in
     let less : place < length rows = grind (arith, nat_tests) in
-    let inside : place < length (parts rows) = omega (arith, many, less) in
-    subst IsSoundRow (parts-at rows place x.now ∙ ap node_row_shown (sym at)) (rules.each place (node_row_shown x.now) inside)
+    all-at IsSoundRow (parts rows) place (node_row_shown x.now) rules.each (shown-at node_row_shown rows place x.now at less)
 
 pub returns-clause-rules : goal.returns-clause-rules
 returns-clause-rules c =

@@ -1,4 +1,4 @@
-use Rattle.csi_node.proofs.FewRows.{few-rows}
+use Rattle.csi_node.proofs.RecordRules.{few-rows}
 use Rattle.csi_node.proofs.node.Node.row_count.Goals as goal
 
 pub returns-clause-few : goal.returns-clause-few

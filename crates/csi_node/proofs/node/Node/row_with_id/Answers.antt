@@ -6,7 +6,7 @@ use Rattle.csi_node.specs.declared.row.NodeRow.{NodeRow}
 use Rattle.csi_node.specs.Model.OneRow.{NodeRowShown, node_row_shown}
 use Rattle.csi_node.specs.Model.Record.{parts}
 use Rattle.csi_node.specs.Public.Record.{AreSoundRows}
-use Rattle.csi_node.proofs.FoundRows.{there-found, there-sound}
+use Rattle.csi_node.proofs.CopiedRows.{there-found, there-sound}
 use Rattle.csi_node.proofs.RecordRules.{places-rise}
 use Rattle.csi_node.proofs.node.Node.row_with_id.Goals as goal
 
@@ -22,7 +22,7 @@ returns-in-Some-clause-row c =
 pub returns-in-Some-clause-rules : goal.returns-in-Some-clause-rules
 returns-in-Some-clause-rules c =
     let rules = subst (λ (l : List NodeRow). AreSoundRows (parts l)) (sym c.rows-rows.ensures.value) c.rows-rows.ensures.rules in
-    there-sound c.rows-rows.result.now c.args.id (node_row_shown c.index-rows-place.result) rules
+    there-sound (parts c.rows-rows.result.now) c.args.id (node_row_shown c.index-rows-place.result) rules.each
     (there-found c.rows-rows.result.now c.args.id c.in-Some.place c.index-rows-place.result c.index-rows-place.is (sym c.in-Some.is ∙ c.place_of.ensures))
 
 pub returns-in-None-clause-row : goal.returns-in-None-clause-row
