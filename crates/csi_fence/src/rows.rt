@@ -80,7 +80,30 @@ impl<T: Table> Rows<T> {
         }
     }
 
+    // So many empty rows are forgotten, where this session has begun. It takes no memory.
+    #[inline(never)]
+    fn forget(&mut self, session: u64, forgettable: usize)
+        requires rising { AreRising T.plan.id (map T.shown self.old.rows.items) }
+        requires agrees { T.agrees self.old.table (map T.shown self.old.rows.items) }
+        requires forgettable { forgettable ≡ count_by (λ row. not (stays_in T.plan session row)) (map T.shown self.old.rows.items) }
+        requires empty { self.old.empty ≡ count_by T.plan.is_empty (map T.shown self.old.rows.items) }
+        ensures session { self.new.session ≡ self.old.session }
+        ensures rows { map T.shown self.new.rows.items ≡ filter (stays_in T.plan session) (map T.shown self.old.rows.items) }
+        ensures room { length self.old.rows.items < vec_capacity self.old.rows → length self.new.rows.items < vec_capacity self.new.rows }
+        ensures empty { self.new.empty ≡ count_by T.plan.is_empty (map T.shown self.new.rows.items) }
+        ensures fixed { T.fixed self.new.table ≡ T.fixed self.old.table }
+        ensures own { T.own self.new.table ≡ T.own self.old.table }
+        ensures agrees { T.agrees self.new.table (map T.shown self.new.rows.items) }
+        ensures has_room { (room : T.Room) (row : T.Shown) → T.has_room self.old.table room row → T.has_room self.new.table room row }
+    {
+        self.table.leave(self.rows.as_slice(), session);
+        self.rows
+            .retain(|row| !T::is_empty(row) || T::last(row).session == session);
+        self.empty -= forgettable;
+    }
+
     // The session begins, or goes on, and so many empty rows are forgotten. It takes no memory.
+    #[inline(always)]
     fn begin(&mut self, session: u64, forgettable: usize)
         requires rising { AreRising T.plan.id (map T.shown self.old.rows.items) }
         requires agrees { T.agrees self.old.table (map T.shown self.old.rows.items) }
@@ -99,10 +122,7 @@ impl<T: Table> Rows<T> {
         if forgettable == 0 {
             return;
         }
-        self.table.leave(self.rows.as_slice(), session);
-        self.rows
-            .retain(|row| !T::is_empty(row) || T::last(row).session == session);
-        self.empty -= forgettable;
+        self.forget(session, forgettable);
     }
 
     // Puts in a row of a new id, for which there is room, and says where. It takes no memory.
