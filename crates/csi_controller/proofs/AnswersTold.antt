@@ -1,13 +1,12 @@
 -- What a controller answers to a call, and what that changes, is told by what its rows answer behind the fence.
 use Rattle.std.proofs.Common.{◌≡◌, ◌<◌, ◌≤◌, ◌%◌, ◌^◌, ℕ, zero, suc, List, [], ◌∷◌, map, Bool, true, false, cond, not, refl, sym, ◌∙◌, ap, subst, arith}
-use Rattle.std.specs.Prelude.{Option, Some, None, option_map, find, filter, slice_get, ◌==◌, Result, IsTrue}
+use Rattle.std.specs.Prelude.{Option, Some, None, option_map, filter, slice_get, ◌==◌, Result, IsTrue}
 use Rattle.std.proofs.lemmas.Bool.{ne_eqb}
 use Rattle.std.proofs.lemmas.Bool.Decides.{nat_tests}
 use Rattle.std.proofs.lemmas.List.Elements.{recursion_from_All}
 use Rattle.std.proofs.lemmas.Option.{same_Some}
 use Rattle.std.proofs.lemmas.Result.{IfOk-weaker, on_err_weaker}
 use Rattle.csi_lists.proofs.Filters.{filter-of_map}
-use Rattle.csi_lists.proofs.Maps.{map-twice}
 use Rattle.csi_lists.proofs.Options.{some-from_map, some_is_not_none}
 use Rattle.csi_lists.proofs.Searches.{find-of_map}
 use Rattle.csi_types.specs.declared.call.Call.{Call}
@@ -23,17 +22,15 @@ use Rattle.csi_fence.specs.Model.Fence.{Kept, begins, is_over}
 use Rattle.csi_fence.specs.Model.Fenced.{Fenced, in_session}
 use Rattle.csi_fence.specs.Public.Delivery.{last_of}
 use Rattle.csi_fence.specs.Public.Fence.{IsFresh}
-use Rattle.csi_fence.specs.Public.Repeats as repeats
-use Rattle.csi_fence.specs.Public.Rows.{AreKept, Answers, IsAnswered, Puts, PutsAt, PutsNone, put_row, rows_machine}
+use Rattle.csi_fence.specs.Public.Rows.{AreKept, Answers, IsAnswered, Puts, PutsAt, PutsNone, rows_machine}
 use Rattle.csi_fence.specs.Public.Rows as rows_of
 use Rattle.csi_fence.proofs.PutRows.{put-found, put-others, row_of}
 use Rattle.csi_fence.proofs.Simulating.{answered-alike}
 use Rattle.csi_controller.specs.declared.row.ControllerRow.{ControllerRow}
 use Rattle.csi_controller.specs.Model.Core.{ControllerParts, Shows}
 use Rattle.csi_controller.specs.Model.Fenced.{begun, controller_with, kept_for}
-use Rattle.csi_controller.specs.Model.Shown.{holdings_in, volume_of_row}
 use Rattle.csi_controller.specs.Model.State.{ControllerState}
-use Rattle.csi_controller.specs.Public.Core.{IsSameRow, IsUndoing, next_shown}
+use Rattle.csi_controller.specs.Public.Core.{IsUndoing, next_shown}
 use Rattle.csi_fence.specs.Public.Repeats.{IsPlainRepeat}
 use Rattle.csi_controller.specs.Public.RowsLaw.{Changes, ChangesAt, row_by_id, staying}
 use Rattle.csi_controller.specs.Public.Views.{IsCopyOf}
@@ -41,10 +38,9 @@ use Rattle.csi_controller.specs.Private.Answers.{AnswersOwn, IsCallAnswered}
 use Rattle.csi_controller.specs.Private.Fenced.{answered_in}
 use Rattle.csi_controller.specs.Public.OneRow.{RowShown, row_shown}
 use Rattle.csi_controller.specs.Public.Plan.{Fits, IsSoundBy, controller_plan}
-use Rattle.csi_controller.proofs.Holdings.{held_in}
 use Rattle.csi_controller.proofs.RowsMachine.{begun-shows, begun-sound, carried-alike, filter-twice, kept-same, rows-simulate}
 use Rattle.csi_controller.proofs.ShowingLaw.{next-by}
-use Rattle.csi_controller.proofs.ShownRows.{AreRowsSound, ControllerRows, RowsShowAll, volume_in}
+use Rattle.csi_controller.proofs.ShownRows.{AreRowsSound, ControllerRows, RowsShowAll, held-shown, volumes-shown}
 
 -- ---- a controller's parts as rows
 
@@ -61,13 +57,9 @@ pub shows-in : (parts : ControllerParts) (state : ControllerState) → Shows par
 shows-in parts state shown = record {
   next = sym (next-is parts.next_id state.next_id shown.shows.next shown.next_from shown.next_to);
   session = shown.session;
-  volumes = map-twice volume_in row_shown volume_of_row parts.rows (λ r. refl) ∙ shown.shows.volumes;
-  holdings = λ id. ap held_in (find-of_map (λ (r : RowShown). r.volume.id == id) row_shown parts.rows) ∙ by (find (λ (r : ControllerRow). r.id == id) parts.rows) ∙ shown.shows.holdings id;
+  volumes = volumes-shown parts.rows ∙ shown.shows.volumes;
+  holdings = λ id. held-shown parts.rows id ∙ shown.shows.holdings id;
 }
-  where
-    by : (o : Option ControllerRow) → held_in (option_map row_shown o) ≡ holdings_in o
-    by None = refl
-    by (Some row) = refl
 
 -- and the other way round
 pub shows-out : (parts : ControllerParts) (state : ControllerState) → parts.next_id < 2 ^ 64 → RowsShowAll (rows_in parts) state → Shows parts state
@@ -76,17 +68,13 @@ shows-out parts state below shows =
     record {
       shows = record {
         next = next.0 ∙ ap (λ (k : ℕ). k % 2 ^ 64) shows.next;
-        volumes = sym (map-twice volume_in row_shown volume_of_row parts.rows (λ r. refl)) ∙ shows.volumes;
-        holdings = λ id. sym (ap held_in (find-of_map (λ (r : RowShown). r.volume.id == id) row_shown parts.rows) ∙ by (find (λ (r : ControllerRow). r.id == id) parts.rows)) ∙ shows.holdings id;
+        volumes = sym (volumes-shown parts.rows) ∙ shows.volumes;
+        holdings = λ id. sym (held-shown parts.rows id) ∙ shows.holdings id;
       };
       session = shows.session;
       next_from = subst (λ (k : ℕ). 1 ≤ k) shows.next next.1;
       next_to = subst (λ (k : ℕ). k ≤ 2 ^ 64) shows.next next.2;
     }
-  where
-    by : (o : Option ControllerRow) → held_in (option_map row_shown o) ≡ holdings_in o
-    by None = refl
-    by (Some row) = refl
 
 -- one next id has one number of 64 bits
 next_same : (n m : ℕ) → n < 18446744073709551616 → m < 18446744073709551616 → next_shown n ≡ next_shown m → n ≡ m
@@ -102,10 +90,6 @@ copy-shown (Some r) None h = absurd (some_is_not_none (row_shown r) h)
 copy-shown (Some r) (Some c) h =
     let same : row_shown r ≡ row_shown c = same_Some (row_shown r) (row_shown c) h in
     record { volume = ap (λ (x : RowShown). x.volume) (sym same); items = ap (λ (x : RowShown). x.items) (sym same) }
-
--- a copy shows what the row does
-pub same-shown : (row copy : ControllerRow) → IsSameRow row copy → row_shown row ≡ row_shown copy
-same-shown row copy same = λ i. record { volume = sym same.volume i; items = sym same.items i }
 
 -- what is found by an id
 pub found-shown : (id : ℕ) (rows : List ControllerRow) → option_map row_shown (row_by_id id rows) ≡ row_of controller_plan.id id (map row_shown rows)
@@ -198,11 +182,6 @@ call-answered old new number call answer party sound config from to is =
     by None puts = changes-none number old new from to puts
     by (Some place) puts = changes-put number old new place puts.0 puts.1 puts.2
 
--- the same repeat
-same_repeat : (session : ℕ) (o : Option Kept) (number : Number) → IsPlainRepeat session o number → repeats.IsPlainRepeat session o number
-same_repeat session None number repeat = repeat
-same_repeat session (Some kept) number repeat = repeat
-
 -- the state in which a call is judged is shown by the rows among which it is
 begun-alike : (config : Config) (number : Number) (old : ControllerRows) (state : ControllerState) → AreRowsSound old → RowsShowAll old state
     → RowsShowAll (in_session (rows_machine controller_plan config) number old) (in_session (controller_with config) number state)
@@ -232,8 +211,8 @@ own-answers old new number call agrees empty result party sound config from to a
   repeated = λ state shown repeat.
       let shows = shows-in old state shown in
       answers.repeated
-      (subst (λ (o : Option Kept). repeats.IsPlainRepeat old.session o number) (sym (kept-same call (rows_in old) state shows))
-      (subst (λ (session : ℕ). repeats.IsPlainRepeat session (kept_for call state) number) (sym shown.session) (same_repeat state.session (kept_for call state) number repeat)));
+      (subst (λ (o : Option Kept). IsPlainRepeat old.session o number) (sym (kept-same call (rows_in old) state shows))
+      (subst (λ (session : ℕ). IsPlainRepeat session (kept_for call state) number) (sym shown.session) repeat));
   undone = λ state shown undoing answered.
       let shows = shows-in old state shown in
       let alike = begun-alike old.config number (rows_in old) state sound shows in

@@ -1,14 +1,13 @@
 -- What is kept beside a controller's rows fits them after each change.
-use Rattle.std.proofs.Common.{◌≡◌, ℕ, zero, suc, ◌+◌, ◌<◌, ◌≤◌, List, [], ◌∷◌, ◌++◌, map, length, set, Bool, true, false, not, refl, sym, ◌∙◌, ap, subst, arith}
+use Rattle.std.proofs.Common.{◌≡◌, ℕ, ◌+◌, ◌<◌, ◌≤◌, List, [], ◌∷◌, ◌++◌, map, length, set, Bool, true, false, not, refl, sym, ◌∙◌, ap, subst, arith}
 use Rattle.std.specs.Prelude.{All, Some, None, filter, find, slice_get, Result, OnOk}
 use Rattle.std.specs.declared.result.Result.TheVariants as results
-use Rattle.std.proofs.lemmas.Bool.{true≢false}
+use Rattle.std.proofs.lemmas.Bool.{true≢false, not-true}
 use Rattle.std.proofs.lemmas.List.{length-append, map_push}
 use Rattle.std.proofs.lemmas.List.Elements.{recursion_from_All}
-use Rattle.std.proofs.lemmas.Option.{get_or_from_slice_get}
+use Rattle.std.proofs.lemmas.Option.{get_or_from_slice_get, slice_get_within}
 use Rattle.csi_lists.proofs.Each.{each-append_one, each-at, each-filter, each-weaker}
 use Rattle.csi_lists.proofs.Filters.{filter-no_longer}
-use Rattle.csi_lists.proofs.Options.{some_is_not_none}
 use Rattle.csi_lists.proofs.Places.{AtMostOne-append, AtMostOne-filter}
 use Rattle.csi_types.proofs.Equality.{same_text-tells}
 use Rattle.csi_types.specs.declared.config.NodeSlots.{NodeSlots}
@@ -28,19 +27,9 @@ use Rattle.csi_controller.proofs.Counts.{changed-counted, counted-fewer, made-co
 use Rattle.csi_controller.proofs.Holdings.{same-volume}
 use Rattle.csi_controller.proofs.PutLast.{put-last}
 
--- a place at which something is got is within the list
-pub within-got : {X : Type 0} (xs : List X) (place : ℕ) (x : X) → slice_get xs place ≡ Some x → place < length xs
-within-got [] place x h = absurd (some_is_not_none x (sym h))
-within-got (y ∷ ys) zero x h = omega arith
-within-got (y ∷ ys) (suc place) x h = let inside = within-got ys place x h in omega (arith, inside)
-
 -- a row that doesn't stay was deleted
 pub gone-dead : (session : ℕ) (row : RowShown) → stays_in controller_plan session row ≡ false → row.volume.is_live ≡ false
-gone-dead session row goes = turned row.volume.is_live (goes-empty controller_plan session row goes)
-  where
-    turned : (b : Bool) → not b ≡ true → b ≡ false
-    turned true h = sym h
-    turned false h = refl
+gone-dead session row goes = not-true row.volume.is_live (goes-empty controller_plan session row goes)
 
 -- a volume that is changed is free where it was deleted
 free-changed : (row : RowShown) (change : Change) → CanChange row change → IsFree row → IsFree (row_changed row change)
@@ -56,7 +45,7 @@ pub fits-changed : (nodes : List NodeSlots) (names : List (List ℕ × ℕ)) (co
 fits-changed nodes names counts n rows place row new change fits at can is =
     let volume = ap (λ (r : RowShown). r.volume) is ∙ same-volume row change in
     fits-set nodes names counts (recounted nodes (moved change) counts) n rows place row new fits at (ap (λ (v : Volume). v.id) volume) (ap (λ (v : Volume). v.name) volume)
-    (changed-counted nodes rows place row new change counts fits.counted fits.limit (within-got rows place row at) (sym (get_or_from_slice_get rows place row row at)) can (ap (λ (r : RowShown). r.items) is))
+    (changed-counted nodes rows place row new change counts fits.counted fits.limit (slice_get_within rows place row at) (sym (get_or_from_slice_get rows place row row at)) can (ap (λ (r : RowShown). r.items) is))
     (subst IsFree (sym is) (free-changed row change can (each-at IsFree rows place row fits.free (at-got rows place row at))))
 
 -- where a row is put last, of a new name and held nowhere

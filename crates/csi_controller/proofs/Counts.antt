@@ -1,18 +1,20 @@
 -- The counts of the configured nodes after a row changed.
 use Rattle.std.proofs.Common.{◌≡◌, ◌≢◌, ◌≤◌, ◌<◌, ◌+◌, ℕ, Bool, true, false, cond, not, filter, List, [], ◌∷◌, ◌++◌, length, get_or, set, refl, sym, ◌∙◌, ap, subst, slice_index, arith}
 use Rattle.std.specs.Prelude.{Option, Some, None, find, is_some, count_by, map, ◌==◌, ◌||◌, ◌&&◌, nat_le}
-use Rattle.std.specs.List.{AllByRecursion, list_any, position_or_len}
+use Rattle.std.specs.List.{AllByRecursion, list_any}
 use Rattle.std.proofs.lemmas.Bool.{true≢false, eq-eqb, eqb-true, or_parts}
-use Rattle.std.proofs.lemmas.Bool.Decides.{nat_tests}
 use Rattle.std.proofs.lemmas.Grind.{get_or-set_at}
 use Rattle.std.proofs.lemmas.List.{get_or-set_other, length-set}
 use Rattle.std.proofs.lemmas.List.Quantifiers.{position-Some}
 use Rattle.std.proofs.lemmas.List.Sums.{sum_by-set, count_by-le-length}
 use Rattle.std.proofs.lemmas.Map.Views.{any-filter_same}
+use Rattle.std.proofs.Math.Bool.{or-false, or-true}
+use Rattle.std.proofs.lemmas.List.Folds.{list_any-append}
 use Rattle.csi_lists.proofs.Counts.{count-cons}
-use Rattle.csi_lists.proofs.Options.{none-from_is_some, some_is_not_none}
+use Rattle.csi_lists.proofs.Options.{some_is_not_none}
 use Rattle.csi_lists.proofs.Places.{FirstAt-find, FirstAt-position}
-use Rattle.csi_lists.proofs.Tests.{any-find}
+use Rattle.csi_lists.proofs.Tests.{any-find, any-find_none}
+use Rattle.csi_lists.proofs.Searches.{find-filter_not, find-no_place}
 use Rattle.csi_types.proofs.Equality.{same_text-tells}
 use Rattle.csi_types.specs.declared.config.NodeSlots.{NodeSlots}
 use Rattle.csi_types.specs.Model.Config.{has_node}
@@ -149,16 +151,9 @@ pub all-counted : (nodes : List NodeSlots) (rows : List RowShown) (counts : List
 all-counted nodes rows counts count few distinct long all each =
     record { few = few; distinct = distinct; fits = omega (arith, few, long); each = λ node place at. each node place at (let inside = (stands node nodes place some_node at).0 in omega (arith, inside, all)) }
 
--- where the place of the first one that passes is past the end, none passes
-past-none : {X : Type 0} (p : X → Bool) (xs : List X) → length xs ≤ position_or_len p xs → list_any p xs ≡ false
-past-none p [] past = refl
-past-none p (x ∷ xs) past = grind (arith, past-none p xs)
-
 -- no entry is that of a node that isn't found
 not-configured : (node : List ℕ) (nodes : List NodeSlots) → None ≡ place_of node nodes → list_any (λ (entry : NodeSlots). same_text entry.id node) nodes ≡ false
-not-configured node nodes none =
-    let past : length nodes ≤ position_or_len (λ (entry : NodeSlots). same_text entry.id node) nodes = grind (arith, nat_tests) in
-    past-none (λ (entry : NodeSlots). same_text entry.id node) nodes past
+not-configured node nodes none = any-find_none (λ (entry : NodeSlots). same_text entry.id node) nodes (find-no_place (λ (entry : NodeSlots). same_text entry.id node) nodes (sym none))
 
 -- a node is configured exactly where an entry is its
 has_node-any : (node : List ℕ) (nodes : List NodeSlots) → has_node node nodes ≡ list_any (λ (entry : NodeSlots). same_text entry.id node) nodes
@@ -198,35 +193,14 @@ taken-others node other items differ =
 
 -- once what is held at a node is taken out, nothing is held there
 here_none : (node : List ℕ) (items : List NodeHolding) → list_any (λ (held : NodeHolding). same_text held.node node) (filter (λ (held : NodeHolding). not (same_text held.node node)) items) ≡ false
-here_none node [] = refl
-here_none node (held ∷ later) = by (same_text held.node node) refl (here_none node later)
-  where
-    by : (b : Bool) → same_text held.node node ≡ b → list_any (λ (h : NodeHolding). same_text h.node node) (filter (λ (h : NodeHolding). not (same_text h.node node)) later) ≡ false
-        → list_any (λ (h : NodeHolding). same_text h.node node) (cond (not b) (held ∷ filter (λ (h : NodeHolding). not (same_text h.node node)) later) (filter (λ (h : NodeHolding). not (same_text h.node node)) later)) ≡ false
-    by true e rest = rest
-    by false e rest = rw e rest
+here_none node items =
+    any-find_none (λ (held : NodeHolding). same_text held.node node) (filter (λ (held : NodeHolding). not (same_text held.node node)) items) (find-filter_not (λ (held : NodeHolding). same_text held.node node) items)
 
 -- ---- what is added to a row
 
 -- one of a list with one more at its end passes where one did before, or the new one does
 one_more : (p : NodeHolding → Bool) (items : List NodeHolding) (held : NodeHolding) (b : Bool) → p held ≡ b → list_any p (items ++ held ∷ []) ≡ (list_any p items || b)
-one_more p [] held true e = rw e refl
-one_more p [] held false e = rw e refl
-one_more p (first ∷ later) held b e = by (p first) (one_more p later held b e)
-  where
-    by : (t : Bool) → list_any p (later ++ held ∷ []) ≡ (list_any p later || b) → (t || list_any p (later ++ held ∷ [])) ≡ ((t || list_any p later) || b)
-    by true rest = refl
-    by false rest = rest
-
--- a test or one that fails is the test
-or_false : (b : Bool) → (b || false) ≡ b
-or_false true = refl
-or_false false = refl
-
--- a test or one that holds holds
-or_true : (b : Bool) → (b || true) ≡ true
-or_true true = refl
-or_true false = refl
+one_more p items held b e = list_any-append p items (held ∷ []) ∙ ap (λ (t : Bool). list_any p items || t) (or-false (p held) ∙ e)
 
 -- ---- a row that a call changed
 
@@ -240,9 +214,9 @@ changed-counted nodes rows place row new (Ends id) counts counted limit inside s
 changed-counted nodes rows place row new (Attaches holding) counts counted limit inside stands can items =
     node-counted nodes rows place row new holding.node true counts counted limit inside stands (any-find (λ (other : NodeHolding). same_text other.node holding.node) row.items ∙ ap is_some can.free)
     (ap (list_any (λ (other : NodeHolding). same_text other.node holding.node)) items
-    ∙ one_more (λ (other : NodeHolding). same_text other.node holding.node) row.items (held_by holding) true ((same_text-tells holding.node holding.node).1 refl) ∙ or_true (is_held holding.node row))
+    ∙ one_more (λ (other : NodeHolding). same_text other.node holding.node) row.items (held_by holding) true ((same_text-tells holding.node holding.node).1 refl) ∙ or-true (is_held holding.node row))
     (λ other differ. ap (list_any (λ (h : NodeHolding). same_text h.node other)) items
-    ∙ one_more (λ (h : NodeHolding). same_text h.node other) row.items (held_by holding) false differ ∙ or_false (is_held other row))
+    ∙ one_more (λ (h : NodeHolding). same_text h.node other) row.items (held_by holding) false differ ∙ or-false (is_held other row))
 changed-counted nodes rows place row new (Detaches id node) counts counted limit inside stands can items =
     node-counted nodes rows place row new node false counts counted limit inside stands (any-find (λ (held : NodeHolding). same_text held.node node) row.items ∙ can.1)
     (ap (list_any (λ (held : NodeHolding). same_text held.node node)) items ∙ here_none node row.items)
@@ -295,18 +269,8 @@ full-first (e ∷ es) node count distinct = by (same_text e.id node) refl (full-
     by : (b : Bool) → same_text e.id node ≡ b
         → list_any (λ (entry : NodeSlots). same_text entry.id node && nat_le entry.slots count) es ≡ is_full_with count (find (λ (entry : NodeSlots). same_text entry.id node) es)
         → list_any (λ (entry : NodeSlots). same_text entry.id node && nat_le entry.slots count) (e ∷ es) ≡ is_full_with count (find (λ (entry : NodeSlots). same_text entry.id node) (e ∷ es))
-    by true same rest = rw same (ap (λ b. nat_le e.slots count || b) (others-fail e.id node es count same parts.0) ∙ or_false (nat_le e.slots count))
+    by true same rest = rw same (ap (λ b. nat_le e.slots count || b) (others-fail e.id node es count same parts.0) ∙ or-false (nat_le e.slots count))
     by false differ rest = rw differ rest
-
--- a node that isn't found isn't full
-none-full : (nodes : List NodeSlots) (node : List ℕ) (count held : ℕ) → list_any (λ (entry : NodeSlots). same_text entry.id node) nodes ≡ false
-    → is_full_with held (find (λ (entry : NodeSlots). same_text entry.id node) nodes) ≡ is_full_with count (find (λ (entry : NodeSlots). same_text entry.id node) nodes)
-none-full nodes node count held none =
-    let absent = any_none (λ (entry : NodeSlots). same_text entry.id node) nodes none in
-    ap (is_full_with held) absent ∙ sym (ap (is_full_with count) absent)
-  where
-    any_none : (p : NodeSlots → Bool) (xs : List NodeSlots) → list_any p xs ≡ false → find p xs ≡ None
-    any_none p xs h = none-from_is_some (find p xs) (sym (any-find p xs) ∙ h)
 
 -- the count at a configured node's place is the count of its volumes
 pub full-told : (nodes : List NodeSlots) (rows : List RowShown) (counts : List ℕ) (node : List ℕ) → AreCounted nodes rows counts
@@ -317,5 +281,5 @@ full-told nodes rows counts node counted = full-first nodes node (count_held nod
     found = find (λ (entry : NodeSlots). same_text entry.id node) nodes
 
     by : (place : Option ℕ) → place_of node nodes ≡ place → is_full_with (count_held node rows) found ≡ is_full_with (count_at_place place counts) found
-    by None none = none-full nodes node 0 (count_held node rows) (not-configured node nodes (sym none))
+    by None none = let absent = find-no_place (λ (entry : NodeSlots). same_text entry.id node) nodes none in ap (is_full_with (count_held node rows)) absent ∙ sym (ap (is_full_with 0) absent)
     by (Some place) at = ap (λ n. is_full_with n found) (sym (counted.each node place at))

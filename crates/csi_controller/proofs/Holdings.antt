@@ -6,7 +6,7 @@ use Rattle.std.proofs.lemmas.Bool.{eq-eqb, eqb-true}
 use Rattle.std.proofs.lemmas.List.{map-append}
 use Rattle.std.proofs.lemmas.List.Elements.{filter_agree}
 use Rattle.csi_lists.proofs.Counts.{count-cons, count-one, count-split}
-use Rattle.csi_lists.proofs.Filters.{filter-append_one, filter-append_passes, filter-filter, filter-of_map, filter-swap}
+use Rattle.csi_lists.proofs.Filters.{filter-append_one, filter-append_passes, filter-filter, filter-of_map, filter-swap, filter-none}
 use Rattle.csi_lists.specs.Public.Places.{AtMostOne}
 use Rattle.csi_types.specs.declared.holding.Holding.{Holding}
 use Rattle.csi_types.specs.Model.Same.{same_text}
@@ -44,7 +44,7 @@ same-volume row (Attaches holding) = refl
 same-volume row (Detaches id node) = refl
 
 -- an id is equal to itself
-self : (id : ℕ) → (id == id) ≡ true
+pub self : (id : ℕ) → (id == id) ≡ true
 self id = eq-eqb id id refl
 
 -- after a change of its volume a row's own list is still what is held of the volume
@@ -66,7 +66,7 @@ own_list-after row state kept (Detaches id node) about own =
     ∙ sym (filter-swap (λ h. h.volume == row.volume.id) (λ holding. not (is_held_at id node holding)) state.holdings)
 
 -- what is equal to an id isn't equal to what differs from that id
-other_id : (a b c : ℕ) → (a == b) ≡ true → (c == b) ≡ false → (a == c) ≡ false
+pub other_id : (a b c : ℕ) → (a == b) ≡ true → (c == b) ≡ false → (a == c) ≡ false
 other_id a b c e f = by (a == c) refl
   where
     by : (t : Bool) → (a == c) ≡ t → (a == c) ≡ false
@@ -91,16 +91,6 @@ other_list-after id other state kept (Detaches volume node) about differ =
 empty-where : (all : List Holding) → ((id : ℕ) → [] ≡ filter (λ h. h.volume == id) all) → all ≡ []
 empty-where [] none = refl
 empty-where (h ∷ hs) none = let whole = none h.volume in absurd (let found : [] ≡ h ∷ filter (λ x. x.volume == h.volume) hs = whole ∙ (rw (self h.volume) refl) in cc)
-
--- once a volume's holdings are taken out, it has none
-nothing-left : (id : ℕ) (all : List Holding) → filter (λ h. h.volume == id) (filter (λ h. not (h.volume == id)) all) ≡ []
-nothing-left id [] = refl
-nothing-left id (h ∷ hs) = by (h.volume == id) refl (nothing-left id hs)
-  where
-    by : (b : Bool) → (h.volume == id) ≡ b → filter (λ h. h.volume == id) (filter (λ h. not (h.volume == id)) hs) ≡ []
-        → filter (λ h. h.volume == id) (cond (not b) (h ∷ filter (λ h. not (h.volume == id)) hs) (filter (λ h. not (h.volume == id)) hs)) ≡ []
-    by true e k = k
-    by false e k = rw e k
 
 -- the holdings of a row, as the volume's
 abbrev pub held_in_row : RowShown → List Holding
@@ -130,5 +120,5 @@ count-rows n node (r ∷ rs) all sound one shown =
         → held_in (find (λ r. r.volume.id == id) rs) ≡ filter (λ h. h.volume == id) (filter (λ h. not (h.volume == r.volume.id)) all)
     by id true e h =
         let same : r.volume.id ≡ id = eqb-true r.volume.id id e in
-        ap held_in ((one id).0 e) ∙ sym (subst (λ k. filter (λ h. h.volume == id) (filter (λ h. not (h.volume == k)) all) ≡ []) (sym same) (nothing-left id all))
+        ap held_in ((one id).0 e) ∙ sym (subst (λ k. filter (λ h. h.volume == id) (filter (λ h. not (h.volume == k)) all) ≡ []) (sym same) (filter-none (λ h. h.volume == id) all))
     by id false e h = h ∙ sym (filter-filter (λ h. h.volume == id) (λ h. not (h.volume == r.volume.id)) all (λ x f. ap not (other_id x.volume id r.volume.id f e)))

@@ -2,10 +2,12 @@
 use Rattle.std.proofs.Common.{◌≡◌, ◌≢◌, ◌⊎◌, ℕ, ◌≤◌, List, [], ◌∷◌, Bool, true, false, cond, not, refl, sym, ap, subst, inl, inr, arith}
 use Rattle.std.specs.Prelude.{Some, None, filter, ◌==◌, ◌&&◌, ◌||◌, nat_le, codes, IsTrue}
 use Rattle.std.specs.List.{list_all, AllByRecursion}
-use Rattle.std.proofs.lemmas.Bool.{and_parts, and_from, or_cases, eqb-true, eq-eqb, leb-true, not-true}
+use Rattle.std.proofs.lemmas.Bool.{and_parts, and_from, or_cases, eqb-true, eq-eqb, leb-true, not-true, or_left, or_right}
 use Rattle.std.proofs.lemmas.Bool.Decides.{nat_tests}
 use Rattle.csi_lists.proofs.Filters.{filter-append_one, filter-filter, filter-map}
 use Rattle.csi_lists.proofs.Searches.{find-and, find-append_one, find-filtered, find-map_none, find-passes}
+use Rattle.csi_lists.proofs.Members.{all_of}
+use Rattle.csi_lists.proofs.Tests.{all-then, then-all}
 use Rattle.csi_types.proofs.Equality.{same_text-tells, same_capability-tells, same_holding-tells}
 use Rattle.csi_types.specs.declared.capability.Capability.{Capability}
 use Rattle.csi_types.specs.declared.holding.Holding.{Holding}
@@ -66,8 +68,7 @@ create_found config state name required limit first others volume bad none named
 
 -- where the test says that a list has each capability that is asked for, each is in it
 all_from : (list : List Capability) (asked : List Capability) → list_all (has_capability list) asked ≡ true → AllByRecursion (λ capability. IsTrue (has_capability list capability)) asked
-all_from list [] h = tt
-all_from list (x ∷ xs) h = let parts = and_parts (has_capability list x) (list_all (has_capability list) xs) h in (parts.0, all_from list xs parts.1)
+all_from list asked h = all_of (λ capability. IsTrue (has_capability list capability)) asked (all-then (has_capability list) asked h)
 
 -- where the test of a limit passes, there is no limit, or the capacity is at most the limit
 limit_from : (limit capacity : ℕ) → ((limit == 0) || nat_le capacity limit) ≡ true → (limit ≡ 0) ⊎ (capacity ≤ limit)
@@ -107,27 +108,12 @@ not_below required limit = grind (arith, nat_tests)
 not_above : (required limit : ℕ) → is_empty_range required limit ≡ false → ((limit == 0) || nat_le (capacity_wanted required limit) limit) ≡ true
 not_above required limit h = grind (arith, nat_tests)
 
--- where all of a list pass a test, all pass one that asks no more
-list_all-weaken : (p q : Capability → Bool) (xs : List Capability) → ((x : Capability) → p x ≡ true → q x ≡ true) → list_all p xs ≡ true → list_all q xs ≡ true
-list_all-weaken p q [] f h = refl
-list_all-weaken p q (x ∷ xs) f h = let parts = and_parts (p x) (list_all p xs) h in and_from (q x) (list_all q xs) (f x parts.0) (list_all-weaken p q xs f parts.1)
-
--- an `or` passes where one of its two does
-or_right : (a b : Bool) → b ≡ true → (a || b) ≡ true
-or_right true b h = refl
-or_right false b h = h
-
--- an `or` passes where its first one does
-or_left : (a b : Bool) → a ≡ true → (a || b) ≡ true
-or_left true b h = refl
-or_left false b h = cc
-
 -- each of a list is in it
 has_own : (xs : List Capability) → list_all (has_capability xs) xs ≡ true
 has_own [] = refl
 has_own (x ∷ xs) =
     and_from (has_capability (x ∷ xs) x) (list_all (has_capability (x ∷ xs)) xs) (or_left (same_capability x x) (has_capability xs x) ((same_capability-tells x x).1 refl))
-    (list_all-weaken (has_capability xs) (has_capability (x ∷ xs)) xs (λ y h. or_right (same_capability y x) (has_capability xs y) h) (has_own xs))
+    (then-all (has_capability (x ∷ xs)) xs (λ y among. or_right (same_capability y x) (has_capability xs y) (all-then (has_capability xs) xs (has_own xs) y among)))
 
 -- what is so where CreateVolume of a new name makes a volume
 create_made : (config : Config) (state : ControllerState) (name : List ℕ) (required limit : ℕ) (first : Capability) (others : List Capability)
@@ -187,7 +173,7 @@ publish_ready config state holding volume live node capable held =
     }
 
 -- a holding is its own volume's, at its own node
-itself_at : (holding : Holding) → is_held_at holding.volume holding.node holding ≡ true
+pub itself_at : (holding : Holding) → is_held_at holding.volume holding.node holding ≡ true
 itself_at holding = and_from _ _ (eq-eqb holding.volume holding.volume refl) ((same_text-tells holding.node holding.node).1 refl)
 
 -- an id isn't another one than itself

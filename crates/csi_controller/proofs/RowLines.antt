@@ -3,6 +3,7 @@ use Rattle.std.proofs.Common.{◌≡◌, ◌≤◌, ◌<◌, ℕ, Bool, true, fa
 use Rattle.std.specs.Prelude.{Option, Some, None, find, option_map, ◌||◌, nat_le, codes}
 use Rattle.std.proofs.lemmas.Bool.{le-leb}
 use Rattle.std.proofs.lemmas.Bool.Decides.{nat_tests}
+use Rattle.std.proofs.lemmas.List.{length-map}
 use Rattle.csi_lists.proofs.Searches.{find-of_map}
 use Rattle.csi_types.specs.declared.config.NodeSlots.{NodeSlots}
 use Rattle.csi_types.specs.declared.status.Status.TheVariants.{AlreadyExists, ResourceExhausted}
@@ -15,7 +16,7 @@ use Rattle.csi_controller.specs.Model.Table.{Outcome, Attaches, refused, met, do
 use Rattle.csi_controller.specs.Public.Core.{volume_holding}
 use Rattle.csi_controller.specs.Public.OneRow.{RowShown, state_shown}
 use Rattle.csi_controller.specs.Private.OneRow.{held_of_row}
-use Rattle.csi_controller.proofs.RowTable.{alone, held_at-seen, length-view}
+use Rattle.csi_controller.proofs.RowTable.{alone, held_at-seen}
 
 -- ControllerUnpublishVolume, by how the row's volume is held at the node
 pub unpublish-line : (row : RowShown) (node : List ℕ) (o : Option NodeHolding) → held_of_row row node ≡ o
@@ -78,5 +79,5 @@ module _ (row : RowShown) (nodes : List NodeSlots) (full : Bool) (wanted : NodeH
       → answered ≡ cond b (refused ResourceExhausted (codes "slots")) attached
   publish-room b none beside e =
       publish-apart None none beside
-      ∙ ap (λ (n : ℕ). cond (full || nat_le 64 n) (refused ResourceExhausted (codes "slots")) attached) (length-view (volume_holding row.volume.id) row.items)
+      ∙ ap (λ (n : ℕ). cond (full || nat_le 64 n) (refused ResourceExhausted (codes "slots")) attached) (length-map row.items (volume_holding row.volume.id))
       ∙ ap (λ (b : Bool). cond b (refused ResourceExhausted (codes "slots")) attached) e

@@ -1,8 +1,9 @@
 -- A controller's rows behind the fence do what the controller's state does there.
 use Rattle.std.proofs.Common.{◌≡◌, ℕ, zero, suc, ◌+◌, ◌<◌, List, [], ◌∷◌, ◌++◌, map, length, set, Bool, true, false, cond, not, refl, sym, ◌∙◌, ap, subst}
-use Rattle.std.specs.Prelude.{Option, Some, None, option_map, find, filter, slice_get, ◌==◌, nat_lt, nat_le, ◌||◌, codes, IsTrue}
+use Rattle.std.specs.Prelude.{Option, Some, None, option_map, find, filter, slice_get, ◌==◌, IsTrue}
 use Rattle.std.specs.List.{AllByRecursion}
 use Rattle.std.proofs.lemmas.List.{length-map, map-append}
+use Rattle.std.proofs.Math.Bool.{not-not}
 use Rattle.csi_lists.proofs.Each.{each-filter, each-weaker}
 use Rattle.csi_lists.proofs.Filters.{filter-of_map}
 use Rattle.csi_lists.proofs.Maps.{map-none_shown}
@@ -16,10 +17,7 @@ use Rattle.csi_types.specs.declared.call.Party.TheVariants.{Controller}
 use Rattle.csi_types.specs.declared.capability.Capability.{Capability}
 use Rattle.csi_types.specs.declared.number.Number.{Number}
 use Rattle.csi_types.specs.declared.reply.Reply.{Reply}
-use Rattle.csi_types.specs.declared.status.Status.{Status}
-use Rattle.csi_types.specs.declared.status.Status.TheVariants.{InvalidArgument, ResourceExhausted, OutOfRange}
 use Rattle.csi_types.specs.Model.Call.{kind_of}
-use Rattle.csi_types.specs.Model.Capacity.{is_bad_range, is_empty_range, capacity_wanted}
 use Rattle.csi_types.specs.Model.Config.{Config}
 use Rattle.csi_types.specs.Model.Replies.{ok_reply_with, reply_frame}
 use Rattle.csi_types.specs.Model.Same.{same_text}
@@ -38,6 +36,7 @@ use Rattle.csi_controller.specs.Public.Making.{new_line}
 use Rattle.csi_controller.specs.Public.Nowhere.{reply_nowhere}
 use Rattle.csi_controller.specs.Public.OneRow.{RowShown, row_changed, state_shown}
 use Rattle.csi_controller.specs.Public.Plan.{IsSoundBy, controller_plan, created, is_full_by, made_row, row_keeping, told_in}
+use Rattle.csi_controller.specs.Private.PlanLaws.{IsNewLine, makes, new-outcome, one-for, refuses}
 use Rattle.csi_controller.proofs.Holdings.{can-about, held_in, same-volume}
 use Rattle.csi_controller.proofs.PutLast.{put-last}
 use Rattle.csi_controller.proofs.RowTable.{held-nowhere, line-told, live-nowhere}
@@ -70,11 +69,6 @@ got-at [] place x at = absurd at
 got-at (y ∷ ys) zero x at = ap Some at
 got-at (y ∷ ys) (suc place) x at = got-at ys place x at
 
--- not not is as it was
-pub twice : (b : Bool) → not (not b) ≡ b
-twice true = refl
-twice false = refl
-
 -- ---- a session that begins
 
 -- a volume that was deleted is held nowhere, so the holdings of each id stay
@@ -97,7 +91,7 @@ held-live next (r ∷ rs) id each one = by (r.volume.id == id) r.volume.is_live 
 -- live volumes, told twice over
 pub filter-twice : (rows : List RowShown) → filter (λ (r : RowShown). not (not r.volume.is_live)) rows ≡ filter (λ (r : RowShown). r.volume.is_live) rows
 filter-twice [] = refl
-filter-twice (r ∷ rs) = (λ i. cond (twice r.volume.is_live i) (r ∷ filter-twice rs i) (filter-twice rs i))
+filter-twice (r ∷ rs) = (λ i. cond (not-not r.volume.is_live i) (r ∷ filter-twice rs i) (filter-twice rs i))
 
 -- the rows that aren't empty show the state in which it has begun
 pub begun-shows : (session : ℕ) (old : ControllerRows) (state : ControllerState) → AreRowsSound old → RowsShowAll old state
@@ -130,26 +124,6 @@ kept-same call old state shows =
     by (Some row) = refl
 
 -- ---- what a new name is answered
-
--- a refusal, or a volume that is made
-data IsNewLine (next : ℕ) (name : List ℕ) (wished : List Capability) : Outcome → Type 0 where
-  refuses : (status : Status) (detail : List ℕ) → IsNewLine next name wished (refused status detail)
-  makes : (capacity : ℕ) → IsNewLine next name wished (record { reply = ok_reply_with next; change = Makes name capacity wished })
-
--- it is one of these
-new-outcome : (greatest count next : ℕ) (name : List ℕ) (required limit : ℕ) (wished : List Capability) → IsNewLine next name wished (new_line greatest count next name required limit wished)
-new-outcome greatest count next name required limit [] = refuses InvalidArgument (codes "capabilities")
-new-outcome greatest count next name required limit (first ∷ others) = by (is_bad_range required limit) (is_empty_range required limit) (nat_lt greatest (capacity_wanted required limit)) (nat_le 4096 count || nat_le 18446744073709551616 next)
-  where
-    by : (bad none above full : Bool)
-        → IsNewLine next name (first ∷ others)
-        (unless (cond bad (Some (refused InvalidArgument (codes "capacity"))) (cond none (Some (refused OutOfRange (codes "range"))) None))
-        (cond above (refused OutOfRange (codes "range")) (cond full (refused ResourceExhausted (codes "volumes")) (record { reply = ok_reply_with next; change = Makes name (capacity_wanted required limit) (first ∷ others) }))))
-    by true none above full = refuses InvalidArgument (codes "capacity")
-    by false true above full = refuses OutOfRange (codes "range")
-    by false false true full = refuses OutOfRange (codes "range")
-    by false false false true = refuses ResourceExhausted (codes "volumes")
-    by false false false false = makes (capacity_wanted required limit)
 
 -- a row without holdings, at the end
 held-append : (rows : List RowShown) (row : RowShown) (id : ℕ) → row.items ≡ [] → held_in (find (λ (r : RowShown). r.volume.id == id) (rows ++ row ∷ [])) ≡ held_in (find (λ (r : RowShown). r.volume.id == id) rows)
@@ -231,10 +205,10 @@ module _ (config : Config) (number : Number) (old : ControllerRows) (state : Con
       ∙ ap (λ k. create_new config.greatest (length old.rows) k name required limit wished) (sym shows.next)))
 
   -- CreateVolume of a name that no row has
-  alike-new : (name : List ℕ) (required limit : ℕ) (wished : List Capability) → find (λ (r : RowShown). same_text r.volume.name name) old.rows ≡ None → (outcome : Outcome) → IsNewLine old.own name wished outcome
+  alike-new : (name : List ℕ) (required limit : ℕ) (wished : List Capability) → find (λ (r : RowShown). same_text r.volume.name name) old.rows ≡ None → (outcome : Outcome) → IsNewLine (length old.rows) old.own name wished outcome
       → IsCarriedAlike (calls.CreateVolume name required limit wished) (carried_lacking controller_plan old (created number old.own outcome.reply outcome.change)) outcome
   alike-new name required limit wished none _ (refuses status detail) = alike-same (calls.CreateVolume name required limit wished) (refused status detail).reply none
-  alike-new name required limit wished none _ (makes capacity) = alike-made name required limit capacity wished none
+  alike-new name required limit wished none _ (makes capacity room) = alike-made name required limit capacity wished none
 
   -- what the table answers to another call of an id that no row has
   nowhere-told : (call : Call) → find (λ (r : RowShown). is_row_for call r.volume) old.rows ≡ None → IsTrue (is_party_of (kind_of call) Controller)
@@ -257,17 +231,6 @@ module _ (config : Config) (number : Number) (old : ControllerRows) (state : Con
   nowhere-told (calls.NodeUnstageVolume id) none party = absurd cc
   nowhere-told (calls.NodePublishVolume id target capability readonly) none party = absurd cc
   nowhere-told (calls.NodeUnpublishVolume id target) none party = absurd cc
-
-  -- a call finds one row at most
-  one_of : (call : Call) → AtMostOne (λ (r : RowShown). is_row_for call r.volume) old.rows
-  one_of (calls.CreateVolume name required limit capabilities) = sound.unique name
-  one_of (calls.DeleteVolume id) = one-id old sound id
-  one_of (calls.ControllerPublishVolume id node capability readonly) = one-id old sound id
-  one_of (calls.ControllerUnpublishVolume id node) = one-id old sound id
-  one_of (calls.NodeStageVolume id capability) = one-id old sound id
-  one_of (calls.NodeUnstageVolume id) = one-id old sound id
-  one_of (calls.NodePublishVolume id target capability readonly) = one-id old sound id
-  one_of (calls.NodeUnpublishVolume id target) = one-id old sound id
 
   module _ (call : Call) (row : RowShown) (found : find (controller_plan.is_for call) old.rows ≡ Some row) where
     there : IsFirst (controller_plan.is_for call) old.rows row
@@ -310,7 +273,7 @@ module _ (config : Config) (number : Number) (old : ControllerRows) (state : Con
           reply = refl;
           after = subst (λ (rows : List RowShown). RowsShowAll (record old { rows = rows }) (keep call (kept_by call outcome) (changed state (kept_by call outcome) outcome.change))) is_new
               (shown-after old state (keep call (kept_by call outcome) (changed state (kept_by call outcome) outcome.change)) there.place row new (kept_by call outcome) outcome.change shows at (one-id old sound) about stays.0 stays.1
-              (volumes-after call (kept_by call outcome) state old.rows there.place row new outcome.change shows.volumes there.first (one_of call) about
+              (volumes-after call (kept_by call outcome) state old.rows there.place row new outcome.change shows.volumes there.first (one-for old.rows call sound.unique sound.rising) about
               (λ id is. ends_by config (state_shown row) call outcome id (lifecycle-outcome config (is_full_by config.nodes old.rows) (state_shown row) call) is) volume)
               refl same_id refl);
         })

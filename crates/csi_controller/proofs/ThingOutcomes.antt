@@ -27,6 +27,7 @@ use Rattle.csi_controller.specs.Public.View.{live_named, held_in, thing_of}
 use Rattle.csi_controller.proofs.SameText.{text-turned}
 use Rattle.csi_controller.proofs.TableOutcomes.{IsOutcome, publish_call, was_refused, was_found, was_made, was_ended, was_ended_before, was_attached, was_attached_before, was_detached, was_detached_before}
 use Rattle.csi_controller.proofs.OrderlyStates.{IsOrderly, is_named, is_with_id, with_id_by_name, end_leaves}
+use Rattle.csi_controller.proofs.OutcomeFacts.{itself_at}
 
 -- after an OK the thing is as asked, after a refusal as it was, and other things are as they were
 pub record Does (thing : PluginThing) (call : Call) (reply : Reply) (old new : ControllerState) : Type 0 where
@@ -165,10 +166,6 @@ held_elsewhere holding id node differs = by (holding.volume == id) (same_text ho
     by true true h k =
         absurd (true≢false
         (sym (and_from (id == holding.volume) (same_text node holding.node) (eq-eqb id holding.volume (sym (eqb-true holding.volume id h))) (text-turned node holding.node ∙ k)) ∙ differs))
-
--- a holding is its own volume's, at its own node
-itself_at : (holding : Holding) → is_held_at holding.volume holding.node holding ≡ true
-itself_at holding = and_from _ _ (eq-eqb holding.volume holding.volume refl) ((same_text-tells holding.node holding.node).1 refl)
 
 -- how a holding is there
 abbrev form_of : Holding → ThingForm
