@@ -19,7 +19,7 @@ use Rattle.csi_types.specs.Public.Call.{is_party_of}
 use Rattle.csi_fence.specs.declared.answer.Answer.{Answer}
 use Rattle.csi_fence.specs.declared.fault.CoreFault.{CoreFault}
 use Rattle.csi_fence.specs.Model.Fence.{Kept, begins, is_over}
-use Rattle.csi_fence.specs.Model.Fenced.{Fenced, in_session}
+use Rattle.csi_fence.specs.Model.Fenced.{Fenced, answered_in, in_session}
 use Rattle.csi_fence.specs.Public.Delivery.{last_of}
 use Rattle.csi_fence.specs.Public.Fence.{IsFresh}
 use Rattle.csi_fence.specs.Public.Rows.{AreKept, Answers, IsAnswered, Puts, PutsAt, PutsNone, rows_machine}
@@ -35,7 +35,6 @@ use Rattle.csi_fence.specs.Public.Repeats.{IsPlainRepeat}
 use Rattle.csi_controller.specs.Public.RowsLaw.{Changes, ChangesAt, row_by_id, staying}
 use Rattle.csi_controller.specs.Public.Views.{IsCopyOf}
 use Rattle.csi_controller.specs.Private.Answers.{AnswersOwn, IsCallAnswered}
-use Rattle.csi_controller.specs.Private.Fenced.{answered_in}
 use Rattle.csi_controller.specs.Public.OneRow.{RowShown, row_shown}
 use Rattle.csi_controller.specs.Public.Plan.{Fits, IsSoundBy, controller_plan}
 use Rattle.csi_controller.proofs.RowsMachine.{begun-shows, begun-sound, carried-alike, filter-twice, kept-same, rows-simulate}
@@ -171,7 +170,7 @@ call-answered old new number call answer party sound config from to is =
           let alike = answered-alike (rows_machine controller_plan old.config) (controller_with old.config) AreRowsSound RowsShowAll (rows-simulate old.config) number call (rows_in old) state party sound (shows-in old state shown) in
           record {
             reply = sym alike.reply ∙ ap (λ (f : Fenced ControllerRows). f.reply) is.gives;
-            shown = shows-out new (answered_in old.config state number call).state to (subst (λ (f : Fenced ControllerRows). RowsShowAll f.state (answered_in old.config state number call).state) is.gives alike.after);
+            shown = shows-out new (answered_in (controller_with old.config) state number call).state to (subst (λ (f : Fenced ControllerRows). RowsShowAll f.state (answered_in (controller_with old.config) state number call).state) is.gives alike.after);
           };
       changes = by answer.row is.puts;
       allowed = is.allowed;

@@ -5,7 +5,6 @@ use Rattle.std.specs.declared.result.Result.TheVariants as results
 use Rattle.std.proofs.lemmas.Bool.{true≢false, not-true}
 use Rattle.std.proofs.lemmas.List.{length-append, map_push}
 use Rattle.std.proofs.lemmas.List.Elements.{recursion_from_All}
-use Rattle.std.proofs.lemmas.Option.{get_or_from_slice_get, slice_get_within}
 use Rattle.csi_lists.proofs.Each.{each-append_one, each-at, each-filter, each-weaker}
 use Rattle.csi_lists.proofs.Filters.{filter-no_longer}
 use Rattle.csi_lists.proofs.Places.{AtMostOne-append, AtMostOne-filter}
@@ -22,9 +21,8 @@ use Rattle.csi_controller.specs.Public.Names.{by_name}
 use Rattle.csi_controller.specs.Public.OneRow.{RowShown, row_changed}
 use Rattle.csi_controller.specs.Private.OneRow.{CanChange, moved}
 use Rattle.csi_controller.specs.Public.Plan.{Fits, IsFree, IsSoundBy, controller_plan}
-use Rattle.csi_controller.specs.Private.PlanLaws.{at-got, fits-set}
+use Rattle.csi_controller.specs.Private.PlanLaws.{at-got, fits-set, same-volume}
 use Rattle.csi_controller.proofs.Counts.{changed-counted, counted-fewer, made-counted}
-use Rattle.csi_controller.proofs.Holdings.{same-volume}
 use Rattle.csi_controller.proofs.PutLast.{put-last}
 
 -- a row that doesn't stay was deleted
@@ -45,7 +43,7 @@ pub fits-changed : (nodes : List NodeSlots) (names : List (List ℕ × ℕ)) (co
 fits-changed nodes names counts n rows place row new change fits at can is =
     let volume = ap (λ (r : RowShown). r.volume) is ∙ same-volume row change in
     fits-set nodes names counts (recounted nodes (moved change) counts) n rows place row new fits at (ap (λ (v : Volume). v.id) volume) (ap (λ (v : Volume). v.name) volume)
-    (changed-counted nodes rows place row new change counts fits.counted fits.limit (slice_get_within rows place row at) (sym (get_or_from_slice_get rows place row row at)) can (ap (λ (r : RowShown). r.items) is))
+    (changed-counted nodes rows place row new change counts fits.counted fits.limit at can (ap (λ (r : RowShown). r.items) is))
     (subst IsFree (sym is) (free-changed row change can (each-at IsFree rows place row fits.free (at-got rows place row at))))
 
 -- where a row is put last, of a new name and held nowhere

@@ -1,12 +1,12 @@
 -- The counts of the configured nodes after a row changed.
 use Rattle.std.proofs.Common.{◌≡◌, ◌≢◌, ◌≤◌, ◌<◌, ◌+◌, ℕ, Bool, true, false, cond, not, filter, List, [], ◌∷◌, ◌++◌, length, get_or, set, refl, sym, ◌∙◌, ap, subst, slice_index, arith}
-use Rattle.std.specs.Prelude.{Option, Some, None, find, is_some, count_by, map, ◌==◌, ◌||◌, ◌&&◌, nat_le}
+use Rattle.std.specs.Prelude.{Option, Some, None, find, is_some, count_by, map, ◌==◌, ◌||◌, ◌&&◌, nat_le, slice_get}
 use Rattle.std.specs.List.{AllByRecursion, list_any}
 use Rattle.std.proofs.lemmas.Bool.{true≢false, eq-eqb, eqb-true, or_parts}
 use Rattle.std.proofs.lemmas.Grind.{get_or-set_at}
 use Rattle.std.proofs.lemmas.List.{get_or-set_other, length-set}
 use Rattle.std.proofs.lemmas.List.Quantifiers.{position-Some}
-use Rattle.std.proofs.lemmas.List.Sums.{sum_by-set, count_by-le-length}
+use Rattle.std.proofs.lemmas.List.Sums.{count_by-le-length}
 use Rattle.std.proofs.lemmas.Map.Views.{any-filter_same}
 use Rattle.std.proofs.Math.Bool.{or-false, or-true}
 use Rattle.std.proofs.lemmas.List.Folds.{list_any-append}
@@ -26,8 +26,9 @@ use Rattle.csi_controller.specs.Public.OneRow.{RowShown, row_changed, held_by}
 use Rattle.csi_controller.specs.Private.OneRow.{moved, CanChange}
 use Rattle.csi_controller.specs.Public.Counts.{is_held, count_held, place_of, AreCounted}
 use Rattle.csi_controller.specs.Private.Counts.{count_at_place, is_full_with, is_node_full, count_after, counted_at, recounted}
-use Rattle.csi_controller.specs.Private.PlanLaws.{counted-alike, counted-left}
+use Rattle.csi_controller.specs.Private.PlanLaws.{counted-alike, counted-left, at-got, counted-set}
 use Rattle.csi_controller.proofs.SameText.{text-turned}
+use Rattle.csi_fence.proofs.StayingRows.{count-set}
 
 -- ---- where a node is configured
 
@@ -96,52 +97,38 @@ at-node nodes rows after node is counts counted own others (Some found) here =
         let apart : place ≢ found = λ same. true≢false (sym ((same_text-tells node other).1 (same-node node other nodes found here (at ∙ ap Some same))) ∙ e) in
         get_or-set_other counts found place value 0 apart ∙ counted.each other place at ∙ sym (others other e)
 
--- what another row in its place adds or takes
-changes : (node : List ℕ) (rows : List RowShown) (place : ℕ) (row new : RowShown) → place < length rows → row ≡ get_or rows place row
-    → count_held node (set rows place new) + cond (is_held node row) 1 0 ≡ count_held node rows + cond (is_held node new) 1 0
-changes node rows place row new inside is =
-    ap (λ (r : RowShown). count_held node (set rows place new) + cond (is_held node r) 1 0) is
-    ∙ sum_by-set (λ (r : RowShown). cond (is_held node r) 1 0) rows place new row inside
-
--- another row in a row's place leaves the count of a node at which both are held, or neither is
-alike-counted : (node : List ℕ) (rows : List RowShown) (place : ℕ) (row new : RowShown) → place < length rows → row ≡ get_or rows place row → is_held node new ≡ is_held node row
-    → count_held node (set rows place new) ≡ count_held node rows
-alike-counted node rows place row new inside is same =
-    let whole = changes node rows place row new inside is ∙ ap (λ b. count_held node rows + cond b 1 0) same in
-    omega (arith, whole)
-
 -- the counts after a row came to be held at a node, or ceased to be, and is held elsewhere as before
 node-counted : (nodes : List NodeSlots) (rows : List RowShown) (place : ℕ) (row new : RowShown) (node : List ℕ) (is : Bool) (counts : List ℕ) → AreCounted nodes rows counts → length rows ≤ 4096
-    → place < length rows → row ≡ get_or rows place row → is_held node row ≡ not is → is_held node new ≡ is → ((other : List ℕ) → same_text node other ≡ false → is_held other new ≡ is_held other row)
+    → slice_get rows place ≡ Some row → is_held node row ≡ not is → is_held node new ≡ is → ((other : List ℕ) → same_text node other ≡ false → is_held other new ≡ is_held other row)
     → AreCounted nodes (set rows place new) (counted_at (place_of node nodes) is counts)
-node-counted nodes rows place row new node is counts counted limit inside stands was now others = by is was now
+node-counted nodes rows place row new node is counts counted limit at was now others = by is was now
   where
     after : List RowShown
     after = set rows place new
 
     others_counted : (other : List ℕ) → same_text node other ≡ false → count_held other after ≡ count_held other rows
-    others_counted other e = alike-counted other rows place row new inside stands (others other e)
+    others_counted other e = counted-set other rows place row new (at-got rows place row at) (others other e)
 
     few : count_held node rows ≤ 4096
     few = let most = count_by-le-length (is_held node) rows in omega (arith, most, limit)
 
     by : (is : Bool) → is_held node row ≡ not is → is_held node new ≡ is → AreCounted nodes after (counted_at (place_of node nodes) is counts)
     by false w n =
-        let whole = changes node rows place row new inside stands in
+        let whole = count-set (is_held node) rows place row new at in
         let less : count_held node after + 1 ≡ count_held node rows = (λ i. count_held node after + cond (sym w i) 1 0) ∙ whole ∙ (λ i. count_held node rows + cond (n i) 1 0) ∙ omega arith in
         let small = few in
         at-node nodes rows after node false counts counted (omega (arith, less, small)) others_counted (place_of node nodes) refl
     by true w n =
-        let whole = changes node rows place row new inside stands in
+        let whole = count-set (is_held node) rows place row new at in
         let more : count_held node after ≡ count_held node rows + 1 = omega arith ∙ (λ i. count_held node after + cond (sym w i) 1 0) ∙ whole ∙ (λ i. count_held node rows + cond (n i) 1 0) in
         let small = few in
         at-node nodes rows after node true counts counted (omega (arith, more, small)) others_counted (place_of node nodes) refl
 
 -- a row that is held as before leaves all counts
-pub same-counted : (nodes : List NodeSlots) (rows : List RowShown) (place : ℕ) (row new : RowShown) (counts : List ℕ) → AreCounted nodes rows counts → place < length rows → row ≡ get_or rows place row
-    → new.items ≡ row.items → AreCounted nodes (set rows place new) counts
-same-counted nodes rows place row new counts counted inside is same =
-    counted-alike nodes rows (set rows place new) counts (λ node. alike-counted node rows place row new inside is (ap (list_any (λ held. same_text held.node node)) same)) counted
+same-counted : (nodes : List NodeSlots) (rows : List RowShown) (place : ℕ) (row new : RowShown) (counts : List ℕ) → AreCounted nodes rows counts → slice_get rows place ≡ Some row → new.items ≡ row.items
+    → AreCounted nodes (set rows place new) counts
+same-counted nodes rows place row new counts counted at same =
+    counted-alike nodes rows (set rows place new) counts (λ node. counted-set node rows place row new (at-got rows place row at) (ap (list_any (λ held. same_text held.node node)) same)) counted
 
 -- ---- all nodes
 
@@ -206,19 +193,19 @@ one_more p items held b e = list_any-append p items (held ∷ []) ∙ ap (λ (t 
 
 -- the counts are right after a row's change, once they are counted again for the node that it moves
 pub changed-counted : (nodes : List NodeSlots) (rows : List RowShown) (place : ℕ) (row new : RowShown) (change : Change) (counts : List ℕ) → AreCounted nodes rows counts → length rows ≤ 4096
-    → place < length rows → row ≡ get_or rows place row → CanChange row change → new.items ≡ (row_changed row change).items
+    → slice_get rows place ≡ Some row → CanChange row change → new.items ≡ (row_changed row change).items
     → AreCounted nodes (set rows place new) (recounted nodes (moved change) counts)
-changed-counted nodes rows place row new Stays counts counted limit inside stands can items = same-counted nodes rows place row new counts counted inside stands items
-changed-counted nodes rows place row new (Makes name capacity capabilities) counts counted limit inside stands can items = absurd can
-changed-counted nodes rows place row new (Ends id) counts counted limit inside stands can items = same-counted nodes rows place row new counts counted inside stands items
-changed-counted nodes rows place row new (Attaches holding) counts counted limit inside stands can items =
-    node-counted nodes rows place row new holding.node true counts counted limit inside stands (any-find (λ (other : NodeHolding). same_text other.node holding.node) row.items ∙ ap is_some can.free)
+changed-counted nodes rows place row new Stays counts counted limit at can items = same-counted nodes rows place row new counts counted at items
+changed-counted nodes rows place row new (Makes name capacity capabilities) counts counted limit at can items = absurd can
+changed-counted nodes rows place row new (Ends id) counts counted limit at can items = same-counted nodes rows place row new counts counted at items
+changed-counted nodes rows place row new (Attaches holding) counts counted limit at can items =
+    node-counted nodes rows place row new holding.node true counts counted limit at (any-find (λ (other : NodeHolding). same_text other.node holding.node) row.items ∙ ap is_some can.free)
     (ap (list_any (λ (other : NodeHolding). same_text other.node holding.node)) items
     ∙ one_more (λ (other : NodeHolding). same_text other.node holding.node) row.items (held_by holding) true ((same_text-tells holding.node holding.node).1 refl) ∙ or-true (is_held holding.node row))
     (λ other differ. ap (list_any (λ (h : NodeHolding). same_text h.node other)) items
     ∙ one_more (λ (h : NodeHolding). same_text h.node other) row.items (held_by holding) false differ ∙ or-false (is_held other row))
-changed-counted nodes rows place row new (Detaches id node) counts counted limit inside stands can items =
-    node-counted nodes rows place row new node false counts counted limit inside stands (any-find (λ (held : NodeHolding). same_text held.node node) row.items ∙ can.1)
+changed-counted nodes rows place row new (Detaches id node) counts counted limit at can items =
+    node-counted nodes rows place row new node false counts counted limit at (any-find (λ (held : NodeHolding). same_text held.node node) row.items ∙ can.1)
     (ap (list_any (λ (held : NodeHolding). same_text held.node node)) items ∙ here_none node row.items)
     (λ other differ. ap (list_any (λ (held : NodeHolding). same_text held.node other)) items ∙ taken-others node other row.items differ)
 

@@ -35,14 +35,6 @@ can-about row (Ends id) can = can.0
 can-about row (Attaches holding) can = can.own
 can-about row (Detaches id node) can = can.0
 
--- a change leaves all of the volume but whether it is live
-pub same-volume : (row : RowShown) (change : Change) → (row_changed row change).volume ≡ record row.volume { is_live = (row_changed row change).volume.is_live }
-same-volume row Stays = refl
-same-volume row (Makes name capacity capabilities) = refl
-same-volume row (Ends id) = refl
-same-volume row (Attaches holding) = refl
-same-volume row (Detaches id node) = refl
-
 -- an id is equal to itself
 pub self : (id : ℕ) → (id == id) ≡ true
 self id = eq-eqb id id refl

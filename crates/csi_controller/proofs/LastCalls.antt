@@ -12,7 +12,7 @@ use Rattle.csi_types.specs.declared.status.Status.TheVariants.{Ok}
 use Rattle.csi_types.specs.Model.Config.{Config}
 use Rattle.csi_fence.proofs.Views.{IsLater}
 use Rattle.csi_fence.specs.Model.Fence.{Kept, is_spent}
-use Rattle.csi_types.specs.Public.PluginThing.{PluginThing, Exists, Attached, Staged, Published}
+use Rattle.csi_types.specs.Public.PluginThing.{PluginThing, Exists, Attached}
 use Rattle.csi_types.specs.Model.Same.{same_text}
 use Rattle.csi_controller.specs.Model.State.{Volume, ControllerState, volume_named, is_row_for, row_for}
 use Rattle.csi_controller.specs.Public.State.{volume_with_id}
@@ -27,15 +27,12 @@ use Rattle.csi_controller.proofs.ThingOutcomes.{at_thing, by_volume}
 abbrev pub row_of : ControllerState → PluginThing → Option Volume
 row_of state (Exists name) = volume_named name state
 row_of state (Attached id node) = volume_with_id id state
-row_of state (Staged id node) = None
-row_of state (Published id node target) = None
+row_of state thing = None
 
 -- what is kept for a thing is what its row keeps
 pub kept_of_row : (state : ControllerState) (thing : PluginThing) → kept_in_row state thing ≡ option_map (λ volume. volume.kept) (row_of state thing)
 kept_of_row state (Exists name) = refl
-kept_of_row state (Attached id node) = refl
-kept_of_row state (Staged id node) = refl
-kept_of_row state (Published id node target) = refl
+kept_of_row state thing = refl
 
 -- a row after a change: none, the same but for its life, or one that was made and keeps the call
 data Comes (kept : Kept) : Option Volume → Option Volume → Type 0 where
@@ -94,15 +91,13 @@ found_comes p test state kept (Detaches id node) = itself_comes kept (find p sta
 row_comes : (state : ControllerState) (kept : Kept) (change : Change) (thing : PluginThing) → Comes kept (row_of state thing) (row_of (changed state kept change) thing)
 row_comes state kept change (Exists name) = found_comes (λ v. same_text v.name name) (by_name name) state kept change
 row_comes state kept change (Attached id node) = found_comes (λ v. v.id == id) (by_id id) state kept change
-row_comes state kept change (Staged id node) = none_comes
-row_comes state kept change (Published id node target) = none_comes
+row_comes state kept change thing = none_comes
 
 -- the row of a thing once a call is kept: what it was, with the call kept in it if it is the call's
 row_of-keep : (call : Call) (kept : Kept) (state : ControllerState) (thing : PluginThing) → row_of (keep call kept state) thing ≡ option_map (kept_in call kept) (row_of state thing)
 row_of-keep call kept state (Exists name) = find-map (λ v. same_text v.name name) (kept_in call kept) state.volumes (by_name name (kept_in call kept) (keep_leaves call kept))
 row_of-keep call kept state (Attached id node) = find-map (λ v. v.id == id) (kept_in call kept) state.volumes (by_id id (kept_in call kept) (keep_leaves call kept))
-row_of-keep call kept state (Staged id node) = refl
-row_of-keep call kept state (Published id node target) = refl
+row_of-keep call kept state thing = refl
 
 -- the call's row keeps the call
 taken : (call : Call) (kept : Kept) (v : Volume) → is_row_for call v ≡ true → (kept_in call kept v).kept ≡ kept
@@ -166,10 +161,7 @@ row_known state (calls.ControllerPublishVolume id node capability readonly) thin
     by_volume (λ k. row_of state k ≡ volume_with_id id state) (λ v. Attached id node) (volume_with_id id state) thing is (λ v own. refl)
 row_known state (calls.ControllerUnpublishVolume id node) thing orderly is =
     by_volume (λ k. row_of state k ≡ volume_with_id id state) (λ v. Attached id node) (volume_with_id id state) thing is (λ v own. refl)
-row_known state (calls.NodeStageVolume id capability) thing orderly is = absurd (none-some thing is)
-row_known state (calls.NodeUnstageVolume id) thing orderly is = absurd (none-some thing is)
-row_known state (calls.NodePublishVolume id target capability readonly) thing orderly is = absurd (none-some thing is)
-row_known state (calls.NodeUnpublishVolume id target) thing orderly is = absurd (none-some thing is)
+row_known state call thing orderly is = absurd (none-some thing is)
 
 -- a call that gets an OK, and has a thing, has a row then
 there_after : (config : Config) (state : ControllerState) (thing : PluginThing) (call : Call) (outcome : Outcome) (kept : Kept) → IsOrderly state → thing_of state call ≡ Some thing → IsOutcome config state call outcome

@@ -54,10 +54,14 @@ own_id state id volume is = eqb-true volume.id id (find-passes (λ (v : Volume).
 was_there : (state : ControllerState) (id : ℕ) (volume : Volume) → volume_with_id id state ≡ Some volume → HasVolume state volume
 was_there state id volume is = record { there = volume; is_found = subst (λ n. volume_with_id n state ≡ Some volume) (sym (own_id state id volume is)) is; same_name = refl }
 
--- a volume comes so after a change that leaves ids and names, if it did before
+-- a volume that was there was so after a change that leaves ids and names
+mapped_has : (old : ControllerState) (f : Volume → Volume) → LeavesNames f → (v : Volume) → HasVolume old v → HasVolume old (f v)
+mapped_has old f leaves v was =
+    record { there = was.there; is_found = subst (λ n. volume_with_id n old ≡ Some was.there) (sym (leaves.ids v)) was.is_found; same_name = was.same_name ∙ sym (leaves.names v) }
+
+-- and one that comes so does, where what is live stays so
 mapped_comes : (old : ControllerState) (f : Volume → Volume) → LeavesNames f → ((v : Volume) → v.is_live ≡ true → (f v).is_live ≡ true) → (v : Volume) → Comes old v → Comes old (f v)
-mapped_comes old f leaves lives v (inl was) =
-    inl (record { there = was.there; is_found = subst (λ n. volume_with_id n old ≡ Some was.there) (sym (leaves.ids v)) was.is_found; same_name = was.same_name ∙ sym (leaves.names v) })
+mapped_comes old f leaves lives v (inl was) = inl (mapped_has old f leaves v was)
 mapped_comes old f leaves lives v (inr made) =
     inr (record { has_next = leaves.ids v ∙ made.has_next; is_live = lives v made.is_live; was_free = subst (λ n. live_named n old ≡ None) (sym (leaves.names v)) made.was_free })
 
@@ -74,13 +78,7 @@ ended_there : (state : ControllerState) (other id : ℕ) (w : Volume) → volume
 ended_there state other id w is =
     let mapped = sym (find-map (λ (v : Volume). v.id == id) (ended_volume other) state.volumes (λ v. ap (λ n. n == id) ((end_leaves other).ids v))) ∙ is in
     let found = some-from_map (ended_volume other) (volume_with_id id state) w mapped in
-    let was = was_there state id found.0 found.1 in
-    subst (Comes state) found.2
-    (inl (record {
-      there = was.there;
-      is_found = subst (λ n. volume_with_id n state ≡ Some was.there) (sym ((end_leaves other).ids found.0)) was.is_found;
-      same_name = was.same_name ∙ sym ((end_leaves other).names found.0);
-    }))
+    subst (Comes state) found.2 (inl (mapped_has state (ended_volume other) (end_leaves other) found.0 (was_there state id found.0 found.1)))
 
 -- a volume was there, or is the one that was added
 added_comes : (state : ControllerState) (made : Volume) → made.id ≡ state.next_id → made.is_live ≡ true → volume_named made.name state ≡ None → (id : ℕ) (w : Volume)

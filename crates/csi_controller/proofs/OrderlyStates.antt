@@ -136,6 +136,10 @@ same_row (calls.NodeUnpublishVolume id' target) v w id named = ap (λ n. n == id
 pub kept_in-row : (call : Call) (kept : Kept) (v : Volume) → is_row_for call (kept_in call kept v) ≡ is_row_for call v
 kept_in-row call kept v = same_row call v (kept_in call kept v) (ap (λ (w : Volume). w.id) (kept_same call kept kept v)) (ap (λ (w : Volume). w.name) (kept_same call kept kept v))
 
+-- a row that isn't the call's stays as it was
+pub kept_in-other : (call : Call) (kept : Kept) (v : Volume) → is_row_for call v ≡ false → kept_in call kept v ≡ v
+kept_in-other call kept v h = rw h refl
+
 -- to keep a call leaves ids and names, and so does a deletion
 pub keep_leaves : (call : Call) (kept : Kept) → LeavesNames (kept_in call kept)
 keep_leaves call kept =

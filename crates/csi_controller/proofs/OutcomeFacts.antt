@@ -1,6 +1,6 @@
 -- What is so of each outcome of the controller's table.
 use Rattle.std.proofs.Common.{◌≡◌, ◌≢◌, ◌⊎◌, ℕ, ◌≤◌, List, [], ◌∷◌, Bool, true, false, cond, not, refl, sym, ap, subst, inl, inr, arith}
-use Rattle.std.specs.Prelude.{Some, None, filter, ◌==◌, ◌&&◌, ◌||◌, nat_le, codes, IsTrue}
+use Rattle.std.specs.Prelude.{Some, None, ◌==◌, ◌&&◌, ◌||◌, nat_le, codes, IsTrue}
 use Rattle.std.specs.List.{list_all, AllByRecursion}
 use Rattle.std.proofs.lemmas.Bool.{and_parts, and_from, or_cases, eqb-true, eq-eqb, leb-true, not-true, or_left, or_right}
 use Rattle.std.proofs.lemmas.Bool.Decides.{nat_tests}
@@ -22,9 +22,9 @@ use Rattle.csi_fence.specs.Model.Fence.{Kept}
 use Rattle.csi_types.specs.Model.Holding.{same_holding}
 use Rattle.csi_types.specs.Model.Replies.{ok_reply, ok_reply_with}
 use Rattle.csi_types.specs.Model.Same.{same_text, same_capability, has_capability}
-use Rattle.csi_controller.specs.Model.State.{Volume, ControllerState, volume_named, live_volume, holdings_of, is_held_at, holding_at, is_row_for}
+use Rattle.csi_controller.specs.Model.State.{Volume, ControllerState, volume_named, live_volume, holdings_of, is_held_at, holding_at}
 use Rattle.csi_controller.specs.Model.Table.{Outcome, Stays, Makes, Ends, Attaches, Detaches, refused, met, done, serves, unless, create_named, create, delete, is_full, publish_held, publish, unpublish, controller_row, ended_volume, changed}
-use Rattle.csi_controller.specs.Public.Laws.{IsDone, is_of_another}
+use Rattle.csi_controller.specs.Public.Laws.{IsDone, LeavesOthers}
 use Rattle.csi_controller.proofs.TableOutcomes.{IsOutcome, CanAttach, publish_call, was_refused, was_found, was_made, was_ended, was_ended_before, was_attached, was_attached_before, was_detached, was_detached_before, is_outcome}
 use Rattle.csi_controller.proofs.OrderlyStates.{IsOrderly, named_by_id, made_orderly, end_leaves}
 
@@ -33,16 +33,11 @@ pub record IsReady (config : Config) (state : ControllerState) (call : Call) (re
   pub is_done : IsDone state reply call
   pub again : controller_row config state call ≡ record { reply = reply; change = Stays }
 
--- the other volumes and their holdings are as they were
-pub record LeavesRest (old new : ControllerState) (call : Call) : Type 0 where
-  pub volumes : filter (λ volume. not (is_row_for call volume)) new.volumes ≡ filter (λ volume. not (is_row_for call volume)) old.volumes
-  pub holdings : filter (is_of_another call) new.holdings ≡ filter (is_of_another call) old.holdings
-
 -- what is asked of an outcome: a refusal changes nothing, an OK can be answered so again, and the rest is left
 pub record Facts (config : Config) (state : ControllerState) (call : Call) (outcome : Outcome) : Type 0 where
   pub stays : outcome.reply.status ≢ Ok → outcome.change ≡ Stays
   pub ready : outcome.reply.status ≡ Ok → (kept : Kept) → IsReady config (changed state kept outcome.change) call outcome.reply
-  pub others : (kept : Kept) → LeavesRest state (changed state kept outcome.change) call
+  pub others : (kept : Kept) → LeavesOthers state (changed state kept outcome.change) call
 
 -- what is so of a refusal
 refused_facts : (config : Config) (state : ControllerState) (call : Call) (status : Status) (detail : List ℕ) → (status ≡ Ok → ⊥) → Facts config state call (refused status detail)
@@ -141,8 +136,8 @@ ended_not_live id volume = by (volume.id == id) refl
     by false h = rw h refl
 
 -- a deletion leaves a volume of another id as it was
-ended-other : (id : ℕ) (volume : Volume) → not (volume.id == id) ≡ true → ended_volume id volume ≡ volume
-ended-other id volume h = let other : (volume.id == id) ≡ false = not-true (volume.id == id) h in rw other refl
+pub ended_other : (id : ℕ) (volume : Volume) → (volume.id == id) ≡ false → ended_volume id volume ≡ volume
+ended_other id volume h = rw h refl
 
 -- DeleteVolume is ready where no live volume has its id
 delete_ready : (config : Config) (state : ControllerState) (id : ℕ) → live_volume id state ≡ None → IsReady config state (calls.DeleteVolume id) ok_reply
@@ -154,7 +149,7 @@ ended_facts config state id =
     record {
       stays = λ h. absurd (h refl);
       ready = λ h kept. delete_ready config (changed state kept (Ends id)) id (find-map_none (λ (v : Volume). (v.id == id) && v.is_live) (ended_volume id) state.volumes (ended_not_live id));
-      others = λ kept. record { volumes = filter-map (λ (v : Volume). not (v.id == id)) (ended_volume id) state.volumes (λ v. ap (λ n. not (n == id)) ((end_leaves id).ids v)) (ended-other id); holdings = refl };
+      others = λ kept. record { volumes = filter-map (λ (v : Volume). not (v.id == id)) (ended_volume id) state.volumes (λ v. ap (λ n. not (n == id)) ((end_leaves id).ids v)) (λ v h. ended_other id v (not-true (v.id == id) h)); holdings = refl };
     }
 
 -- ControllerPublishVolume

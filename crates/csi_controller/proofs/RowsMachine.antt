@@ -36,8 +36,8 @@ use Rattle.csi_controller.specs.Public.Making.{new_line}
 use Rattle.csi_controller.specs.Public.Nowhere.{reply_nowhere}
 use Rattle.csi_controller.specs.Public.OneRow.{RowShown, row_changed, state_shown}
 use Rattle.csi_controller.specs.Public.Plan.{IsSoundBy, controller_plan, created, is_full_by, made_row, row_keeping, told_in}
-use Rattle.csi_controller.specs.Private.PlanLaws.{IsNewLine, makes, new-outcome, one-for, refuses}
-use Rattle.csi_controller.proofs.Holdings.{can-about, held_in, same-volume}
+use Rattle.csi_controller.specs.Private.PlanLaws.{IsNewLine, makes, new-outcome, one-for, refuses, same-volume}
+use Rattle.csi_controller.proofs.Holdings.{can-about, held_in}
 use Rattle.csi_controller.proofs.PutLast.{put-last}
 use Rattle.csi_controller.proofs.RowTable.{held-nowhere, line-told, live-nowhere}
 use Rattle.csi_controller.proofs.RowsTold.{told-changed}
@@ -227,10 +227,7 @@ module _ (config : Config) (number : Number) (old : ControllerRows) (state : Con
   nowhere-told (calls.ControllerUnpublishVolume id node) none party =
       let call : Call = calls.ControllerUnpublishVolume id node in
       subst (λ (o : Outcome). IsCarriedAlike call (record { reply = reply_nowhere call; state = old }) o) (sym (ap (unpublish id node) (held-nowhere old state id node shows none))) (alike-same call (reply_nowhere call) none)
-  nowhere-told (calls.NodeStageVolume id capability) none party = absurd cc
-  nowhere-told (calls.NodeUnstageVolume id) none party = absurd cc
-  nowhere-told (calls.NodePublishVolume id target capability readonly) none party = absurd cc
-  nowhere-told (calls.NodeUnpublishVolume id target) none party = absurd cc
+  nowhere-told call none party = absurd cc
 
   module _ (call : Call) (row : RowShown) (found : find (controller_plan.is_for call) old.rows ≡ Some row) where
     there : IsFirst (controller_plan.is_for call) old.rows row

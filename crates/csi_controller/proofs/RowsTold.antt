@@ -176,10 +176,7 @@ can-told config full row (calls.ControllerUnpublishVolume id node) own h =
           ∙ ap is_some (sym (held_at-seen (state_shown row) row node (alone row)))
           ∙ subst (λ (k : ℕ). is_some (holding_at k node (state_shown row)) ≡ true) is (detached-there id node (holding_at id node (state_shown row)) h),
     )
-can-told config full row (calls.NodeStageVolume id capability) own h = never h
-can-told config full row (calls.NodeUnstageVolume id) own h = never h
-can-told config full row (calls.NodePublishVolume id target capability readonly) own h = never h
-can-told config full row (calls.NodeUnpublishVolume id target) own h = never h
+can-told config full row call own h = never h
 
 -- a change that isn't one
 stays : (change : Change) → is_change change ≡ false → change ≡ Stays

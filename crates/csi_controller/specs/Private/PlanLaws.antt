@@ -37,8 +37,8 @@ use Rattle.csi_fence.specs.Public.Table.{IsOrderly, LetsKeep, HasOneRow}
 use Rattle.csi_fence.proofs.RisingRows.{once-rise, rows_rise}
 use Rattle.csi_controller.specs.declared.row.NodeHolding.{NodeHolding}
 use Rattle.csi_controller.specs.declared.table.ControllerTable.{ControllerTable}
-use Rattle.csi_controller.specs.Model.State.{live_volume}
-use Rattle.csi_controller.specs.Model.Table.{Outcome, Makes, publish, refused, unless}
+use Rattle.csi_controller.specs.Model.State.{Volume}
+use Rattle.csi_controller.specs.Model.Table.{Change, Stays, Makes, Ends, Attaches, Detaches, Outcome, lifecycle_row, refused, unless}
 use Rattle.csi_controller.specs.Public.Counts.{AreCounted, count_held, is_held}
 use Rattle.csi_controller.specs.Public.Making.{new_line}
 use Rattle.csi_controller.specs.Public.Names.{by_name}
@@ -74,28 +74,22 @@ counted-set node (r ∷ rs) (suc place) row new at same =
 
 -- a row is told the same by rows that are held alike
 pub line-alike : (config : Config) (rows others : List RowShown) (row : RowShown) (call : Call) → ((node : List ℕ) → count_held node rows ≡ count_held node others) → told_at config rows row call ≡ told_at config others row call
-line-alike config rows others row (calls.ControllerPublishVolume id node capability readonly) same =
-    ap (λ (n : ℕ). told_in (publish config (list_any (λ (entry : NodeSlots). same_text entry.id node && nat_le entry.slots n) config.nodes) (state_shown row) (record { volume = id; node = node; capability = capability; readonly = readonly }) (live_volume id (state_shown row)))) (same node)
-line-alike config rows others row (calls.CreateVolume name required limit capabilities) same = refl
-line-alike config rows others row (calls.DeleteVolume id) same = refl
-line-alike config rows others row (calls.ControllerUnpublishVolume id node) same = refl
-line-alike config rows others row (calls.NodeStageVolume id capability) same = refl
-line-alike config rows others row (calls.NodeUnstageVolume id) same = refl
-line-alike config rows others row (calls.NodePublishVolume id target capability readonly) same = refl
-line-alike config rows others row (calls.NodeUnpublishVolume id target) same = refl
+line-alike config rows others row call same =
+    λ i. told_in (lifecycle_row config (λ node. list_any (λ (entry : NodeSlots). same_text entry.id node && nat_le entry.slots (same node i)) config.nodes) (state_shown row) call)
 
 -- ---- what changes
 
+-- a change leaves all of the volume but whether it is live
+pub same-volume : (row : RowShown) (change : Change) → (row_changed row change).volume ≡ record row.volume { is_live = (row_changed row change).volume.is_live }
+same-volume row Stays = refl
+same-volume row (Makes name capacity capabilities) = refl
+same-volume row (Ends id) = refl
+same-volume row (Attaches holding) = refl
+same-volume row (Detaches id node) = refl
+
 -- a row that a call changes keeps its id
 change-id : (call : Call) (row : RowShown) → (row_changed row (call_change call)).volume.id ≡ row.volume.id
-change-id (calls.CreateVolume name required limit capabilities) row = refl
-change-id (calls.DeleteVolume id) row = refl
-change-id (calls.ControllerPublishVolume id node capability readonly) row = refl
-change-id (calls.ControllerUnpublishVolume id node) row = refl
-change-id (calls.NodeStageVolume id capability) row = refl
-change-id (calls.NodeUnstageVolume id) row = refl
-change-id (calls.NodePublishVolume id target capability readonly) row = refl
-change-id (calls.NodeUnpublishVolume id target) row = refl
+change-id call row = ap (λ (v : Volume). v.id) (same-volume row (call_change call))
 
 -- what is below a number is below the next one
 pub below-later : (k n : ℕ) → k < n → k < n + 1
@@ -154,13 +148,7 @@ was-made greatest count next number (calls.CreateVolume name required limit wish
     by _ (refuses status detail) t = absurd (true≢false (sym (ap was t)))
     by _ (makes capacity room) t =
         record { name = name; required = required; limit = limit; capacity = capacity; wished = wished; is_call = refl; is = sym (ap (row_or row) t); room = room }
-was-made greatest count next number (calls.DeleteVolume id) row h = absurd (true≢false (sym (ap was h)))
-was-made greatest count next number (calls.ControllerPublishVolume id node capability readonly) row h = absurd (true≢false (sym (ap was h)))
-was-made greatest count next number (calls.ControllerUnpublishVolume id node) row h = absurd (true≢false (sym (ap was h)))
-was-made greatest count next number (calls.NodeStageVolume id capability) row h = absurd (true≢false (sym (ap was h)))
-was-made greatest count next number (calls.NodeUnstageVolume id) row h = absurd (true≢false (sym (ap was h)))
-was-made greatest count next number (calls.NodePublishVolume id target capability readonly) row h = absurd (true≢false (sym (ap was h)))
-was-made greatest count next number (calls.NodeUnpublishVolume id target) row h = absurd (true≢false (sym (ap was h)))
+was-made greatest count next number call row h = absurd (true≢false (sym (ap was h)))
 
 -- no row has the next id
 pub new-id : (next : ℕ) (rows : List RowShown) → AllByRecursion (IsSoundBy next) rows → find (λ (r : RowShown). r.volume.id == next) rows ≡ None
