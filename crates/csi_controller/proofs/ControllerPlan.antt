@@ -46,22 +46,18 @@ fits-changed nodes names counts n rows place row new change fits at can is =
     (changed-counted nodes rows place row new change counts fits.counted fits.limit at can (ap (λ (r : RowShown). r.items) is))
     (subst IsFree (sym is) (free-changed row change can (each-at IsFree rows place row fits.free (at-got rows place row at))))
 
--- where a row is put last, of a new name and held nowhere
-pub fits-made : (nodes : List NodeSlots) (names : List (List ℕ × ℕ)) (counts : List ℕ) (n : ℕ) (rows : List RowShown) (row : RowShown) → Fits nodes names counts n rows → length rows < 4096
-    → find (λ (r : RowShown). same_text r.volume.name row.volume.name) rows ≡ None → row.items ≡ [] → Fits nodes (names ++ by_name row ∷ []) counts n (rows ++ row ∷ [])
-fits-made nodes names counts n rows row fits room none empty = record {
+-- where a row is put last, of a new name and held nowhere, under another next id
+fits-made : (nodes : List NodeSlots) (names : List (List ℕ × ℕ)) (counts : List ℕ) (n m : ℕ) (rows : List RowShown) (row : RowShown) → Fits nodes names counts n rows → m < 18446744073709551616 → length rows < 4096
+    → find (λ (r : RowShown). same_text r.volume.name row.volume.name) rows ≡ None → row.items ≡ [] → Fits nodes (names ++ by_name row ∷ []) counts m (rows ++ row ∷ [])
+fits-made nodes names counts n m rows row fits below room none empty = record {
   names_are = ap (λ (l : List (List ℕ × ℕ)). l ++ by_name row ∷ []) fits.names_are ∙ sym (map_push by_name rows row);
   unique = λ k. AtMostOne-append (λ (r : RowShown). same_text r.volume.name k) rows row (fits.unique k)
       (λ e. subst (λ (x : List ℕ). find (λ (r : RowShown). same_text r.volume.name x) rows ≡ None) ((same_text-tells row.volume.name k).0 e) none);
   limit = let longer : length (rows ++ row ∷ []) ≡ length rows + 1 = length-append rows (row ∷ []) in omega (arith, room, longer);
   counted = made-counted nodes rows counts row empty fits.counted;
   free = each-append_one IsFree rows row fits.free (λ dead. empty);
-  below = fits.below;
+  below = below;
 }
-
--- with another next id
-fits-later : (nodes : List NodeSlots) (names : List (List ℕ × ℕ)) (counts : List ℕ) (n m : ℕ) (rows : List RowShown) → m < 18446744073709551616 → Fits nodes names counts n rows → Fits nodes names counts m rows
-fits-later nodes names counts n m rows below fits = record { names_are = fits.names_are; unique = fits.unique; limit = fits.limit; counted = fits.counted; free = fits.free; below = below }
 
 -- where it is put by its id, which is the next one
 pub fits-entered : (nodes : List NodeSlots) (names : List (List ℕ × ℕ)) (counts : List ℕ) (n m next : ℕ) (rows : List RowShown) (row : RowShown) → Fits nodes names counts n rows → m < 18446744073709551616 → All (IsSoundBy next) rows → length rows < 4096
@@ -69,7 +65,7 @@ pub fits-entered : (nodes : List NodeSlots) (names : List (List ℕ × ℕ)) (co
 fits-entered nodes names counts n m next rows row fits below sound room none own empty =
     subst (Fits nodes (names ++ by_name row ∷ []) counts m)
     (sym (put-last controller_plan.id rows row (each-weaker (IsSoundBy next) (λ (r : RowShown). r.volume.id < row.volume.id) rows (λ r is. subst (λ (n : ℕ). r.volume.id < n) (sym own) is.below) (recursion_from_All (IsSoundBy next) rows sound))))
-    (fits-later nodes (names ++ by_name row ∷ []) counts n m (rows ++ row ∷ []) below (fits-made nodes names counts n rows row fits room none empty))
+    (fits-made nodes names counts n m rows row fits below room none empty)
 
 -- where rows are left out that are held nowhere
 pub fits-left : (nodes : List NodeSlots) (names : List (List ℕ × ℕ)) (counts : List ℕ) (n : ℕ) (rows : List RowShown) (q : RowShown → Bool) → Fits nodes names counts n rows → ((row : RowShown) → q row ≡ false → row.volume.is_live ≡ false)

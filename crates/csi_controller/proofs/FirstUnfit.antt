@@ -3,8 +3,9 @@ use Rattle.std.proofs.Common.{◌≡◌, ◌≤◌, ◌+◌, ◌-◌, ℕ, take,
 use Rattle.std.specs.Prelude.{Option, Some, None, MatchOption, filter, max, ◌||◌, ◌==◌, nat_le}
 use Rattle.std.specs.List.{AllByRecursion}
 use Rattle.std.proofs.lemmas.Bool.{eqb-true, leb-false, leb-true}
-use Rattle.std.proofs.Math.Nat.{le-max_left, le-max_right, max-le, max_comm}
+use Rattle.std.proofs.Math.Nat.{le-max_left, le-max_right, max_comm}
 use Rattle.std.proofs.lemmas.List.{take-append-drop, take-take}
+use Rattle.std.proofs.lemmas.Bool.Decides.{nat_tests}
 use Rattle.csi_lists.proofs.Each.{each-weaker}
 use Rattle.csi_controller.specs.declared.row.ControllerRow.{ControllerRow}
 use Rattle.csi_controller.specs.Public.Core.{IsCurrentRow, IsCurrent}
@@ -97,12 +98,7 @@ staying-current session (r ∷ rs) each = by (stays_in session r) refl (staying-
 
 -- the greatest of three
 max-grouped : (a b c : ℕ) → max a (max b c) ≡ max (max a b) c
-max-grouped a b c =
-    let a_left = le-max_left a b in let b_left = le-max_right a b in let ab = le-max_left (max a b) c in let c_left = le-max_right (max a b) c in
-    let b_right = le-max_left b c in let c_right = le-max_right b c in let a_right = le-max_left a (max b c) in let bc = le-max_right a (max b c) in
-    let less : max a (max b c) ≤ max (max a b) c = max-le (omega (arith, a_left, ab)) (max-le (omega (arith, b_left, ab)) c_left) in
-    let more : max (max a b) c ≤ max a (max b c) = max-le (max-le a_right (omega (arith, b_right, bc))) (omega (arith, c_right, bc)) in
-    omega (arith, less, more)
+max-grouped a b c = grind (arith, nat_tests)
 
 -- one more row
 pub latest-append : (rows : List ControllerRow) (row : ControllerRow) → latest_session (rows ++ row ∷ []) ≡ max (latest_session rows) row.last.session

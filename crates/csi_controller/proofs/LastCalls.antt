@@ -20,7 +20,7 @@ use Rattle.csi_controller.specs.Model.Table.{Outcome, Change, Stays, Makes, Ends
 use Rattle.csi_controller.specs.Model.Fenced.{kept_in, keep}
 use Rattle.csi_controller.specs.Public.View.{kept_in_row, thing_of}
 use Rattle.csi_controller.proofs.TableOutcomes.{IsOutcome, was_refused, was_found, was_made, was_ended, was_ended_before, was_attached, was_attached_before, was_detached, was_detached_before}
-use Rattle.csi_controller.proofs.OrderlyStates.{IsOrderly, LeavesNames, keep_leaves, end_leaves, same_row, with_id_by_name}
+use Rattle.csi_controller.proofs.OrderlyStates.{IsOrderly, LeavesNames, keep_leaves, end_leaves, same_row, with_id_by_name, ended_same}
 use Rattle.csi_controller.proofs.ThingOutcomes.{at_thing, by_volume}
 
 -- the row of a thing's volume
@@ -45,18 +45,10 @@ itself_comes : (kept : Kept) (o : Option Volume) → Comes kept o o
 itself_comes kept None = none_comes
 itself_comes kept (Some v) = same_comes v v refl refl refl
 
--- a deletion leaves what a row keeps
-ended_kept : (id : ℕ) (v : Volume) → (ended_volume id v).kept ≡ v.kept
-ended_kept id v = by (v.id == id)
-  where
-    by : (b : Bool) → (cond b (record v { is_live = false }) v).kept ≡ v.kept
-    by true = refl
-    by false = refl
-
 -- a row comes so where a volume is deleted, its own or another
 ended_comes : (kept : Kept) (id : ℕ) (o : Option Volume) → Comes kept o (option_map (ended_volume id) o)
 ended_comes kept id None = none_comes
-ended_comes kept id (Some v) = same_comes v (ended_volume id v) ((end_leaves id).ids v) ((end_leaves id).names v) (ended_kept id v)
+ended_comes kept id (Some v) = same_comes v (ended_volume id v) ((end_leaves id).ids v) ((end_leaves id).names v) (ap (λ (w : Volume). w.kept) (ended_same id v))
 
 -- so does the row that was found before, or else one that was just made
 added_comes : (kept : Kept) (n : Volume) (o : Option Volume) (b : Bool) → n.kept ≡ kept → Comes kept o (option_or o (cond b (Some n) None))

@@ -52,10 +52,6 @@ lookup-map f p q (x ∷ xs) same =
     by true h = refl
     by false h = h
 
--- the value of a key, where the entries are made of rows
-pub lookup-keys : {X K V : Type 0} (f : X → K × V) (p : K → Bool) (q : X → Bool) (es : List (K × V)) (xs : List X) → es ≡ map f xs → ((x : X) → p (f x).0 ≡ q x) → lookup p es ≡ option_map (λ x. (f x).1) (find q xs)
-lookup-keys f p q es xs is same = ap (lookup p) is ∙ lookup-map f p q xs same
-
 -- the place of the row that passes, where the texts of the keys are the names of rows
 pub position-texts : {Z : Type 0} (p : List ℕ → Bool) (q : RowShown → Bool) (es : List (String Z × ℕ)) (rows : List RowShown) → map by_text es ≡ map by_name rows → ((row : RowShown) → p row.volume.name ≡ q row)
     → position (λ (key : String Z). p (string_bytes key)) (keys_of es) ≡ position q rows
@@ -73,7 +69,7 @@ lookup-texts p (e ∷ es) = ap (cond (p (string_bytes e.0)) (Some e.1)) (lookup-
 -- the id of the row that passes
 pub id-texts : {Z : Type 0} (p : List ℕ → Bool) (q : RowShown → Bool) (es : List (String Z × ℕ)) (rows : List RowShown) → map by_text es ≡ map by_name rows → ((row : RowShown) → p row.volume.name ≡ q row)
     → lookup (λ (key : String Z). p (string_bytes key)) es ≡ option_map (λ (row : RowShown). row.volume.id) (find q rows)
-id-texts p q es rows is same = lookup-texts p es ∙ lookup-keys by_name p q (map by_text es) rows is same
+id-texts p q es rows is same = lookup-texts p es ∙ ap (lookup p) is ∙ lookup-map by_name p q rows same
 
 -- ---- one more
 

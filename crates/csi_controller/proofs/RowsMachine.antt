@@ -9,6 +9,8 @@ use Rattle.csi_lists.proofs.Filters.{filter-of_map}
 use Rattle.csi_lists.proofs.Maps.{map-none_shown}
 use Rattle.csi_lists.proofs.Places.{AtMostOne-filter, FirstAt-is_at, FirstAt-passes, FirstAt-within}
 use Rattle.csi_lists.proofs.Searches.{find-of_map}
+use Rattle.csi_lists.proofs.PassingByKey.{find-passing, passing}
+use Rattle.csi_lists.proofs.Members.{among-find, each_of}
 use Rattle.csi_lists.specs.Public.Places.{AtMostOne, FirstAt, IsAt}
 use Rattle.csi_types.specs.declared.call.Call.{Call}
 use Rattle.csi_types.specs.declared.call.Call.TheVariants as calls
@@ -35,15 +37,14 @@ use Rattle.csi_controller.specs.Public.Core.{volume_holding}
 use Rattle.csi_controller.specs.Public.Making.{new_line}
 use Rattle.csi_controller.specs.Public.Nowhere.{reply_nowhere}
 use Rattle.csi_controller.specs.Public.OneRow.{RowShown, row_changed, state_shown}
-use Rattle.csi_controller.specs.Public.Plan.{IsSoundBy, controller_plan, created, is_full_by, made_row, row_keeping, told_in}
+use Rattle.csi_controller.specs.Public.Plan.{IsSoundBy, controller_plan, created, is_full_by, made_row, row_keeping, told_in, is_change}
 use Rattle.csi_controller.specs.Private.PlanLaws.{IsNewLine, makes, new-outcome, one-for, refuses, same-volume}
 use Rattle.csi_controller.proofs.Holdings.{can-about, held_in}
 use Rattle.csi_controller.proofs.PutLast.{put-last}
 use Rattle.csi_controller.proofs.RowTable.{held-nowhere, line-told, live-nowhere}
 use Rattle.csi_controller.proofs.RowsTold.{told-changed}
-use Rattle.csi_controller.proofs.ShownAfter.{ends_by, shown-after, stays-after, volumes-after}
+use Rattle.csi_controller.proofs.ShownAfter.{ends_call, shown-after, stays-after, volumes-after}
 use Rattle.csi_controller.proofs.ShownRows.{AreRowsSound, ControllerRows, RowsShowAll, one-id, volume_in}
-use Rattle.csi_controller.proofs.TableOutcomes.{lifecycle-outcome}
 
 -- ---- lists
 
@@ -74,19 +75,15 @@ got-at (y ∷ ys) (suc place) x at = got-at ys place x at
 -- a volume that was deleted is held nowhere, so the holdings of each id stay
 held-live : (next : ℕ) (rows : List RowShown) (id : ℕ) → AllByRecursion (IsSoundBy next) rows → AtMostOne (λ (r : RowShown). r.volume.id == id) rows
     → held_in (find (λ (r : RowShown). r.volume.id == id) (filter (λ (r : RowShown). not (not r.volume.is_live)) rows)) ≡ held_in (find (λ (r : RowShown). r.volume.id == id) rows)
-held-live next [] id each one = refl
-held-live next (r ∷ rs) id each one = by (r.volume.id == id) r.volume.is_live refl refl (held-live next rs id each.1 one.1)
+held-live next rows id each one = ap held_in (find-passing (λ (r : RowShown). r.volume.id == id) (λ (r : RowShown). not (not r.volume.is_live)) rows one) ∙ by (find (λ (r : RowShown). r.volume.id == id) rows) refl
   where
-    live : List RowShown
-    live = filter (λ (r : RowShown). not (not r.volume.is_live)) rs
+    by_life : (r : RowShown) → IsSoundBy next r → (alive : Bool) → r.volume.is_live ≡ alive → held_in (cond (not (not alive)) (Some r) None) ≡ held_in (Some r)
+    by_life r own true e = refl
+    by_life r own false e = sym (ap (map (volume_holding r.volume.id)) (own.gone e))
 
-    by : (own alive : Bool) → (r.volume.id == id) ≡ own → r.volume.is_live ≡ alive
-        → held_in (find (λ (r : RowShown). r.volume.id == id) live) ≡ held_in (find (λ (r : RowShown). r.volume.id == id) rs)
-        → held_in (find (λ (r : RowShown). r.volume.id == id) (cond (not (not alive)) (r ∷ live) live)) ≡ held_in (cond own (Some r) (find (λ (r : RowShown). r.volume.id == id) rs))
-    by true true e f rest = ap (λ (b : Bool). held_in (cond b (Some r) (find (λ (r : RowShown). r.volume.id == id) live))) e
-    by true false e f rest = rest ∙ ap held_in (one.0 e) ∙ sym (ap (map (volume_holding r.volume.id)) (each.0.gone f))
-    by false true e f rest = ap (λ (b : Bool). held_in (cond b (Some r) (find (λ (r : RowShown). r.volume.id == id) live))) e ∙ rest
-    by false false e f rest = rest
+    by : (o : Option RowShown) → find (λ (r : RowShown). r.volume.id == id) rows ≡ o → held_in (passing (λ (r : RowShown). not (not r.volume.is_live)) o) ≡ held_in o
+    by None is = refl
+    by (Some r) is = by_life r (each_of (IsSoundBy next) rows r each (among-find (λ (r : RowShown). r.volume.id == id) rows r is)) r.volume.is_live refl
 
 -- live volumes, told twice over
 pub filter-twice : (rows : List RowShown) → filter (λ (r : RowShown). not (not r.volume.is_live)) rows ≡ filter (λ (r : RowShown). r.volume.is_live) rows
@@ -271,7 +268,7 @@ module _ (config : Config) (number : Number) (old : ControllerRows) (state : Con
           after = subst (λ (rows : List RowShown). RowsShowAll (record old { rows = rows }) (keep call (kept_by call outcome) (changed state (kept_by call outcome) outcome.change))) is_new
               (shown-after old state (keep call (kept_by call outcome) (changed state (kept_by call outcome) outcome.change)) there.place row new (kept_by call outcome) outcome.change shows at (one-id old sound) about stays.0 stays.1
               (volumes-after call (kept_by call outcome) state old.rows there.place row new outcome.change shows.volumes there.first (one-for old.rows call sound.unique sound.rising) about
-              (λ id is. ends_by config (state_shown row) call outcome id (lifecycle-outcome config (is_full_by config.nodes old.rows) (state_shown row) call) is) volume)
+              (λ id is. ends_call call id (sym (told.own (ap is_change is)) ∙ is)) volume)
               refl same_id refl);
         })
 

@@ -190,6 +190,7 @@ stays (Detaches id node) h = never (sym h)
 pub record IsToldChange (row : RowShown) (call : Call) (outcome : Outcome) : Type 0 where
   pub can : CanChange row outcome.change
   pub changed : cond (is_change outcome.change) (row_changed row (call_change call)) row ≡ row_changed row outcome.change
+  pub own : is_change outcome.change ≡ true → outcome.change ≡ call_change call
 
 pub told-changed : (config : Config) (full : List ℕ → Bool) (row : RowShown) (call : Call) → is_row_for call row.volume ≡ true → IsToldChange row call (lifecycle_row config full (state_shown row) call)
 told-changed config full row call own = by (is_change outcome.change) refl
@@ -207,12 +208,14 @@ told-changed config full row call own = by (is_change outcome.change) refl
         record {
           can = subst (CanChange row) (sym is) (can-told config full row call own e);
           changed = ap (λ (b : Bool). cond b (row_changed row (call_change call)) row) e ∙ ap (row_changed row) (sym is);
+          own = λ again. is;
         }
     by false e =
         let is = stays outcome.change e in
         record {
           can = subst (CanChange row) (sym is) tt;
           changed = ap (λ (b : Bool). cond b (row_changed row (call_change call)) row) e ∙ ap (row_changed row) (sym is);
+          own = λ h. never (sym e ∙ h);
         }
 
 -- ---- lines

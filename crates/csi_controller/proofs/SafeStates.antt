@@ -17,11 +17,11 @@ use Rattle.csi_fence.proofs.FramesKeep.{IsKept}
 use Rattle.csi_fence.specs.Model.Fence.{Kept}
 use Rattle.csi_types.specs.Model.Holding.{is_compatible}
 use Rattle.csi_types.specs.Model.Same.{same_text}
-use Rattle.csi_controller.specs.Model.State.{Volume, ControllerState, empty_controller, live_volume, holdings_of, is_held_at, holding_at, is_row_for}
+use Rattle.csi_controller.specs.Model.State.{Volume, ControllerState, empty_controller, live_volume, holdings_of, is_held_at, holding_at}
 use Rattle.csi_controller.specs.Model.Table.{Outcome, Change, Stays, Makes, Ends, Attaches, Detaches, controller_row, ended_volume, changed}
 use Rattle.csi_controller.specs.Model.Fenced.{kept_in, keep, carried_out, begun, controller_with}
 use Rattle.csi_controller.specs.Public.Fenced.{ConfiguredFrame, after_configured}
-use Rattle.csi_controller.proofs.OrderlyStates.{configured_keep}
+use Rattle.csi_controller.proofs.OrderlyStates.{configured_keep, kept_same}
 use Rattle.csi_controller.specs.Model.Safe.{AreExclusive}
 use Rattle.csi_controller.specs.Public.Safe.{IsExclusiveState}
 use Rattle.csi_controller.proofs.Forgotten.{live_volume-begun}
@@ -110,11 +110,7 @@ outcome_keeps config state call outcome (was_detached_before id node none) = sta
 
 -- what is kept touches neither holdings nor what is live
 kept_test : (call : Call) (kept : Kept) (n : ℕ) (volume : Volume) → (((kept_in call kept volume).id == n) && (kept_in call kept volume).is_live) ≡ ((volume.id == n) && volume.is_live)
-kept_test call kept n volume = by (is_row_for call volume)
-  where
-    by : (b : Bool) → (((cond b (record volume { kept = kept }) volume).id == n) && (cond b (record volume { kept = kept }) volume).is_live) ≡ ((volume.id == n) && volume.is_live)
-    by true = refl
-    by false = refl
+kept_test call kept n volume = ap (λ (v : Volume). (v.id == n) && v.is_live) (kept_same call kept kept volume)
 
 -- to keep a call's reply leaves it so
 keep_keeps : (call : Call) (kept : Kept) (state : ControllerState) → IsExclusiveState state → IsExclusiveState (keep call kept state)

@@ -7,10 +7,11 @@ use Rattle.csi_lists.proofs.Members.{among-either, among-map, none_passes}
 use Rattle.csi_lists.proofs.Searches.{find-none}
 use Rattle.csi_types.specs.declared.call.Call.{Call}
 use Rattle.csi_fence.specs.Model.Fence.{Kept}
-use Rattle.csi_controller.specs.Model.State.{Volume, ControllerState, live_volume, is_row_for}
+use Rattle.csi_controller.specs.Model.State.{Volume, ControllerState, live_volume}
 use Rattle.csi_controller.specs.Model.Table.{Change, Stays, Makes, Ends, Attaches, Detaches, changed, ended_volume}
 use Rattle.csi_controller.specs.Model.Fenced.{kept_in, keep, begun}
 use Rattle.csi_controller.proofs.Forgotten.{live_volume-begun}
+use Rattle.csi_controller.proofs.OrderlyStates.{kept_same}
 
 -- what has no live volume has none then
 abbrev pub StaysEnded : ControllerState → ControllerState → Type 0
@@ -29,11 +30,7 @@ mapped_ended f id volumes leaves none =
 
 -- what is kept leaves it dead
 kept_ended : (call : Call) (kept : Kept) (id : ℕ) (v : Volume) → is_live_with id v ≡ false → is_live_with id (kept_in call kept v) ≡ false
-kept_ended call kept id v dead = by (is_row_for call v)
-  where
-    by : (b : Bool) → is_live_with id (cond b (record v { kept = kept }) v) ≡ false
-    by true = dead
-    by false = dead
+kept_ended call kept id v dead = ap (is_live_with id) (kept_same call kept kept v) ∙ dead
 
 -- and so does a deletion
 deleted_ended : (other id : ℕ) (v : Volume) → is_live_with id v ≡ false → is_live_with id (ended_volume other v) ≡ false

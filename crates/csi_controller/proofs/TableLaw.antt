@@ -1,8 +1,9 @@
 -- The laws of the controller's table, from what is so of each of its outcomes.
-use Rattle.std.proofs.Common.{◌≡◌, ◌⊎◌, ◌≤◌, ℕ, Bool, List, [], ◌∷◌, map, true, not, refl, sym, ◌∙◌, ap, subst}
-use Rattle.std.specs.Prelude.{Option, Some, None, option_map, ◌==◌, ◌&&◌, length, IsTrue}
+use Rattle.std.proofs.Common.{◌≡◌, ◌⊎◌, ◌≤◌, ℕ, Bool, List, true, not, refl, sym, ◌∙◌, ap, subst}
+use Rattle.std.specs.Prelude.{Option, Some, None, option_map, ◌==◌, ◌&&◌, IsTrue}
 use Rattle.std.specs.List.{AllByRecursion}
 use Rattle.std.proofs.lemmas.Bool.{not-true}
+use Rattle.std.proofs.lemmas.List.{length-map}
 use Rattle.csi_lists.proofs.Filters.{filter-map}
 use Rattle.csi_lists.proofs.Maps.{map-map}
 use Rattle.csi_lists.proofs.Searches.{find-map, find-passes}
@@ -35,10 +36,7 @@ use Rattle.csi_controller.proofs.OrderlyStates.{IsOrderly, orderly_kept, kept_sa
 use Rattle.csi_controller.proofs.OutcomeFacts.{IsReady, row_facts}
 use Rattle.csi_controller.proofs.RememberedStates.{changed_session}
 
--- what is kept changes no answer of the table
-length-map : (f : Volume → Volume) (xs : List Volume) → length (map f xs) ≡ length xs
-length-map f [] = refl
-length-map f (x ∷ xs) = let rest = length-map f xs in cc
+-- ---- what is kept changes no answer of the table
 
 -- what is found by name, or live by id, is what was found, but for what is kept
 volume_named-keep : (call : Call) (kept : Kept) (state : ControllerState) (name : List ℕ) → volume_named name (keep call kept state) ≡ option_map (kept_in call kept) (volume_named name state)
@@ -56,7 +54,7 @@ create_named-keep : (config : Config) (call : Call) (kept : Kept) (state : Contr
 create_named-keep config call kept state name required limit capabilities (Some v) =
     ap (λ (w : Volume). create_named config state name required limit capabilities (Some w)) (kept_same call kept kept v)
 create_named-keep config call kept state name required limit capabilities None =
-    ap (λ (n : ℕ). create_new config.greatest n state.next_id name required limit capabilities) (length-map (kept_in call kept) state.volumes)
+    ap (λ (n : ℕ). create_new config.greatest n state.next_id name required limit capabilities) (length-map state.volumes (kept_in call kept))
 
 -- DeleteVolume is answered the same, whatever is kept
 delete-keep : (call : Call) (kept : Kept) (held : List Holding) (id : ℕ) (o : Option Volume) → delete id held (option_map (kept_in call kept) o) ≡ delete id held o
