@@ -23,7 +23,7 @@ use Rattle.csi_controller.specs.Private.OneRow.{CanChange, moved}
 use Rattle.csi_controller.specs.Public.Plan.{Fits, IsFree, IsSoundBy, controller_plan}
 use Rattle.csi_controller.specs.Private.PlanLaws.{at-got, fits-set, same-volume}
 use Rattle.csi_controller.proofs.Counts.{changed-counted, counted-fewer, made-counted}
-use Rattle.csi_controller.proofs.PutLast.{put-last}
+use Rattle.csi_controller.proofs.ShownRows.{put-last}
 
 -- a row that doesn't stay was deleted
 pub gone-dead : (session : ℕ) (row : RowShown) → stays_in controller_plan session row ≡ false → row.volume.is_live ≡ false

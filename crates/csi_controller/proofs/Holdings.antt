@@ -42,9 +42,6 @@ self id = eq-eqb id id refl
 -- after a change of its volume a row's own list is still what is held of the volume
 pub own_list-after : (row : RowShown) (state : ControllerState) (kept : Kept) (change : Change) → IsAbout row.volume.id change → map (volume_holding row.volume.id) row.items ≡ holdings_of row.volume.id state
     → map (volume_holding row.volume.id) (row_changed row change).items ≡ holdings_of row.volume.id (changed state kept change)
-own_list-after row state kept Stays about own = own
-own_list-after row state kept (Makes name capacity capabilities) about own = own
-own_list-after row state kept (Ends id) about own = own
 own_list-after row state kept (Attaches holding) about own =
     map-append (volume_holding row.volume.id) row.items (held_by holding ∷ [])
     ∙ (λ i. own i ++ (record { volume = sym about i; node = holding.node; capability = holding.capability; readonly = holding.readonly }) ∷ [])
@@ -56,6 +53,7 @@ own_list-after row state kept (Detaches id node) about own =
     ∙ ap (filter (λ holding. not (is_held_at row.volume.id node holding))) own
     ∙ ap (λ k. filter (λ holding. not (is_held_at k node holding)) (holdings_of row.volume.id state)) (sym about)
     ∙ sym (filter-swap (λ h. h.volume == row.volume.id) (λ holding. not (is_held_at id node holding)) state.holdings)
+own_list-after row state kept change about own = own
 
 -- what is equal to an id isn't equal to what differs from that id
 pub other_id : (a b c : ℕ) → (a == b) ≡ true → (c == b) ≡ false → (a == c) ≡ false
@@ -71,13 +69,11 @@ other_id a b c e f = by (a == c) refl
 
 -- and another volume's is what it was
 pub other_list-after : (id other : ℕ) (state : ControllerState) (kept : Kept) (change : Change) → IsAbout id change → (id == other) ≡ false → holdings_of other (changed state kept change) ≡ holdings_of other state
-other_list-after id other state kept Stays about differ = refl
-other_list-after id other state kept (Makes name capacity capabilities) about differ = refl
-other_list-after id other state kept (Ends volume) about differ = refl
 other_list-after id other state kept (Attaches holding) about differ = filter-append_one (λ h. h.volume == other) state.holdings holding (ap (λ k. k == other) about ∙ differ)
 other_list-after id other state kept (Detaches volume node) about differ =
     filter-filter (λ h. h.volume == other) (λ holding. not (is_held_at volume node holding)) state.holdings
     (λ x e. ap (λ b. not (b && same_text x.node node)) (other_id x.volume other volume e (ap (λ k. k == other) about ∙ differ)))
+other_list-after id other state kept change about differ = refl
 
 -- a list none of whose elements is of any id is empty
 empty-where : (all : List Holding) → ((id : ℕ) → [] ≡ filter (λ h. h.volume == id) all) → all ≡ []

@@ -16,7 +16,7 @@ use Rattle.csi_types.specs.Public.PluginThing.{PluginThing, Exists, Attached}
 use Rattle.csi_types.specs.Model.Same.{same_text}
 use Rattle.csi_controller.specs.Model.State.{Volume, ControllerState, volume_named, is_row_for, row_for}
 use Rattle.csi_controller.specs.Public.State.{volume_with_id}
-use Rattle.csi_controller.specs.Model.Table.{Outcome, Change, Stays, Makes, Ends, Attaches, Detaches, changed, ended_volume}
+use Rattle.csi_controller.specs.Model.Table.{Outcome, Change, Makes, Ends, changed, ended_volume}
 use Rattle.csi_controller.specs.Model.Fenced.{kept_in, keep}
 use Rattle.csi_controller.specs.Public.View.{kept_in_row, thing_of}
 use Rattle.csi_controller.proofs.TableOutcomes.{IsOutcome, was_refused, was_found, was_made, was_ended, was_ended_before, was_attached, was_attached_before, was_detached, was_detached_before}
@@ -70,14 +70,12 @@ by_id id f leaves v = ap (λ n. n == id) (leaves.ids v)
 
 -- what such a test finds after a change comes so
 found_comes : (p : Volume → Bool) → IsTest p → (state : ControllerState) (kept : Kept) (change : Change) → Comes kept (find p state.volumes) (find p (changed state kept change).volumes)
-found_comes p test state kept Stays = itself_comes kept (find p state.volumes)
 found_comes p test state kept (Makes name capacity capabilities) =
     let volume : Volume = record { id = state.next_id; name = name; capacity = capacity; capabilities = capabilities; is_live = true; kept = kept } in
     subst (Comes kept (find p state.volumes)) (sym (find-append p state.volumes volume)) (added_comes kept volume (find p state.volumes) (p volume) refl)
 found_comes p test state kept (Ends id) =
     subst (Comes kept (find p state.volumes)) (sym (find-map p (ended_volume id) state.volumes (test (ended_volume id) (end_leaves id)))) (ended_comes kept id (find p state.volumes))
-found_comes p test state kept (Attaches holding) = itself_comes kept (find p state.volumes)
-found_comes p test state kept (Detaches id node) = itself_comes kept (find p state.volumes)
+found_comes p test state kept change = itself_comes kept (find p state.volumes)
 
 -- so comes the row of each thing
 row_comes : (state : ControllerState) (kept : Kept) (change : Change) (thing : PluginThing) → Comes kept (row_of state thing) (row_of (changed state kept change) thing)

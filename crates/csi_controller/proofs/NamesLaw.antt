@@ -16,7 +16,7 @@ use Rattle.csi_types.specs.Model.Frame.{Frame}
 use Rattle.csi_types.specs.Model.Same.{same_text}
 use Rattle.csi_controller.specs.Model.State.{Volume, ControllerState, empty_controller, volume_named}
 use Rattle.csi_controller.specs.Public.State.{volume_with_id}
-use Rattle.csi_controller.specs.Model.Table.{Outcome, Change, Stays, Makes, Ends, Attaches, Detaches, changed, ended_volume, controller_row}
+use Rattle.csi_controller.specs.Model.Table.{Outcome, Change, Stays, Makes, Ends, changed, ended_volume, controller_row}
 use Rattle.csi_controller.specs.Model.Fenced.{fenced, carried_out, kept_in, begun, controller_with}
 use Rattle.csi_controller.specs.Public.Fenced.{ConfiguredFrame, after_configured}
 use Rattle.csi_controller.specs.Public.View.{AreNamed, live_named, HasVolume, WasMade, KeepsNames}
@@ -111,10 +111,7 @@ changed_comes config state call outcome kept (was_detached_before other node non
 -- the next id only grows
 changed_grows : (state : ControllerState) (kept : Kept) (change : Change) → state.next_id ≤ (changed state kept change).next_id
 changed_grows state kept Stays = omega arith
-changed_grows state kept (Makes made capacity capabilities) = omega arith
-changed_grows state kept (Ends other) = omega arith
-changed_grows state kept (Attaches holding) = omega arith
-changed_grows state kept (Detaches other node) = omega arith
+changed_grows state kept change = omega arith
 
 -- what is kept leaves a live volume live
 keep_lives : (call : Call) (kept : Kept) (v : Volume) → v.is_live ≡ true → (kept_in call kept v).is_live ≡ true
@@ -131,7 +128,6 @@ mapped_stays state f leaves volume has =
 
 -- and after each change that the table makes
 changed_stays : (state : ControllerState) (kept : Kept) (change : Change) (volume : Volume) → HasVolume state volume → HasVolume (changed state kept change) volume
-changed_stays state kept Stays volume has = has
 changed_stays state kept (Makes made capacity capabilities) volume has =
     record {
       there = has.there;
@@ -139,8 +135,7 @@ changed_stays state kept (Makes made capacity capabilities) volume has =
       same_name = has.same_name;
     }
 changed_stays state kept (Ends other) volume has = mapped_stays state (ended_volume other) (end_leaves other) volume has
-changed_stays state kept (Attaches holding) volume has = record { there = has.there; is_found = has.is_found; same_name = has.same_name }
-changed_stays state kept (Detaches other node) volume has = record { there = has.there; is_found = has.is_found; same_name = has.same_name }
+changed_stays state kept change volume has = record { there = has.there; is_found = has.is_found; same_name = has.same_name }
 
 -- names and ids stay as they are under any call that is carried out
 carried_names : (config : Config) (state : ControllerState) (number : Number) (call : Call) → KeepsNames state (carried_out state number call (controller_row config state call)).state

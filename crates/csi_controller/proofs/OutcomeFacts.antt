@@ -2,7 +2,7 @@
 use Rattle.std.proofs.Common.{◌≡◌, ◌≢◌, ◌⊎◌, ℕ, ◌≤◌, List, [], ◌∷◌, Bool, true, false, cond, not, refl, sym, ap, subst, inl, inr, arith}
 use Rattle.std.specs.Prelude.{Some, None, ◌==◌, ◌&&◌, ◌||◌, nat_le, codes, IsTrue}
 use Rattle.std.specs.List.{list_all, AllByRecursion}
-use Rattle.std.proofs.lemmas.Bool.{and_parts, and_from, or_cases, eqb-true, eq-eqb, leb-true, not-true, or_left, or_right}
+use Rattle.std.proofs.lemmas.Bool.{and_parts, and_from, or_cases, eqb-true, eq-eqb, leb-true, not-true, or_left, or_right, and_left, not_from_false, not_from_true}
 use Rattle.std.proofs.lemmas.Bool.Decides.{nat_tests}
 use Rattle.csi_lists.proofs.Filters.{filter-append_one, filter-filter, filter-map}
 use Rattle.csi_lists.proofs.Searches.{find-and, find-append_one, find-filtered, find-map_none, find-passes}
@@ -171,10 +171,6 @@ publish_ready config state holding volume live node capable held =
 pub itself_at : (holding : Holding) → is_held_at holding.volume holding.node holding ≡ true
 itself_at holding = and_from _ _ (eq-eqb holding.volume holding.volume refl) ((same_text-tells holding.node holding.node).1 refl)
 
--- an id isn't another one than itself
-not_another : (id : ℕ) → not (id == id) ≡ false
-not_another id = let self : (id == id) ≡ true = eq-eqb id id refl in rw self refl
-
 -- what is so where ControllerPublishVolume attaches a volume
 attached_facts : (config : Config) (state : ControllerState) (holding : Holding) (volume : Volume) → CanAttach config state holding volume → holding_at holding.volume holding.node state ≡ None
     → Facts config state (publish_call holding) (done (Attaches holding))
@@ -182,17 +178,12 @@ attached_facts config state holding volume can none =
     record {
       stays = λ h. absurd (h refl);
       ready = λ h kept. publish_ready config (changed state kept (Attaches holding)) holding volume can.live can.node can.capable (find-append_one (is_held_at holding.volume holding.node) state.holdings holding (itself_at holding) none);
-      others = λ kept. record { volumes = refl; holdings = filter-append_one (λ (h : Holding). not (h.volume == holding.volume)) state.holdings holding (not_another holding.volume) };
+      others = λ kept. record { volumes = refl; holdings = filter-append_one (λ (h : Holding). not (h.volume == holding.volume)) state.holdings holding (not_from_true (holding.volume == holding.volume) (eq-eqb holding.volume holding.volume refl)) };
     }
 
 -- ControllerUnpublishVolume
 unpublish_ready : (config : Config) (state : ControllerState) (id : ℕ) (node : List ℕ) → holding_at id node state ≡ None → IsReady config state (calls.ControllerUnpublishVolume id node) ok_reply
 unpublish_ready config state id node none = record { is_done = none; again = ap (unpublish id node) none }
-
--- where the first of two tests doesn't hold, both together don't
-not_both : (a b : Bool) → not a ≡ true → not (a && b) ≡ true
-not_both true b h = cc
-not_both false b h = refl
 
 -- what is so where ControllerUnpublishVolume detaches one
 detached_facts : (config : Config) (state : ControllerState) (id : ℕ) (node : List ℕ) → Facts config state (calls.ControllerUnpublishVolume id node) (done (Detaches id node))
@@ -202,7 +193,7 @@ detached_facts config state id node =
       ready = λ h kept. unpublish_ready config (changed state kept (Detaches id node)) id node (find-filtered (is_held_at id node) (λ (h : Holding). not (is_held_at id node h)) state.holdings (λ h k. not-true (is_held_at id node h) k));
       others = λ kept. record {
         volumes = refl;
-        holdings = filter-filter (λ (h : Holding). not (h.volume == id)) (λ (h : Holding). not (is_held_at id node h)) state.holdings (λ h k. not_both (h.volume == id) (same_text h.node node) k);
+        holdings = filter-filter (λ (h : Holding). not (h.volume == id)) (λ (h : Holding). not (is_held_at id node h)) state.holdings (λ h k. not_from_false (is_held_at id node h) (and_left (h.volume == id) (same_text h.node node) (not-true (h.volume == id) k)));
       };
     }
 

@@ -40,11 +40,10 @@ use Rattle.csi_controller.specs.Public.OneRow.{RowShown, row_changed, state_show
 use Rattle.csi_controller.specs.Public.Plan.{IsSoundBy, controller_plan, created, is_full_by, made_row, row_keeping, told_in, is_change}
 use Rattle.csi_controller.specs.Private.PlanLaws.{IsNewLine, makes, new-outcome, one-for, refuses, same-volume}
 use Rattle.csi_controller.proofs.Holdings.{can-about, held_in}
-use Rattle.csi_controller.proofs.PutLast.{put-last}
 use Rattle.csi_controller.proofs.RowTable.{held-nowhere, line-told, live-nowhere}
 use Rattle.csi_controller.proofs.RowsTold.{told-changed}
 use Rattle.csi_controller.proofs.ShownAfter.{ends_call, shown-after, stays-after, volumes-after}
-use Rattle.csi_controller.proofs.ShownRows.{AreRowsSound, ControllerRows, RowsShowAll, one-id, volume_in}
+use Rattle.csi_controller.proofs.ShownRows.{AreRowsSound, ControllerRows, RowsShowAll, one-id, volume_in, put-last}
 
 -- ---- lists
 

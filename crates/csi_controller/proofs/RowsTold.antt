@@ -22,7 +22,7 @@ use Rattle.csi_fence.specs.declared.line.Line.{Line}
 use Rattle.csi_fence.specs.declared.line.Line.TheVariants.{Refused, Met, Done}
 use Rattle.csi_fence.specs.Public.Line.{told_by}
 use Rattle.csi_fence.specs.Public.Rows.{Told}
-use Rattle.csi_controller.specs.Model.Table.{Change, Stays, Makes, Ends, Detaches, Outcome, Attaches, argument_fault, attach, create_named, delete, done, lifecycle_row, met, publish, publish_held, refused, serves, unless, unpublish}
+use Rattle.csi_controller.specs.Model.Table.{Change, Stays, Outcome, Attaches, argument_fault, attach, create_named, delete, done, lifecycle_row, met, publish, publish_held, refused, serves, unless, unpublish}
 use Rattle.csi_controller.specs.Public.Core.{volume_holding}
 use Rattle.csi_controller.specs.Public.OneRow.{RowShown, call_change, row_changed, state_shown}
 use Rattle.csi_controller.specs.Private.OneRow.{CanChange, HasRoomFor, held_of_row, outcome_shown}
@@ -181,10 +181,7 @@ can-told config full row call own h = never h
 -- a change that isn't one
 stays : (change : Change) → is_change change ≡ false → change ≡ Stays
 stays Stays h = refl
-stays (Makes name capacity capabilities) h = never (sym h)
-stays (Ends id) h = never (sym h)
-stays (Attaches holding) h = never (sym h)
-stays (Detaches id node) h = never (sym h)
+stays change h = never (sym h)
 
 -- a row that is told so is changed as the table has it, and can be
 pub record IsToldChange (row : RowShown) (call : Call) (outcome : Outcome) : Type 0 where

@@ -21,11 +21,8 @@ use Rattle.csi_controller.proofs.ShownRows.{ControllerRows, RowsShowAll, volume_
 -- a change of a volume that is there leaves the next id and the session
 pub stays-after : (state : ControllerState) (kept : Kept) (id : ℕ) (change : Change) → IsAbout id change
     → ((changed state kept change).next_id ≡ state.next_id) × ((changed state kept change).session ≡ state.session)
-stays-after state kept id Stays about = (refl, refl)
 stays-after state kept id (Makes name capacity capabilities) about = absurd about
-stays-after state kept id (Ends volume) about = (refl, refl)
-stays-after state kept id (Attaches holding) about = (refl, refl)
-stays-after state kept id (Detaches volume node) about = (refl, refl)
+stays-after state kept id change about = (refl, refl)
 
 -- the rows where one is another, and a state that changed so
 pub shown-after : (old : ControllerRows) (state new_state : ControllerState) (place : ℕ) (row new : RowShown) (kept : Kept) (change : Change)

@@ -1,12 +1,13 @@
 -- A controller's rows as they are shown, their rules, and the state that they show.
-use Rattle.std.proofs.Common.{◌≡◌, ℕ, List, map, refl, ◌∙◌, ap}
+use Rattle.std.proofs.Common.{◌≡◌, ℕ, List, map, refl, ◌∙◌, ap, ◌<◌, [], ◌∷◌, ◌++◌, Bool, cond}
+use Rattle.std.proofs.lemmas.Bool.{lt-ltb}
 use Rattle.std.specs.Prelude.{Option, Some, None, option_map, find, ◌==◌}
 use Rattle.std.specs.List.{AllByRecursion}
 use Rattle.csi_lists.proofs.Maps.{map-twice}
 use Rattle.csi_lists.proofs.Searches.{find-of_map}
 use Rattle.csi_lists.specs.Public.Places.{AtMostOne}
 use Rattle.csi_types.specs.Model.Same.{same_text}
-use Rattle.csi_fence.specs.Public.Rows.{AreRising, RowsState}
+use Rattle.csi_fence.specs.Public.Rows.{AreRising, RowsState, put_row}
 use Rattle.csi_fence.proofs.RisingRows.{once-rise, rows_rise}
 use Rattle.csi_controller.specs.Model.State.{Volume, ControllerState, holdings_of}
 use Rattle.csi_controller.specs.declared.row.ControllerRow.{ControllerRow}
@@ -14,6 +15,13 @@ use Rattle.csi_controller.specs.Model.Shown.{holdings_in, volume_of_row}
 use Rattle.csi_controller.specs.Public.OneRow.{RowShown, row_shown}
 use Rattle.csi_controller.specs.Public.Plan.{controller_plan, IsSoundBy}
 use Rattle.csi_controller.proofs.Holdings.{held_in}
+
+-- a row above all others goes last
+pub put-last : {S : Type 0} (id : S → ℕ) (rows : List S) (new : S) → AllByRecursion (λ (row : S). id row < id new) rows → put_row id new rows ≡ rows ++ new ∷ []
+put-last id [] new above = refl
+put-last {S} id (row ∷ rows) new above =
+    ap (λ (b : Bool). cond b (row ∷ put_row id new rows) (cond (id row == id new) (new ∷ rows) (new ∷ row ∷ rows))) (lt-ltb (id row) (id new) above.0)
+    ∙ ap (λ (l : List S). row ∷ l) (put-last id rows new above.1)
 
 -- a controller's rows, with the next id and the greatest session that came
 abbrev pub ControllerRows : Type 0

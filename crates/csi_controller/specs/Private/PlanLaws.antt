@@ -38,7 +38,7 @@ use Rattle.csi_fence.proofs.RisingRows.{once-rise, rows_rise}
 use Rattle.csi_controller.specs.declared.row.NodeHolding.{NodeHolding}
 use Rattle.csi_controller.specs.declared.table.ControllerTable.{ControllerTable}
 use Rattle.csi_controller.specs.Model.State.{Volume}
-use Rattle.csi_controller.specs.Model.Table.{Change, Stays, Makes, Ends, Attaches, Detaches, Outcome, lifecycle_row, refused, unless}
+use Rattle.csi_controller.specs.Model.Table.{Change, Stays, Makes, Outcome, lifecycle_row, refused, unless}
 use Rattle.csi_controller.specs.Public.Counts.{AreCounted, count_held, is_held}
 use Rattle.csi_controller.specs.Public.Making.{new_line}
 use Rattle.csi_controller.specs.Public.Names.{by_name}
@@ -82,10 +82,7 @@ line-alike config rows others row call same =
 -- a change leaves all of the volume but whether it is live
 pub same-volume : (row : RowShown) (change : Change) → (row_changed row change).volume ≡ record row.volume { is_live = (row_changed row change).volume.is_live }
 same-volume row Stays = refl
-same-volume row (Makes name capacity capabilities) = refl
-same-volume row (Ends id) = refl
-same-volume row (Attaches holding) = refl
-same-volume row (Detaches id node) = refl
+same-volume row change = refl
 
 -- a row that a call changes keeps its id
 change-id : (call : Call) (row : RowShown) → (row_changed row (call_change call)).volume.id ≡ row.volume.id
