@@ -133,19 +133,18 @@ held_known state id node held safe is none =
     (find-none (λ (v : Volume). (v.id == id) && v.is_live) state.volumes (λ v among. and_left (v.id == id) v.is_live (none_passes (λ (u : Volume). u.id == id) state.volumes v none among))) in
     true≢false (sym live ∙ ap is_some dead)
 
--- the table changes nothing of a thing that isn't known
-unknown_stays : (config : Config) (state : ControllerState) (call : Call) (outcome : Outcome) → IsOrderly state → IsExclusiveState state → IsTrue (is_party_of (kind_of call) Controller) → row_for call state ≡ None
-    → thing_of state call ≡ None → IsOutcome config state call outcome → outcome.change ≡ Stays
-unknown_stays config state call outcome orderly safe party none thing (was_refused _ status detail not_ok) = refl
-unknown_stays config state call outcome orderly safe party none thing (was_found name required limit first others volume range named live serving) = refl
-unknown_stays config state call outcome orderly safe party none thing (was_made name required limit first others range unnamed) = absurd (none-some (Exists name) (sym thing))
-unknown_stays config state call outcome orderly safe party none thing (was_ended id volume live free) = absurd (none-some volume (sym none ∙ live_with_id state id volume orderly live))
-unknown_stays config state call outcome orderly safe party none thing (was_ended_before id dead) = refl
-unknown_stays config state call outcome orderly safe party none thing (was_attached holding volume can free fits) =
-    absurd (none-some volume (sym none ∙ live_with_id state holding.volume volume orderly can.live))
-unknown_stays config state call outcome orderly safe party none thing (was_attached_before holding volume can held) = refl
-unknown_stays config state call outcome orderly safe party none thing (was_detached id node held there) = absurd (held_known state id node held safe there none)
-unknown_stays config state call outcome orderly safe party none thing (was_detached_before id node free) = refl
+-- the table changes nothing of a thing that isn't known, and a call that gets an OK asks for nothing
+unknown_rests : (config : Config) (state : ControllerState) (call : Call) (outcome : Outcome) → IsOrderly state → IsExclusiveState state → row_for call state ≡ None → thing_of state call ≡ None
+    → IsOutcome config state call outcome → (outcome.change ≡ Stays) × (outcome.reply.status ≡ Ok → asked call outcome.reply ≡ None)
+unknown_rests config state call outcome orderly safe none thing (was_refused _ status detail not_ok) = (refl, λ ok. absurd (not_ok ok))
+unknown_rests config state call outcome orderly safe none thing (was_found name required limit first others volume range named live serving) = absurd (none-some (Exists name) (sym thing))
+unknown_rests config state call outcome orderly safe none thing (was_made name required limit first others range unnamed) = absurd (none-some (Exists name) (sym thing))
+unknown_rests config state call outcome orderly safe none thing (was_ended id volume live free) = absurd (none-some volume (sym none ∙ live_with_id state id volume orderly live))
+unknown_rests config state call outcome orderly safe none thing (was_ended_before id dead) = (refl, λ ok. refl)
+unknown_rests config state call outcome orderly safe none thing (was_attached holding volume can free fits) = absurd (none-some volume (sym none ∙ live_with_id state holding.volume volume orderly can.live))
+unknown_rests config state call outcome orderly safe none thing (was_attached_before holding volume can held) = absurd (none-some volume (sym none ∙ live_with_id state holding.volume volume orderly can.live))
+unknown_rests config state call outcome orderly safe none thing (was_detached id node held there) = absurd (held_known state id node held safe there none)
+unknown_rests config state call outcome orderly safe none thing (was_detached_before id node free) = (refl, λ ok. refl)
 
 -- a call of no row, whose answer changes nothing, leaves the state
 leaves : (state : ControllerState) (number : Number) (call : Call) (outcome : Outcome) → row_for call state ≡ None → outcome.change ≡ Stays → (carried_out state number call outcome).state ≡ state
@@ -154,29 +153,14 @@ leaves state number call outcome none stays =
     ap (λ (change : Change). keep call kept (changed state kept change)) stays
     ∙ ap (λ (volumes : List Volume). record state { volumes = volumes }) (map-none (is_row_for call) (kept_in call kept) state.volumes (kept_in-other call kept) none)
 
--- a call of a thing that isn't known asks for nothing, where it gets an OK
-asks_nothing : (config : Config) (state : ControllerState) (call : Call) (outcome : Outcome) → IsOrderly state → row_for call state ≡ None → thing_of state call ≡ None
-    → IsOutcome config state call outcome → outcome.reply.status ≡ Ok → asked call outcome.reply ≡ None
-asks_nothing config state call outcome orderly none thing (was_refused _ status detail not_ok) ok = absurd (not_ok ok)
-asks_nothing config state call outcome orderly none thing (was_found name required limit first others volume range named live serving) ok = absurd (none-some (Exists name) (sym thing))
-asks_nothing config state call outcome orderly none thing (was_made name required limit first others range unnamed) ok = absurd (none-some (Exists name) (sym thing))
-asks_nothing config state call outcome orderly none thing (was_ended id volume live free) ok = refl
-asks_nothing config state call outcome orderly none thing (was_ended_before id dead) ok = refl
-asks_nothing config state call outcome orderly none thing (was_attached holding volume can free fits) ok =
-    absurd (none-some volume (sym none ∙ live_with_id state holding.volume volume orderly can.live))
-asks_nothing config state call outcome orderly none thing (was_attached_before holding volume can held) ok =
-    absurd (none-some volume (sym none ∙ live_with_id state holding.volume volume orderly can.live))
-asks_nothing config state call outcome orderly none thing (was_detached id node held there) ok = refl
-asks_nothing config state call outcome orderly none thing (was_detached_before id node free) ok = refl
-
 -- a call of a thing that isn't known leaves the state, so it misses
-misses : (config : Config) (state : ControllerState) (number : Number) (call : Call) (outcome : Outcome) → IsOrderly state → row_for call state ≡ None → thing_of state call ≡ None
-    → IsOutcome config state call outcome → Misses (told number call outcome.reply) (view_of state) (view_of state)
-misses config state number call outcome orderly none thing given =
+misses : (config : Config) (state : ControllerState) (number : Number) (call : Call) (outcome : Outcome) → IsOutcome config state call outcome → (outcome.reply.status ≡ Ok → asked call outcome.reply ≡ None)
+    → Misses (told number call outcome.reply) (view_of state) (view_of state)
+misses config state number call outcome given undoes =
     record {
       of_its_kind = refl;
       with_id = λ ok. with_id config state call outcome given ok;
-      undoes = λ ok. asks_nothing config state call outcome orderly none thing given ok;
+      undoes = undoes;
       held = λ other. refl;
       stays_spent = λ other number spent. spent;
       keeps = λ other. inl refl;
@@ -187,7 +171,7 @@ unknown_leaves : (config : Config) (state : ControllerState) (number : Number) (
     → thing_of state call ≡ None → (carried_out state number call (controller_row config state call)).state ≡ state
 unknown_leaves config state number call orderly safe party is =
     let none = row_unknown state call party is in
-    leaves state number call (controller_row config state call) none (unknown_stays config state call (controller_row config state call) orderly safe party none is (is_outcome config state call))
+    leaves state number call (controller_row config state call) none (unknown_rests config state call (controller_row config state call) orderly safe none is (is_outcome config state call)).0
 
 -- a call that is carried out, by its thing
 carried_becomes : (config : Config) (state : ControllerState) (number : Number) (call : Call) (o : Option PluginThing) → IsOrderly state → IsExclusiveState state
@@ -203,7 +187,8 @@ carried_becomes config state number call (Some thing) orderly safe party is not_
 carried_becomes config state number call None orderly safe party is not_over fresh =
     subst (λ (after : ControllerState). Misses (told number call (controller_row config state call).reply) (view_of state) (view_of after))
     (sym (unknown_leaves config state number call orderly safe party is))
-    (misses config state number call (controller_row config state call) orderly (row_unknown state call party is) is (is_outcome config state call))
+    (misses config state number call (controller_row config state call) (is_outcome config state call)
+    (unknown_rests config state call (controller_row config state call) orderly safe (row_unknown state call party is) is (is_outcome config state call)).1)
 
 -- what is kept for a call is what is kept for its thing, if it has one
 is_kept_for : (state : ControllerState) (call : Call) (o : Option PluginThing) → IsOrderly state → IsTrue (is_party_of (kind_of call) Controller) → thing_of state call ≡ o → IsKeptFor o (kept_in_row state) (kept_for call state)

@@ -7,11 +7,11 @@ use Rattle.std.proofs.lemmas.List.{length-append, length-take-le, length_push, t
 use Rattle.std.proofs.lemmas.List.Folds.{list_any-append}
 use Rattle.std.proofs.Math.Bool.{or-false, or_comm}
 use Rattle.csi_lists.proofs.Each.{each-append_one}
-use Rattle.csi_lists.proofs.Options.{none-from_is_some, some_is_not_none}
+use Rattle.csi_lists.proofs.Options.{none-from_is_some}
 use Rattle.csi_lists.proofs.Places.{AtMostOne-append}
-use Rattle.csi_lists.proofs.Searches.{find-missed, find-none}
+use Rattle.csi_lists.proofs.Searches.{find-none}
 use Rattle.csi_lists.proofs.Tests.{any-find, any-find_none}
-use Rattle.csi_lists.proofs.Members.{among-append, none_passes}
+use Rattle.csi_lists.proofs.Members.{among-append, none_passes, all_of, among-last, each_of}
 use Rattle.csi_lists.specs.Public.Places.{AtMostOne}
 use Rattle.csi_types.proofs.Equality.{same_text-tells}
 use Rattle.csi_types.specs.Model.Same.{same_text}
@@ -43,13 +43,11 @@ le-last_id n (row ∷ rows) above rising =
 
 -- what is so of each of a list is so of its last
 pub each-last : {X : Type 0} (P : X → Type 0) (xs : List X) (x : X) → AllByRecursion P (xs ++ x ∷ []) → P x
-each-last P [] x all = all.0
-each-last P (y ∷ ys) x all = each-last P ys x all.1
+each-last P xs x all = each_of P (xs ++ x ∷ []) x all (among-last xs x)
 
 -- what is so of each of a list is so of each of a front of it
 pub each-front : {X : Type 0} (P : X → Type 0) (xs ys : List X) → AllByRecursion P (xs ++ ys) → AllByRecursion P xs
-each-front P [] ys all = tt
-each-front P (x ∷ xs) ys all = (all.0, each-front P xs ys all.1)
+each-front P xs ys all = all_of P xs (λ x among. each_of P (xs ++ ys) x all (among-append xs ys x among))
 
 -- ids still rise with one more row, whose id is above the last
 IsRising-append : (n : ℕ) (rows : List ControllerRow) (row : ControllerRow) → AreRisingRows rows → last_id n rows < row.id → AreRisingRows (rows ++ row ∷ [])
@@ -81,8 +79,7 @@ AtMostOne-front p (x ∷ xs) ys one = (λ e. find-front p xs ys (one.0 e), AtMos
 
 -- where the last of a list passes, something is found
 last-found : {X : Type 0} (p : X → Bool) (xs : List X) (x : X) → p x ≡ true → find p (xs ++ x ∷ []) ≡ None → ⊥
-last-found p [] x passes none = some_is_not_none x (ap (λ (b : Bool). cond b (Some x) None) (sym passes) ∙ none)
-last-found p (y ∷ ys) x passes none = last-found p ys x passes (find-missed (p y) y (find p (ys ++ x ∷ [])) none).1
+last-found p xs x passes none = true≢false (sym passes ∙ none_passes p (xs ++ x ∷ []) x none (among-last xs x))
 
 -- where the last one passes, none before it does
 AtMostOne-last : {X : Type 0} (p : X → Bool) (xs : List X) (x : X) → AtMostOne p (xs ++ x ∷ []) → p x ≡ true → find p xs ≡ None

@@ -66,7 +66,7 @@ ends_keeps state id is = λ kept safe. record {
 }
 
 -- ControllerPublishVolume
-both_false : (a b : Bool) → a ≡ true → (a && b) ≡ false → b ≡ false
+pub both_false : (a b : Bool) → a ≡ true → (a && b) ≡ false → b ≡ false
 both_false true b h e = e
 both_false false b h e = cc
 

@@ -28,6 +28,7 @@ use Rattle.csi_controller.proofs.SameText.{text-turned}
 use Rattle.csi_controller.proofs.TableOutcomes.{IsOutcome, publish_call, was_refused, was_found, was_made, was_ended, was_ended_before, was_attached, was_attached_before, was_detached, was_detached_before}
 use Rattle.csi_controller.proofs.OrderlyStates.{IsOrderly, is_named, is_with_id, with_id_by_name, end_leaves}
 use Rattle.csi_controller.proofs.OutcomeFacts.{itself_at, ended_other}
+use Rattle.csi_controller.proofs.SafeStates.{both_false}
 
 -- after an OK the thing is as asked, after a refusal as it was, and other things are as they were
 pub record Does (thing : PluginThing) (call : Call) (reply : Reply) (old new : ControllerState) : Type 0 where
@@ -139,14 +140,10 @@ ended_before_things state id volume orderly is none =
     (λ h. ap (option_map (λ (v : Volume). HasId v.id))
     (find-none (λ (v : Volume). same_text v.name volume.name && v.is_live) state.volumes (λ v among. second_fails (same_text v.name volume.name) v.is_live (dead v among))))
   where
-    not_live : (a b : Bool) → a ≡ true → (a && b) ≡ false → b ≡ false
-    not_live true b h e = e
-    not_live false b h e = absurd (true≢false (sym h))
-
     dead : (v : Volume) → IsAmong v state.volumes → same_text v.name volume.name ≡ true → v.is_live ≡ false
     dead v among same =
         let own : (v.id == id) ≡ true = ap (λ (u : Volume). u.id == id) (same_named state id volume v orderly is among same) ∙ has_own_id state id volume is in
-        not_live (v.id == id) v.is_live own (none_passes (λ (u : Volume). (u.id == id) && u.is_live) state.volumes v none among)
+        both_false (v.id == id) v.is_live own (none_passes (λ (u : Volume). (u.id == id) && u.is_live) state.volumes v none among)
 
 -- ControllerPublishVolume
 held_elsewhere : (holding : Holding) (id : ℕ) (node : List ℕ) → ((id == holding.volume) && same_text node holding.node) ≡ false → is_held_at id node holding ≡ false
