@@ -1,10 +1,10 @@
 -- What a controller answers to a call, and what that changes, is told by what its rows answer behind the fence.
-use Rattle.std.proofs.Common.{◌≡◌, ◌<◌, ◌≤◌, ◌%◌, ◌^◌, ℕ, zero, suc, List, [], ◌∷◌, map, Bool, true, false, cond, not, refl, sym, ◌∙◌, ap, subst, arith}
+use Rattle.std.proofs.Common.{◌≡◌, ◌<◌, ◌≤◌, ◌%◌, ◌^◌, ℕ, List, map, Bool, true, false, cond, not, refl, sym, ◌∙◌, ap, subst, arith}
 use Rattle.std.specs.Prelude.{Option, Some, None, option_map, filter, slice_get, ◌==◌, Result, IsTrue}
 use Rattle.std.proofs.lemmas.Bool.{ne_eqb}
 use Rattle.std.proofs.lemmas.Bool.Decides.{nat_tests}
 use Rattle.std.proofs.lemmas.List.Elements.{recursion_from_All}
-use Rattle.std.proofs.lemmas.Option.{same_Some}
+use Rattle.std.proofs.lemmas.Option.{same_Some, slice_get-map}
 use Rattle.std.proofs.lemmas.Result.{IfOk-weaker, on_err_weaker}
 use Rattle.csi_lists.proofs.Filters.{filter-of_map}
 use Rattle.csi_lists.proofs.Options.{some-from_map, some_is_not_none}
@@ -103,15 +103,8 @@ staying-shown session number rows = by (begins session number)
     by false = refl
 
 -- a row that is shown at a place stands there
-record IsShownAt (rows : List ControllerRow) (place : ℕ) (row : RowShown) : Type 0 where
-  pub there : ControllerRow
-  pub at : slice_get rows place ≡ Some there
-  pub is : row_shown there ≡ row
-
-got-shown : (rows : List ControllerRow) (place : ℕ) (row : RowShown) → slice_get (map row_shown rows) place ≡ Some row → IsShownAt rows place row
-got-shown [] place row h = cc
-got-shown (r ∷ rs) zero row h = record { there = r; at = refl; is = same_Some (row_shown r) row h }
-got-shown (r ∷ rs) (suc place) row h = let rest = got-shown rs place row h in record { there = rest.there; at = rest.at; is = rest.is }
+got-shown : (rows : List ControllerRow) (place : ℕ) (row : RowShown) → slice_get (map row_shown rows) place ≡ Some row → (there : ControllerRow) × (slice_get rows place ≡ Some there) × (row_shown there ≡ row)
+got-shown rows place row h = some-from_map row_shown (slice_get rows place) row (sym (slice_get-map row_shown rows place) ∙ h)
 
 -- ---- what is changed
 
@@ -133,14 +126,14 @@ changes-put : (number : Number) (old new : ControllerParts) (place : ℕ) (row :
     → ChangesAt (Some place) number old new
 changes-put number old new place row at puts =
     let there = got-shown new.rows place row at in
-    let own : there.there.id ≡ row.volume.id = ap (λ (r : RowShown). r.volume.id) there.is in
+    let own : there.0.id ≡ row.volume.id = ap (λ (r : RowShown). r.volume.id) there.2 in
     let left = staying old.session number old.rows in
     let stay = rows_of.staying controller_plan.is_empty old.session number (map row_shown old.rows) in (
-      there.there,
-      there.at,
+      there.0,
+      there.1,
       record {
         session = puts.session;
-        next_id = λ none. absurd (some_is_not_none there.there.id none);
+        next_id = λ none. absurd (some_is_not_none there.0.id none);
         others = λ id other.
             let apart : (id == row.volume.id) ≡ false = ne_eqb id row.volume.id (λ same. other (ap Some (own ∙ sym same))) in
             copy-shown (row_by_id id left) (row_by_id id new.rows)
@@ -148,13 +141,13 @@ changes-put number old new place row at puts =
             ∙ sym (put-others controller_plan.id row stay id apart)
             ∙ ap (row_of controller_plan.id id) (sym puts.rows) ∙ sym (found-shown id new.rows));
         put = λ id some.
-            let is : id ≡ row.volume.id = sym (same_Some there.there.id id some) ∙ own in
+            let is : id ≡ row.volume.id = sym (same_Some there.0.id id some) ∙ own in
             let found : option_map row_shown (row_by_id id new.rows) ≡ Some row
             = found-shown id new.rows ∙ ap (λ (k : ℕ). row_of controller_plan.id k (map row_shown new.rows)) is ∙ ap (row_of controller_plan.id row.volume.id) puts.rows ∙ put-found controller_plan.id row stay in
             let some_row = some-from_map row_shown (row_by_id id new.rows) row found in
             (some_row.0, some_row.1, ap (λ (r : RowShown). r.volume.kept.number) some_row.2 ∙ puts.has_number);
         fresh = λ id was some found.
-            let is : row.volume.id ≡ id = sym own ∙ same_Some there.there.id id some in
+            let is : row.volume.id ≡ id = sym own ∙ same_Some there.0.id id some in
             puts.fresh (row_shown was) (ap (λ (k : ℕ). row_of controller_plan.id k (map row_shown old.rows)) is ∙ sym (found-shown id old.rows) ∙ ap (option_map row_shown) found);
       },
     )

@@ -49,12 +49,10 @@ kept_remains _ _ (dead_goes v dead) = inr refl
 
 -- so it is of what is kept for a thing
 kept_begun : (session : ℕ) (state : ControllerState) (thing : PluginThing) → IsOrderly state → (kept_in_row (begun session state) thing ≡ kept_in_row state thing) ⊎ (kept_in_row (begun session state) thing ≡ None)
-kept_begun session state thing orderly = by (kept_remains (row_of state thing) (row_of (begun session state) thing) (row_remains session state thing orderly))
-  where
-    by : (option_map (λ (v : Volume). v.kept) (row_of (begun session state) thing) ≡ option_map (λ (v : Volume). v.kept) (row_of state thing)) ⊎ (option_map (λ (v : Volume). v.kept) (row_of (begun session state) thing) ≡ None)
-        → (kept_in_row (begun session state) thing ≡ kept_in_row state thing) ⊎ (kept_in_row (begun session state) thing ≡ None)
-    by (inl same) = inl (kept_of_row (begun session state) thing ∙ same ∙ sym (kept_of_row state thing))
-    by (inr none) = inr (kept_of_row (begun session state) thing ∙ none)
+kept_begun session state thing orderly =
+    subst (λ (k : Option Kept). (k ≡ kept_in_row state thing) ⊎ (k ≡ None)) (sym (kept_of_row (begun session state) thing))
+    (subst (λ (k : Option Kept). (option_map (λ (v : Volume). v.kept) (row_of (begun session state) thing) ≡ k) ⊎ (option_map (λ (v : Volume). v.kept) (row_of (begun session state) thing) ≡ None)) (sym (kept_of_row state thing))
+    (kept_remains (row_of state thing) (row_of (begun session state) thing) (row_remains session state thing orderly)))
 
 -- what is kept for a thing is of no later session than the greatest that came
 kept_up_to : (state : ControllerState) (thing : PluginThing) → AreRecent state → IsUpTo state.session (kept_in_row state thing)

@@ -2,15 +2,18 @@
 use Rattle.std.proofs.Common.{◌≡◌, ℕ, zero, suc, ◌+◌, ◌<◌, List, [], ◌∷◌, ◌++◌, map, length, set, Bool, true, false, cond, not, refl, sym, ◌∙◌, ap, subst}
 use Rattle.std.specs.Prelude.{Option, Some, None, option_map, find, filter, slice_get, ◌==◌, IsTrue}
 use Rattle.std.specs.List.{AllByRecursion}
+use Rattle.std.specs.Option.{option_or}
 use Rattle.std.proofs.lemmas.List.{length-map, map-append}
 use Rattle.std.proofs.Math.Bool.{not-not}
+use Rattle.std.proofs.lemmas.List.Elements.{filter_agree}
 use Rattle.csi_lists.proofs.Each.{each-filter, each-weaker}
 use Rattle.csi_lists.proofs.Filters.{filter-of_map}
 use Rattle.csi_lists.proofs.Maps.{map-none_shown}
 use Rattle.csi_lists.proofs.Places.{AtMostOne-filter, FirstAt-is_at, FirstAt-passes, FirstAt-within}
-use Rattle.csi_lists.proofs.Searches.{find-of_map}
+use Rattle.csi_lists.proofs.Searches.{find-of_map, find-append}
 use Rattle.csi_lists.proofs.PassingByKey.{find-passing, passing}
 use Rattle.csi_lists.proofs.Members.{among-find, each_of}
+use Rattle.csi_lists.proofs.Options.{option_or-none, option_or-some}
 use Rattle.csi_lists.specs.Public.Places.{AtMostOne, FirstAt, IsAt}
 use Rattle.csi_types.specs.declared.call.Call.{Call}
 use Rattle.csi_types.specs.declared.call.Call.TheVariants as calls
@@ -86,8 +89,7 @@ held-live next rows id each one = ap held_in (find-passing (λ (r : RowShown). r
 
 -- live volumes, told twice over
 pub filter-twice : (rows : List RowShown) → filter (λ (r : RowShown). not (not r.volume.is_live)) rows ≡ filter (λ (r : RowShown). r.volume.is_live) rows
-filter-twice [] = refl
-filter-twice (r ∷ rs) = (λ i. cond (not-not r.volume.is_live i) (r ∷ filter-twice rs i) (filter-twice rs i))
+filter-twice rows = filter_agree (λ (r : RowShown). not (not r.volume.is_live)) (λ (r : RowShown). r.volume.is_live) (λ r. not-not r.volume.is_live) rows
 
 -- the rows that aren't empty show the state in which it has begun
 pub begun-shows : (session : ℕ) (old : ControllerRows) (state : ControllerState) → AreRowsSound old → RowsShowAll old state
@@ -123,17 +125,12 @@ kept-same call old state shows =
 
 -- a row without holdings, at the end
 held-append : (rows : List RowShown) (row : RowShown) (id : ℕ) → row.items ≡ [] → held_in (find (λ (r : RowShown). r.volume.id == id) (rows ++ row ∷ [])) ≡ held_in (find (λ (r : RowShown). r.volume.id == id) rows)
-held-append [] row id empty = by (row.volume.id == id)
+held-append rows row id empty = ap held_in (find-append (λ (r : RowShown). r.volume.id == id) rows row) ∙ by (find (λ (r : RowShown). r.volume.id == id) rows) (row.volume.id == id)
   where
-    by : (b : Bool) → held_in (cond b (Some row) None) ≡ []
-    by true = ap (map (volume_holding row.volume.id)) empty
-    by false = refl
-held-append (r ∷ rs) row id empty = by (r.volume.id == id) (held-append rs row id empty)
-  where
-    by : (b : Bool) → held_in (find (λ (r : RowShown). r.volume.id == id) (rs ++ row ∷ [])) ≡ held_in (find (λ (r : RowShown). r.volume.id == id) rs)
-        → held_in (cond b (Some r) (find (λ (r : RowShown). r.volume.id == id) (rs ++ row ∷ []))) ≡ held_in (cond b (Some r) (find (λ (r : RowShown). r.volume.id == id) rs))
-    by true h = refl
-    by false h = h
+    by : (o : Option RowShown) (b : Bool) → held_in (option_or o (cond b (Some row) None)) ≡ held_in o
+    by (Some r) b = ap held_in (option_or-some (Some r) (cond b (Some row) None) r refl)
+    by None true = ap held_in (option_or-none None (Some row) refl) ∙ ap (map (volume_holding row.volume.id)) empty
+    by None false = ap held_in (option_or-none None None refl)
 
 -- a choice between a value and itself is that value
 same_either_way : {X : Type 0} (b : Bool) (x : X) → x ≡ cond b x x
