@@ -1,13 +1,12 @@
 -- What a controller answers to a call, and what that changes, is told by what its rows answer behind the fence.
-use Rattle.std.proofs.Common.{◌≡◌, ◌<◌, ◌≤◌, ◌%◌, ◌^◌, ℕ, zero, suc, List, [], ◌∷◌, map, Bool, true, false, cond, not, refl, sym, ◌∙◌, ap, subst, arith}
-use Rattle.std.specs.Prelude.{Option, Some, None, option_map, find, filter, slice_get, ◌==◌, Result, IsTrue}
+use Rattle.std.proofs.Common.{◌≡◌, ◌<◌, ◌≤◌, ◌%◌, ◌^◌, ℕ, List, map, Bool, true, false, cond, not, refl, sym, ◌∙◌, ap, subst, arith}
+use Rattle.std.specs.Prelude.{Option, Some, None, option_map, filter, slice_get, ◌==◌, Result, IsTrue}
 use Rattle.std.proofs.lemmas.Bool.{ne_eqb}
 use Rattle.std.proofs.lemmas.Bool.Decides.{nat_tests}
 use Rattle.std.proofs.lemmas.List.Elements.{recursion_from_All}
-use Rattle.std.proofs.lemmas.Option.{same_Some}
+use Rattle.std.proofs.lemmas.Option.{same_Some, slice_get-map}
 use Rattle.std.proofs.lemmas.Result.{IfOk-weaker, on_err_weaker}
 use Rattle.csi_lists.proofs.Filters.{filter-of_map}
-use Rattle.csi_lists.proofs.Maps.{map-twice}
 use Rattle.csi_lists.proofs.Options.{some-from_map, some_is_not_none}
 use Rattle.csi_lists.proofs.Searches.{find-of_map}
 use Rattle.csi_types.specs.declared.call.Call.{Call}
@@ -20,31 +19,27 @@ use Rattle.csi_types.specs.Public.Call.{is_party_of}
 use Rattle.csi_fence.specs.declared.answer.Answer.{Answer}
 use Rattle.csi_fence.specs.declared.fault.CoreFault.{CoreFault}
 use Rattle.csi_fence.specs.Model.Fence.{Kept, begins, is_over}
-use Rattle.csi_fence.specs.Model.Fenced.{Fenced, in_session}
+use Rattle.csi_fence.specs.Model.Fenced.{Fenced, answered_in, in_session}
 use Rattle.csi_fence.specs.Public.Delivery.{last_of}
 use Rattle.csi_fence.specs.Public.Fence.{IsFresh}
-use Rattle.csi_fence.specs.Public.Repeats as repeats
-use Rattle.csi_fence.specs.Public.Rows.{AreKept, Answers, IsAnswered, Puts, PutsAt, PutsNone, put_row, rows_machine}
+use Rattle.csi_fence.specs.Public.Rows.{AreKept, Answers, IsAnswered, Puts, PutsAt, PutsNone, rows_machine}
 use Rattle.csi_fence.specs.Public.Rows as rows_of
 use Rattle.csi_fence.proofs.PutRows.{put-found, put-others, row_of}
 use Rattle.csi_fence.proofs.Simulating.{answered-alike}
 use Rattle.csi_controller.specs.declared.row.ControllerRow.{ControllerRow}
 use Rattle.csi_controller.specs.Model.Core.{ControllerParts, Shows}
 use Rattle.csi_controller.specs.Model.Fenced.{begun, controller_with, kept_for}
-use Rattle.csi_controller.specs.Model.Shown.{holdings_in, volume_of_row}
 use Rattle.csi_controller.specs.Model.State.{ControllerState}
-use Rattle.csi_controller.specs.Public.Core.{IsSameRow, IsUndoing, next_shown}
+use Rattle.csi_controller.specs.Public.Core.{IsUndoing, next_shown}
 use Rattle.csi_fence.specs.Public.Repeats.{IsPlainRepeat}
 use Rattle.csi_controller.specs.Public.RowsLaw.{Changes, ChangesAt, row_by_id, staying}
 use Rattle.csi_controller.specs.Public.Views.{IsCopyOf}
 use Rattle.csi_controller.specs.Private.Answers.{AnswersOwn, IsCallAnswered}
-use Rattle.csi_controller.specs.Private.Fenced.{answered_in}
 use Rattle.csi_controller.specs.Public.OneRow.{RowShown, row_shown}
 use Rattle.csi_controller.specs.Public.Plan.{Fits, IsSoundBy, controller_plan}
-use Rattle.csi_controller.proofs.Holdings.{held_in}
 use Rattle.csi_controller.proofs.RowsMachine.{begun-shows, begun-sound, carried-alike, filter-twice, kept-same, rows-simulate}
 use Rattle.csi_controller.proofs.ShowingLaw.{next-by}
-use Rattle.csi_controller.proofs.ShownRows.{AreRowsSound, ControllerRows, RowsShowAll, volume_in}
+use Rattle.csi_controller.proofs.ShownRows.{AreRowsSound, ControllerRows, RowsShowAll, held-shown, volumes-shown}
 
 -- ---- a controller's parts as rows
 
@@ -61,13 +56,9 @@ pub shows-in : (parts : ControllerParts) (state : ControllerState) → Shows par
 shows-in parts state shown = record {
   next = sym (next-is parts.next_id state.next_id shown.shows.next shown.next_from shown.next_to);
   session = shown.session;
-  volumes = map-twice volume_in row_shown volume_of_row parts.rows (λ r. refl) ∙ shown.shows.volumes;
-  holdings = λ id. ap held_in (find-of_map (λ (r : RowShown). r.volume.id == id) row_shown parts.rows) ∙ by (find (λ (r : ControllerRow). r.id == id) parts.rows) ∙ shown.shows.holdings id;
+  volumes = volumes-shown parts.rows ∙ shown.shows.volumes;
+  holdings = λ id. held-shown parts.rows id ∙ shown.shows.holdings id;
 }
-  where
-    by : (o : Option ControllerRow) → held_in (option_map row_shown o) ≡ holdings_in o
-    by None = refl
-    by (Some row) = refl
 
 -- and the other way round
 pub shows-out : (parts : ControllerParts) (state : ControllerState) → parts.next_id < 2 ^ 64 → RowsShowAll (rows_in parts) state → Shows parts state
@@ -76,17 +67,13 @@ shows-out parts state below shows =
     record {
       shows = record {
         next = next.0 ∙ ap (λ (k : ℕ). k % 2 ^ 64) shows.next;
-        volumes = sym (map-twice volume_in row_shown volume_of_row parts.rows (λ r. refl)) ∙ shows.volumes;
-        holdings = λ id. sym (ap held_in (find-of_map (λ (r : RowShown). r.volume.id == id) row_shown parts.rows) ∙ by (find (λ (r : ControllerRow). r.id == id) parts.rows)) ∙ shows.holdings id;
+        volumes = sym (volumes-shown parts.rows) ∙ shows.volumes;
+        holdings = λ id. sym (held-shown parts.rows id) ∙ shows.holdings id;
       };
       session = shows.session;
       next_from = subst (λ (k : ℕ). 1 ≤ k) shows.next next.1;
       next_to = subst (λ (k : ℕ). k ≤ 2 ^ 64) shows.next next.2;
     }
-  where
-    by : (o : Option ControllerRow) → held_in (option_map row_shown o) ≡ holdings_in o
-    by None = refl
-    by (Some row) = refl
 
 -- one next id has one number of 64 bits
 next_same : (n m : ℕ) → n < 18446744073709551616 → m < 18446744073709551616 → next_shown n ≡ next_shown m → n ≡ m
@@ -103,10 +90,6 @@ copy-shown (Some r) (Some c) h =
     let same : row_shown r ≡ row_shown c = same_Some (row_shown r) (row_shown c) h in
     record { volume = ap (λ (x : RowShown). x.volume) (sym same); items = ap (λ (x : RowShown). x.items) (sym same) }
 
--- a copy shows what the row does
-pub same-shown : (row copy : ControllerRow) → IsSameRow row copy → row_shown row ≡ row_shown copy
-same-shown row copy same = λ i. record { volume = sym same.volume i; items = sym same.items i }
-
 -- what is found by an id
 pub found-shown : (id : ℕ) (rows : List ControllerRow) → option_map row_shown (row_by_id id rows) ≡ row_of controller_plan.id id (map row_shown rows)
 found-shown id rows = sym (find-of_map (λ (r : RowShown). r.volume.id == id) row_shown rows)
@@ -120,15 +103,8 @@ staying-shown session number rows = by (begins session number)
     by false = refl
 
 -- a row that is shown at a place stands there
-record IsShownAt (rows : List ControllerRow) (place : ℕ) (row : RowShown) : Type 0 where
-  pub there : ControllerRow
-  pub at : slice_get rows place ≡ Some there
-  pub is : row_shown there ≡ row
-
-got-shown : (rows : List ControllerRow) (place : ℕ) (row : RowShown) → slice_get (map row_shown rows) place ≡ Some row → IsShownAt rows place row
-got-shown [] place row h = cc
-got-shown (r ∷ rs) zero row h = record { there = r; at = refl; is = same_Some (row_shown r) row h }
-got-shown (r ∷ rs) (suc place) row h = let rest = got-shown rs place row h in record { there = rest.there; at = rest.at; is = rest.is }
+got-shown : (rows : List ControllerRow) (place : ℕ) (row : RowShown) → slice_get (map row_shown rows) place ≡ Some row → (there : ControllerRow) × (slice_get rows place ≡ Some there) × (row_shown there ≡ row)
+got-shown rows place row h = some-from_map row_shown (slice_get rows place) row (sym (slice_get-map row_shown rows place) ∙ h)
 
 -- ---- what is changed
 
@@ -150,14 +126,14 @@ changes-put : (number : Number) (old new : ControllerParts) (place : ℕ) (row :
     → ChangesAt (Some place) number old new
 changes-put number old new place row at puts =
     let there = got-shown new.rows place row at in
-    let own : there.there.id ≡ row.volume.id = ap (λ (r : RowShown). r.volume.id) there.is in
+    let own : there.0.id ≡ row.volume.id = ap (λ (r : RowShown). r.volume.id) there.2 in
     let left = staying old.session number old.rows in
     let stay = rows_of.staying controller_plan.is_empty old.session number (map row_shown old.rows) in (
-      there.there,
-      there.at,
+      there.0,
+      there.1,
       record {
         session = puts.session;
-        next_id = λ none. absurd (some_is_not_none there.there.id none);
+        next_id = λ none. absurd (some_is_not_none there.0.id none);
         others = λ id other.
             let apart : (id == row.volume.id) ≡ false = ne_eqb id row.volume.id (λ same. other (ap Some (own ∙ sym same))) in
             copy-shown (row_by_id id left) (row_by_id id new.rows)
@@ -165,13 +141,13 @@ changes-put number old new place row at puts =
             ∙ sym (put-others controller_plan.id row stay id apart)
             ∙ ap (row_of controller_plan.id id) (sym puts.rows) ∙ sym (found-shown id new.rows));
         put = λ id some.
-            let is : id ≡ row.volume.id = sym (same_Some there.there.id id some) ∙ own in
+            let is : id ≡ row.volume.id = sym (same_Some there.0.id id some) ∙ own in
             let found : option_map row_shown (row_by_id id new.rows) ≡ Some row
             = found-shown id new.rows ∙ ap (λ (k : ℕ). row_of controller_plan.id k (map row_shown new.rows)) is ∙ ap (row_of controller_plan.id row.volume.id) puts.rows ∙ put-found controller_plan.id row stay in
             let some_row = some-from_map row_shown (row_by_id id new.rows) row found in
             (some_row.0, some_row.1, ap (λ (r : RowShown). r.volume.kept.number) some_row.2 ∙ puts.has_number);
         fresh = λ id was some found.
-            let is : row.volume.id ≡ id = sym own ∙ same_Some there.there.id id some in
+            let is : row.volume.id ≡ id = sym own ∙ same_Some there.0.id id some in
             puts.fresh (row_shown was) (ap (λ (k : ℕ). row_of controller_plan.id k (map row_shown old.rows)) is ∙ sym (found-shown id old.rows) ∙ ap (option_map row_shown) found);
       },
     )
@@ -187,7 +163,7 @@ call-answered old new number call answer party sound config from to is =
           let alike = answered-alike (rows_machine controller_plan old.config) (controller_with old.config) AreRowsSound RowsShowAll (rows-simulate old.config) number call (rows_in old) state party sound (shows-in old state shown) in
           record {
             reply = sym alike.reply ∙ ap (λ (f : Fenced ControllerRows). f.reply) is.gives;
-            shown = shows-out new (answered_in old.config state number call).state to (subst (λ (f : Fenced ControllerRows). RowsShowAll f.state (answered_in old.config state number call).state) is.gives alike.after);
+            shown = shows-out new (answered_in (controller_with old.config) state number call).state to (subst (λ (f : Fenced ControllerRows). RowsShowAll f.state (answered_in (controller_with old.config) state number call).state) is.gives alike.after);
           };
       changes = by answer.row is.puts;
       allowed = is.allowed;
@@ -197,11 +173,6 @@ call-answered old new number call answer party sound config from to is =
     by : (o : Option ℕ) → PutsAt controller_plan o number (rows_in old) (rows_in new) → ChangesAt o number old new
     by None puts = changes-none number old new from to puts
     by (Some place) puts = changes-put number old new place puts.0 puts.1 puts.2
-
--- the same repeat
-same_repeat : (session : ℕ) (o : Option Kept) (number : Number) → IsPlainRepeat session o number → repeats.IsPlainRepeat session o number
-same_repeat session None number repeat = repeat
-same_repeat session (Some kept) number repeat = repeat
 
 -- the state in which a call is judged is shown by the rows among which it is
 begun-alike : (config : Config) (number : Number) (old : ControllerRows) (state : ControllerState) → AreRowsSound old → RowsShowAll old state
@@ -232,8 +203,8 @@ own-answers old new number call agrees empty result party sound config from to a
   repeated = λ state shown repeat.
       let shows = shows-in old state shown in
       answers.repeated
-      (subst (λ (o : Option Kept). repeats.IsPlainRepeat old.session o number) (sym (kept-same call (rows_in old) state shows))
-      (subst (λ (session : ℕ). repeats.IsPlainRepeat session (kept_for call state) number) (sym shown.session) (same_repeat state.session (kept_for call state) number repeat)));
+      (subst (λ (o : Option Kept). IsPlainRepeat old.session o number) (sym (kept-same call (rows_in old) state shows))
+      (subst (λ (session : ℕ). IsPlainRepeat session (kept_for call state) number) (sym shown.session) repeat));
   undone = λ state shown undoing answered.
       let shows = shows-in old state shown in
       let alike = begun-alike old.config number (rows_in old) state sound shows in

@@ -1,7 +1,7 @@
 -- The attachments of rows, when one more row is appended.
 use Rattle.std.proofs.Common.{◌≡◌, ◌<◌, ◌+◌, ℕ, Bool, true, false, cond, List, [], ◌∷◌, ◌++◌, map, take, get_or, length, refl, sym, ◌∙◌, ap, append_assoc, arith}
 use Rattle.std.specs.Prelude.{Some, find, filter, ◌==◌}
-use Rattle.std.proofs.lemmas.List.{take_more}
+use Rattle.std.proofs.lemmas.List.{take_more, append-nil}
 use Rattle.std.proofs.lemmas.List.Elements.{filter-append}
 use Rattle.std.specs.List.{AllByRecursion}
 use Rattle.csi_lists.specs.Model.Members.{EachTwo}
@@ -19,14 +19,9 @@ use Rattle.csi_controller.specs.Public.Views.{attached_holdings, IsHeldBefore, H
 use Rattle.csi_controller.proofs.Sound.{rising-one}
 use Rattle.csi_controller.specs.Model.State.{ControllerState}
 
--- a list with nothing behind it is that list
-append-none : {X : Type 0} (xs : List X) → xs ++ [] ≡ xs
-append-none [] = refl
-append-none (x ∷ xs) = ap (λ ys. x ∷ ys) (append-none xs)
-
 -- the holdings of rows with one more are theirs, and then that row's
 attached-append : (rows : List ControllerRow) (row : ControllerRow) → attached_holdings (rows ++ row ∷ []) ≡ attached_holdings rows ++ holdings_in_row row
-attached-append [] row = append-none (holdings_in_row row)
+attached-append [] row = append-nil (holdings_in_row row)
 attached-append (r ∷ rs) row = ap (λ all. holdings_in_row r ++ all) (attached-append rs row) ∙ sym (append_assoc (holdings_in_row r) (attached_holdings rs) (holdings_in_row row))
 
 -- the holdings of the rows before a place, and then those of the row there, are those of the rows up to it
@@ -60,7 +55,7 @@ attached-of (r ∷ rs) id one =
   where
     by : (b : Bool) → (r.id == id) ≡ b → filter (λ (h : Holding). h.volume == id) (attached_holdings rs) ≡ holdings_in (find (λ (x : ControllerRow). x.id == id) rs)
         → cond b (holdings_in_row r) [] ++ filter (λ (h : Holding). h.volume == id) (attached_holdings rs) ≡ holdings_in (cond b (Some r) (find (λ (x : ControllerRow). x.id == id) rs))
-    by true e rest = ap (λ xs. holdings_in_row r ++ xs) (rest ∙ ap holdings_in ((one id).0 e)) ∙ append-none (holdings_in_row r)
+    by true e rest = ap (λ xs. holdings_in_row r ++ xs) (rest ∙ ap holdings_in ((one id).0 e)) ∙ append-nil (holdings_in_row r)
     by false e rest = rest
 
 -- the rows' holdings have each volume's, in order, of the state that the rows show

@@ -8,7 +8,7 @@ use Rattle.csi_lists.specs.Model.Members.{IsAmong}
 use Rattle.csi_types.specs.declared.number.Number.{Number}
 use Rattle.csi_types.specs.declared.call.Call.{Call}
 use Rattle.csi_types.specs.declared.call.Call.TheVariants as calls
-use Rattle.csi_types.specs.Public.PluginThing.{PluginThing, Exists, Attached, Staged, Published, HasId}
+use Rattle.csi_types.specs.Public.PluginThing.{PluginThing, Exists, Attached, HasId}
 use Rattle.csi_types.specs.Model.Same.{same_text}
 use Rattle.csi_fence.proofs.Begun.{HasBegun, IsUpTo, has-begun}
 use Rattle.csi_fence.specs.Model.Fence.{Kept, begins}
@@ -25,15 +25,12 @@ use Rattle.csi_controller.proofs.RememberedStates.{AreRecent}
 pub among_row : (state : ControllerState) (thing : PluginThing) (v : Volume) → row_of state thing ≡ Some v → IsAmong v state.volumes
 among_row state (Exists name) v is = among-find (λ (u : Volume). same_text u.name name) state.volumes v is
 among_row state (Attached id node) v is = among-find (λ (u : Volume). u.id == id) state.volumes v is
-among_row state (Staged id node) v is = absurd (none-some v is)
-among_row state (Published id node target) v is = absurd (none-some v is)
+among_row state thing v is = absurd (none-some v is)
 
 -- things are as they were
 held_begun : (session : ℕ) (state : ControllerState) (thing : PluginThing) → held_in (begun session state) thing ≡ held_in state thing
 held_begun session state (Exists name) = ap (option_map (λ (v : Volume). HasId v.id)) (live_named-begun session state name)
-held_begun session state (Attached id node) = refl
-held_begun session state (Staged id node) = refl
-held_begun session state (Published id node target) = refl
+held_begun session state thing = refl
 
 -- a thing's row stays where its volume is live
 row_remains : (session : ℕ) (state : ControllerState) (thing : PluginThing) → IsOrderly state → Remains (row_of state thing) (row_of (begun session state) thing)
@@ -41,8 +38,7 @@ row_remains session state (Exists name) orderly =
     remains (λ (v : Volume). same_text v.name name) session state (λ v w among passes is. same_Some w v (sym (is_named state name w orderly among passes) ∙ is))
 row_remains session state (Attached id node) orderly =
     remains (λ (v : Volume). v.id == id) session state (λ v w among passes is. same_Some w v (sym (is_with_id state id w orderly among passes) ∙ is))
-row_remains session state (Staged id node) orderly = none_remains
-row_remains session state (Published id node target) orderly = none_remains
+row_remains session state thing orderly = none_remains
 
 -- what a row that remains keeps is what it kept, or nothing is kept
 kept_remains : (o next : Option Volume) → Remains o next
@@ -53,12 +49,10 @@ kept_remains _ _ (dead_goes v dead) = inr refl
 
 -- so it is of what is kept for a thing
 kept_begun : (session : ℕ) (state : ControllerState) (thing : PluginThing) → IsOrderly state → (kept_in_row (begun session state) thing ≡ kept_in_row state thing) ⊎ (kept_in_row (begun session state) thing ≡ None)
-kept_begun session state thing orderly = by (kept_remains (row_of state thing) (row_of (begun session state) thing) (row_remains session state thing orderly))
-  where
-    by : (option_map (λ (v : Volume). v.kept) (row_of (begun session state) thing) ≡ option_map (λ (v : Volume). v.kept) (row_of state thing)) ⊎ (option_map (λ (v : Volume). v.kept) (row_of (begun session state) thing) ≡ None)
-        → (kept_in_row (begun session state) thing ≡ kept_in_row state thing) ⊎ (kept_in_row (begun session state) thing ≡ None)
-    by (inl same) = inl (kept_of_row (begun session state) thing ∙ same ∙ sym (kept_of_row state thing))
-    by (inr none) = inr (kept_of_row (begun session state) thing ∙ none)
+kept_begun session state thing orderly =
+    subst (λ (k : Option Kept). (k ≡ kept_in_row state thing) ⊎ (k ≡ None)) (sym (kept_of_row (begun session state) thing))
+    (subst (λ (k : Option Kept). (option_map (λ (v : Volume). v.kept) (row_of (begun session state) thing) ≡ k) ⊎ (option_map (λ (v : Volume). v.kept) (row_of (begun session state) thing) ≡ None)) (sym (kept_of_row state thing))
+    (kept_remains (row_of state thing) (row_of (begun session state) thing) (row_remains session state thing orderly)))
 
 -- what is kept for a thing is of no later session than the greatest that came
 kept_up_to : (state : ControllerState) (thing : PluginThing) → AreRecent state → IsUpTo state.session (kept_in_row state thing)
@@ -87,7 +81,4 @@ known_before session state (calls.CreateVolume name required limit capabilities)
 known_before session state (calls.DeleteVolume id) thing orderly is = with_id_before session state id (λ (v : Volume). Exists v.name) thing orderly is
 known_before session state (calls.ControllerPublishVolume id node capability readonly) thing orderly is = with_id_before session state id (λ v. Attached id node) thing orderly is
 known_before session state (calls.ControllerUnpublishVolume id node) thing orderly is = with_id_before session state id (λ v. Attached id node) thing orderly is
-known_before session state (calls.NodeStageVolume id capability) thing orderly is = is
-known_before session state (calls.NodeUnstageVolume id) thing orderly is = is
-known_before session state (calls.NodePublishVolume id target capability readonly) thing orderly is = is
-known_before session state (calls.NodeUnpublishVolume id target) thing orderly is = is
+known_before session state call thing orderly is = is

@@ -1,14 +1,12 @@
 -- What is kept beside a controller's rows fits them after each change.
-use Rattle.std.proofs.Common.{◌≡◌, ℕ, zero, suc, ◌+◌, ◌<◌, ◌≤◌, List, [], ◌∷◌, ◌++◌, map, length, set, Bool, true, false, not, refl, sym, ◌∙◌, ap, subst, arith}
+use Rattle.std.proofs.Common.{◌≡◌, ℕ, ◌+◌, ◌<◌, ◌≤◌, List, [], ◌∷◌, ◌++◌, map, length, set, Bool, true, false, not, refl, sym, ◌∙◌, ap, subst, arith}
 use Rattle.std.specs.Prelude.{All, Some, None, filter, find, slice_get, Result, OnOk}
 use Rattle.std.specs.declared.result.Result.TheVariants as results
-use Rattle.std.proofs.lemmas.Bool.{true≢false}
+use Rattle.std.proofs.lemmas.Bool.{true≢false, not-true}
 use Rattle.std.proofs.lemmas.List.{length-append, map_push}
 use Rattle.std.proofs.lemmas.List.Elements.{recursion_from_All}
-use Rattle.std.proofs.lemmas.Option.{get_or_from_slice_get}
 use Rattle.csi_lists.proofs.Each.{each-append_one, each-at, each-filter, each-weaker}
 use Rattle.csi_lists.proofs.Filters.{filter-no_longer}
-use Rattle.csi_lists.proofs.Options.{some_is_not_none}
 use Rattle.csi_lists.proofs.Places.{AtMostOne-append, AtMostOne-filter}
 use Rattle.csi_types.proofs.Equality.{same_text-tells}
 use Rattle.csi_types.specs.declared.config.NodeSlots.{NodeSlots}
@@ -23,24 +21,13 @@ use Rattle.csi_controller.specs.Public.Names.{by_name}
 use Rattle.csi_controller.specs.Public.OneRow.{RowShown, row_changed}
 use Rattle.csi_controller.specs.Private.OneRow.{CanChange, moved}
 use Rattle.csi_controller.specs.Public.Plan.{Fits, IsFree, IsSoundBy, controller_plan}
-use Rattle.csi_controller.specs.Private.PlanLaws.{at-got, fits-set}
+use Rattle.csi_controller.specs.Private.PlanLaws.{at-got, fits-set, same-volume}
 use Rattle.csi_controller.proofs.Counts.{changed-counted, counted-fewer, made-counted}
-use Rattle.csi_controller.proofs.Holdings.{same-volume}
-use Rattle.csi_controller.proofs.PutLast.{put-last}
-
--- a place at which something is got is within the list
-pub within-got : {X : Type 0} (xs : List X) (place : ℕ) (x : X) → slice_get xs place ≡ Some x → place < length xs
-within-got [] place x h = absurd (some_is_not_none x (sym h))
-within-got (y ∷ ys) zero x h = omega arith
-within-got (y ∷ ys) (suc place) x h = let inside = within-got ys place x h in omega (arith, inside)
+use Rattle.csi_controller.proofs.ShownRows.{put-last}
 
 -- a row that doesn't stay was deleted
 pub gone-dead : (session : ℕ) (row : RowShown) → stays_in controller_plan session row ≡ false → row.volume.is_live ≡ false
-gone-dead session row goes = turned row.volume.is_live (goes-empty controller_plan session row goes)
-  where
-    turned : (b : Bool) → not b ≡ true → b ≡ false
-    turned true h = sym h
-    turned false h = refl
+gone-dead session row goes = not-true row.volume.is_live (goes-empty controller_plan session row goes)
 
 -- a volume that is changed is free where it was deleted
 free-changed : (row : RowShown) (change : Change) → CanChange row change → IsFree row → IsFree (row_changed row change)
@@ -56,25 +43,21 @@ pub fits-changed : (nodes : List NodeSlots) (names : List (List ℕ × ℕ)) (co
 fits-changed nodes names counts n rows place row new change fits at can is =
     let volume = ap (λ (r : RowShown). r.volume) is ∙ same-volume row change in
     fits-set nodes names counts (recounted nodes (moved change) counts) n rows place row new fits at (ap (λ (v : Volume). v.id) volume) (ap (λ (v : Volume). v.name) volume)
-    (changed-counted nodes rows place row new change counts fits.counted fits.limit (within-got rows place row at) (sym (get_or_from_slice_get rows place row row at)) can (ap (λ (r : RowShown). r.items) is))
+    (changed-counted nodes rows place row new change counts fits.counted fits.limit at can (ap (λ (r : RowShown). r.items) is))
     (subst IsFree (sym is) (free-changed row change can (each-at IsFree rows place row fits.free (at-got rows place row at))))
 
--- where a row is put last, of a new name and held nowhere
-pub fits-made : (nodes : List NodeSlots) (names : List (List ℕ × ℕ)) (counts : List ℕ) (n : ℕ) (rows : List RowShown) (row : RowShown) → Fits nodes names counts n rows → length rows < 4096
-    → find (λ (r : RowShown). same_text r.volume.name row.volume.name) rows ≡ None → row.items ≡ [] → Fits nodes (names ++ by_name row ∷ []) counts n (rows ++ row ∷ [])
-fits-made nodes names counts n rows row fits room none empty = record {
+-- where a row is put last, of a new name and held nowhere, under another next id
+fits-made : (nodes : List NodeSlots) (names : List (List ℕ × ℕ)) (counts : List ℕ) (n m : ℕ) (rows : List RowShown) (row : RowShown) → Fits nodes names counts n rows → m < 18446744073709551616 → length rows < 4096
+    → find (λ (r : RowShown). same_text r.volume.name row.volume.name) rows ≡ None → row.items ≡ [] → Fits nodes (names ++ by_name row ∷ []) counts m (rows ++ row ∷ [])
+fits-made nodes names counts n m rows row fits below room none empty = record {
   names_are = ap (λ (l : List (List ℕ × ℕ)). l ++ by_name row ∷ []) fits.names_are ∙ sym (map_push by_name rows row);
   unique = λ k. AtMostOne-append (λ (r : RowShown). same_text r.volume.name k) rows row (fits.unique k)
       (λ e. subst (λ (x : List ℕ). find (λ (r : RowShown). same_text r.volume.name x) rows ≡ None) ((same_text-tells row.volume.name k).0 e) none);
   limit = let longer : length (rows ++ row ∷ []) ≡ length rows + 1 = length-append rows (row ∷ []) in omega (arith, room, longer);
   counted = made-counted nodes rows counts row empty fits.counted;
   free = each-append_one IsFree rows row fits.free (λ dead. empty);
-  below = fits.below;
+  below = below;
 }
-
--- with another next id
-fits-later : (nodes : List NodeSlots) (names : List (List ℕ × ℕ)) (counts : List ℕ) (n m : ℕ) (rows : List RowShown) → m < 18446744073709551616 → Fits nodes names counts n rows → Fits nodes names counts m rows
-fits-later nodes names counts n m rows below fits = record { names_are = fits.names_are; unique = fits.unique; limit = fits.limit; counted = fits.counted; free = fits.free; below = below }
 
 -- where it is put by its id, which is the next one
 pub fits-entered : (nodes : List NodeSlots) (names : List (List ℕ × ℕ)) (counts : List ℕ) (n m next : ℕ) (rows : List RowShown) (row : RowShown) → Fits nodes names counts n rows → m < 18446744073709551616 → All (IsSoundBy next) rows → length rows < 4096
@@ -82,7 +65,7 @@ pub fits-entered : (nodes : List NodeSlots) (names : List (List ℕ × ℕ)) (co
 fits-entered nodes names counts n m next rows row fits below sound room none own empty =
     subst (Fits nodes (names ++ by_name row ∷ []) counts m)
     (sym (put-last controller_plan.id rows row (each-weaker (IsSoundBy next) (λ (r : RowShown). r.volume.id < row.volume.id) rows (λ r is. subst (λ (n : ℕ). r.volume.id < n) (sym own) is.below) (recursion_from_All (IsSoundBy next) rows sound))))
-    (fits-later nodes (names ++ by_name row ∷ []) counts n m (rows ++ row ∷ []) below (fits-made nodes names counts n rows row fits room none empty))
+    (fits-made nodes names counts n m rows row fits below room none empty)
 
 -- where rows are left out that are held nowhere
 pub fits-left : (nodes : List NodeSlots) (names : List (List ℕ × ℕ)) (counts : List ℕ) (n : ℕ) (rows : List RowShown) (q : RowShown → Bool) → Fits nodes names counts n rows → ((row : RowShown) → q row ≡ false → row.volume.is_live ≡ false)

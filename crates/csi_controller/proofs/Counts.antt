@@ -1,18 +1,20 @@
 -- The counts of the configured nodes after a row changed.
 use Rattle.std.proofs.Common.{◌≡◌, ◌≢◌, ◌≤◌, ◌<◌, ◌+◌, ℕ, Bool, true, false, cond, not, filter, List, [], ◌∷◌, ◌++◌, length, get_or, set, refl, sym, ◌∙◌, ap, subst, slice_index, arith}
-use Rattle.std.specs.Prelude.{Option, Some, None, find, is_some, count_by, map, ◌==◌, ◌||◌, ◌&&◌, nat_le}
-use Rattle.std.specs.List.{AllByRecursion, list_any, position_or_len}
+use Rattle.std.specs.Prelude.{Option, Some, None, find, is_some, count_by, map, ◌==◌, ◌||◌, ◌&&◌, nat_le, slice_get}
+use Rattle.std.specs.List.{AllByRecursion, list_any}
 use Rattle.std.proofs.lemmas.Bool.{true≢false, eq-eqb, eqb-true, or_parts}
-use Rattle.std.proofs.lemmas.Bool.Decides.{nat_tests}
 use Rattle.std.proofs.lemmas.Grind.{get_or-set_at}
 use Rattle.std.proofs.lemmas.List.{get_or-set_other, length-set}
 use Rattle.std.proofs.lemmas.List.Quantifiers.{position-Some}
-use Rattle.std.proofs.lemmas.List.Sums.{sum_by-set, count_by-le-length}
+use Rattle.std.proofs.lemmas.List.Sums.{count_by-le-length}
 use Rattle.std.proofs.lemmas.Map.Views.{any-filter_same}
+use Rattle.std.proofs.Math.Bool.{or-false, or-true}
+use Rattle.std.proofs.lemmas.List.Folds.{list_any-append}
 use Rattle.csi_lists.proofs.Counts.{count-cons}
-use Rattle.csi_lists.proofs.Options.{none-from_is_some, some_is_not_none}
+use Rattle.csi_lists.proofs.Options.{some_is_not_none}
 use Rattle.csi_lists.proofs.Places.{FirstAt-find, FirstAt-position}
-use Rattle.csi_lists.proofs.Tests.{any-find}
+use Rattle.csi_lists.proofs.Tests.{any-find, any-find_none}
+use Rattle.csi_lists.proofs.Searches.{find-filter_not, find-no_place}
 use Rattle.csi_types.proofs.Equality.{same_text-tells}
 use Rattle.csi_types.specs.declared.config.NodeSlots.{NodeSlots}
 use Rattle.csi_types.specs.Model.Config.{has_node}
@@ -24,8 +26,9 @@ use Rattle.csi_controller.specs.Public.OneRow.{RowShown, row_changed, held_by}
 use Rattle.csi_controller.specs.Private.OneRow.{moved, CanChange}
 use Rattle.csi_controller.specs.Public.Counts.{is_held, count_held, place_of, AreCounted}
 use Rattle.csi_controller.specs.Private.Counts.{count_at_place, is_full_with, is_node_full, count_after, counted_at, recounted}
-use Rattle.csi_controller.specs.Private.PlanLaws.{counted-alike, counted-left}
+use Rattle.csi_controller.specs.Private.PlanLaws.{counted-alike, counted-left, at-got, counted-set}
 use Rattle.csi_controller.proofs.SameText.{text-turned}
+use Rattle.csi_fence.proofs.StayingRows.{count-set}
 
 -- ---- where a node is configured
 
@@ -94,52 +97,38 @@ at-node nodes rows after node is counts counted own others (Some found) here =
         let apart : place ≢ found = λ same. true≢false (sym ((same_text-tells node other).1 (same-node node other nodes found here (at ∙ ap Some same))) ∙ e) in
         get_or-set_other counts found place value 0 apart ∙ counted.each other place at ∙ sym (others other e)
 
--- what another row in its place adds or takes
-changes : (node : List ℕ) (rows : List RowShown) (place : ℕ) (row new : RowShown) → place < length rows → row ≡ get_or rows place row
-    → count_held node (set rows place new) + cond (is_held node row) 1 0 ≡ count_held node rows + cond (is_held node new) 1 0
-changes node rows place row new inside is =
-    ap (λ (r : RowShown). count_held node (set rows place new) + cond (is_held node r) 1 0) is
-    ∙ sum_by-set (λ (r : RowShown). cond (is_held node r) 1 0) rows place new row inside
-
--- another row in a row's place leaves the count of a node at which both are held, or neither is
-alike-counted : (node : List ℕ) (rows : List RowShown) (place : ℕ) (row new : RowShown) → place < length rows → row ≡ get_or rows place row → is_held node new ≡ is_held node row
-    → count_held node (set rows place new) ≡ count_held node rows
-alike-counted node rows place row new inside is same =
-    let whole = changes node rows place row new inside is ∙ ap (λ b. count_held node rows + cond b 1 0) same in
-    omega (arith, whole)
-
 -- the counts after a row came to be held at a node, or ceased to be, and is held elsewhere as before
 node-counted : (nodes : List NodeSlots) (rows : List RowShown) (place : ℕ) (row new : RowShown) (node : List ℕ) (is : Bool) (counts : List ℕ) → AreCounted nodes rows counts → length rows ≤ 4096
-    → place < length rows → row ≡ get_or rows place row → is_held node row ≡ not is → is_held node new ≡ is → ((other : List ℕ) → same_text node other ≡ false → is_held other new ≡ is_held other row)
+    → slice_get rows place ≡ Some row → is_held node row ≡ not is → is_held node new ≡ is → ((other : List ℕ) → same_text node other ≡ false → is_held other new ≡ is_held other row)
     → AreCounted nodes (set rows place new) (counted_at (place_of node nodes) is counts)
-node-counted nodes rows place row new node is counts counted limit inside stands was now others = by is was now
+node-counted nodes rows place row new node is counts counted limit at was now others = by is was now
   where
     after : List RowShown
     after = set rows place new
 
     others_counted : (other : List ℕ) → same_text node other ≡ false → count_held other after ≡ count_held other rows
-    others_counted other e = alike-counted other rows place row new inside stands (others other e)
+    others_counted other e = counted-set other rows place row new (at-got rows place row at) (others other e)
 
     few : count_held node rows ≤ 4096
     few = let most = count_by-le-length (is_held node) rows in omega (arith, most, limit)
 
     by : (is : Bool) → is_held node row ≡ not is → is_held node new ≡ is → AreCounted nodes after (counted_at (place_of node nodes) is counts)
     by false w n =
-        let whole = changes node rows place row new inside stands in
+        let whole = count-set (is_held node) rows place row new at in
         let less : count_held node after + 1 ≡ count_held node rows = (λ i. count_held node after + cond (sym w i) 1 0) ∙ whole ∙ (λ i. count_held node rows + cond (n i) 1 0) ∙ omega arith in
         let small = few in
         at-node nodes rows after node false counts counted (omega (arith, less, small)) others_counted (place_of node nodes) refl
     by true w n =
-        let whole = changes node rows place row new inside stands in
+        let whole = count-set (is_held node) rows place row new at in
         let more : count_held node after ≡ count_held node rows + 1 = omega arith ∙ (λ i. count_held node after + cond (sym w i) 1 0) ∙ whole ∙ (λ i. count_held node rows + cond (n i) 1 0) in
         let small = few in
         at-node nodes rows after node true counts counted (omega (arith, more, small)) others_counted (place_of node nodes) refl
 
 -- a row that is held as before leaves all counts
-pub same-counted : (nodes : List NodeSlots) (rows : List RowShown) (place : ℕ) (row new : RowShown) (counts : List ℕ) → AreCounted nodes rows counts → place < length rows → row ≡ get_or rows place row
-    → new.items ≡ row.items → AreCounted nodes (set rows place new) counts
-same-counted nodes rows place row new counts counted inside is same =
-    counted-alike nodes rows (set rows place new) counts (λ node. alike-counted node rows place row new inside is (ap (list_any (λ held. same_text held.node node)) same)) counted
+same-counted : (nodes : List NodeSlots) (rows : List RowShown) (place : ℕ) (row new : RowShown) (counts : List ℕ) → AreCounted nodes rows counts → slice_get rows place ≡ Some row → new.items ≡ row.items
+    → AreCounted nodes (set rows place new) counts
+same-counted nodes rows place row new counts counted at same =
+    counted-alike nodes rows (set rows place new) counts (λ node. counted-set node rows place row new (at-got rows place row at) (ap (list_any (λ held. same_text held.node node)) same)) counted
 
 -- ---- all nodes
 
@@ -149,16 +138,9 @@ pub all-counted : (nodes : List NodeSlots) (rows : List RowShown) (counts : List
 all-counted nodes rows counts count few distinct long all each =
     record { few = few; distinct = distinct; fits = omega (arith, few, long); each = λ node place at. each node place at (let inside = (stands node nodes place some_node at).0 in omega (arith, inside, all)) }
 
--- where the place of the first one that passes is past the end, none passes
-past-none : {X : Type 0} (p : X → Bool) (xs : List X) → length xs ≤ position_or_len p xs → list_any p xs ≡ false
-past-none p [] past = refl
-past-none p (x ∷ xs) past = grind (arith, past-none p xs)
-
 -- no entry is that of a node that isn't found
 not-configured : (node : List ℕ) (nodes : List NodeSlots) → None ≡ place_of node nodes → list_any (λ (entry : NodeSlots). same_text entry.id node) nodes ≡ false
-not-configured node nodes none =
-    let past : length nodes ≤ position_or_len (λ (entry : NodeSlots). same_text entry.id node) nodes = grind (arith, nat_tests) in
-    past-none (λ (entry : NodeSlots). same_text entry.id node) nodes past
+not-configured node nodes none = any-find_none (λ (entry : NodeSlots). same_text entry.id node) nodes (find-no_place (λ (entry : NodeSlots). same_text entry.id node) nodes (sym none))
 
 -- a node is configured exactly where an entry is its
 has_node-any : (node : List ℕ) (nodes : List NodeSlots) → has_node node nodes ≡ list_any (λ (entry : NodeSlots). same_text entry.id node) nodes
@@ -198,53 +180,32 @@ taken-others node other items differ =
 
 -- once what is held at a node is taken out, nothing is held there
 here_none : (node : List ℕ) (items : List NodeHolding) → list_any (λ (held : NodeHolding). same_text held.node node) (filter (λ (held : NodeHolding). not (same_text held.node node)) items) ≡ false
-here_none node [] = refl
-here_none node (held ∷ later) = by (same_text held.node node) refl (here_none node later)
-  where
-    by : (b : Bool) → same_text held.node node ≡ b → list_any (λ (h : NodeHolding). same_text h.node node) (filter (λ (h : NodeHolding). not (same_text h.node node)) later) ≡ false
-        → list_any (λ (h : NodeHolding). same_text h.node node) (cond (not b) (held ∷ filter (λ (h : NodeHolding). not (same_text h.node node)) later) (filter (λ (h : NodeHolding). not (same_text h.node node)) later)) ≡ false
-    by true e rest = rest
-    by false e rest = rw e rest
+here_none node items =
+    any-find_none (λ (held : NodeHolding). same_text held.node node) (filter (λ (held : NodeHolding). not (same_text held.node node)) items) (find-filter_not (λ (held : NodeHolding). same_text held.node node) items)
 
 -- ---- what is added to a row
 
 -- one of a list with one more at its end passes where one did before, or the new one does
 one_more : (p : NodeHolding → Bool) (items : List NodeHolding) (held : NodeHolding) (b : Bool) → p held ≡ b → list_any p (items ++ held ∷ []) ≡ (list_any p items || b)
-one_more p [] held true e = rw e refl
-one_more p [] held false e = rw e refl
-one_more p (first ∷ later) held b e = by (p first) (one_more p later held b e)
-  where
-    by : (t : Bool) → list_any p (later ++ held ∷ []) ≡ (list_any p later || b) → (t || list_any p (later ++ held ∷ [])) ≡ ((t || list_any p later) || b)
-    by true rest = refl
-    by false rest = rest
-
--- a test or one that fails is the test
-or_false : (b : Bool) → (b || false) ≡ b
-or_false true = refl
-or_false false = refl
-
--- a test or one that holds holds
-or_true : (b : Bool) → (b || true) ≡ true
-or_true true = refl
-or_true false = refl
+one_more p items held b e = list_any-append p items (held ∷ []) ∙ ap (λ (t : Bool). list_any p items || t) (or-false (p held) ∙ e)
 
 -- ---- a row that a call changed
 
 -- the counts are right after a row's change, once they are counted again for the node that it moves
 pub changed-counted : (nodes : List NodeSlots) (rows : List RowShown) (place : ℕ) (row new : RowShown) (change : Change) (counts : List ℕ) → AreCounted nodes rows counts → length rows ≤ 4096
-    → place < length rows → row ≡ get_or rows place row → CanChange row change → new.items ≡ (row_changed row change).items
+    → slice_get rows place ≡ Some row → CanChange row change → new.items ≡ (row_changed row change).items
     → AreCounted nodes (set rows place new) (recounted nodes (moved change) counts)
-changed-counted nodes rows place row new Stays counts counted limit inside stands can items = same-counted nodes rows place row new counts counted inside stands items
-changed-counted nodes rows place row new (Makes name capacity capabilities) counts counted limit inside stands can items = absurd can
-changed-counted nodes rows place row new (Ends id) counts counted limit inside stands can items = same-counted nodes rows place row new counts counted inside stands items
-changed-counted nodes rows place row new (Attaches holding) counts counted limit inside stands can items =
-    node-counted nodes rows place row new holding.node true counts counted limit inside stands (any-find (λ (other : NodeHolding). same_text other.node holding.node) row.items ∙ ap is_some can.free)
+changed-counted nodes rows place row new Stays counts counted limit at can items = same-counted nodes rows place row new counts counted at items
+changed-counted nodes rows place row new (Makes name capacity capabilities) counts counted limit at can items = absurd can
+changed-counted nodes rows place row new (Ends id) counts counted limit at can items = same-counted nodes rows place row new counts counted at items
+changed-counted nodes rows place row new (Attaches holding) counts counted limit at can items =
+    node-counted nodes rows place row new holding.node true counts counted limit at (any-find (λ (other : NodeHolding). same_text other.node holding.node) row.items ∙ ap is_some can.free)
     (ap (list_any (λ (other : NodeHolding). same_text other.node holding.node)) items
-    ∙ one_more (λ (other : NodeHolding). same_text other.node holding.node) row.items (held_by holding) true ((same_text-tells holding.node holding.node).1 refl) ∙ or_true (is_held holding.node row))
+    ∙ one_more (λ (other : NodeHolding). same_text other.node holding.node) row.items (held_by holding) true ((same_text-tells holding.node holding.node).1 refl) ∙ or-true (is_held holding.node row))
     (λ other differ. ap (list_any (λ (h : NodeHolding). same_text h.node other)) items
-    ∙ one_more (λ (h : NodeHolding). same_text h.node other) row.items (held_by holding) false differ ∙ or_false (is_held other row))
-changed-counted nodes rows place row new (Detaches id node) counts counted limit inside stands can items =
-    node-counted nodes rows place row new node false counts counted limit inside stands (any-find (λ (held : NodeHolding). same_text held.node node) row.items ∙ can.1)
+    ∙ one_more (λ (h : NodeHolding). same_text h.node other) row.items (held_by holding) false differ ∙ or-false (is_held other row))
+changed-counted nodes rows place row new (Detaches id node) counts counted limit at can items =
+    node-counted nodes rows place row new node false counts counted limit at (any-find (λ (held : NodeHolding). same_text held.node node) row.items ∙ can.1)
     (ap (list_any (λ (held : NodeHolding). same_text held.node node)) items ∙ here_none node row.items)
     (λ other differ. ap (list_any (λ (held : NodeHolding). same_text held.node other)) items ∙ taken-others node other row.items differ)
 
@@ -295,18 +256,8 @@ full-first (e ∷ es) node count distinct = by (same_text e.id node) refl (full-
     by : (b : Bool) → same_text e.id node ≡ b
         → list_any (λ (entry : NodeSlots). same_text entry.id node && nat_le entry.slots count) es ≡ is_full_with count (find (λ (entry : NodeSlots). same_text entry.id node) es)
         → list_any (λ (entry : NodeSlots). same_text entry.id node && nat_le entry.slots count) (e ∷ es) ≡ is_full_with count (find (λ (entry : NodeSlots). same_text entry.id node) (e ∷ es))
-    by true same rest = rw same (ap (λ b. nat_le e.slots count || b) (others-fail e.id node es count same parts.0) ∙ or_false (nat_le e.slots count))
+    by true same rest = rw same (ap (λ b. nat_le e.slots count || b) (others-fail e.id node es count same parts.0) ∙ or-false (nat_le e.slots count))
     by false differ rest = rw differ rest
-
--- a node that isn't found isn't full
-none-full : (nodes : List NodeSlots) (node : List ℕ) (count held : ℕ) → list_any (λ (entry : NodeSlots). same_text entry.id node) nodes ≡ false
-    → is_full_with held (find (λ (entry : NodeSlots). same_text entry.id node) nodes) ≡ is_full_with count (find (λ (entry : NodeSlots). same_text entry.id node) nodes)
-none-full nodes node count held none =
-    let absent = any_none (λ (entry : NodeSlots). same_text entry.id node) nodes none in
-    ap (is_full_with held) absent ∙ sym (ap (is_full_with count) absent)
-  where
-    any_none : (p : NodeSlots → Bool) (xs : List NodeSlots) → list_any p xs ≡ false → find p xs ≡ None
-    any_none p xs h = none-from_is_some (find p xs) (sym (any-find p xs) ∙ h)
 
 -- the count at a configured node's place is the count of its volumes
 pub full-told : (nodes : List NodeSlots) (rows : List RowShown) (counts : List ℕ) (node : List ℕ) → AreCounted nodes rows counts
@@ -317,5 +268,5 @@ full-told nodes rows counts node counted = full-first nodes node (count_held nod
     found = find (λ (entry : NodeSlots). same_text entry.id node) nodes
 
     by : (place : Option ℕ) → place_of node nodes ≡ place → is_full_with (count_held node rows) found ≡ is_full_with (count_at_place place counts) found
-    by None none = none-full nodes node 0 (count_held node rows) (not-configured node nodes (sym none))
+    by None none = let absent = find-no_place (λ (entry : NodeSlots). same_text entry.id node) nodes none in ap (is_full_with (count_held node rows)) absent ∙ sym (ap (is_full_with 0) absent)
     by (Some place) at = ap (λ n. is_full_with n found) (sym (counted.each node place at))

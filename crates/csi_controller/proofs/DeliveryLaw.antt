@@ -22,10 +22,12 @@ use Rattle.csi_types.specs.Model.Config.{Config}
 use Rattle.csi_fence.proofs.Delivered.{IsKeptFor, answered-delivered}
 use Rattle.csi_fence.proofs.Judged.{Judgement, was_over, was_fresh, was_repeated, was_stale, was_judged}
 use Rattle.csi_fence.proofs.Views.{Carries, carried-acts, closed-view, empty-view}
+use Rattle.csi_fence.proofs.Spent.{not_over-own}
+use Rattle.csi_fence.proofs.FramesKeep.{own_session as session_of}
 use Rattle.csi_fence.specs.Public.Delivery.{Delivery, view_by, Acts, Misses, CallBecomes, IsDelivered, IsEmpty, IsClosed, last_of}
 use Rattle.csi_fence.specs.Model.Fence.{Kept, is_spent, is_over, begins}
 use Rattle.csi_fence.specs.Model.Fenced.{Fenced, answered_in}
-use Rattle.csi_types.specs.Public.PluginThing.{PluginThing, Exists, Attached, Staged, Published, HasId, asked}
+use Rattle.csi_types.specs.Public.PluginThing.{PluginThing, Exists, Attached, HasId, asked}
 use Rattle.csi_types.specs.Public.Reply.{has_id_by_rule}
 use Rattle.csi_types.specs.Model.Same.{same_text}
 use Rattle.csi_controller.specs.Model.State.{Volume, ControllerState, empty_controller, live_volume, is_held_at, is_row_for, row_for}
@@ -38,7 +40,7 @@ use Rattle.csi_controller.specs.Public.View.{held_in, kept_in_row, live_named, v
 use Rattle.csi_controller.proofs.BegunThings.{among_row, has_begun, known_before}
 use Rattle.csi_controller.proofs.LastCalls.{row_of, kept_of_row, IsFreshFor, kept_later, kept_after, row_known}
 use Rattle.csi_controller.proofs.TableOutcomes.{IsOutcome, was_refused, was_found, was_made, was_ended, was_ended_before, was_attached, was_attached_before, was_detached, was_detached_before, is_outcome}
-use Rattle.csi_controller.proofs.OrderlyStates.{IsOrderly, begun_orderly, kept_same, keep_leaves, live_with_id, is_row}
+use Rattle.csi_controller.proofs.OrderlyStates.{IsOrderly, begun_orderly, kept_same, keep_leaves, live_with_id, is_row, kept_in-other}
 use Rattle.csi_controller.proofs.RememberedStates.{AreRecent, changed_session}
 use Rattle.csi_controller.proofs.SafeStates.{begun_keeps}
 use Rattle.csi_controller.proofs.ThingOutcomes.{does}
@@ -49,15 +51,11 @@ empty_view = empty-view (held_in empty_controller) (kept_in_row empty_controller
   where
     held : (thing : PluginThing) → held_in empty_controller thing ≡ None
     held (Exists name) = refl
-    held (Attached id node) = refl
-    held (Staged id node) = refl
-    held (Published id node target) = refl
+    held thing = refl
 
     kept : (thing : PluginThing) → kept_in_row empty_controller thing ≡ None
     kept (Exists name) = refl
-    kept (Attached id node) = refl
-    kept (Staged id node) = refl
-    kept (Published id node target) = refl
+    kept thing = refl
 
 -- what came before a spent number is spent
 pub closed_view : (state : ControllerState) → IsClosed (view_of state)
@@ -69,9 +67,7 @@ held_keep call kept state (Exists name) =
     ap (option_map (λ (v : Volume). HasId v.id))
     (find-map (λ (v : Volume). same_text v.name name && v.is_live) (kept_in call kept) state.volumes (λ v. ap (λ (w : Volume). same_text w.name name && w.is_live) (kept_same call kept kept v)))
     ∙ option_map-map (λ (v : Volume). HasId v.id) (kept_in call kept) (live_named name state) (λ v. ap HasId ((keep_leaves call kept).ids v))
-held_keep call kept state (Attached id node) = refl
-held_keep call kept state (Staged id node) = refl
-held_keep call kept state (Published id node target) = refl
+held_keep call kept state thing = refl
 
 -- the call and its reply, as they are told
 abbrev told : Number → Call → Reply → Delivery
@@ -126,10 +122,7 @@ row_unknown state (calls.CreateVolume name required limit capabilities) party no
 row_unknown state (calls.DeleteVolume id) party none = none-from_map (λ (v : Volume). Exists v.name) (volume_with_id id state) none
 row_unknown state (calls.ControllerPublishVolume id node capability readonly) party none = none-from_map (λ v. Attached id node) (volume_with_id id state) none
 row_unknown state (calls.ControllerUnpublishVolume id node) party none = none-from_map (λ v. Attached id node) (volume_with_id id state) none
-row_unknown state (calls.NodeStageVolume id capability) party none = absurd (true≢false (sym party))
-row_unknown state (calls.NodeUnstageVolume id) party none = absurd (true≢false (sym party))
-row_unknown state (calls.NodePublishVolume id target capability readonly) party none = absurd (true≢false (sym party))
-row_unknown state (calls.NodeUnpublishVolume id target) party none = absurd (true≢false (sym party))
+row_unknown state call party none = absurd (true≢false (sym party))
 
 -- what is attached has a row
 held_known : (state : ControllerState) (id : ℕ) (node : List ℕ) (held : Holding) → IsExclusiveState state → find (is_held_at id node) state.holdings ≡ Some held → volume_with_id id state ≡ None → ⊥
@@ -140,54 +133,34 @@ held_known state id node held safe is none =
     (find-none (λ (v : Volume). (v.id == id) && v.is_live) state.volumes (λ v among. and_left (v.id == id) v.is_live (none_passes (λ (u : Volume). u.id == id) state.volumes v none among))) in
     true≢false (sym live ∙ ap is_some dead)
 
--- the table changes nothing of a thing that isn't known
-unknown_stays : (config : Config) (state : ControllerState) (call : Call) (outcome : Outcome) → IsOrderly state → IsExclusiveState state → IsTrue (is_party_of (kind_of call) Controller) → row_for call state ≡ None
-    → thing_of state call ≡ None → IsOutcome config state call outcome → outcome.change ≡ Stays
-unknown_stays config state call outcome orderly safe party none thing (was_refused _ status detail not_ok) = refl
-unknown_stays config state call outcome orderly safe party none thing (was_found name required limit first others volume range named live serving) = refl
-unknown_stays config state call outcome orderly safe party none thing (was_made name required limit first others range unnamed) = absurd (none-some (Exists name) (sym thing))
-unknown_stays config state call outcome orderly safe party none thing (was_ended id volume live free) = absurd (none-some volume (sym none ∙ live_with_id state id volume orderly live))
-unknown_stays config state call outcome orderly safe party none thing (was_ended_before id dead) = refl
-unknown_stays config state call outcome orderly safe party none thing (was_attached holding volume can free fits) =
-    absurd (none-some volume (sym none ∙ live_with_id state holding.volume volume orderly can.live))
-unknown_stays config state call outcome orderly safe party none thing (was_attached_before holding volume can held) = refl
-unknown_stays config state call outcome orderly safe party none thing (was_detached id node held there) = absurd (held_known state id node held safe there none)
-unknown_stays config state call outcome orderly safe party none thing (was_detached_before id node free) = refl
-
--- a row that isn't the call's stays as it was
-kept_in_other : (call : Call) (kept : Kept) (v : Volume) → is_row_for call v ≡ false → kept_in call kept v ≡ v
-kept_in_other call kept v h = rw h refl
+-- the table changes nothing of a thing that isn't known, and a call that gets an OK asks for nothing
+unknown_rests : (config : Config) (state : ControllerState) (call : Call) (outcome : Outcome) → IsOrderly state → IsExclusiveState state → row_for call state ≡ None → thing_of state call ≡ None
+    → IsOutcome config state call outcome → (outcome.change ≡ Stays) × (outcome.reply.status ≡ Ok → asked call outcome.reply ≡ None)
+unknown_rests config state call outcome orderly safe none thing (was_refused _ status detail not_ok) = (refl, λ ok. absurd (not_ok ok))
+unknown_rests config state call outcome orderly safe none thing (was_found name required limit first others volume range named live serving) = absurd (none-some (Exists name) (sym thing))
+unknown_rests config state call outcome orderly safe none thing (was_made name required limit first others range unnamed) = absurd (none-some (Exists name) (sym thing))
+unknown_rests config state call outcome orderly safe none thing (was_ended id volume live free) = absurd (none-some volume (sym none ∙ live_with_id state id volume orderly live))
+unknown_rests config state call outcome orderly safe none thing (was_ended_before id dead) = (refl, λ ok. refl)
+unknown_rests config state call outcome orderly safe none thing (was_attached holding volume can free fits) = absurd (none-some volume (sym none ∙ live_with_id state holding.volume volume orderly can.live))
+unknown_rests config state call outcome orderly safe none thing (was_attached_before holding volume can held) = absurd (none-some volume (sym none ∙ live_with_id state holding.volume volume orderly can.live))
+unknown_rests config state call outcome orderly safe none thing (was_detached id node held there) = absurd (held_known state id node held safe there none)
+unknown_rests config state call outcome orderly safe none thing (was_detached_before id node free) = (refl, λ ok. refl)
 
 -- a call of no row, whose answer changes nothing, leaves the state
 leaves : (state : ControllerState) (number : Number) (call : Call) (outcome : Outcome) → row_for call state ≡ None → outcome.change ≡ Stays → (carried_out state number call outcome).state ≡ state
 leaves state number call outcome none stays =
     let kept : Kept = record { number = number; kind = kind_of call; reply = outcome.reply } in
     ap (λ (change : Change). keep call kept (changed state kept change)) stays
-    ∙ ap (λ (volumes : List Volume). record state { volumes = volumes }) (map-none (is_row_for call) (kept_in call kept) state.volumes (kept_in_other call kept) none)
-
--- a call of a thing that isn't known asks for nothing, where it gets an OK
-asks_nothing : (config : Config) (state : ControllerState) (call : Call) (outcome : Outcome) → IsOrderly state → row_for call state ≡ None → thing_of state call ≡ None
-    → IsOutcome config state call outcome → outcome.reply.status ≡ Ok → asked call outcome.reply ≡ None
-asks_nothing config state call outcome orderly none thing (was_refused _ status detail not_ok) ok = absurd (not_ok ok)
-asks_nothing config state call outcome orderly none thing (was_found name required limit first others volume range named live serving) ok = absurd (none-some (Exists name) (sym thing))
-asks_nothing config state call outcome orderly none thing (was_made name required limit first others range unnamed) ok = absurd (none-some (Exists name) (sym thing))
-asks_nothing config state call outcome orderly none thing (was_ended id volume live free) ok = refl
-asks_nothing config state call outcome orderly none thing (was_ended_before id dead) ok = refl
-asks_nothing config state call outcome orderly none thing (was_attached holding volume can free fits) ok =
-    absurd (none-some volume (sym none ∙ live_with_id state holding.volume volume orderly can.live))
-asks_nothing config state call outcome orderly none thing (was_attached_before holding volume can held) ok =
-    absurd (none-some volume (sym none ∙ live_with_id state holding.volume volume orderly can.live))
-asks_nothing config state call outcome orderly none thing (was_detached id node held there) ok = refl
-asks_nothing config state call outcome orderly none thing (was_detached_before id node free) ok = refl
+    ∙ ap (λ (volumes : List Volume). record state { volumes = volumes }) (map-none (is_row_for call) (kept_in call kept) state.volumes (kept_in-other call kept) none)
 
 -- a call of a thing that isn't known leaves the state, so it misses
-misses : (config : Config) (state : ControllerState) (number : Number) (call : Call) (outcome : Outcome) → IsOrderly state → row_for call state ≡ None → thing_of state call ≡ None
-    → IsOutcome config state call outcome → Misses (told number call outcome.reply) (view_of state) (view_of state)
-misses config state number call outcome orderly none thing given =
+misses : (config : Config) (state : ControllerState) (number : Number) (call : Call) (outcome : Outcome) → IsOutcome config state call outcome → (outcome.reply.status ≡ Ok → asked call outcome.reply ≡ None)
+    → Misses (told number call outcome.reply) (view_of state) (view_of state)
+misses config state number call outcome given undoes =
     record {
       of_its_kind = refl;
       with_id = λ ok. with_id config state call outcome given ok;
-      undoes = λ ok. asks_nothing config state call outcome orderly none thing given ok;
+      undoes = undoes;
       held = λ other. refl;
       stays_spent = λ other number spent. spent;
       keeps = λ other. inl refl;
@@ -198,7 +171,7 @@ unknown_leaves : (config : Config) (state : ControllerState) (number : Number) (
     → thing_of state call ≡ None → (carried_out state number call (controller_row config state call)).state ≡ state
 unknown_leaves config state number call orderly safe party is =
     let none = row_unknown state call party is in
-    leaves state number call (controller_row config state call) none (unknown_stays config state call (controller_row config state call) orderly safe party none is (is_outcome config state call))
+    leaves state number call (controller_row config state call) none (unknown_rests config state call (controller_row config state call) orderly safe none is (is_outcome config state call)).0
 
 -- a call that is carried out, by its thing
 carried_becomes : (config : Config) (state : ControllerState) (number : Number) (call : Call) (o : Option PluginThing) → IsOrderly state → IsExclusiveState state
@@ -214,7 +187,8 @@ carried_becomes config state number call (Some thing) orderly safe party is not_
 carried_becomes config state number call None orderly safe party is not_over fresh =
     subst (λ (after : ControllerState). Misses (told number call (controller_row config state call).reply) (view_of state) (view_of after))
     (sym (unknown_leaves config state number call orderly safe party is))
-    (misses config state number call (controller_row config state call) orderly (row_unknown state call party is) is (is_outcome config state call))
+    (misses config state number call (controller_row config state call) (is_outcome config state call)
+    (unknown_rests config state call (controller_row config state call) orderly safe (row_unknown state call party is) is (is_outcome config state call)).1)
 
 -- what is kept for a call is what is kept for its thing, if it has one
 is_kept_for : (state : ControllerState) (call : Call) (o : Option PluginThing) → IsOrderly state → IsTrue (is_party_of (kind_of call) Controller) → thing_of state call ≡ o → IsKeptFor o (kept_in_row state) (kept_for call state)
@@ -232,10 +206,7 @@ in_its_session P config state number same later = by (begins state.session numbe
 -- a call that isn't over is of the session in which it is judged
 own_session : (config : Config) (state : ControllerState) (number : Number) → is_over state.session number ≡ false → is_over (in_session config number state).session number ≡ false
 own_session config state number not_over =
-    in_its_session (λ now. is_over now.session number ≡ false) config state number not_over (λ later. own number.session)
-  where
-    own : (n : ℕ) → nat_lt n n ≡ false
-    own n = grind (arith, nat_tests)
+    not_over-own (in_session config number state).session number (session_of (controller_with config) (λ session s. refl) state number not_over)
 
 -- a call that is over begins no session
 over_stays : (config : Config) (state : ControllerState) (number : Number) → is_over state.session number ≡ true → in_session config number state ≡ state

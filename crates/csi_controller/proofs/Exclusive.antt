@@ -1,8 +1,7 @@
 -- The rules of the rows say that their holdings exclude one another.
-use Rattle.std.proofs.Common.{◌≡◌, ℕ, Bool, true, false, cond, List, [], ◌∷◌, map, refl}
-use Rattle.std.specs.Prelude.{Some, None, find}
+use Rattle.std.proofs.Common.{◌≡◌, ℕ, true, false, List, [], ◌∷◌, map, refl, ◌∙◌}
+use Rattle.std.specs.Prelude.{None, find}
 use Rattle.std.specs.List.{AllByRecursion}
-use Rattle.csi_lists.proofs.Options.{some_is_not_none}
 use Rattle.csi_lists.specs.Model.Members.{EachTwo}
 use Rattle.csi_lists.specs.Public.Places.{AtMostOne}
 use Rattle.csi_types.proofs.Equality.{same_text-tells}
@@ -12,22 +11,19 @@ use Rattle.csi_controller.specs.declared.row.NodeHolding.{NodeHolding}
 use Rattle.csi_controller.specs.declared.row.ControllerRow.{ControllerRow}
 use Rattle.csi_controller.specs.Public.Core.{AreCompatible, IsSoundRow, volume_holding}
 use Rattle.csi_controller.specs.Public.Exclusive.{IsRowExclusive}
-use Rattle.csi_controller.proofs.HoldingsApart.{apart, turned}
+use Rattle.csi_controller.proofs.HoldingsApart.{apart}
+use Rattle.csi_controller.proofs.SameText.{text-turned}
+use Rattle.csi_lists.proofs.Members.{all_of, none_passes}
 
 -- no later one is at the same node
 pub other_nodes : (node : List ℕ) (later : List NodeHolding) → find (λ (h : NodeHolding). same_text h.node node) later ≡ None → AllByRecursion (λ (h : NodeHolding). same_text h.node node ≡ false) later
-other_nodes node [] none = tt
-other_nodes node (h ∷ hs) none = by (same_text h.node node) refl (other_nodes node hs) none
-  where
-    by : (b : Bool) → same_text h.node node ≡ b → (find (λ (h : NodeHolding). same_text h.node node) hs ≡ None → AllByRecursion (λ (h : NodeHolding). same_text h.node node ≡ false) hs)
-        → cond b (Some h) (find (λ (h : NodeHolding). same_text h.node node) hs) ≡ None → (same_text h.node node ≡ false) × AllByRecursion (λ (h : NodeHolding). same_text h.node node ≡ false) hs
-    by true e f k = absurd (some_is_not_none h k)
-    by false e f k = (e, f k)
+other_nodes node later none =
+    all_of (λ (h : NodeHolding). same_text h.node node ≡ false) later (λ h among. none_passes (λ (h : NodeHolding). same_text h.node node) later h none among)
 
 -- which volume they are of doesn't matter
 two-apart : (id : ℕ) (later earlier : NodeHolding) → same_text later.node earlier.node ≡ false → is_compatible (volume_holding 1 later) (volume_holding 1 earlier) ≡ true → AreApart (volume_holding id earlier) (volume_holding id later)
 two-apart id later earlier differ compatible =
-    let one = apart (volume_holding 1 later) (volume_holding 1 earlier) (turned later.node earlier.node differ) compatible in
+    let one = apart (volume_holding 1 later) (volume_holding 1 earlier) (text-turned earlier.node later.node ∙ differ) compatible in
     record { nodes = one.nodes; first_shared = one.first_shared; second_shared = one.second_shared; one_writer = one.one_writer }
 
 -- the first holding is apart from each later one, at another node, that can be held with it

@@ -1,15 +1,17 @@
 -- The first row that no record has there, and the walk that finds it.
-use Rattle.std.proofs.Common.{◌≡◌, ◌⊎◌, ◌<◌, ◌≤◌, ◌+◌, ◌-◌, ℕ, length, get_or, take, drop, Bool, true, false, cond, List, [], ◌∷◌, ◌++◌, refl, sym, ◌∙◌, ap, subst, inl, inr, arith}
+use Rattle.std.proofs.Common.{◌≡◌, ◌<◌, ◌≤◌, ◌+◌, ◌-◌, ℕ, length, get_or, take, drop, Bool, true, false, cond, List, [], ◌∷◌, ◌++◌, refl, sym, ◌∙◌, ap, subst, arith}
 use Rattle.std.specs.Prelude.{Some, None, find, ◌&&◌, ◌||◌, nat_lt}
 use Rattle.std.specs.List.{AllByRecursion, list_any}
-use Rattle.std.proofs.lemmas.Bool.{and_from, and_parts, cases_order, false≢true, true≢false, lt-ltb, ltb-true}
-use Rattle.std.proofs.lemmas.List.{length-append, length-take-le, length_push, take-append-drop, take-take, take_all, take_more}
+use Rattle.std.proofs.lemmas.Bool.{and_from, and_parts, false≢true, true≢false, lt-ltb, ltb-true}
+use Rattle.std.proofs.lemmas.List.{length-append, length-take-le, length_push, take-append-drop, take_all, take_more}
 use Rattle.std.proofs.lemmas.List.Folds.{list_any-append}
+use Rattle.std.proofs.Math.Bool.{or-false, or_comm}
 use Rattle.csi_lists.proofs.Each.{each-append_one}
-use Rattle.csi_lists.proofs.Options.{none-from_is_some, some_is_not_none}
+use Rattle.csi_lists.proofs.Options.{none-from_is_some}
 use Rattle.csi_lists.proofs.Places.{AtMostOne-append}
-use Rattle.csi_lists.proofs.Searches.{find-missed}
+use Rattle.csi_lists.proofs.Searches.{find-none}
 use Rattle.csi_lists.proofs.Tests.{any-find, any-find_none}
+use Rattle.csi_lists.proofs.Members.{among-append, none_passes, all_of, among-last, each_of}
 use Rattle.csi_lists.specs.Public.Places.{AtMostOne}
 use Rattle.csi_types.proofs.Equality.{same_text-tells}
 use Rattle.csi_types.specs.Model.Same.{same_text}
@@ -41,13 +43,11 @@ le-last_id n (row ∷ rows) above rising =
 
 -- what is so of each of a list is so of its last
 pub each-last : {X : Type 0} (P : X → Type 0) (xs : List X) (x : X) → AllByRecursion P (xs ++ x ∷ []) → P x
-each-last P [] x all = all.0
-each-last P (y ∷ ys) x all = each-last P ys x all.1
+each-last P xs x all = each_of P (xs ++ x ∷ []) x all (among-last xs x)
 
 -- what is so of each of a list is so of each of a front of it
 pub each-front : {X : Type 0} (P : X → Type 0) (xs ys : List X) → AllByRecursion P (xs ++ ys) → AllByRecursion P xs
-each-front P [] ys all = tt
-each-front P (x ∷ xs) ys all = (all.0, each-front P xs ys all.1)
+each-front P xs ys all = all_of P xs (λ x among. each_of P (xs ++ ys) x all (among-append xs ys x among))
 
 -- ids still rise with one more row, whose id is above the last
 IsRising-append : (n : ℕ) (rows : List ControllerRow) (row : ControllerRow) → AreRisingRows rows → last_id n rows < row.id → AreRisingRows (rows ++ row ∷ [])
@@ -70,11 +70,7 @@ last_id-below n (r ∷ rs) row above rising = last_id-below r.id rs row (each-la
 
 -- what isn't found in a list isn't found in a front of it
 find-front : {X : Type 0} (p : X → Bool) (xs ys : List X) → find p (xs ++ ys) ≡ None → find p xs ≡ None
-find-front p [] ys none = refl
-find-front p (x ∷ xs) ys none =
-    let parts = find-missed (p x) x (find p (xs ++ ys)) none in
-    let fails : p x ≡ false = parts.0 in
-    rw fails (find-front p xs ys parts.1)
+find-front p xs ys none = find-none p xs (λ x among. none_passes p (xs ++ ys) x none (among-append xs ys x among))
 
 -- where at most one of a list passes, at most one of a front of it does
 AtMostOne-front : {X : Type 0} (p : X → Bool) (xs ys : List X) → AtMostOne p (xs ++ ys) → AtMostOne p xs
@@ -83,8 +79,7 @@ AtMostOne-front p (x ∷ xs) ys one = (λ e. find-front p xs ys (one.0 e), AtMos
 
 -- where the last of a list passes, something is found
 last-found : {X : Type 0} (p : X → Bool) (xs : List X) (x : X) → p x ≡ true → find p (xs ++ x ∷ []) ≡ None → ⊥
-last-found p [] x passes none = some_is_not_none x (ap (λ (b : Bool). cond b (Some x) None) (sym passes) ∙ none)
-last-found p (y ∷ ys) x passes none = last-found p ys x passes (find-missed (p y) y (find p (ys ++ x ∷ [])) none).1
+last-found p xs x passes none = true≢false (sym passes ∙ none_passes p (xs ++ x ∷ []) x none (among-last xs x))
 
 -- where the last one passes, none before it does
 AtMostOne-last : {X : Type 0} (p : X → Bool) (xs : List X) (x : X) → AtMostOne p (xs ++ x ∷ []) → p x ≡ true → find p xs ≡ None
@@ -115,23 +110,6 @@ sound-front n rows more sound =
 pub sound-take : (n : ℕ) (rows : List ControllerRow) (k : ℕ) → AreSoundRows n rows → AreSoundRows n (take k rows)
 sound-take n rows k sound = sound-front n (take k rows) (drop k rows) (subst (AreSoundRows n) (sym (take-append-drop k rows)) sound)
 
--- rows that are a record's have no first one that no record has there
-pub not-both : (n : ℕ) (rows : List ControllerRow) (place : ℕ) → IsFirstRefused (AreSoundRows n) rows place → AreSoundRows n rows → ⊥
-not-both n rows place first sound = first.refused (sound-take n rows place sound)
-
--- where a row is the first that no record has there, none at a later place is
-not-earlier : (n : ℕ) (rows : List ControllerRow) (a b : ℕ) → IsFirstRefused (AreSoundRows n) rows a → IsFirstRefused (AreSoundRows n) rows b → a < b → ⊥
-not-earlier n rows a b one other less = one.refused (subst (AreSoundRows n) (take-take a (b - 1) rows (omega arith)) (sound-take n (take (b - 1) rows) a other.before))
-
--- there is one such place
-pub same-place : (n : ℕ) (rows : List ControllerRow) (a b : ℕ) → IsFirstRefused (AreSoundRows n) rows a → IsFirstRefused (AreSoundRows n) rows b → a ≡ b
-same-place n rows a b one other = by (cases_order a b)
-  where
-    by : (a ≡ b) ⊎ ((a < b) ⊎ (b < a)) → a ≡ b
-    by (inl same) = same
-    by (inr (inl less)) = absurd (not-earlier n rows a b one other less)
-    by (inr (inr more)) = absurd (not-earlier n rows b a other one more)
-
 -- ---- one more row
 
 -- a record's rows, and one that may follow them under a name that none of them has, are a record's
@@ -159,7 +137,7 @@ follows-sound n rows row from sound =
     (row-sound n row (each-last (IsSoundRow n) rows row sound.each))
 
 -- no row before the last of a record's has its name
-new-name : (n : ℕ) (rows : List ControllerRow) (row : ControllerRow) → AreSoundRows n (rows ++ row ∷ []) → find (λ (r : ControllerRow). same_text r.name row.name) rows ≡ None
+pub new-name : (n : ℕ) (rows : List ControllerRow) (row : ControllerRow) → AreSoundRows n (rows ++ row ∷ []) → find (λ (r : ControllerRow). same_text r.name row.name) rows ≡ None
 new-name n rows row sound = AtMostOne-last (λ (r : ControllerRow). same_text r.name row.name) rows row (sound.names row.name) ((same_text-tells row.name row.name).1 refl)
 
 -- ---- the walk
@@ -181,13 +159,6 @@ same-test n rows place last has row so inside =
     let count : length (take place rows) ≡ place = length-take-le place rows (omega arith) in
     ap (λ k. may_follow n k (last_id 0 (take place rows)) row) count ∙ ap (λ k. may_follow n place k row) (sym so.is_last)
 
--- two tests in the other order, with one that fails between, come to the same
-or-turned : (a b : Bool) → (a || b) ≡ (b || (a || false))
-or-turned true true = refl
-or-turned true false = refl
-or-turned false true = refl
-or-turned false false = refl
-
 -- the walk begins so, before the first row and while no name is had
 pub begins : (n : ℕ) (rows : List ControllerRow) (has : List ℕ → Bool) → ((name : List ℕ) → has name ≡ false) → SoFar n rows 0 0 has
 begins n rows has none = record { sound = record { limit = omega arith; each = tt; rising = tt; names = λ name. tt }; is_last = refl; names = none }
@@ -204,7 +175,7 @@ goes_on n rows place last has now_has row so inside is follows absent adds =
       is_last = sym (ap (last_id 0) more ∙ last_id-append 0 (take place rows) row);
       names = λ name.
           let among : List ControllerRow → Bool = list_any (λ (r : ControllerRow). same_text r.name name) in
-          adds name ∙ ap (λ b. same_text row.name name || b) (so.names name) ∙ or-turned (same_text row.name name) (among (take place rows))
+          adds name ∙ ap (λ b. same_text row.name name || b) (so.names name) ∙ or_comm (same_text row.name name) (among (take place rows)) ∙ ap (λ b. among (take place rows) || b) (sym (or-false (same_text row.name name)))
           ∙ sym (list_any-append (λ (r : ControllerRow). same_text r.name name) (take place rows) (row ∷ [])) ∙ ap among (sym more);
     }
 

@@ -1,63 +1,24 @@
 -- The first row that no record of a session has there.
-use Rattle.std.proofs.Common.{◌≡◌, ◌<◌, ◌≤◌, ◌+◌, ◌-◌, ℕ, length, get_or, take, drop, Bool, true, false, cond, List, [], ◌∷◌, ◌++◌, refl, sym, ◌∙◌, ap, subst, arith}
+use Rattle.std.proofs.Common.{◌≡◌, ◌≤◌, ◌+◌, ◌-◌, ℕ, take, drop, Bool, true, false, cond, List, [], ◌∷◌, ◌++◌, refl, sym, ◌∙◌, ap, subst, arith}
 use Rattle.std.specs.Prelude.{Option, Some, None, MatchOption, filter, max, ◌||◌, ◌==◌, nat_le}
 use Rattle.std.specs.List.{AllByRecursion}
-use Rattle.std.proofs.lemmas.Bool.{and_from, and_parts, eq-eqb, eqb-true, false≢true, le-leb, leb-false, leb-true}
-use Rattle.std.proofs.Math.Nat.{le-max_left, le-max_right, max-le, max_comm}
+use Rattle.std.proofs.lemmas.Bool.{eqb-true, leb-false, leb-true}
+use Rattle.std.proofs.Math.Nat.{le-max_left, le-max_right, max_comm}
 use Rattle.std.proofs.lemmas.List.{take-append-drop, take-take}
-use Rattle.csi_lists.proofs.Each.{each-append_one, each-weaker}
+use Rattle.std.proofs.lemmas.Bool.Decides.{nat_tests}
+use Rattle.csi_lists.proofs.Each.{each-weaker}
 use Rattle.csi_controller.specs.declared.row.ControllerRow.{ControllerRow}
 use Rattle.csi_controller.specs.Public.Core.{IsCurrentRow, IsCurrent}
 use Rattle.csi_controller.specs.Public.Judging.{AreRecorded, IsFirstRefused}
-use Rattle.csi_controller.specs.Private.Judging.{earlier_of, is_current_row}
+use Rattle.csi_controller.specs.Private.Judging.{earlier_of}
 use Rattle.csi_controller.specs.Public.Views.{AreSameRows}
 use Rattle.csi_controller.specs.Public.WithoutSession.{latest_session, stays_in}
-use Rattle.csi_controller.proofs.Copies.{sound-copies}
-use Rattle.csi_controller.proofs.FirstRefused.{each-front, each-last, one-more, sound-take}
-use Rattle.csi_controller.proofs.Sessions.{current-copies}
-
--- ---- a row of a session
-
--- the test tells the rules
-test-row : (session : ℕ) (row : ControllerRow) → is_current_row session row ≡ true → IsCurrentRow session row
-test-row session row passes =
-    let parts = and_parts (nat_le row.last.session session) (stays_in session row) passes in
-    record {
-      before = leb-true row.last.session session parts.0;
-      gone = λ dead. eqb-true row.last.session session (ap (λ (b : Bool). b || (row.last.session == session)) (sym dead) ∙ parts.1);
-    }
-
--- a row that is of this session passes the test
-row-test : (session : ℕ) (row : ControllerRow) → IsCurrentRow session row → is_current_row session row ≡ true
-row-test session row current = and_from (nat_le row.last.session session) (stays_in session row) (le-leb row.last.session session current.before) (by row.live refl)
-  where
-    by : (b : Bool) → row.live ≡ b → (b || (row.last.session == session)) ≡ true
-    by true alive = refl
-    by false dead = eq-eqb row.last.session session (current.gone dead)
-
--- ---- the first that isn't of it
+use Rattle.csi_controller.proofs.Copies.{sound-copies, current-copies}
+use Rattle.csi_controller.proofs.FirstRefused.{each-front, sound-take}
 
 -- the first rows of a session's are of it
 pub current-take : (session : ℕ) (rows : List ControllerRow) (k : ℕ) → IsCurrent session rows → IsCurrent session (take k rows)
 current-take session rows k current = each-front (IsCurrentRow session) (take k rows) (drop k rows) (subst (IsCurrent session) (sym (take-append-drop k rows)) current)
-
--- the rows up to one that passes are, where those before it are
-pub walk-on : (session : ℕ) (rows : List ControllerRow) (index : ℕ) (row : ControllerRow) → IsCurrent session (take index rows) → index < length rows → row ≡ get_or rows index row → is_current_row session row ≡ true
-    → IsCurrent session (take (index + 1) rows)
-walk-on session rows index row so inside is passes =
-    subst (IsCurrent session) (sym (one-more rows index row inside is)) (each-append_one (IsCurrentRow session) (take index rows) row so (test-row session row passes))
-
--- and one that fails is the first that no record of the session has there
-pub stops-there : (session : ℕ) (rows : List ControllerRow) (index : ℕ) (row : ControllerRow) → IsCurrent session (take index rows) → index < length rows → row ≡ get_or rows index row → is_current_row session row ≡ false
-    → IsFirstRefused (IsCurrent session) rows (index + 1)
-stops-there session rows index row so inside is fails =
-    let back : index ≡ index + 1 - 1 = omega arith in
-    record {
-      from = omega arith;
-      to = omega (arith, inside);
-      before = subst (λ (k : ℕ). IsCurrent session (take k rows)) back so;
-      refused = λ all. false≢true (sym fails ∙ row-test session row (each-last (IsCurrentRow session) (take index rows) row (subst (IsCurrent session) (one-more rows index row inside is) all)));
-    }
 
 -- ---- two rules at once
 
@@ -137,12 +98,7 @@ staying-current session (r ∷ rs) each = by (stays_in session r) refl (staying-
 
 -- the greatest of three
 max-grouped : (a b c : ℕ) → max a (max b c) ≡ max (max a b) c
-max-grouped a b c =
-    let a_left = le-max_left a b in let b_left = le-max_right a b in let ab = le-max_left (max a b) c in let c_left = le-max_right (max a b) c in
-    let b_right = le-max_left b c in let c_right = le-max_right b c in let a_right = le-max_left a (max b c) in let bc = le-max_right a (max b c) in
-    let less : max a (max b c) ≤ max (max a b) c = max-le (omega (arith, a_left, ab)) (max-le (omega (arith, b_left, ab)) c_left) in
-    let more : max (max a b) c ≤ max a (max b c) = max-le (max-le a_right (omega (arith, b_right, bc))) (omega (arith, c_right, bc)) in
-    omega (arith, less, more)
+max-grouped a b c = grind (arith, nat_tests)
 
 -- one more row
 pub latest-append : (rows : List ControllerRow) (row : ControllerRow) → latest_session (rows ++ row ∷ []) ≡ max (latest_session rows) row.last.session

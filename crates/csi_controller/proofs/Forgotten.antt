@@ -2,6 +2,7 @@
 use Rattle.std.proofs.Common.{◌≡◌, ℕ, List, Bool, true, false, refl, sym, ◌∙◌, ap, subst}
 use Rattle.std.specs.Prelude.{Option, Some, None, find, filter, ◌==◌, ◌&&◌}
 use Rattle.std.proofs.lemmas.Bool.{and_parts, true≢false}
+use Rattle.std.proofs.Math.Bool.{and_comm}
 use Rattle.csi_lists.proofs.Members.{among-find, among-kept}
 use Rattle.csi_lists.proofs.Searches.{find-and, find-and_filter, find-filter, find-none_in_filter, find-passes, find-same}
 use Rattle.csi_lists.specs.Model.Members.{IsAmong}
@@ -10,16 +11,9 @@ use Rattle.csi_controller.specs.Model.State.{Volume, ControllerState, live_volum
 use Rattle.csi_controller.specs.Model.Fenced.{begun}
 use Rattle.csi_controller.specs.Public.View.{live_named}
 
--- two tests in the other order
-turned : (a b : Bool) → (a && b) ≡ (b && a)
-turned true true = refl
-turned true false = refl
-turned false true = refl
-turned false false = refl
-
 -- what is found and kept is found among what is kept
 pub find-kept : {X : Type 0} (p q : X → Bool) (xs : List X) (x : X) → find p xs ≡ Some x → q x ≡ true → find p (filter q xs) ≡ Some x
-find-kept p q xs x is passes = sym (find-and_filter q p xs) ∙ find-same (λ y. q y && p y) (λ y. p y && q y) xs (λ y. turned (q y) (p y)) ∙ find-and p q xs x is passes
+find-kept p q xs x is passes = sym (find-and_filter q p xs) ∙ find-same (λ y. q y && p y) (λ y. p y && q y) xs (λ y. and_comm (q y) (p y)) ∙ find-and p q xs x is passes
 
 -- live volumes are found as before, by name and by id
 pub live_named-begun : (session : ℕ) (state : ControllerState) (name : List ℕ) → live_named name (begun session state) ≡ live_named name state

@@ -6,7 +6,7 @@ use Rattle.std.proofs.lemmas.Bool.{eq-eqb, eqb-true}
 use Rattle.std.proofs.lemmas.List.{map-append}
 use Rattle.std.proofs.lemmas.List.Elements.{filter_agree}
 use Rattle.csi_lists.proofs.Counts.{count-cons, count-one, count-split}
-use Rattle.csi_lists.proofs.Filters.{filter-append_one, filter-append_passes, filter-filter, filter-of_map, filter-swap}
+use Rattle.csi_lists.proofs.Filters.{filter-append_one, filter-append_passes, filter-filter, filter-of_map, filter-swap, filter-none}
 use Rattle.csi_lists.specs.Public.Places.{AtMostOne}
 use Rattle.csi_types.specs.declared.holding.Holding.{Holding}
 use Rattle.csi_types.specs.Model.Same.{same_text}
@@ -35,24 +35,13 @@ can-about row (Ends id) can = can.0
 can-about row (Attaches holding) can = can.own
 can-about row (Detaches id node) can = can.0
 
--- a change leaves all of the volume but whether it is live
-pub same-volume : (row : RowShown) (change : Change) → (row_changed row change).volume ≡ record row.volume { is_live = (row_changed row change).volume.is_live }
-same-volume row Stays = refl
-same-volume row (Makes name capacity capabilities) = refl
-same-volume row (Ends id) = refl
-same-volume row (Attaches holding) = refl
-same-volume row (Detaches id node) = refl
-
 -- an id is equal to itself
-self : (id : ℕ) → (id == id) ≡ true
+pub self : (id : ℕ) → (id == id) ≡ true
 self id = eq-eqb id id refl
 
 -- after a change of its volume a row's own list is still what is held of the volume
 pub own_list-after : (row : RowShown) (state : ControllerState) (kept : Kept) (change : Change) → IsAbout row.volume.id change → map (volume_holding row.volume.id) row.items ≡ holdings_of row.volume.id state
     → map (volume_holding row.volume.id) (row_changed row change).items ≡ holdings_of row.volume.id (changed state kept change)
-own_list-after row state kept Stays about own = own
-own_list-after row state kept (Makes name capacity capabilities) about own = own
-own_list-after row state kept (Ends id) about own = own
 own_list-after row state kept (Attaches holding) about own =
     map-append (volume_holding row.volume.id) row.items (held_by holding ∷ [])
     ∙ (λ i. own i ++ (record { volume = sym about i; node = holding.node; capability = holding.capability; readonly = holding.readonly }) ∷ [])
@@ -64,9 +53,10 @@ own_list-after row state kept (Detaches id node) about own =
     ∙ ap (filter (λ holding. not (is_held_at row.volume.id node holding))) own
     ∙ ap (λ k. filter (λ holding. not (is_held_at k node holding)) (holdings_of row.volume.id state)) (sym about)
     ∙ sym (filter-swap (λ h. h.volume == row.volume.id) (λ holding. not (is_held_at id node holding)) state.holdings)
+own_list-after row state kept change about own = own
 
 -- what is equal to an id isn't equal to what differs from that id
-other_id : (a b c : ℕ) → (a == b) ≡ true → (c == b) ≡ false → (a == c) ≡ false
+pub other_id : (a b c : ℕ) → (a == b) ≡ true → (c == b) ≡ false → (a == c) ≡ false
 other_id a b c e f = by (a == c) refl
   where
     by : (t : Bool) → (a == c) ≡ t → (a == c) ≡ false
@@ -79,28 +69,16 @@ other_id a b c e f = by (a == c) refl
 
 -- and another volume's is what it was
 pub other_list-after : (id other : ℕ) (state : ControllerState) (kept : Kept) (change : Change) → IsAbout id change → (id == other) ≡ false → holdings_of other (changed state kept change) ≡ holdings_of other state
-other_list-after id other state kept Stays about differ = refl
-other_list-after id other state kept (Makes name capacity capabilities) about differ = refl
-other_list-after id other state kept (Ends volume) about differ = refl
 other_list-after id other state kept (Attaches holding) about differ = filter-append_one (λ h. h.volume == other) state.holdings holding (ap (λ k. k == other) about ∙ differ)
 other_list-after id other state kept (Detaches volume node) about differ =
     filter-filter (λ h. h.volume == other) (λ holding. not (is_held_at volume node holding)) state.holdings
     (λ x e. ap (λ b. not (b && same_text x.node node)) (other_id x.volume other volume e (ap (λ k. k == other) about ∙ differ)))
+other_list-after id other state kept change about differ = refl
 
 -- a list none of whose elements is of any id is empty
 empty-where : (all : List Holding) → ((id : ℕ) → [] ≡ filter (λ h. h.volume == id) all) → all ≡ []
 empty-where [] none = refl
 empty-where (h ∷ hs) none = let whole = none h.volume in absurd (let found : [] ≡ h ∷ filter (λ x. x.volume == h.volume) hs = whole ∙ (rw (self h.volume) refl) in cc)
-
--- once a volume's holdings are taken out, it has none
-nothing-left : (id : ℕ) (all : List Holding) → filter (λ h. h.volume == id) (filter (λ h. not (h.volume == id)) all) ≡ []
-nothing-left id [] = refl
-nothing-left id (h ∷ hs) = by (h.volume == id) refl (nothing-left id hs)
-  where
-    by : (b : Bool) → (h.volume == id) ≡ b → filter (λ h. h.volume == id) (filter (λ h. not (h.volume == id)) hs) ≡ []
-        → filter (λ h. h.volume == id) (cond (not b) (h ∷ filter (λ h. not (h.volume == id)) hs) (filter (λ h. not (h.volume == id)) hs)) ≡ []
-    by true e k = k
-    by false e k = rw e k
 
 -- the holdings of a row, as the volume's
 abbrev pub held_in_row : RowShown → List Holding
@@ -130,5 +108,5 @@ count-rows n node (r ∷ rs) all sound one shown =
         → held_in (find (λ r. r.volume.id == id) rs) ≡ filter (λ h. h.volume == id) (filter (λ h. not (h.volume == r.volume.id)) all)
     by id true e h =
         let same : r.volume.id ≡ id = eqb-true r.volume.id id e in
-        ap held_in ((one id).0 e) ∙ sym (subst (λ k. filter (λ h. h.volume == id) (filter (λ h. not (h.volume == k)) all) ≡ []) (sym same) (nothing-left id all))
+        ap held_in ((one id).0 e) ∙ sym (subst (λ k. filter (λ h. h.volume == id) (filter (λ h. not (h.volume == k)) all) ≡ []) (sym same) (filter-none (λ h. h.volume == id) all))
     by id false e h = h ∙ sym (filter-filter (λ h. h.volume == id) (λ h. not (h.volume == r.volume.id)) all (λ x f. ap not (other_id x.volume id r.volume.id f e)))

@@ -12,30 +12,27 @@ use Rattle.csi_types.specs.declared.status.Status.TheVariants.{Ok}
 use Rattle.csi_types.specs.Model.Config.{Config}
 use Rattle.csi_fence.proofs.Views.{IsLater}
 use Rattle.csi_fence.specs.Model.Fence.{Kept, is_spent}
-use Rattle.csi_types.specs.Public.PluginThing.{PluginThing, Exists, Attached, Staged, Published}
+use Rattle.csi_types.specs.Public.PluginThing.{PluginThing, Exists, Attached}
 use Rattle.csi_types.specs.Model.Same.{same_text}
 use Rattle.csi_controller.specs.Model.State.{Volume, ControllerState, volume_named, is_row_for, row_for}
 use Rattle.csi_controller.specs.Public.State.{volume_with_id}
-use Rattle.csi_controller.specs.Model.Table.{Outcome, Change, Stays, Makes, Ends, Attaches, Detaches, changed, ended_volume}
+use Rattle.csi_controller.specs.Model.Table.{Outcome, Change, Makes, Ends, changed, ended_volume}
 use Rattle.csi_controller.specs.Model.Fenced.{kept_in, keep}
 use Rattle.csi_controller.specs.Public.View.{kept_in_row, thing_of}
 use Rattle.csi_controller.proofs.TableOutcomes.{IsOutcome, was_refused, was_found, was_made, was_ended, was_ended_before, was_attached, was_attached_before, was_detached, was_detached_before}
-use Rattle.csi_controller.proofs.OrderlyStates.{IsOrderly, LeavesNames, keep_leaves, end_leaves, same_row, with_id_by_name}
+use Rattle.csi_controller.proofs.OrderlyStates.{IsOrderly, LeavesNames, keep_leaves, end_leaves, same_row, with_id_by_name, ended_same}
 use Rattle.csi_controller.proofs.ThingOutcomes.{at_thing, by_volume}
 
 -- the row of a thing's volume
 abbrev pub row_of : ControllerState → PluginThing → Option Volume
 row_of state (Exists name) = volume_named name state
 row_of state (Attached id node) = volume_with_id id state
-row_of state (Staged id node) = None
-row_of state (Published id node target) = None
+row_of state thing = None
 
 -- what is kept for a thing is what its row keeps
 pub kept_of_row : (state : ControllerState) (thing : PluginThing) → kept_in_row state thing ≡ option_map (λ volume. volume.kept) (row_of state thing)
 kept_of_row state (Exists name) = refl
-kept_of_row state (Attached id node) = refl
-kept_of_row state (Staged id node) = refl
-kept_of_row state (Published id node target) = refl
+kept_of_row state thing = refl
 
 -- a row after a change: none, the same but for its life, or one that was made and keeps the call
 data Comes (kept : Kept) : Option Volume → Option Volume → Type 0 where
@@ -48,18 +45,10 @@ itself_comes : (kept : Kept) (o : Option Volume) → Comes kept o o
 itself_comes kept None = none_comes
 itself_comes kept (Some v) = same_comes v v refl refl refl
 
--- a deletion leaves what a row keeps
-ended_kept : (id : ℕ) (v : Volume) → (ended_volume id v).kept ≡ v.kept
-ended_kept id v = by (v.id == id)
-  where
-    by : (b : Bool) → (cond b (record v { is_live = false }) v).kept ≡ v.kept
-    by true = refl
-    by false = refl
-
 -- a row comes so where a volume is deleted, its own or another
 ended_comes : (kept : Kept) (id : ℕ) (o : Option Volume) → Comes kept o (option_map (ended_volume id) o)
 ended_comes kept id None = none_comes
-ended_comes kept id (Some v) = same_comes v (ended_volume id v) ((end_leaves id).ids v) ((end_leaves id).names v) (ended_kept id v)
+ended_comes kept id (Some v) = same_comes v (ended_volume id v) ((end_leaves id).ids v) ((end_leaves id).names v) (ap (λ (w : Volume). w.kept) (ended_same id v))
 
 -- so does the row that was found before, or else one that was just made
 added_comes : (kept : Kept) (n : Volume) (o : Option Volume) (b : Bool) → n.kept ≡ kept → Comes kept o (option_or o (cond b (Some n) None))
@@ -81,28 +70,24 @@ by_id id f leaves v = ap (λ n. n == id) (leaves.ids v)
 
 -- what such a test finds after a change comes so
 found_comes : (p : Volume → Bool) → IsTest p → (state : ControllerState) (kept : Kept) (change : Change) → Comes kept (find p state.volumes) (find p (changed state kept change).volumes)
-found_comes p test state kept Stays = itself_comes kept (find p state.volumes)
 found_comes p test state kept (Makes name capacity capabilities) =
     let volume : Volume = record { id = state.next_id; name = name; capacity = capacity; capabilities = capabilities; is_live = true; kept = kept } in
     subst (Comes kept (find p state.volumes)) (sym (find-append p state.volumes volume)) (added_comes kept volume (find p state.volumes) (p volume) refl)
 found_comes p test state kept (Ends id) =
     subst (Comes kept (find p state.volumes)) (sym (find-map p (ended_volume id) state.volumes (test (ended_volume id) (end_leaves id)))) (ended_comes kept id (find p state.volumes))
-found_comes p test state kept (Attaches holding) = itself_comes kept (find p state.volumes)
-found_comes p test state kept (Detaches id node) = itself_comes kept (find p state.volumes)
+found_comes p test state kept change = itself_comes kept (find p state.volumes)
 
 -- so comes the row of each thing
 row_comes : (state : ControllerState) (kept : Kept) (change : Change) (thing : PluginThing) → Comes kept (row_of state thing) (row_of (changed state kept change) thing)
 row_comes state kept change (Exists name) = found_comes (λ v. same_text v.name name) (by_name name) state kept change
 row_comes state kept change (Attached id node) = found_comes (λ v. v.id == id) (by_id id) state kept change
-row_comes state kept change (Staged id node) = none_comes
-row_comes state kept change (Published id node target) = none_comes
+row_comes state kept change thing = none_comes
 
 -- the row of a thing once a call is kept: what it was, with the call kept in it if it is the call's
 row_of-keep : (call : Call) (kept : Kept) (state : ControllerState) (thing : PluginThing) → row_of (keep call kept state) thing ≡ option_map (kept_in call kept) (row_of state thing)
 row_of-keep call kept state (Exists name) = find-map (λ v. same_text v.name name) (kept_in call kept) state.volumes (by_name name (kept_in call kept) (keep_leaves call kept))
 row_of-keep call kept state (Attached id node) = find-map (λ v. v.id == id) (kept_in call kept) state.volumes (by_id id (kept_in call kept) (keep_leaves call kept))
-row_of-keep call kept state (Staged id node) = refl
-row_of-keep call kept state (Published id node target) = refl
+row_of-keep call kept state thing = refl
 
 -- the call's row keeps the call
 taken : (call : Call) (kept : Kept) (v : Volume) → is_row_for call v ≡ true → (kept_in call kept v).kept ≡ kept
@@ -166,10 +151,7 @@ row_known state (calls.ControllerPublishVolume id node capability readonly) thin
     by_volume (λ k. row_of state k ≡ volume_with_id id state) (λ v. Attached id node) (volume_with_id id state) thing is (λ v own. refl)
 row_known state (calls.ControllerUnpublishVolume id node) thing orderly is =
     by_volume (λ k. row_of state k ≡ volume_with_id id state) (λ v. Attached id node) (volume_with_id id state) thing is (λ v own. refl)
-row_known state (calls.NodeStageVolume id capability) thing orderly is = absurd (none-some thing is)
-row_known state (calls.NodeUnstageVolume id) thing orderly is = absurd (none-some thing is)
-row_known state (calls.NodePublishVolume id target capability readonly) thing orderly is = absurd (none-some thing is)
-row_known state (calls.NodeUnpublishVolume id target) thing orderly is = absurd (none-some thing is)
+row_known state call thing orderly is = absurd (none-some thing is)
 
 -- a call that gets an OK, and has a thing, has a row then
 there_after : (config : Config) (state : ControllerState) (thing : PluginThing) (call : Call) (outcome : Outcome) (kept : Kept) → IsOrderly state → thing_of state call ≡ Some thing → IsOutcome config state call outcome

@@ -6,7 +6,6 @@ pub mod RowsTold
 pub mod SoundRows
 pub mod Sound
 pub mod Counts
-pub mod PutLast
 pub mod ControllerPlan
 pub mod NameMaps
 pub mod RecordRules

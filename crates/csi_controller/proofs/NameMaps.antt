@@ -1,6 +1,6 @@
 -- The map of names, kept in the order of the rows: what a look-up finds, and what stays after a change.
-use Rattle.std.proofs.Common.{◌≡◌, ◌<◌, ◌+◌, ℕ, zero, suc, Bool, true, false, cond, not, List, [], ◌∷◌, ◌++◌, length, get_or, map, take, refl, sym, ◌∙◌, ap, inl, inr, arith}
-use Rattle.std.specs.Prelude.{Some, None, IsOk, OnOk, Result, option_map, filter, find, position, slice_get, nat_lt, nat_eq, String}
+use Rattle.std.proofs.Common.{◌≡◌, ◌<◌, ◌+◌, ℕ, Bool, true, false, cond, not, List, [], ◌∷◌, ◌++◌, get_or, map, refl, sym, ◌∙◌, ap, subst}
+use Rattle.std.specs.Prelude.{Some, None, IsOk, OnOk, Result, option_map, filter, find, position, nat_lt, nat_eq, String, ◌==◌}
 use Rattle.std.specs.Cmp.Lexicographic.{pointwise}
 use Rattle.std.specs.String.{string_bytes, string_eq}
 use Rattle.std.specs.declared.result.Result.TheVariants as results
@@ -10,16 +10,18 @@ use Rattle.std.proofs.lemmas.Bool.{false≢true}
 use Rattle.std.proofs.lemmas.List.{length-map}
 use Rattle.indexmap.proofs.CallerLemmas.{insert_entry-new}
 use Rattle.indexmap.specs.IndexMap.{IndexMap, insert_entry}
-use Rattle.csi_lists.specs.Model.Members.{IsAmong}
 use Rattle.csi_lists.proofs.Filters.{filter-of_map}
-use Rattle.csi_lists.proofs.Places.{find-not_none}
-use Rattle.csi_lists.specs.Public.Places.{AtMostOne, IsAt}
-use Rattle.csi_fence.specs.Public.Rows.{AreRising, stays_in}
+use Rattle.csi_lists.proofs.Members.{all_of}
+use Rattle.csi_fence.specs.Public.Rows.{AreRising, stays_in, IsPlaceOf}
 use Rattle.csi_fence.proofs.RisingRows.{rows_rise}
+use Rattle.csi_fence.proofs.KeptRows.{filter-alike}
+use Rattle.csi_fence.proofs.PlacedRows.{found-at}
+use Rattle.csi_fence.proofs.RowsThere.{shown-at}
 use Rattle.csi_controller.specs.Public.Names.{by_name, by_text}
-use Rattle.csi_controller.specs.Public.OneRow.{RowShown}
+use Rattle.csi_controller.specs.Public.OneRow.{RowShown, row_shown}
 use Rattle.csi_controller.specs.Public.Plan.{controller_plan}
 use Rattle.csi_controller.specs.Private.Plan.{is_kept, is_row_kept}
+use Rattle.csi_controller.specs.declared.row.ControllerRow.{ControllerRow}
 use Rattle.csi_controller.proofs.Sound.{found-rising}
 
 -- ---- searches of a list that is seen through a function
@@ -50,10 +52,6 @@ lookup-map f p q (x ∷ xs) same =
     by true h = refl
     by false h = h
 
--- the value of a key, where the entries are made of rows
-pub lookup-keys : {X K V : Type 0} (f : X → K × V) (p : K → Bool) (q : X → Bool) (es : List (K × V)) (xs : List X) → es ≡ map f xs → ((x : X) → p (f x).0 ≡ q x) → lookup p es ≡ option_map (λ x. (f x).1) (find q xs)
-lookup-keys f p q es xs is same = ap (lookup p) is ∙ lookup-map f p q xs same
-
 -- the place of the row that passes, where the texts of the keys are the names of rows
 pub position-texts : {Z : Type 0} (p : List ℕ → Bool) (q : RowShown → Bool) (es : List (String Z × ℕ)) (rows : List RowShown) → map by_text es ≡ map by_name rows → ((row : RowShown) → p row.volume.name ≡ q row)
     → position (λ (key : String Z). p (string_bytes key)) (keys_of es) ≡ position q rows
@@ -71,7 +69,7 @@ lookup-texts p (e ∷ es) = ap (cond (p (string_bytes e.0)) (Some e.1)) (lookup-
 -- the id of the row that passes
 pub id-texts : {Z : Type 0} (p : List ℕ → Bool) (q : RowShown → Bool) (es : List (String Z × ℕ)) (rows : List RowShown) → map by_text es ≡ map by_name rows → ((row : RowShown) → p row.volume.name ≡ q row)
     → lookup (λ (key : String Z). p (string_bytes key)) es ≡ option_map (λ (row : RowShown). row.volume.id) (find q rows)
-id-texts p q es rows is same = lookup-texts p es ∙ lookup-keys by_name p q (map by_text es) rows is same
+id-texts p q es rows is same = lookup-texts p es ∙ ap (lookup p) is ∙ lookup-map by_name p q rows same
 
 -- ---- one more
 
@@ -88,19 +86,11 @@ new-name q m rows key id is same none =
 
 -- ---- what stays
 
--- a row of a list that is shown otherwise, at its place
-pub shown-got : {R S : Type 0} (shown : R → S) (rows : List R) (place : ℕ) (row : R) → place < length rows → row ≡ get_or rows place row → slice_get (map shown rows) place ≡ Some (shown row)
-shown-got shown [] place row inside is = absurd (omega (arith, inside))
-shown-got shown (r ∷ rs) zero row inside is = ap (λ x. Some (shown x)) (sym is)
-shown-got shown (r ∷ rs) (suc place) row inside is = shown-got shown rs place row (omega (arith, inside)) is
-
--- two tests that agree on each of a list keep the same of it
-filter-same_among : {X : Type 0} (p q : X → Bool) (xs : List X) → ((x : X) → IsAmong x xs → p x ≡ q x) → filter p xs ≡ filter q xs
-filter-same_among p q [] same = refl
-filter-same_among p q (x ∷ xs) same =
-    let own = same x (inl refl) in
-    let rest = filter-same_among p q xs (λ y there. same y (inr there)) in
-    λ i. cond (own i) (x ∷ rest i) (rest i)
+-- the row at the place of an id is the one that is found by it
+pub found-got : (rows : List ControllerRow) (id place : ℕ) (row : ControllerRow) → AreRising controller_plan.id (map row_shown rows) → IsPlaceOf controller_plan.id (map row_shown rows) id place → row ≡ get_or rows place row
+    → find (λ (r : RowShown). r.volume.id == id) (map row_shown rows) ≡ Some (row_shown row)
+found-got rows id place row rising at is =
+    found-at controller_plan.id (map row_shown rows) id place rising at ∙ shown-at row_shown rows place row is (subst (λ (n : ℕ). place < n) (length-map rows row_shown) at.within)
 
 -- the names of the rows that stay
 pub names-kept : {Z : Type 0} (session : ℕ) (old new : List (String Z × ℕ)) (rows : List RowShown) → AreRising controller_plan.id rows → map by_text old ≡ map by_name rows → new ≡ filter (λ e. is_kept session e.1 rows) old
@@ -110,15 +100,6 @@ names-kept {Z} session old new rows rising names is =
     ∙ sym (filter-of_map (λ (e : List ℕ × ℕ). is_kept session e.1 rows) by_text old)
     ∙ ap (filter (λ (e : List ℕ × ℕ). is_kept session e.1 rows)) names
     ∙ filter-of_map (λ (e : List ℕ × ℕ). is_kept session e.1 rows) by_name rows
-    ∙ ap (map by_name) (filter-same_among (λ (r : RowShown). is_kept session r.volume.id rows) (stays_in controller_plan session) rows
-    (λ row among. ap (is_row_kept session) (found-rising controller_plan.id rows row (rows_rise controller_plan.id rows rising) among)))
-
--- where at most one of a list passes, none before one that passes does
-pub once-before : {X : Type 0} (p : X → Bool) (xs : List X) (place : ℕ) (x : X) → AtMostOne p xs → IsAt xs place x → p x ≡ true → find p (take place xs) ≡ None
-once-before p [] place x one at passes = absurd at
-once-before p (y ∷ ys) zero x one at passes = refl
-once-before p (y ∷ ys) (suc place) x one at passes = by (p y) one.0 (once-before p ys place x one.1 at passes)
-  where
-    by : (b : Bool) → (b ≡ true → find p ys ≡ None) → find p (take place ys) ≡ None → cond b (Some y) (find p (take place ys)) ≡ None
-    by true none rest = absurd (find-not_none p ys place x at passes (none refl))
-    by false none rest = rest
+    ∙ ap (map by_name) (filter-alike (λ (r : RowShown). is_kept session r.volume.id rows) (stays_in controller_plan session) rows
+    (all_of (λ (r : RowShown). is_kept session r.volume.id rows ≡ stays_in controller_plan session r) rows
+    (λ row among. ap (is_row_kept session) (found-rising controller_plan.id rows row (rows_rise controller_plan.id rows rising) among))))

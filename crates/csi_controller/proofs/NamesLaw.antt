@@ -16,7 +16,7 @@ use Rattle.csi_types.specs.Model.Frame.{Frame}
 use Rattle.csi_types.specs.Model.Same.{same_text}
 use Rattle.csi_controller.specs.Model.State.{Volume, ControllerState, empty_controller, volume_named}
 use Rattle.csi_controller.specs.Public.State.{volume_with_id}
-use Rattle.csi_controller.specs.Model.Table.{Outcome, Change, Stays, Makes, Ends, Attaches, Detaches, changed, ended_volume, controller_row}
+use Rattle.csi_controller.specs.Model.Table.{Outcome, Change, Stays, Makes, Ends, changed, ended_volume, controller_row}
 use Rattle.csi_controller.specs.Model.Fenced.{fenced, carried_out, kept_in, begun, controller_with}
 use Rattle.csi_controller.specs.Public.Fenced.{ConfiguredFrame, after_configured}
 use Rattle.csi_controller.specs.Public.View.{AreNamed, live_named, HasVolume, WasMade, KeepsNames}
@@ -54,10 +54,14 @@ own_id state id volume is = eqb-true volume.id id (find-passes (λ (v : Volume).
 was_there : (state : ControllerState) (id : ℕ) (volume : Volume) → volume_with_id id state ≡ Some volume → HasVolume state volume
 was_there state id volume is = record { there = volume; is_found = subst (λ n. volume_with_id n state ≡ Some volume) (sym (own_id state id volume is)) is; same_name = refl }
 
--- a volume comes so after a change that leaves ids and names, if it did before
+-- a volume that was there was so after a change that leaves ids and names
+mapped_has : (old : ControllerState) (f : Volume → Volume) → LeavesNames f → (v : Volume) → HasVolume old v → HasVolume old (f v)
+mapped_has old f leaves v was =
+    record { there = was.there; is_found = subst (λ n. volume_with_id n old ≡ Some was.there) (sym (leaves.ids v)) was.is_found; same_name = was.same_name ∙ sym (leaves.names v) }
+
+-- and one that comes so does, where what is live stays so
 mapped_comes : (old : ControllerState) (f : Volume → Volume) → LeavesNames f → ((v : Volume) → v.is_live ≡ true → (f v).is_live ≡ true) → (v : Volume) → Comes old v → Comes old (f v)
-mapped_comes old f leaves lives v (inl was) =
-    inl (record { there = was.there; is_found = subst (λ n. volume_with_id n old ≡ Some was.there) (sym (leaves.ids v)) was.is_found; same_name = was.same_name ∙ sym (leaves.names v) })
+mapped_comes old f leaves lives v (inl was) = inl (mapped_has old f leaves v was)
 mapped_comes old f leaves lives v (inr made) =
     inr (record { has_next = leaves.ids v ∙ made.has_next; is_live = lives v made.is_live; was_free = subst (λ n. live_named n old ≡ None) (sym (leaves.names v)) made.was_free })
 
@@ -74,13 +78,7 @@ ended_there : (state : ControllerState) (other id : ℕ) (w : Volume) → volume
 ended_there state other id w is =
     let mapped = sym (find-map (λ (v : Volume). v.id == id) (ended_volume other) state.volumes (λ v. ap (λ n. n == id) ((end_leaves other).ids v))) ∙ is in
     let found = some-from_map (ended_volume other) (volume_with_id id state) w mapped in
-    let was = was_there state id found.0 found.1 in
-    subst (Comes state) found.2
-    (inl (record {
-      there = was.there;
-      is_found = subst (λ n. volume_with_id n state ≡ Some was.there) (sym ((end_leaves other).ids found.0)) was.is_found;
-      same_name = was.same_name ∙ sym ((end_leaves other).names found.0);
-    }))
+    subst (Comes state) found.2 (inl (mapped_has state (ended_volume other) (end_leaves other) found.0 (was_there state id found.0 found.1)))
 
 -- a volume was there, or is the one that was added
 added_comes : (state : ControllerState) (made : Volume) → made.id ≡ state.next_id → made.is_live ≡ true → volume_named made.name state ≡ None → (id : ℕ) (w : Volume)
@@ -113,10 +111,7 @@ changed_comes config state call outcome kept (was_detached_before other node non
 -- the next id only grows
 changed_grows : (state : ControllerState) (kept : Kept) (change : Change) → state.next_id ≤ (changed state kept change).next_id
 changed_grows state kept Stays = omega arith
-changed_grows state kept (Makes made capacity capabilities) = omega arith
-changed_grows state kept (Ends other) = omega arith
-changed_grows state kept (Attaches holding) = omega arith
-changed_grows state kept (Detaches other node) = omega arith
+changed_grows state kept change = omega arith
 
 -- what is kept leaves a live volume live
 keep_lives : (call : Call) (kept : Kept) (v : Volume) → v.is_live ≡ true → (kept_in call kept v).is_live ≡ true
@@ -133,7 +128,6 @@ mapped_stays state f leaves volume has =
 
 -- and after each change that the table makes
 changed_stays : (state : ControllerState) (kept : Kept) (change : Change) (volume : Volume) → HasVolume state volume → HasVolume (changed state kept change) volume
-changed_stays state kept Stays volume has = has
 changed_stays state kept (Makes made capacity capabilities) volume has =
     record {
       there = has.there;
@@ -141,8 +135,7 @@ changed_stays state kept (Makes made capacity capabilities) volume has =
       same_name = has.same_name;
     }
 changed_stays state kept (Ends other) volume has = mapped_stays state (ended_volume other) (end_leaves other) volume has
-changed_stays state kept (Attaches holding) volume has = record { there = has.there; is_found = has.is_found; same_name = has.same_name }
-changed_stays state kept (Detaches other node) volume has = record { there = has.there; is_found = has.is_found; same_name = has.same_name }
+changed_stays state kept change volume has = record { there = has.there; is_found = has.is_found; same_name = has.same_name }
 
 -- names and ids stay as they are under any call that is carried out
 carried_names : (config : Config) (state : ControllerState) (number : Number) (call : Call) → KeepsNames state (carried_out state number call (controller_row config state call)).state

@@ -136,22 +136,26 @@ same_row (calls.NodeUnpublishVolume id' target) v w id named = ap (λ n. n == id
 pub kept_in-row : (call : Call) (kept : Kept) (v : Volume) → is_row_for call (kept_in call kept v) ≡ is_row_for call v
 kept_in-row call kept v = same_row call v (kept_in call kept v) (ap (λ (w : Volume). w.id) (kept_same call kept kept v)) (ap (λ (w : Volume). w.name) (kept_same call kept kept v))
 
--- to keep a call leaves ids and names, and so does a deletion
+-- a row that isn't the call's stays as it was
+pub kept_in-other : (call : Call) (kept : Kept) (v : Volume) → is_row_for call v ≡ false → kept_in call kept v ≡ v
+kept_in-other call kept v h = rw h refl
+
+-- to keep a call leaves ids and names
 pub keep_leaves : (call : Call) (kept : Kept) → LeavesNames (kept_in call kept)
 keep_leaves call kept =
     record { ids = λ v. ap (λ (v : Volume). v.id) (kept_same call kept kept v); names = λ v. ap (λ (v : Volume). v.name) (kept_same call kept kept v) }
 
--- a deletion leaves ids and names
-pub end_leaves : (id : ℕ) → LeavesNames (ended_volume id)
-end_leaves id = record { ids = λ v. same_id v (v.id == id); names = λ v. same_name v (v.id == id) }
+-- a deletion changes nothing of a volume but whether it is live
+pub ended_same : (id : ℕ) (v : Volume) → ended_volume id v ≡ record v { is_live = (ended_volume id v).is_live }
+ended_same id v = by (v.id == id)
   where
-    same_id : (v : Volume) (b : Bool) → (cond b (record v { is_live = false }) v).id ≡ v.id
-    same_id v true = refl
-    same_id v false = refl
+    by : (b : Bool) → cond b (record v { is_live = false }) v ≡ record v { is_live = (cond b (record v { is_live = false }) v).is_live }
+    by true = refl
+    by false = refl
 
-    same_name : (v : Volume) (b : Bool) → (cond b (record v { is_live = false }) v).name ≡ v.name
-    same_name v true = refl
-    same_name v false = refl
+-- so it leaves ids and names
+pub end_leaves : (id : ℕ) → LeavesNames (ended_volume id)
+end_leaves id = record { ids = λ v. ap (λ (w : Volume). w.id) (ended_same id v); names = λ v. ap (λ (w : Volume). w.name) (ended_same id v) }
 
 -- each change that the table makes leaves a state orderly
 pub changed_orderly : (config : Config) (state : ControllerState) (call : Call) (outcome : Outcome) (kept : Kept) → IsOutcome config state call outcome → IsOrderly state → IsOrderly (changed state kept outcome.change)

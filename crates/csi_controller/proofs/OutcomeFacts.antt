@@ -1,11 +1,13 @@
 -- What is so of each outcome of the controller's table.
 use Rattle.std.proofs.Common.{◌≡◌, ◌≢◌, ◌⊎◌, ℕ, ◌≤◌, List, [], ◌∷◌, Bool, true, false, cond, not, refl, sym, ap, subst, inl, inr, arith}
-use Rattle.std.specs.Prelude.{Some, None, filter, ◌==◌, ◌&&◌, ◌||◌, nat_le, codes, IsTrue}
+use Rattle.std.specs.Prelude.{Some, None, ◌==◌, ◌&&◌, ◌||◌, nat_le, codes, IsTrue}
 use Rattle.std.specs.List.{list_all, AllByRecursion}
-use Rattle.std.proofs.lemmas.Bool.{and_parts, and_from, or_cases, eqb-true, eq-eqb, leb-true, not-true}
+use Rattle.std.proofs.lemmas.Bool.{and_parts, and_from, or_cases, eqb-true, eq-eqb, leb-true, not-true, or_left, or_right, and_left, not_from_false, not_from_true}
 use Rattle.std.proofs.lemmas.Bool.Decides.{nat_tests}
 use Rattle.csi_lists.proofs.Filters.{filter-append_one, filter-filter, filter-map}
 use Rattle.csi_lists.proofs.Searches.{find-and, find-append_one, find-filtered, find-map_none, find-passes}
+use Rattle.csi_lists.proofs.Members.{all_of}
+use Rattle.csi_lists.proofs.Tests.{all-then, then-all}
 use Rattle.csi_types.proofs.Equality.{same_text-tells, same_capability-tells, same_holding-tells}
 use Rattle.csi_types.specs.declared.capability.Capability.{Capability}
 use Rattle.csi_types.specs.declared.holding.Holding.{Holding}
@@ -20,9 +22,9 @@ use Rattle.csi_fence.specs.Model.Fence.{Kept}
 use Rattle.csi_types.specs.Model.Holding.{same_holding}
 use Rattle.csi_types.specs.Model.Replies.{ok_reply, ok_reply_with}
 use Rattle.csi_types.specs.Model.Same.{same_text, same_capability, has_capability}
-use Rattle.csi_controller.specs.Model.State.{Volume, ControllerState, volume_named, live_volume, holdings_of, is_held_at, holding_at, is_row_for}
+use Rattle.csi_controller.specs.Model.State.{Volume, ControllerState, volume_named, live_volume, holdings_of, is_held_at, holding_at}
 use Rattle.csi_controller.specs.Model.Table.{Outcome, Stays, Makes, Ends, Attaches, Detaches, refused, met, done, serves, unless, create_named, create, delete, is_full, publish_held, publish, unpublish, controller_row, ended_volume, changed}
-use Rattle.csi_controller.specs.Public.Laws.{IsDone, is_of_another}
+use Rattle.csi_controller.specs.Public.Laws.{IsDone, LeavesOthers}
 use Rattle.csi_controller.proofs.TableOutcomes.{IsOutcome, CanAttach, publish_call, was_refused, was_found, was_made, was_ended, was_ended_before, was_attached, was_attached_before, was_detached, was_detached_before, is_outcome}
 use Rattle.csi_controller.proofs.OrderlyStates.{IsOrderly, named_by_id, made_orderly, end_leaves}
 
@@ -31,16 +33,11 @@ pub record IsReady (config : Config) (state : ControllerState) (call : Call) (re
   pub is_done : IsDone state reply call
   pub again : controller_row config state call ≡ record { reply = reply; change = Stays }
 
--- the other volumes and their holdings are as they were
-pub record LeavesRest (old new : ControllerState) (call : Call) : Type 0 where
-  pub volumes : filter (λ volume. not (is_row_for call volume)) new.volumes ≡ filter (λ volume. not (is_row_for call volume)) old.volumes
-  pub holdings : filter (is_of_another call) new.holdings ≡ filter (is_of_another call) old.holdings
-
 -- what is asked of an outcome: a refusal changes nothing, an OK can be answered so again, and the rest is left
 pub record Facts (config : Config) (state : ControllerState) (call : Call) (outcome : Outcome) : Type 0 where
   pub stays : outcome.reply.status ≢ Ok → outcome.change ≡ Stays
   pub ready : outcome.reply.status ≡ Ok → (kept : Kept) → IsReady config (changed state kept outcome.change) call outcome.reply
-  pub others : (kept : Kept) → LeavesRest state (changed state kept outcome.change) call
+  pub others : (kept : Kept) → LeavesOthers state (changed state kept outcome.change) call
 
 -- what is so of a refusal
 refused_facts : (config : Config) (state : ControllerState) (call : Call) (status : Status) (detail : List ℕ) → (status ≡ Ok → ⊥) → Facts config state call (refused status detail)
@@ -66,8 +63,7 @@ create_found config state name required limit first others volume bad none named
 
 -- where the test says that a list has each capability that is asked for, each is in it
 all_from : (list : List Capability) (asked : List Capability) → list_all (has_capability list) asked ≡ true → AllByRecursion (λ capability. IsTrue (has_capability list capability)) asked
-all_from list [] h = tt
-all_from list (x ∷ xs) h = let parts = and_parts (has_capability list x) (list_all (has_capability list) xs) h in (parts.0, all_from list xs parts.1)
+all_from list asked h = all_of (λ capability. IsTrue (has_capability list capability)) asked (all-then (has_capability list) asked h)
 
 -- where the test of a limit passes, there is no limit, or the capacity is at most the limit
 limit_from : (limit capacity : ℕ) → ((limit == 0) || nat_le capacity limit) ≡ true → (limit ≡ 0) ⊎ (capacity ≤ limit)
@@ -107,27 +103,12 @@ not_below required limit = grind (arith, nat_tests)
 not_above : (required limit : ℕ) → is_empty_range required limit ≡ false → ((limit == 0) || nat_le (capacity_wanted required limit) limit) ≡ true
 not_above required limit h = grind (arith, nat_tests)
 
--- where all of a list pass a test, all pass one that asks no more
-list_all-weaken : (p q : Capability → Bool) (xs : List Capability) → ((x : Capability) → p x ≡ true → q x ≡ true) → list_all p xs ≡ true → list_all q xs ≡ true
-list_all-weaken p q [] f h = refl
-list_all-weaken p q (x ∷ xs) f h = let parts = and_parts (p x) (list_all p xs) h in and_from (q x) (list_all q xs) (f x parts.0) (list_all-weaken p q xs f parts.1)
-
--- an `or` passes where one of its two does
-or_right : (a b : Bool) → b ≡ true → (a || b) ≡ true
-or_right true b h = refl
-or_right false b h = h
-
--- an `or` passes where its first one does
-or_left : (a b : Bool) → a ≡ true → (a || b) ≡ true
-or_left true b h = refl
-or_left false b h = cc
-
 -- each of a list is in it
 has_own : (xs : List Capability) → list_all (has_capability xs) xs ≡ true
 has_own [] = refl
 has_own (x ∷ xs) =
     and_from (has_capability (x ∷ xs) x) (list_all (has_capability (x ∷ xs)) xs) (or_left (same_capability x x) (has_capability xs x) ((same_capability-tells x x).1 refl))
-    (list_all-weaken (has_capability xs) (has_capability (x ∷ xs)) xs (λ y h. or_right (same_capability y x) (has_capability xs y) h) (has_own xs))
+    (then-all (has_capability (x ∷ xs)) xs (λ y among. or_right (same_capability y x) (has_capability xs y) (all-then (has_capability xs) xs (has_own xs) y among)))
 
 -- what is so where CreateVolume of a new name makes a volume
 create_made : (config : Config) (state : ControllerState) (name : List ℕ) (required limit : ℕ) (first : Capability) (others : List Capability)
@@ -155,8 +136,8 @@ ended_not_live id volume = by (volume.id == id) refl
     by false h = rw h refl
 
 -- a deletion leaves a volume of another id as it was
-ended-other : (id : ℕ) (volume : Volume) → not (volume.id == id) ≡ true → ended_volume id volume ≡ volume
-ended-other id volume h = let other : (volume.id == id) ≡ false = not-true (volume.id == id) h in rw other refl
+pub ended_other : (id : ℕ) (volume : Volume) → (volume.id == id) ≡ false → ended_volume id volume ≡ volume
+ended_other id volume h = rw h refl
 
 -- DeleteVolume is ready where no live volume has its id
 delete_ready : (config : Config) (state : ControllerState) (id : ℕ) → live_volume id state ≡ None → IsReady config state (calls.DeleteVolume id) ok_reply
@@ -168,7 +149,7 @@ ended_facts config state id =
     record {
       stays = λ h. absurd (h refl);
       ready = λ h kept. delete_ready config (changed state kept (Ends id)) id (find-map_none (λ (v : Volume). (v.id == id) && v.is_live) (ended_volume id) state.volumes (ended_not_live id));
-      others = λ kept. record { volumes = filter-map (λ (v : Volume). not (v.id == id)) (ended_volume id) state.volumes (λ v. ap (λ n. not (n == id)) ((end_leaves id).ids v)) (ended-other id); holdings = refl };
+      others = λ kept. record { volumes = filter-map (λ (v : Volume). not (v.id == id)) (ended_volume id) state.volumes (λ v. ap (λ n. not (n == id)) ((end_leaves id).ids v)) (λ v h. ended_other id v (not-true (v.id == id) h)); holdings = refl };
     }
 
 -- ControllerPublishVolume
@@ -187,12 +168,8 @@ publish_ready config state holding volume live node capable held =
     }
 
 -- a holding is its own volume's, at its own node
-itself_at : (holding : Holding) → is_held_at holding.volume holding.node holding ≡ true
+pub itself_at : (holding : Holding) → is_held_at holding.volume holding.node holding ≡ true
 itself_at holding = and_from _ _ (eq-eqb holding.volume holding.volume refl) ((same_text-tells holding.node holding.node).1 refl)
-
--- an id isn't another one than itself
-not_another : (id : ℕ) → not (id == id) ≡ false
-not_another id = let self : (id == id) ≡ true = eq-eqb id id refl in rw self refl
 
 -- what is so where ControllerPublishVolume attaches a volume
 attached_facts : (config : Config) (state : ControllerState) (holding : Holding) (volume : Volume) → CanAttach config state holding volume → holding_at holding.volume holding.node state ≡ None
@@ -201,17 +178,12 @@ attached_facts config state holding volume can none =
     record {
       stays = λ h. absurd (h refl);
       ready = λ h kept. publish_ready config (changed state kept (Attaches holding)) holding volume can.live can.node can.capable (find-append_one (is_held_at holding.volume holding.node) state.holdings holding (itself_at holding) none);
-      others = λ kept. record { volumes = refl; holdings = filter-append_one (λ (h : Holding). not (h.volume == holding.volume)) state.holdings holding (not_another holding.volume) };
+      others = λ kept. record { volumes = refl; holdings = filter-append_one (λ (h : Holding). not (h.volume == holding.volume)) state.holdings holding (not_from_true (holding.volume == holding.volume) (eq-eqb holding.volume holding.volume refl)) };
     }
 
 -- ControllerUnpublishVolume
 unpublish_ready : (config : Config) (state : ControllerState) (id : ℕ) (node : List ℕ) → holding_at id node state ≡ None → IsReady config state (calls.ControllerUnpublishVolume id node) ok_reply
 unpublish_ready config state id node none = record { is_done = none; again = ap (unpublish id node) none }
-
--- where the first of two tests doesn't hold, both together don't
-not_both : (a b : Bool) → not a ≡ true → not (a && b) ≡ true
-not_both true b h = cc
-not_both false b h = refl
 
 -- what is so where ControllerUnpublishVolume detaches one
 detached_facts : (config : Config) (state : ControllerState) (id : ℕ) (node : List ℕ) → Facts config state (calls.ControllerUnpublishVolume id node) (done (Detaches id node))
@@ -221,7 +193,7 @@ detached_facts config state id node =
       ready = λ h kept. unpublish_ready config (changed state kept (Detaches id node)) id node (find-filtered (is_held_at id node) (λ (h : Holding). not (is_held_at id node h)) state.holdings (λ h k. not-true (is_held_at id node h) k));
       others = λ kept. record {
         volumes = refl;
-        holdings = filter-filter (λ (h : Holding). not (h.volume == id)) (λ (h : Holding). not (is_held_at id node h)) state.holdings (λ h k. not_both (h.volume == id) (same_text h.node node) k);
+        holdings = filter-filter (λ (h : Holding). not (h.volume == id)) (λ (h : Holding). not (is_held_at id node h)) state.holdings (λ h k. not_from_false (is_held_at id node h) (and_left (h.volume == id) (same_text h.node node) (not-true (h.volume == id) k)));
       };
     }
 

@@ -10,7 +10,7 @@ use Rattle.csi_controller.specs.Model.Core.{ControllerParts, Shows}
 use Rattle.csi_controller.specs.Public.Core.{volume_holding}
 use Rattle.csi_controller.specs.Public.Views.{shown_if_live, IsCopyOf, IsRowOf}
 use Rattle.csi_controller.specs.Public.OneRow.{RowShown, row_shown}
-use Rattle.csi_controller.specs.Private.Views.{row_if_live}
+use Rattle.csi_controller.specs.Private.OneRow.{row_if_live}
 
 -- the volume of a name is that of the name's row
 named-shown : (parts : ControllerParts) (state : ControllerState) (name : List ℕ) → Shows parts state → volume_named name state ≡ option_map volume_of_row (find (λ (r : ControllerRow). same_text r.name name) parts.rows)

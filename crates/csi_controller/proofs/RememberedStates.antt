@@ -15,7 +15,7 @@ use Rattle.csi_types.specs.Model.Config.{Config}
 use Rattle.csi_fence.proofs.FramesKeep.{IsKept}
 use Rattle.csi_fence.specs.Model.Fence.{Kept}
 use Rattle.csi_controller.specs.Model.State.{Volume, ControllerState, empty_controller, is_row_for}
-use Rattle.csi_controller.specs.Model.Table.{Outcome, Change, Stays, Makes, Ends, Attaches, Detaches, changed, ended_volume, controller_row}
+use Rattle.csi_controller.specs.Model.Table.{Outcome, Change, Stays, changed, ended_volume, controller_row}
 use Rattle.csi_controller.specs.Model.Fenced.{kept_in, carried_out, begun, controller_with}
 use Rattle.csi_controller.specs.Public.Fenced.{ConfiguredFrame, after_configured}
 use Rattle.csi_controller.specs.Public.Safe.{Remembers}
@@ -38,10 +38,7 @@ IsDue call session volume = IsRecent session volume ⊎ (is_row_for call volume 
 -- no change of the table changes the session
 pub changed_session : (state : ControllerState) (kept : Kept) (change : Change) → (changed state kept change).session ≡ state.session
 changed_session state kept Stays = refl
-changed_session state kept (Makes name capacity capabilities) = refl
-changed_session state kept (Ends id) = refl
-changed_session state kept (Attaches holding) = refl
-changed_session state kept (Detaches id node) = refl
+changed_session state kept change = refl
 
 -- the volume that DeleteVolume ends is the call's row, and the others are as they were
 ended_due : (id session : ℕ) (volume : Volume) → IsRecent session volume → IsDue (calls.DeleteVolume id) session (ended_volume id volume)

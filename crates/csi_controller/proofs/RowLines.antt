@@ -1,8 +1,7 @@
 -- What the lines of the table answer at a row, by what the row holds.
-use Rattle.std.proofs.Common.{◌≡◌, ◌≤◌, ◌<◌, ℕ, Bool, true, false, cond, not, List, map, length, refl, ◌∙◌, ap, arith}
+use Rattle.std.proofs.Common.{◌≡◌, ℕ, Bool, true, cond, not, List, map, length, ◌∙◌, ap}
 use Rattle.std.specs.Prelude.{Option, Some, None, find, option_map, ◌||◌, nat_le, codes}
-use Rattle.std.proofs.lemmas.Bool.{le-leb}
-use Rattle.std.proofs.lemmas.Bool.Decides.{nat_tests}
+use Rattle.std.proofs.lemmas.List.{length-map}
 use Rattle.csi_lists.proofs.Searches.{find-of_map}
 use Rattle.csi_types.specs.declared.config.NodeSlots.{NodeSlots}
 use Rattle.csi_types.specs.declared.status.Status.TheVariants.{AlreadyExists, ResourceExhausted}
@@ -15,7 +14,7 @@ use Rattle.csi_controller.specs.Model.Table.{Outcome, Attaches, refused, met, do
 use Rattle.csi_controller.specs.Public.Core.{volume_holding}
 use Rattle.csi_controller.specs.Public.OneRow.{RowShown, state_shown}
 use Rattle.csi_controller.specs.Private.OneRow.{held_of_row}
-use Rattle.csi_controller.proofs.RowTable.{alone, held_at-seen, length-view}
+use Rattle.csi_controller.proofs.RowTable.{alone, held_at-seen}
 
 -- ControllerUnpublishVolume, by how the row's volume is held at the node
 pub unpublish-line : (row : RowShown) (node : List ℕ) (o : Option NodeHolding) → held_of_row row node ≡ o
@@ -26,19 +25,6 @@ unpublish-line row node o is = ap (unpublish row.volume.id node) (held_at-seen (
 pub delete-line : (row : RowShown) → delete row.volume.id (holdings_of row.volume.id (state_shown row)) (live_volume row.volume.id (state_shown row))
     ≡ delete row.volume.id (map (volume_holding row.volume.id) row.items) (cond row.volume.is_live (Some row.volume) None)
 delete-line row = let seen = alone row in λ i. delete row.volume.id (seen.held i) (seen.live i)
-
--- a node that is full
-pub node-full : (full : Bool) (n : ℕ) → full ≡ true → (full || nat_le 64 n) ≡ true
-node-full full n h = rw h refl
-
--- a volume at 64 nodes
-pub volume-full : (full : Bool) (n : ℕ) → 64 ≤ n → (full || nat_le 64 n) ≡ true
-volume-full true n h = refl
-volume-full false n h = le-leb 64 n h
-
--- neither
-pub room-left : (full : Bool) (n : ℕ) → full ≡ false → n < 64 → (full || nat_le 64 n) ≡ false
-room-left full n h few = rw h (grind (arith, nat_tests, few))
 
 module _ (row : RowShown) (nodes : List NodeSlots) (full : Bool) (wanted : NodeHolding) (live : row.volume.is_live ≡ true) (node : has_node wanted.node nodes ≡ true)
     (able : has_capability row.volume.capabilities wanted.capability ≡ true) where
@@ -78,5 +64,5 @@ module _ (row : RowShown) (nodes : List NodeSlots) (full : Bool) (wanted : NodeH
       → answered ≡ cond b (refused ResourceExhausted (codes "slots")) attached
   publish-room b none beside e =
       publish-apart None none beside
-      ∙ ap (λ (n : ℕ). cond (full || nat_le 64 n) (refused ResourceExhausted (codes "slots")) attached) (length-view (volume_holding row.volume.id) row.items)
+      ∙ ap (λ (n : ℕ). cond (full || nat_le 64 n) (refused ResourceExhausted (codes "slots")) attached) (length-map row.items (volume_holding row.volume.id))
       ∙ ap (λ (b : Bool). cond b (refused ResourceExhausted (codes "slots")) attached) e

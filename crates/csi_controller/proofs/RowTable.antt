@@ -1,8 +1,8 @@
 -- What the table answers to a call is told by the row that the call has.
-use Rattle.std.proofs.Common.{◌≡◌, ℕ, suc, Bool, true, cond, not, List, [], ◌∷◌, map, length, refl, sym, ◌∙◌, ap}
+use Rattle.std.proofs.Common.{◌≡◌, ℕ, Bool, true, cond, not, List, map, refl, sym, ◌∙◌, ap}
 use Rattle.std.specs.Prelude.{Option, Some, None, find, option_map, ◌&&◌, ◌==◌, nat_le, codes}
 use Rattle.std.specs.List.{list_any}
-use Rattle.std.proofs.lemmas.Bool.{eq-eqb, eqb-true}
+use Rattle.std.proofs.lemmas.Bool.{eqb-true}
 use Rattle.csi_lists.proofs.Filters.{filter-all, filter-of_map}
 use Rattle.csi_lists.proofs.Places.{FirstAt-find, FirstAt-only, find-and_first}
 use Rattle.csi_lists.proofs.Searches.{find-and_filter, find-and_none, find-of_map}
@@ -24,14 +24,9 @@ use Rattle.csi_controller.specs.Public.OneRow.{RowShown, state_shown}
 use Rattle.csi_controller.specs.Private.OneRow.{held_of_row}
 use Rattle.csi_controller.specs.Public.Plan.{is_full_by, told_at, told_in}
 use Rattle.csi_controller.specs.Private.Plan.{row_outcome}
-use Rattle.csi_controller.proofs.Holdings.{count-rows, held_in}
+use Rattle.csi_controller.proofs.Holdings.{count-rows, held_in, self}
 use Rattle.csi_controller.proofs.ShownRows.{ControllerRows, AreRowsSound, RowsShowAll, one-id, volume_in}
 use Rattle.csi_controller.proofs.Counts.{full-told}
-
--- rows that are seen as something else are as many
-pub length-view : {R X : Type 0} (view : R → X) (rs : List R) → length (map view rs) ≡ length rs
-length-view view [] = refl
-length-view view (r ∷ rs) = ap suc (length-view view rs)
 
 -- what the searches of the state give at a volume that has this row
 pub record SeesRow (state : ControllerState) (row : RowShown) : Type 0 where
@@ -45,10 +40,6 @@ held_at-seen state row node sees =
     find-and_filter (λ (h : Holding). h.volume == row.volume.id) (λ (h : Holding). same_text h.node node) state.holdings
     ∙ ap (find (λ (h : Holding). same_text h.node node)) sees.held
     ∙ find-of_map (λ (h : Holding). same_text h.node node) (volume_holding row.volume.id) row.items
-
--- an id is equal to itself
-self : (id : ℕ) → (id == id) ≡ true
-self id = eq-eqb id id refl
 
 -- the state of the row's volume alone
 pub alone : (row : RowShown) → SeesRow (state_shown row) row

@@ -1,13 +1,19 @@
 -- A controller's rows behind the fence do what the controller's state does there.
 use Rattle.std.proofs.Common.{◌≡◌, ℕ, zero, suc, ◌+◌, ◌<◌, List, [], ◌∷◌, ◌++◌, map, length, set, Bool, true, false, cond, not, refl, sym, ◌∙◌, ap, subst}
-use Rattle.std.specs.Prelude.{Option, Some, None, option_map, find, filter, slice_get, ◌==◌, nat_lt, nat_le, ◌||◌, codes, IsTrue}
+use Rattle.std.specs.Prelude.{Option, Some, None, option_map, find, filter, slice_get, ◌==◌, IsTrue}
 use Rattle.std.specs.List.{AllByRecursion}
+use Rattle.std.specs.Option.{option_or}
 use Rattle.std.proofs.lemmas.List.{length-map, map-append}
+use Rattle.std.proofs.Math.Bool.{not-not}
+use Rattle.std.proofs.lemmas.List.Elements.{filter_agree}
 use Rattle.csi_lists.proofs.Each.{each-filter, each-weaker}
 use Rattle.csi_lists.proofs.Filters.{filter-of_map}
 use Rattle.csi_lists.proofs.Maps.{map-none_shown}
 use Rattle.csi_lists.proofs.Places.{AtMostOne-filter, FirstAt-is_at, FirstAt-passes, FirstAt-within}
-use Rattle.csi_lists.proofs.Searches.{find-of_map}
+use Rattle.csi_lists.proofs.Searches.{find-of_map, find-append}
+use Rattle.csi_lists.proofs.PassingByKey.{find-passing, passing}
+use Rattle.csi_lists.proofs.Members.{among-find, each_of}
+use Rattle.csi_lists.proofs.Options.{option_or-none, option_or-some}
 use Rattle.csi_lists.specs.Public.Places.{AtMostOne, FirstAt, IsAt}
 use Rattle.csi_types.specs.declared.call.Call.{Call}
 use Rattle.csi_types.specs.declared.call.Call.TheVariants as calls
@@ -16,10 +22,7 @@ use Rattle.csi_types.specs.declared.call.Party.TheVariants.{Controller}
 use Rattle.csi_types.specs.declared.capability.Capability.{Capability}
 use Rattle.csi_types.specs.declared.number.Number.{Number}
 use Rattle.csi_types.specs.declared.reply.Reply.{Reply}
-use Rattle.csi_types.specs.declared.status.Status.{Status}
-use Rattle.csi_types.specs.declared.status.Status.TheVariants.{InvalidArgument, ResourceExhausted, OutOfRange}
 use Rattle.csi_types.specs.Model.Call.{kind_of}
-use Rattle.csi_types.specs.Model.Capacity.{is_bad_range, is_empty_range, capacity_wanted}
 use Rattle.csi_types.specs.Model.Config.{Config}
 use Rattle.csi_types.specs.Model.Replies.{ok_reply_with, reply_frame}
 use Rattle.csi_types.specs.Model.Same.{same_text}
@@ -37,14 +40,13 @@ use Rattle.csi_controller.specs.Public.Core.{volume_holding}
 use Rattle.csi_controller.specs.Public.Making.{new_line}
 use Rattle.csi_controller.specs.Public.Nowhere.{reply_nowhere}
 use Rattle.csi_controller.specs.Public.OneRow.{RowShown, row_changed, state_shown}
-use Rattle.csi_controller.specs.Public.Plan.{IsSoundBy, controller_plan, created, is_full_by, made_row, row_keeping, told_in}
-use Rattle.csi_controller.proofs.Holdings.{can-about, held_in, same-volume}
-use Rattle.csi_controller.proofs.PutLast.{put-last}
+use Rattle.csi_controller.specs.Public.Plan.{IsSoundBy, controller_plan, created, is_full_by, made_row, row_keeping, told_in, is_change}
+use Rattle.csi_controller.specs.Private.PlanLaws.{IsNewLine, makes, new-outcome, one-for, refuses, same-volume}
+use Rattle.csi_controller.proofs.Holdings.{can-about, held_in}
 use Rattle.csi_controller.proofs.RowTable.{held-nowhere, line-told, live-nowhere}
 use Rattle.csi_controller.proofs.RowsTold.{told-changed}
-use Rattle.csi_controller.proofs.ShownAfter.{ends_by, shown-after, stays-after, volumes-after}
-use Rattle.csi_controller.proofs.ShownRows.{AreRowsSound, ControllerRows, RowsShowAll, one-id, volume_in}
-use Rattle.csi_controller.proofs.TableOutcomes.{lifecycle-outcome}
+use Rattle.csi_controller.proofs.ShownAfter.{ends_call, shown-after, stays-after, volumes-after}
+use Rattle.csi_controller.proofs.ShownRows.{AreRowsSound, ControllerRows, RowsShowAll, one-id, volume_in, put-last}
 
 -- ---- lists
 
@@ -70,34 +72,24 @@ got-at [] place x at = absurd at
 got-at (y ∷ ys) zero x at = ap Some at
 got-at (y ∷ ys) (suc place) x at = got-at ys place x at
 
--- not not is as it was
-pub twice : (b : Bool) → not (not b) ≡ b
-twice true = refl
-twice false = refl
-
 -- ---- a session that begins
 
 -- a volume that was deleted is held nowhere, so the holdings of each id stay
 held-live : (next : ℕ) (rows : List RowShown) (id : ℕ) → AllByRecursion (IsSoundBy next) rows → AtMostOne (λ (r : RowShown). r.volume.id == id) rows
     → held_in (find (λ (r : RowShown). r.volume.id == id) (filter (λ (r : RowShown). not (not r.volume.is_live)) rows)) ≡ held_in (find (λ (r : RowShown). r.volume.id == id) rows)
-held-live next [] id each one = refl
-held-live next (r ∷ rs) id each one = by (r.volume.id == id) r.volume.is_live refl refl (held-live next rs id each.1 one.1)
+held-live next rows id each one = ap held_in (find-passing (λ (r : RowShown). r.volume.id == id) (λ (r : RowShown). not (not r.volume.is_live)) rows one) ∙ by (find (λ (r : RowShown). r.volume.id == id) rows) refl
   where
-    live : List RowShown
-    live = filter (λ (r : RowShown). not (not r.volume.is_live)) rs
+    by_life : (r : RowShown) → IsSoundBy next r → (alive : Bool) → r.volume.is_live ≡ alive → held_in (cond (not (not alive)) (Some r) None) ≡ held_in (Some r)
+    by_life r own true e = refl
+    by_life r own false e = sym (ap (map (volume_holding r.volume.id)) (own.gone e))
 
-    by : (own alive : Bool) → (r.volume.id == id) ≡ own → r.volume.is_live ≡ alive
-        → held_in (find (λ (r : RowShown). r.volume.id == id) live) ≡ held_in (find (λ (r : RowShown). r.volume.id == id) rs)
-        → held_in (find (λ (r : RowShown). r.volume.id == id) (cond (not (not alive)) (r ∷ live) live)) ≡ held_in (cond own (Some r) (find (λ (r : RowShown). r.volume.id == id) rs))
-    by true true e f rest = ap (λ (b : Bool). held_in (cond b (Some r) (find (λ (r : RowShown). r.volume.id == id) live))) e
-    by true false e f rest = rest ∙ ap held_in (one.0 e) ∙ sym (ap (map (volume_holding r.volume.id)) (each.0.gone f))
-    by false true e f rest = ap (λ (b : Bool). held_in (cond b (Some r) (find (λ (r : RowShown). r.volume.id == id) live))) e ∙ rest
-    by false false e f rest = rest
+    by : (o : Option RowShown) → find (λ (r : RowShown). r.volume.id == id) rows ≡ o → held_in (passing (λ (r : RowShown). not (not r.volume.is_live)) o) ≡ held_in o
+    by None is = refl
+    by (Some r) is = by_life r (each_of (IsSoundBy next) rows r each (among-find (λ (r : RowShown). r.volume.id == id) rows r is)) r.volume.is_live refl
 
 -- live volumes, told twice over
 pub filter-twice : (rows : List RowShown) → filter (λ (r : RowShown). not (not r.volume.is_live)) rows ≡ filter (λ (r : RowShown). r.volume.is_live) rows
-filter-twice [] = refl
-filter-twice (r ∷ rs) = (λ i. cond (twice r.volume.is_live i) (r ∷ filter-twice rs i) (filter-twice rs i))
+filter-twice rows = filter_agree (λ (r : RowShown). not (not r.volume.is_live)) (λ (r : RowShown). r.volume.is_live) (λ r. not-not r.volume.is_live) rows
 
 -- the rows that aren't empty show the state in which it has begun
 pub begun-shows : (session : ℕ) (old : ControllerRows) (state : ControllerState) → AreRowsSound old → RowsShowAll old state
@@ -131,39 +123,14 @@ kept-same call old state shows =
 
 -- ---- what a new name is answered
 
--- a refusal, or a volume that is made
-data IsNewLine (next : ℕ) (name : List ℕ) (wished : List Capability) : Outcome → Type 0 where
-  refuses : (status : Status) (detail : List ℕ) → IsNewLine next name wished (refused status detail)
-  makes : (capacity : ℕ) → IsNewLine next name wished (record { reply = ok_reply_with next; change = Makes name capacity wished })
-
--- it is one of these
-new-outcome : (greatest count next : ℕ) (name : List ℕ) (required limit : ℕ) (wished : List Capability) → IsNewLine next name wished (new_line greatest count next name required limit wished)
-new-outcome greatest count next name required limit [] = refuses InvalidArgument (codes "capabilities")
-new-outcome greatest count next name required limit (first ∷ others) = by (is_bad_range required limit) (is_empty_range required limit) (nat_lt greatest (capacity_wanted required limit)) (nat_le 4096 count || nat_le 18446744073709551616 next)
-  where
-    by : (bad none above full : Bool)
-        → IsNewLine next name (first ∷ others)
-        (unless (cond bad (Some (refused InvalidArgument (codes "capacity"))) (cond none (Some (refused OutOfRange (codes "range"))) None))
-        (cond above (refused OutOfRange (codes "range")) (cond full (refused ResourceExhausted (codes "volumes")) (record { reply = ok_reply_with next; change = Makes name (capacity_wanted required limit) (first ∷ others) }))))
-    by true none above full = refuses InvalidArgument (codes "capacity")
-    by false true above full = refuses OutOfRange (codes "range")
-    by false false true full = refuses OutOfRange (codes "range")
-    by false false false true = refuses ResourceExhausted (codes "volumes")
-    by false false false false = makes (capacity_wanted required limit)
-
 -- a row without holdings, at the end
 held-append : (rows : List RowShown) (row : RowShown) (id : ℕ) → row.items ≡ [] → held_in (find (λ (r : RowShown). r.volume.id == id) (rows ++ row ∷ [])) ≡ held_in (find (λ (r : RowShown). r.volume.id == id) rows)
-held-append [] row id empty = by (row.volume.id == id)
+held-append rows row id empty = ap held_in (find-append (λ (r : RowShown). r.volume.id == id) rows row) ∙ by (find (λ (r : RowShown). r.volume.id == id) rows) (row.volume.id == id)
   where
-    by : (b : Bool) → held_in (cond b (Some row) None) ≡ []
-    by true = ap (map (volume_holding row.volume.id)) empty
-    by false = refl
-held-append (r ∷ rs) row id empty = by (r.volume.id == id) (held-append rs row id empty)
-  where
-    by : (b : Bool) → held_in (find (λ (r : RowShown). r.volume.id == id) (rs ++ row ∷ [])) ≡ held_in (find (λ (r : RowShown). r.volume.id == id) rs)
-        → held_in (cond b (Some r) (find (λ (r : RowShown). r.volume.id == id) (rs ++ row ∷ []))) ≡ held_in (cond b (Some r) (find (λ (r : RowShown). r.volume.id == id) rs))
-    by true h = refl
-    by false h = h
+    by : (o : Option RowShown) (b : Bool) → held_in (option_or o (cond b (Some row) None)) ≡ held_in o
+    by (Some r) b = ap held_in (option_or-some (Some r) (cond b (Some row) None) r refl)
+    by None true = ap held_in (option_or-none None (Some row) refl) ∙ ap (map (volume_holding row.volume.id)) empty
+    by None false = ap held_in (option_or-none None None refl)
 
 -- a choice between a value and itself is that value
 same_either_way : {X : Type 0} (b : Bool) (x : X) → x ≡ cond b x x
@@ -231,10 +198,10 @@ module _ (config : Config) (number : Number) (old : ControllerRows) (state : Con
       ∙ ap (λ k. create_new config.greatest (length old.rows) k name required limit wished) (sym shows.next)))
 
   -- CreateVolume of a name that no row has
-  alike-new : (name : List ℕ) (required limit : ℕ) (wished : List Capability) → find (λ (r : RowShown). same_text r.volume.name name) old.rows ≡ None → (outcome : Outcome) → IsNewLine old.own name wished outcome
+  alike-new : (name : List ℕ) (required limit : ℕ) (wished : List Capability) → find (λ (r : RowShown). same_text r.volume.name name) old.rows ≡ None → (outcome : Outcome) → IsNewLine (length old.rows) old.own name wished outcome
       → IsCarriedAlike (calls.CreateVolume name required limit wished) (carried_lacking controller_plan old (created number old.own outcome.reply outcome.change)) outcome
   alike-new name required limit wished none _ (refuses status detail) = alike-same (calls.CreateVolume name required limit wished) (refused status detail).reply none
-  alike-new name required limit wished none _ (makes capacity) = alike-made name required limit capacity wished none
+  alike-new name required limit wished none _ (makes capacity room) = alike-made name required limit capacity wished none
 
   -- what the table answers to another call of an id that no row has
   nowhere-told : (call : Call) → find (λ (r : RowShown). is_row_for call r.volume) old.rows ≡ None → IsTrue (is_party_of (kind_of call) Controller)
@@ -253,21 +220,7 @@ module _ (config : Config) (number : Number) (old : ControllerRows) (state : Con
   nowhere-told (calls.ControllerUnpublishVolume id node) none party =
       let call : Call = calls.ControllerUnpublishVolume id node in
       subst (λ (o : Outcome). IsCarriedAlike call (record { reply = reply_nowhere call; state = old }) o) (sym (ap (unpublish id node) (held-nowhere old state id node shows none))) (alike-same call (reply_nowhere call) none)
-  nowhere-told (calls.NodeStageVolume id capability) none party = absurd cc
-  nowhere-told (calls.NodeUnstageVolume id) none party = absurd cc
-  nowhere-told (calls.NodePublishVolume id target capability readonly) none party = absurd cc
-  nowhere-told (calls.NodeUnpublishVolume id target) none party = absurd cc
-
-  -- a call finds one row at most
-  one_of : (call : Call) → AtMostOne (λ (r : RowShown). is_row_for call r.volume) old.rows
-  one_of (calls.CreateVolume name required limit capabilities) = sound.unique name
-  one_of (calls.DeleteVolume id) = one-id old sound id
-  one_of (calls.ControllerPublishVolume id node capability readonly) = one-id old sound id
-  one_of (calls.ControllerUnpublishVolume id node) = one-id old sound id
-  one_of (calls.NodeStageVolume id capability) = one-id old sound id
-  one_of (calls.NodeUnstageVolume id) = one-id old sound id
-  one_of (calls.NodePublishVolume id target capability readonly) = one-id old sound id
-  one_of (calls.NodeUnpublishVolume id target) = one-id old sound id
+  nowhere-told call none party = absurd cc
 
   module _ (call : Call) (row : RowShown) (found : find (controller_plan.is_for call) old.rows ≡ Some row) where
     there : IsFirst (controller_plan.is_for call) old.rows row
@@ -310,8 +263,8 @@ module _ (config : Config) (number : Number) (old : ControllerRows) (state : Con
           reply = refl;
           after = subst (λ (rows : List RowShown). RowsShowAll (record old { rows = rows }) (keep call (kept_by call outcome) (changed state (kept_by call outcome) outcome.change))) is_new
               (shown-after old state (keep call (kept_by call outcome) (changed state (kept_by call outcome) outcome.change)) there.place row new (kept_by call outcome) outcome.change shows at (one-id old sound) about stays.0 stays.1
-              (volumes-after call (kept_by call outcome) state old.rows there.place row new outcome.change shows.volumes there.first (one_of call) about
-              (λ id is. ends_by config (state_shown row) call outcome id (lifecycle-outcome config (is_full_by config.nodes old.rows) (state_shown row) call) is) volume)
+              (volumes-after call (kept_by call outcome) state old.rows there.place row new outcome.change shows.volumes there.first (one-for old.rows call sound.unique sound.rising) about
+              (λ id is. ends_call call id (sym (told.own (ap is_change is)) ∙ is)) volume)
               refl same_id refl);
         })
 

@@ -1,16 +1,17 @@
 -- What a row is told is what the table has for its volume: a change that is made is the call's, and can be made.
 use Rattle.std.proofs.Common.{◌≡◌, ℕ, ◌<◌, List, [], ◌∷◌, map, length, Bool, true, false, cond, not, refl, sym, ◌∙◌, ap, subst, arith}
-use Rattle.std.specs.Prelude.{Option, Some, None, option_map, find, is_some, ◌||◌, nat_le, codes}
+use Rattle.std.specs.Prelude.{Option, Some, None, find, is_some, ◌||◌, nat_le, codes}
 use Rattle.std.proofs.lemmas.Bool.{eqb-true}
 use Rattle.std.proofs.lemmas.Bool.Decides.{nat_tests}
 use Rattle.std.proofs.lemmas.List.{length-map}
-use Rattle.csi_lists.proofs.Options.{none-from_map, some_is_not_none}
+use Rattle.csi_lists.proofs.Options.{none-from_map, some_is_not_none, is_some-map}
 use Rattle.csi_lists.proofs.Searches.{find-of_map}
 use Rattle.csi_types.specs.declared.call.Call.{Call}
 use Rattle.csi_types.specs.declared.call.Call.TheVariants as calls
 use Rattle.csi_types.specs.declared.capability.Capability.{Capability}
 use Rattle.csi_types.specs.declared.holding.Holding.{Holding}
-use Rattle.csi_types.specs.declared.status.Status.TheVariants.{InvalidArgument, NotFound, AlreadyExists, ResourceExhausted}
+use Rattle.csi_types.specs.declared.status.Status.TheVariants.{InvalidArgument, NotFound, AlreadyExists, OutOfRange, ResourceExhausted}
+use Rattle.csi_types.specs.Model.Capacity.{is_bad_range, is_empty_range}
 use Rattle.csi_types.specs.Model.Config.{Config, has_node}
 use Rattle.csi_types.specs.Model.Holding.{is_compatible, same_holding}
 use Rattle.csi_types.specs.Model.Same.{has_capability}
@@ -21,12 +22,11 @@ use Rattle.csi_fence.specs.declared.line.Line.{Line}
 use Rattle.csi_fence.specs.declared.line.Line.TheVariants.{Refused, Met, Done}
 use Rattle.csi_fence.specs.Public.Line.{told_by}
 use Rattle.csi_fence.specs.Public.Rows.{Told}
-use Rattle.csi_controller.specs.Model.Table.{Change, Stays, Makes, Ends, Detaches, Outcome, Attaches, argument_fault, attach, create_named, delete, done, lifecycle_row, met, publish, publish_held, refused, serves, unless, unpublish}
+use Rattle.csi_controller.specs.Model.Table.{Change, Stays, Outcome, Attaches, argument_fault, attach, create_named, delete, done, lifecycle_row, met, publish, publish_held, refused, serves, unless, unpublish}
 use Rattle.csi_controller.specs.Public.Core.{volume_holding}
 use Rattle.csi_controller.specs.Public.OneRow.{RowShown, call_change, row_changed, state_shown}
 use Rattle.csi_controller.specs.Private.OneRow.{CanChange, HasRoomFor, held_of_row, outcome_shown}
 use Rattle.csi_controller.specs.Public.Plan.{is_change, told_in}
-use Rattle.csi_controller.specs.Private.PlanLaws.{fault-stays}
 use Rattle.csi_controller.proofs.RowTable.{alone, held_at-seen}
 use Rattle.csi_controller.proofs.TableOutcomes.{IsOutcome, was_refused, was_found, was_made, was_ended, was_ended_before, was_attached, was_attached_before, was_detached, was_detached_before, lifecycle-outcome}
 
@@ -140,26 +140,22 @@ none-mapped : {X Y : Type 0} (f : X → Y) (xs : List X) → map f xs ≡ [] →
 none-mapped f [] h = refl
 none-mapped f (x ∷ xs) h = cc
 
--- something that is there where it is seen otherwise
-some-mapped : {X Y : Type 0} (f : X → Y) (o : Option X) → is_some (option_map f o) ≡ true → is_some o ≡ true
-some-mapped f None h = h
-some-mapped f (Some x) h = refl
-
 -- a CreateVolume of a name that is there makes nothing
 created-none : (config : Config) (row : RowShown) (name : List ℕ) (required limit : ℕ) (capabilities : List Capability) → is_row_for (calls.CreateVolume name required limit capabilities) row.volume ≡ true
     → is_change (unless (argument_fault required limit capabilities) (create_named config (state_shown row) name required limit capabilities (volume_named name (state_shown row)))).change ≡ false
-created-none config row name required limit capabilities own =
-    ap (λ (o : Option Volume). is_change (unless (argument_fault required limit capabilities) (create_named config (state_shown row) name required limit capabilities o)).change) ((alone row).named name own)
-    ∙ by (argument_fault required limit capabilities) refl
+created-none config row name required limit [] own = refl
+created-none config row name required limit (first ∷ others) own =
+    ap (λ (o : Option Volume). is_change (unless (argument_fault required limit (first ∷ others)) (create_named config (state_shown row) name required limit (first ∷ others) o)).change) ((alone row).named name own)
+    ∙ by (is_bad_range required limit) (is_empty_range required limit) (not row.volume.is_live) (serves row.volume required limit (first ∷ others))
   where
-    named : (dead fits : Bool) → is_change (cond dead (refused AlreadyExists (codes "name")) (cond fits (record { reply = ok_reply_with row.volume.id; change = Stays }) (refused AlreadyExists (codes "name")))).change ≡ false
-    named true fits = refl
-    named false true = refl
-    named false false = refl
-
-    by : (o : Option Outcome) → argument_fault required limit capabilities ≡ o → is_change (unless o (create_named config (state_shown row) name required limit capabilities (Some row.volume))).change ≡ false
-    by None e = named (not row.volume.is_live) (serves row.volume required limit capabilities)
-    by (Some fault) e = ap is_change (fault-stays required limit capabilities fault e)
+    by : (bad none dead fits : Bool)
+        → is_change (unless (cond bad (Some (refused InvalidArgument (codes "capacity"))) (cond none (Some (refused OutOfRange (codes "range"))) None))
+        (cond dead (refused AlreadyExists (codes "name")) (cond fits (record { reply = ok_reply_with row.volume.id; change = Stays }) (refused AlreadyExists (codes "name"))))).change ≡ false
+    by true none dead fits = refl
+    by false true dead fits = refl
+    by false false true fits = refl
+    by false false false true = refl
+    by false false false false = refl
 
 -- what a row is told to change can be changed
 pub can-told : (config : Config) (full : List ℕ → Bool) (row : RowShown) (call : Call) → is_row_for call row.volume ≡ true → (told_in (lifecycle_row config full (state_shown row) call)).is_done ≡ true → CanChange row (call_change call)
@@ -176,27 +172,22 @@ can-told config full row (calls.ControllerPublishVolume id node capability reado
 can-told config full row (calls.ControllerUnpublishVolume id node) own h =
     let is : id ≡ row.volume.id = sym (eqb-true row.volume.id id own) in (
       is,
-      some-mapped (volume_holding row.volume.id) (held_of_row row node)
-          (ap is_some (sym (held_at-seen (state_shown row) row node (alone row)))
-          ∙ subst (λ (k : ℕ). is_some (holding_at k node (state_shown row)) ≡ true) is (detached-there id node (holding_at id node (state_shown row)) h)),
+      sym (is_some-map (volume_holding row.volume.id) (held_of_row row node))
+          ∙ ap is_some (sym (held_at-seen (state_shown row) row node (alone row)))
+          ∙ subst (λ (k : ℕ). is_some (holding_at k node (state_shown row)) ≡ true) is (detached-there id node (holding_at id node (state_shown row)) h),
     )
-can-told config full row (calls.NodeStageVolume id capability) own h = never h
-can-told config full row (calls.NodeUnstageVolume id) own h = never h
-can-told config full row (calls.NodePublishVolume id target capability readonly) own h = never h
-can-told config full row (calls.NodeUnpublishVolume id target) own h = never h
+can-told config full row call own h = never h
 
 -- a change that isn't one
 stays : (change : Change) → is_change change ≡ false → change ≡ Stays
 stays Stays h = refl
-stays (Makes name capacity capabilities) h = never (sym h)
-stays (Ends id) h = never (sym h)
-stays (Attaches holding) h = never (sym h)
-stays (Detaches id node) h = never (sym h)
+stays change h = never (sym h)
 
 -- a row that is told so is changed as the table has it, and can be
 pub record IsToldChange (row : RowShown) (call : Call) (outcome : Outcome) : Type 0 where
   pub can : CanChange row outcome.change
   pub changed : cond (is_change outcome.change) (row_changed row (call_change call)) row ≡ row_changed row outcome.change
+  pub own : is_change outcome.change ≡ true → outcome.change ≡ call_change call
 
 pub told-changed : (config : Config) (full : List ℕ → Bool) (row : RowShown) (call : Call) → is_row_for call row.volume ≡ true → IsToldChange row call (lifecycle_row config full (state_shown row) call)
 told-changed config full row call own = by (is_change outcome.change) refl
@@ -214,12 +205,14 @@ told-changed config full row call own = by (is_change outcome.change) refl
         record {
           can = subst (CanChange row) (sym is) (can-told config full row call own e);
           changed = ap (λ (b : Bool). cond b (row_changed row (call_change call)) row) e ∙ ap (row_changed row) (sym is);
+          own = λ again. is;
         }
     by false e =
         let is = stays outcome.change e in
         record {
           can = subst (CanChange row) (sym is) tt;
           changed = ap (λ (b : Bool). cond b (row_changed row (call_change call)) row) e ∙ ap (row_changed row) (sym is);
+          own = λ h. never (sym e ∙ h);
         }
 
 -- ---- lines

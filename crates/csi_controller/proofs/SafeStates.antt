@@ -1,7 +1,7 @@
 -- In a controller's state two holdings of one volume are apart, and what is held is live, whatever frames came.
 use Rattle.std.proofs.Common.{◌≡◌, ◌⊎◌, ℕ, List, [], ◌∷◌, Bool, true, false, cond, not, refl, sym, ◌∙◌, ap, subst, inl, inr}
 use Rattle.std.specs.Prelude.{Some, None, is_some, find, ◌==◌, ◌&&◌, IsSome}
-use Rattle.std.proofs.lemmas.Bool.{eqb-true, eq-eqb, not-false}
+use Rattle.std.proofs.lemmas.Bool.{eq-eqb, not-false}
 use Rattle.csi_lists.proofs.Members.{among-either, among-filter, in_filter, none_kept, none_passes}
 use Rattle.csi_lists.proofs.Options.{is_some-map, option_or-is_some}
 use Rattle.csi_lists.proofs.Pairs.{two-append, two-filter}
@@ -17,16 +17,17 @@ use Rattle.csi_fence.proofs.FramesKeep.{IsKept}
 use Rattle.csi_fence.specs.Model.Fence.{Kept}
 use Rattle.csi_types.specs.Model.Holding.{is_compatible}
 use Rattle.csi_types.specs.Model.Same.{same_text}
-use Rattle.csi_controller.specs.Model.State.{Volume, ControllerState, empty_controller, live_volume, holdings_of, is_held_at, holding_at, is_row_for}
+use Rattle.csi_controller.specs.Model.State.{Volume, ControllerState, empty_controller, live_volume, holdings_of, is_held_at, holding_at}
 use Rattle.csi_controller.specs.Model.Table.{Outcome, Change, Stays, Makes, Ends, Attaches, Detaches, controller_row, ended_volume, changed}
 use Rattle.csi_controller.specs.Model.Fenced.{kept_in, keep, carried_out, begun, controller_with}
 use Rattle.csi_controller.specs.Public.Fenced.{ConfiguredFrame, after_configured}
-use Rattle.csi_controller.proofs.OrderlyStates.{configured_keep}
+use Rattle.csi_controller.proofs.OrderlyStates.{configured_keep, kept_same}
 use Rattle.csi_controller.specs.Model.Safe.{AreExclusive}
 use Rattle.csi_controller.specs.Public.Safe.{IsExclusiveState}
 use Rattle.csi_controller.proofs.Forgotten.{live_volume-begun}
 use Rattle.csi_controller.proofs.HoldingsApart.{apart}
 use Rattle.csi_controller.proofs.TableOutcomes.{IsOutcome, was_refused, was_found, was_made, was_ended, was_ended_before, was_attached, was_attached_before, was_detached, was_detached_before, is_outcome}
+use Rattle.csi_controller.proofs.Holdings.{other_id}
 
 -- a change keeps that
 abbrev Keeps : ControllerState → Change → Type 0
@@ -46,28 +47,13 @@ makes_keeps state name capacity capabilities kept safe =
           ∙ option_or-is_some (live_volume h.volume state) _ (safe.attached_while_live h among);
     }
 
--- DeleteVolume
-other_number : (x id n : ℕ) → (n == id) ≡ false → (x == id) ≡ true → (x == n) ≡ false
-other_number x id n other same = by (x == n) refl
-  where
-    clash : true ≡ false → ⊥
-    clash h = cc
-
-    by : (b : Bool) → (x == n) ≡ b → b ≡ false
-    by false h = refl
-    by true h =
-        let xn : x ≡ n = eqb-true x n h in
-        let xid : x ≡ id = eqb-true x id same in
-        let e : (n == id) ≡ true = eq-eqb n id (sym xn ∙ xid) in
-        absurd (clash (sym e ∙ other))
-
 -- the deletion of a volume leaves which volumes of other ids are live
 ended_test : (id n : ℕ) (volume : Volume) → (n == id) ≡ false → (((ended_volume id volume).id == n) && (ended_volume id volume).is_live) ≡ ((volume.id == n) && volume.is_live)
 ended_test id n volume other = by (volume.id == id) refl
   where
     by : (b : Bool) → (volume.id == id) ≡ b → (((cond b (record volume { is_live = false }) volume).id == n) && (cond b (record volume { is_live = false }) volume).is_live) ≡ ((volume.id == n) && volume.is_live)
     by false same = refl
-    by true same = let differs : (volume.id == n) ≡ false = other_number volume.id id n other same in rw differs refl
+    by true same = let differs : (volume.id == n) ≡ false = other_id volume.id id n same other in rw differs refl
 
 -- the deletion of a volume that is held nowhere keeps it
 ends_keeps : (state : ControllerState) (id : ℕ) → holdings_of id state ≡ [] → Keeps state (Ends id)
@@ -80,7 +66,7 @@ ends_keeps state id is = λ kept safe. record {
 }
 
 -- ControllerPublishVolume
-both_false : (a b : Bool) → a ≡ true → (a && b) ≡ false → b ≡ false
+pub both_false : (a b : Bool) → a ≡ true → (a && b) ≡ false → b ≡ false
 both_false true b h e = e
 both_false false b h e = cc
 
@@ -124,11 +110,7 @@ outcome_keeps config state call outcome (was_detached_before id node none) = sta
 
 -- what is kept touches neither holdings nor what is live
 kept_test : (call : Call) (kept : Kept) (n : ℕ) (volume : Volume) → (((kept_in call kept volume).id == n) && (kept_in call kept volume).is_live) ≡ ((volume.id == n) && volume.is_live)
-kept_test call kept n volume = by (is_row_for call volume)
-  where
-    by : (b : Bool) → (((cond b (record volume { kept = kept }) volume).id == n) && (cond b (record volume { kept = kept }) volume).is_live) ≡ ((volume.id == n) && volume.is_live)
-    by true = refl
-    by false = refl
+kept_test call kept n volume = ap (λ (v : Volume). (v.id == n) && v.is_live) (kept_same call kept kept volume)
 
 -- to keep a call's reply leaves it so
 keep_keeps : (call : Call) (kept : Kept) (state : ControllerState) → IsExclusiveState state → IsExclusiveState (keep call kept state)

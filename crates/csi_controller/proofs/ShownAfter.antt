@@ -9,25 +9,20 @@ use Rattle.csi_lists.specs.Public.Places.{AtMostOne, FirstAt, IsAt}
 use Rattle.csi_types.specs.declared.holding.Holding.{Holding}
 use Rattle.csi_types.specs.declared.call.Call.{Call}
 use Rattle.csi_types.specs.declared.call.Call.TheVariants.{DeleteVolume}
-use Rattle.csi_types.specs.Model.Config.{Config}
 use Rattle.csi_fence.specs.Model.Fence.{Kept}
 use Rattle.csi_controller.specs.Model.State.{Volume, ControllerState, holdings_of, is_row_for}
-use Rattle.csi_controller.specs.Model.Table.{Outcome, Change, Stays, Makes, Ends, Attaches, Detaches, changed, ended_volume}
+use Rattle.csi_controller.specs.Model.Table.{Change, Stays, Makes, Ends, Attaches, Detaches, changed, ended_volume}
 use Rattle.csi_controller.specs.Model.Fenced.{kept_in}
 use Rattle.csi_controller.specs.Public.Core.{volume_holding}
-use Rattle.csi_controller.specs.Public.OneRow.{RowShown, row_changed}
+use Rattle.csi_controller.specs.Public.OneRow.{RowShown, row_changed, call_change}
 use Rattle.csi_controller.proofs.Holdings.{IsAbout, held_in, own_list-after, other_list-after}
 use Rattle.csi_controller.proofs.ShownRows.{ControllerRows, RowsShowAll, volume_in}
-use Rattle.csi_controller.proofs.TableOutcomes.{IsOutcome, was_refused, was_found, was_made, was_ended, was_ended_before, was_attached, was_attached_before, was_detached, was_detached_before}
 
 -- a change of a volume that is there leaves the next id and the session
 pub stays-after : (state : ControllerState) (kept : Kept) (id : ℕ) (change : Change) → IsAbout id change
     → ((changed state kept change).next_id ≡ state.next_id) × ((changed state kept change).session ≡ state.session)
-stays-after state kept id Stays about = (refl, refl)
 stays-after state kept id (Makes name capacity capabilities) about = absurd about
-stays-after state kept id (Ends volume) about = (refl, refl)
-stays-after state kept id (Attaches holding) about = (refl, refl)
-stays-after state kept id (Detaches volume node) about = (refl, refl)
+stays-after state kept id change about = (refl, refl)
 
 -- the rows where one is another, and a state that changed so
 pub shown-after : (old : ControllerRows) (state new_state : ControllerState) (place : ℕ) (row new : RowShown) (kept : Kept) (change : Change)
@@ -68,16 +63,9 @@ kept_and_ended id kept volume = by (volume.id == id) refl
     by false e = rw e refl
 
 -- only a DeleteVolume ends a volume
-pub ends_by : (config : Config) (state : ControllerState) (call : Call) (outcome : Outcome) (id : ℕ) → IsOutcome config state call outcome → outcome.change ≡ Ends id → call ≡ DeleteVolume id
-ends_by config state call outcome id (was_ended volume there live free) e = let same : volume ≡ id = cc in ap DeleteVolume same
-ends_by config state call outcome id (was_refused _ status detail not_ok) e = cc
-ends_by config state call outcome id (was_found name required limit first others volume range is live serving) e = cc
-ends_by config state call outcome id (was_made name required limit first others range unnamed) e = cc
-ends_by config state call outcome id (was_ended_before volume none) e = cc
-ends_by config state call outcome id (was_attached holding volume can free fits) e = cc
-ends_by config state call outcome id (was_attached_before holding volume can held) e = cc
-ends_by config state call outcome id (was_detached volume node held is) e = cc
-ends_by config state call outcome id (was_detached_before volume node none) e = cc
+pub ends_call : (call : Call) (id : ℕ) → call_change call ≡ Ends id → call ≡ DeleteVolume id
+ends_call (DeleteVolume volume) id is = let same : volume ≡ id = cc in ap DeleteVolume same
+ends_call call id is = cc
 
 -- the volumes after a call that is carried out at its row
 pub volumes-after : (call : Call) (kept : Kept) (state : ControllerState) (rows : List RowShown) (place : ℕ) (row new : RowShown) (change : Change) → map volume_in rows ≡ state.volumes

@@ -1,8 +1,8 @@
 -- The rules of a row, as it is shown, are kept by what a call changes of it.
-use Rattle.std.proofs.Common.{◌≡◌, ◌<◌, ◌≤◌, ◌+◌, ℕ, length, Bool, true, false, cond, not, List, [], ◌∷◌, ◌++◌, refl, sym, ◌∙◌, ap, subst, arith}
-use Rattle.std.specs.Prelude.{None, find, filter, ◌&&◌, ◌==◌, IsTrue}
+use Rattle.std.proofs.Common.{◌≡◌, ◌<◌, ◌≤◌, ◌+◌, ℕ, length, Bool, true, false, cond, not, List, [], ◌∷◌, ◌++◌, sym, ◌∙◌, ap, subst, arith}
+use Rattle.std.specs.Prelude.{None, find, filter, ◌&&◌, IsTrue}
 use Rattle.std.specs.List.{AllByRecursion}
-use Rattle.std.proofs.lemmas.Bool.{eq-eqb}
+use Rattle.std.proofs.lemmas.Bool.{false≢true}
 use Rattle.std.proofs.lemmas.List.{length-append}
 use Rattle.csi_lists.proofs.Each.{each-append_one, each-filter, each-weaker}
 use Rattle.csi_lists.proofs.Filters.{filter-no_longer}
@@ -20,10 +20,7 @@ use Rattle.csi_controller.specs.Model.Table.{Change, Stays, Makes, Ends, Attache
 use Rattle.csi_controller.specs.Public.OneRow.{RowShown, row_shown, row_changed, held_by}
 use Rattle.csi_controller.specs.Private.OneRow.{CanChange}
 use Rattle.csi_controller.specs.Public.Plan.{IsSoundBy}
-
--- a test that fails doesn't hold
-false_is_true : false ≡ true → ⊥
-false_is_true h = cc
+use Rattle.csi_controller.proofs.Holdings.{self}
 
 -- holdings that can be held together can be so where some are taken out
 AreCompatible-filter : (q : NodeHolding → Bool) (items : List NodeHolding) → AreCompatible items → AreCompatible (filter q items)
@@ -39,10 +36,6 @@ AreCompatible-append : (items : List NodeHolding) (wanted : NodeHolding) → Are
 AreCompatible-append [] wanted all each = (tt, tt)
 AreCompatible-append (held ∷ later) wanted all each =
     (each-append_one (λ (other : NodeHolding). is_compatible (volume_holding 1 other) (volume_holding 1 held) ≡ true) later wanted (all.0) (each.0), AreCompatible-append later wanted (all.1) (each.1))
-
--- an id is equal to itself
-self : (id : ℕ) → (id == id) ≡ true
-self id = eq-eqb id id refl
 
 -- the volume makes no difference where it is the same
 compatible-any : (a b : ℕ) (x y : NodeHolding) → is_compatible (volume_holding a x) (volume_holding a y) ≡ is_compatible (volume_holding b x) (volume_holding b y)
@@ -88,7 +81,7 @@ sound-changed n row (Attaches holding) sound can =
           (λ e. subst (λ k. find (λ (other : NodeHolding). same_text other.node k) row.items ≡ None) ((same_text-tells held.node node).0 e) can.free);
       compatible = AreCompatible-append row.items held sound.compatible
           (each-weaker _ _ row.items (λ other e. compatible-any 1 row.volume.id held other ∙ e) (find_none-all (λ other. is_compatible (volume_holding row.volume.id held) (volume_holding row.volume.id other)) row.items beside));
-      gone = λ e. absurd (false_is_true (sym e ∙ can.live));
+      gone = λ e. absurd (false≢true (sym e ∙ can.live));
       capacity_from = sound.capacity_from;
       capacity_to = sound.capacity_to;
       capable = sound.capable;

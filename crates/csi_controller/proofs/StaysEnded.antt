@@ -1,16 +1,17 @@
 -- An id that was given and has no live volume never has one again, whatever a call changes.
 use Rattle.std.proofs.Common.{◌≡◌, ℕ, ◌<◌, ◌⊎◌, List, ◌∷◌, [], ◌++◌, map, Bool, true, false, cond, ◌∙◌, ap, refl, inl, inr, arith}
 use Rattle.std.specs.Prelude.{None, find, ◌==◌, ◌&&◌}
-use Rattle.std.proofs.lemmas.Bool.{ne_eqb}
+use Rattle.std.proofs.lemmas.Bool.{ne_eqb, and_right}
 use Rattle.csi_lists.specs.Model.Members.{IsAmong}
 use Rattle.csi_lists.proofs.Members.{among-either, among-map, none_passes}
 use Rattle.csi_lists.proofs.Searches.{find-none}
 use Rattle.csi_types.specs.declared.call.Call.{Call}
 use Rattle.csi_fence.specs.Model.Fence.{Kept}
-use Rattle.csi_controller.specs.Model.State.{Volume, ControllerState, live_volume, is_row_for}
-use Rattle.csi_controller.specs.Model.Table.{Change, Stays, Makes, Ends, Attaches, Detaches, changed, ended_volume}
+use Rattle.csi_controller.specs.Model.State.{Volume, ControllerState, live_volume}
+use Rattle.csi_controller.specs.Model.Table.{Change, Makes, Ends, changed, ended_volume}
 use Rattle.csi_controller.specs.Model.Fenced.{kept_in, keep, begun}
 use Rattle.csi_controller.proofs.Forgotten.{live_volume-begun}
+use Rattle.csi_controller.proofs.OrderlyStates.{kept_same}
 
 -- what has no live volume has none then
 abbrev pub StaysEnded : ControllerState → ControllerState → Type 0
@@ -29,22 +30,14 @@ mapped_ended f id volumes leaves none =
 
 -- what is kept leaves it dead
 kept_ended : (call : Call) (kept : Kept) (id : ℕ) (v : Volume) → is_live_with id v ≡ false → is_live_with id (kept_in call kept v) ≡ false
-kept_ended call kept id v dead = by (is_row_for call v)
-  where
-    by : (b : Bool) → is_live_with id (cond b (record v { kept = kept }) v) ≡ false
-    by true = dead
-    by false = dead
+kept_ended call kept id v dead = ap (is_live_with id) (kept_same call kept kept v) ∙ dead
 
 -- and so does a deletion
 deleted_ended : (other id : ℕ) (v : Volume) → is_live_with id v ≡ false → is_live_with id (ended_volume other v) ≡ false
 deleted_ended other id v dead = by (v.id == other)
   where
-    off : (b : Bool) → (b && false) ≡ false
-    off true = refl
-    off false = refl
-
     by : (b : Bool) → is_live_with id (cond b (record v { is_live = false }) v) ≡ false
-    by true = off (v.id == id)
+    by true = and_right (v.id == id) false refl
     by false = dead
 
 -- a volume that is made has another id
@@ -62,11 +55,9 @@ added_ended state made id is_next given none =
 
 -- after each change that the table makes
 changed_ended : (state : ControllerState) (kept : Kept) (change : Change) → StaysEnded state (changed state kept change)
-changed_ended state kept Stays id given none = none
 changed_ended state kept (Makes name capacity capabilities) id given none = added_ended state _ id refl given none
 changed_ended state kept (Ends other) id given none = mapped_ended (ended_volume other) id state.volumes (deleted_ended other id) none
-changed_ended state kept (Attaches holding) id given none = none
-changed_ended state kept (Detaches other node) id given none = none
+changed_ended state kept change id given none = none
 
 -- and where the call is kept in its row
 pub carried_ended : (call : Call) (kept : Kept) (state : ControllerState) (change : Change) → StaysEnded state (keep call kept (changed state kept change))

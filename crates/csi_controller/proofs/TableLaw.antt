@@ -1,8 +1,9 @@
 -- The laws of the controller's table, from what is so of each of its outcomes.
-use Rattle.std.proofs.Common.{◌≡◌, ◌⊎◌, ◌≤◌, ℕ, Bool, List, [], ◌∷◌, map, true, false, not, refl, sym, ◌∙◌, ap, subst}
-use Rattle.std.specs.Prelude.{Option, Some, None, option_map, ◌==◌, ◌&&◌, length, IsTrue}
+use Rattle.std.proofs.Common.{◌≡◌, ◌⊎◌, ◌≤◌, ℕ, Bool, List, true, not, refl, sym, ◌∙◌, ap, subst}
+use Rattle.std.specs.Prelude.{Option, Some, None, option_map, ◌==◌, ◌&&◌, IsTrue}
 use Rattle.std.specs.List.{AllByRecursion}
 use Rattle.std.proofs.lemmas.Bool.{not-true}
+use Rattle.std.proofs.lemmas.List.{length-map}
 use Rattle.csi_lists.proofs.Filters.{filter-map}
 use Rattle.csi_lists.proofs.Maps.{map-map}
 use Rattle.csi_lists.proofs.Searches.{find-map, find-passes}
@@ -22,7 +23,7 @@ use Rattle.csi_fence.proofs.Spent.{not_over-own}
 use Rattle.csi_fence.specs.Public.Delivery.{last_of}
 use Rattle.csi_fence.specs.Model.Fence.{Kept, verdict_of}
 use Rattle.csi_fence.specs.Model.Fenced.{Fenced}
-use Rattle.csi_fence.specs.Public.Lawful.{IsLawful, IsIdempotent}
+use Rattle.csi_fence.specs.Public.Lawful.{IsLawful, IsIdempotent, after_call}
 use Rattle.csi_types.specs.Model.Number.{IsBefore}
 use Rattle.csi_types.specs.Model.Replies.{call_frame, reply_frame}
 use Rattle.csi_types.specs.Model.Same.{same_text, has_capability}
@@ -31,15 +32,11 @@ use Rattle.csi_controller.specs.Model.Table.{Outcome, Change, Stays, argument_fa
 use Rattle.csi_controller.specs.Model.Fenced.{fenced, kept_for, kept_in, keep, carried_out, controller_with}
 use Rattle.csi_controller.specs.Public.Fenced.{in_session}
 use Rattle.csi_controller.specs.Public.Laws.{IsLetThrough, IsSameApart, IsDone, IsMadeAs, LeavesOthers, keeping, plugin_with}
-use Rattle.csi_controller.specs.Private.Laws.{state_after}
-use Rattle.csi_controller.proofs.OrderlyStates.{IsOrderly, orderly_kept, kept_same, kept_in-row}
+use Rattle.csi_controller.proofs.OrderlyStates.{IsOrderly, orderly_kept, kept_same, kept_in-row, kept_in-other}
 use Rattle.csi_controller.proofs.OutcomeFacts.{IsReady, row_facts}
 use Rattle.csi_controller.proofs.RememberedStates.{changed_session}
 
--- what is kept changes no answer of the table
-length-map : (f : Volume → Volume) (xs : List Volume) → length (map f xs) ≡ length xs
-length-map f [] = refl
-length-map f (x ∷ xs) = let rest = length-map f xs in cc
+-- ---- what is kept changes no answer of the table
 
 -- what is found by name, or live by id, is what was found, but for what is kept
 volume_named-keep : (call : Call) (kept : Kept) (state : ControllerState) (name : List ℕ) → volume_named name (keep call kept state) ≡ option_map (kept_in call kept) (volume_named name state)
@@ -57,7 +54,7 @@ create_named-keep : (config : Config) (call : Call) (kept : Kept) (state : Contr
 create_named-keep config call kept state name required limit capabilities (Some v) =
     ap (λ (w : Volume). create_named config state name required limit capabilities (Some w)) (kept_same call kept kept v)
 create_named-keep config call kept state name required limit capabilities None =
-    ap (λ (n : ℕ). create_new config.greatest n state.next_id name required limit capabilities) (length-map (kept_in call kept) state.volumes)
+    ap (λ (n : ℕ). create_new config.greatest n state.next_id name required limit capabilities) (length-map state.volumes (kept_in call kept))
 
 -- DeleteVolume is answered the same, whatever is kept
 delete-keep : (call : Call) (kept : Kept) (held : List Holding) (id : ℕ) (o : Option Volume) → delete id held (option_map (kept_in call kept) o) ≡ delete id held o
@@ -83,10 +80,7 @@ row-keep config by kept state (calls.ControllerPublishVolume id node capability 
     ap (publish config (is_full config state node) (keep by kept state) holding) (live_volume-keep by kept state id)
     ∙ publish-keep config (is_full config state node) by kept state holding (live_volume id state)
 row-keep config by kept state (calls.ControllerUnpublishVolume id node) = refl
-row-keep config by kept state (calls.NodeStageVolume id capability) = refl
-row-keep config by kept state (calls.NodeUnstageVolume id) = refl
-row-keep config by kept state (calls.NodePublishVolume id target capability readonly) = refl
-row-keep config by kept state (calls.NodeUnpublishVolume id target) = refl
+row-keep config by kept state call = refl
 
 -- what is done stays done
 made-keep : (by : Call) (kept : Kept) (state : ControllerState) (id : Option ℕ) (name : List ℕ) (required limit : ℕ) (capabilities : List Capability)
@@ -112,10 +106,7 @@ done-keep by kept state reply (calls.CreateVolume name required limit capabiliti
 done-keep by kept state reply (calls.DeleteVolume id) h = live_volume-keep by kept state id ∙ ap (option_map (kept_in by kept)) h
 done-keep by kept state reply (calls.ControllerPublishVolume id node capability readonly) h = h
 done-keep by kept state reply (calls.ControllerUnpublishVolume id node) h = h
-done-keep by kept state reply (calls.NodeStageVolume id capability) h = absurd h
-done-keep by kept state reply (calls.NodeUnstageVolume id) h = absurd h
-done-keep by kept state reply (calls.NodePublishVolume id target capability readonly) h = absurd h
-done-keep by kept state reply (calls.NodeUnpublishVolume id target) h = absurd h
+done-keep by kept state reply call h = absurd h
 
 -- nothing but what is kept differs
 same_keep : (call : Call) (kept : Kept) (state : ControllerState) → IsSameApart state (keep call kept state)
@@ -152,10 +143,6 @@ once_more config next kept later call reply session before ready =
     ∙ ap (carried_out after later call) row in
     (ap (λ (f : Fenced ControllerState). f.reply) e, subst (λ (f : Fenced ControllerState). IsSameApart after f.state) (sym e) (same_keep call (record { number = later; kind = kind_of call; reply = reply }) after))
 
--- a row that isn't the call's stays as it was
-kept_in-other : (call : Call) (kept : Kept) (v : Volume) → not (is_row_for call v) ≡ true → kept_in call kept v ≡ v
-kept_in-other call kept v h = let other : is_row_for call v ≡ false = not-true (is_row_for call v) h in rw other refl
-
 -- in an orderly state each call that the fence lets through is lawful
 pub is_lawful : (config : Config) (state : ControllerState) (number : Number) (call : Call) → IsOrderly state → IsLetThrough config state number call → IsLawful (plugin_with config) state number call
 is_lawful config state number call orderly through =
@@ -163,7 +150,7 @@ is_lawful config state number call orderly through =
     let outcome : Outcome = controller_row config now call in
     let kept : Kept = record { number = number; kind = kind_of call; reply = outcome.reply } in
     let next : ControllerState = changed now kept outcome.change in
-    let e : state_after config state number call ≡ keep call kept next = ap (λ (f : Fenced ControllerState). f.state) (is_carried_out (controller_with config) state number call through) in
+    let e : after_call (plugin_with config) state number call ≡ keep call kept next = ap (λ (f : Fenced ControllerState). f.state) (is_carried_out (controller_with config) state number call through) in
     let session : number.session ≡ next.session =
     own_session (controller_with config) (λ session s. refl) state number through.not_over ∙ sym (changed_session now kept outcome.change) in
     let facts = row_facts config now call (session_keeps (controller_with config) IsOrderly (orderly_kept config) state number orderly) in
@@ -174,7 +161,7 @@ is_lawful config state number call orderly through =
           (λ later same before. once_more config next kept later call outcome.reply (same ∙ session) before (facts.ready h kept));
       others = subst (λ (after : ControllerState). LeavesOthers now after call) (sym e)
           (record {
-            volumes = filter-map (λ (v : Volume). not (is_row_for call v)) (kept_in call kept) next.volumes (λ v. ap not (kept_in-row call kept v)) (kept_in-other call kept) ∙ (facts.others kept).volumes;
+            volumes = filter-map (λ (v : Volume). not (is_row_for call v)) (kept_in call kept) next.volumes (λ v. ap not (kept_in-row call kept v)) (λ v h. kept_in-other call kept v (not-true (is_row_for call v) h)) ∙ (facts.others kept).volumes;
             holdings = (facts.others kept).holdings;
           });
     }

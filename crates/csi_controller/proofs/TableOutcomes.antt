@@ -1,7 +1,7 @@
 -- The controller's table, opened once: each answer that it gives, and what is so where it gives it.
-use Rattle.std.proofs.Common.{◌≡◌, ℕ, ◌^◌, List, [], ◌∷◌, Bool, true, false, cond, not, refl, ◌∙◌, ap}
+use Rattle.std.proofs.Common.{◌≡◌, ℕ, ◌^◌, List, [], ◌∷◌, Bool, true, false, cond, not, refl, ◌∙◌, ap, sym}
 use Rattle.std.specs.Prelude.{Option, Some, None, find, ◌||◌, nat_le, nat_lt, length, codes}
-use Rattle.std.proofs.lemmas.Bool.{not-false}
+use Rattle.std.proofs.lemmas.Bool.{not-false, true≢false}
 use Rattle.csi_types.proofs.Equality.{same_holding-tells}
 use Rattle.csi_types.specs.declared.capability.Capability.{Capability}
 use Rattle.csi_types.specs.declared.holding.Holding.{Holding}
@@ -55,33 +55,14 @@ by_if : (config : Config) (state : ControllerState) (call : Call) (b : Bool) (x 
 by_if config state call true x y f g = f refl
 by_if config state call false x y f g = g refl
 
--- no refusal's status is OK
-invalid : InvalidArgument ≡ Ok → ⊥
-invalid h = cc
+-- the status is OK
+abbrev is_ok : Status → Bool
+is_ok Ok = true
+is_ok status = false
 
--- the status NotFound isn't OK
-unfound : NotFound ≡ Ok → ⊥
-unfound h = cc
-
--- the status AlreadyExists isn't OK
-exists : AlreadyExists ≡ Ok → ⊥
-exists h = cc
-
--- the status ResourceExhausted isn't OK
-exhausted : ResourceExhausted ≡ Ok → ⊥
-exhausted h = cc
-
--- the status FailedPrecondition isn't OK
-failed : FailedPrecondition ≡ Ok → ⊥
-failed h = cc
-
--- the status OutOfRange isn't OK
-out_of_range : OutOfRange ≡ Ok → ⊥
-out_of_range h = cc
-
--- the status Unimplemented isn't OK
-unimplemented : Unimplemented ≡ Ok → ⊥
-unimplemented h = cc
+-- no refusal's is
+not_ok : (status : Status) → is_ok status ≡ false → status ≡ Ok → ⊥
+not_ok status fails same = true≢false (sym (ap is_ok same) ∙ fails)
 
 -- each part of the table gives one of these answers, call by call
 create_named_outcomes : (config : Config) (state : ControllerState) (name : List ℕ) (required limit : ℕ) (first : Capability) (others : List Capability) (o : Option Volume)
@@ -89,35 +70,35 @@ create_named_outcomes : (config : Config) (state : ControllerState) (name : List
     → IsOutcome config state (calls.CreateVolume name required limit (first ∷ others)) (create_named config state name required limit (first ∷ others) o)
 create_named_outcomes config state name required limit first others None range is =
     let call = calls.CreateVolume name required limit (first ∷ others) in
-    by_if config state call (nat_lt config.greatest (capacity_wanted required limit)) (refused OutOfRange (codes "range")) _ (λ _. was_refused call OutOfRange (codes "range") out_of_range)
+    by_if config state call (nat_lt config.greatest (capacity_wanted required limit)) (refused OutOfRange (codes "range")) _ (λ _. was_refused call OutOfRange (codes "range") (not_ok OutOfRange refl))
     (λ _. by_if config state call (nat_le 4096 (length state.volumes) || nat_le (2 ^ 64) state.next_id) (refused ResourceExhausted (codes "volumes")) _
-    (λ _. was_refused call ResourceExhausted (codes "volumes") exhausted)
+    (λ _. was_refused call ResourceExhausted (codes "volumes") (not_ok ResourceExhausted refl))
     (λ _. was_made name required limit first others range is))
 create_named_outcomes config state name required limit first others (Some volume) range is =
     let call = calls.CreateVolume name required limit (first ∷ others) in
-    by_if config state call (not volume.is_live) (refused AlreadyExists (codes "name")) _ (λ _. was_refused call AlreadyExists (codes "name") exists)
+    by_if config state call (not volume.is_live) (refused AlreadyExists (codes "name")) _ (λ _. was_refused call AlreadyExists (codes "name") (not_ok AlreadyExists refl))
     (λ live. by_if config state call (serves volume required limit (first ∷ others)) (record { reply = ok_reply_with volume.id; change = Stays }) (refused AlreadyExists (codes "name"))
     (λ serving. was_found name required limit first others volume range is (not-false volume.is_live live) serving)
-    (λ _. was_refused call AlreadyExists (codes "name") exists))
+    (λ _. was_refused call AlreadyExists (codes "name") (not_ok AlreadyExists refl)))
 
 -- CreateVolume gets one of these answers
 create_outcomes : (config : Config) (state : ControllerState) (name : List ℕ) (required limit : ℕ) (capabilities : List Capability)
     → IsOutcome config state (calls.CreateVolume name required limit capabilities) (create config state name required limit capabilities)
-create_outcomes config state name required limit [] = was_refused (calls.CreateVolume name required limit []) InvalidArgument (codes "capabilities") invalid
+create_outcomes config state name required limit [] = was_refused (calls.CreateVolume name required limit []) InvalidArgument (codes "capabilities") (not_ok InvalidArgument refl)
 create_outcomes config state name required limit (first ∷ others) = by (is_bad_range required limit) (is_empty_range required limit) refl refl
   where
     by : (bad none : Bool) → is_bad_range required limit ≡ bad → is_empty_range required limit ≡ none
         → IsOutcome config state (calls.CreateVolume name required limit (first ∷ others))
         (unless (cond bad (Some (refused InvalidArgument (codes "capacity"))) (cond none (Some (refused OutOfRange (codes "range"))) None)) (create_named config state name required limit (first ∷ others) (volume_named name state)))
-    by true none e f = was_refused (calls.CreateVolume name required limit (first ∷ others)) InvalidArgument (codes "capacity") invalid
-    by false true e f = was_refused (calls.CreateVolume name required limit (first ∷ others)) OutOfRange (codes "range") out_of_range
+    by true none e f = was_refused (calls.CreateVolume name required limit (first ∷ others)) InvalidArgument (codes "capacity") (not_ok InvalidArgument refl)
+    by false true e f = was_refused (calls.CreateVolume name required limit (first ∷ others)) OutOfRange (codes "range") (not_ok OutOfRange refl)
     by false false e f = create_named_outcomes config state name required limit first others (volume_named name state) (record { ordered = e; not_empty = f }) refl
 
 -- so does DeleteVolume of a live volume, by what is held of it
 delete_live_outcomes : (config : Config) (state : ControllerState) (id : ℕ) (volume : Volume) (held : List Holding) → live_volume id state ≡ Some volume → holdings_of id state ≡ held
     → IsOutcome config state (calls.DeleteVolume id) (delete_live id held)
 delete_live_outcomes config state id volume [] live is = was_ended id volume live is
-delete_live_outcomes config state id volume (holding ∷ others) live is = was_refused (calls.DeleteVolume id) FailedPrecondition holding.node failed
+delete_live_outcomes config state id volume (holding ∷ others) live is = was_refused (calls.DeleteVolume id) FailedPrecondition holding.node (not_ok FailedPrecondition refl)
 
 -- so does DeleteVolume
 delete_outcomes : (config : Config) (state : ControllerState) (id : ℕ) (o : Option Volume) → live_volume id state ≡ o → IsOutcome config state (calls.DeleteVolume id) (delete id (holdings_of id state) o)
@@ -128,10 +109,10 @@ delete_outcomes config state id (Some volume) is = delete_live_outcomes config s
 attach_outcomes : (config : Config) (full : Bool) (state : ControllerState) (holding : Holding) (volume : Volume) (o : Option Holding) → CanAttach config state holding volume
     → holding_at holding.volume holding.node state ≡ None → find (λ other. not (is_compatible holding other)) (holdings_of holding.volume state) ≡ o
     → IsOutcome config state (publish_call holding) (attach full (holdings_of holding.volume state) holding o)
-attach_outcomes config full state holding volume (Some other) can free is = was_refused (publish_call holding) FailedPrecondition other.node failed
+attach_outcomes config full state holding volume (Some other) can free is = was_refused (publish_call holding) FailedPrecondition other.node (not_ok FailedPrecondition refl)
 attach_outcomes config full state holding volume None can free is =
     by_if config state (publish_call holding) (full || nat_le 64 (length (holdings_of holding.volume state))) (refused ResourceExhausted (codes "slots")) (done (Attaches holding))
-    (λ _. was_refused (publish_call holding) ResourceExhausted (codes "slots") exhausted)
+    (λ _. was_refused (publish_call holding) ResourceExhausted (codes "slots") (not_ok ResourceExhausted refl))
     (λ _. was_attached holding volume can free is)
 
 -- so does ControllerPublishVolume of a volume that can be attached, by what the node holds of it
@@ -142,17 +123,17 @@ publish_held_outcomes config full state holding volume None can is =
 publish_held_outcomes config full state holding volume (Some held) can is =
     by_if config state (publish_call holding) (same_holding held holding) met (refused AlreadyExists (codes "held otherwise"))
     (λ same. was_attached_before holding volume can (is ∙ ap Some ((same_holding-tells held holding).0 same)))
-    (λ _. was_refused (publish_call holding) AlreadyExists (codes "held otherwise") exists)
+    (λ _. was_refused (publish_call holding) AlreadyExists (codes "held otherwise") (not_ok AlreadyExists refl))
 
 -- so does ControllerPublishVolume
 publish_outcomes : (config : Config) (full : Bool) (state : ControllerState) (holding : Holding) (o : Option Volume) → live_volume holding.volume state ≡ o
     → IsOutcome config state (publish_call holding) (publish config full state holding o)
-publish_outcomes config full state holding None is = was_refused (publish_call holding) NotFound (codes "volume") unfound
+publish_outcomes config full state holding None is = was_refused (publish_call holding) NotFound (codes "volume") (not_ok NotFound refl)
 publish_outcomes config full state holding (Some volume) is =
     let call = publish_call holding in
-    by_if config state call (not (has_node holding.node config.nodes)) (refused NotFound (codes "node")) _ (λ _. was_refused call NotFound (codes "node") unfound)
+    by_if config state call (not (has_node holding.node config.nodes)) (refused NotFound (codes "node")) _ (λ _. was_refused call NotFound (codes "node") (not_ok NotFound refl))
     (λ node. by_if config state call (not (has_capability volume.capabilities holding.capability)) (refused InvalidArgument (codes "capability")) (publish_held full (holdings_of holding.volume state) holding (holding_at holding.volume holding.node state))
-    (λ _. was_refused call InvalidArgument (codes "capability") invalid)
+    (λ _. was_refused call InvalidArgument (codes "capability") (not_ok InvalidArgument refl))
     (λ capable. publish_held_outcomes config full state holding volume (holding_at holding.volume holding.node state)
     (record { live = is; node = not-false (has_node holding.node config.nodes) node; capable = not-false (has_capability volume.capabilities holding.capability) capable }) refl))
 
@@ -169,7 +150,7 @@ lifecycle-outcome config full state (calls.DeleteVolume id) = delete_outcomes co
 lifecycle-outcome config full state (calls.ControllerPublishVolume id node capability readonly) =
     publish_outcomes config (full node) state (record { volume = id; node = node; capability = capability; readonly = readonly }) (live_volume id state) refl
 lifecycle-outcome config full state (calls.ControllerUnpublishVolume id node) = unpublish_outcomes config state id node (holding_at id node state) refl
-lifecycle-outcome config full state call = was_refused call Unimplemented [] unimplemented
+lifecycle-outcome config full state call = was_refused call Unimplemented [] (not_ok Unimplemented refl)
 
 -- also of the whole table
 pub is_outcome : (config : Config) (state : ControllerState) (call : Call) → IsOutcome config state call (controller_row config state call)

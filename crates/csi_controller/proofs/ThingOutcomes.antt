@@ -27,6 +27,8 @@ use Rattle.csi_controller.specs.Public.View.{live_named, held_in, thing_of}
 use Rattle.csi_controller.proofs.SameText.{text-turned}
 use Rattle.csi_controller.proofs.TableOutcomes.{IsOutcome, publish_call, was_refused, was_found, was_made, was_ended, was_ended_before, was_attached, was_attached_before, was_detached, was_detached_before}
 use Rattle.csi_controller.proofs.OrderlyStates.{IsOrderly, is_named, is_with_id, with_id_by_name, end_leaves}
+use Rattle.csi_controller.proofs.OutcomeFacts.{itself_at, ended_other}
+use Rattle.csi_controller.proofs.SafeStates.{both_false}
 
 -- after an OK the thing is as asked, after a refusal as it was, and other things are as they were
 pub record Does (thing : PluginThing) (call : Call) (reply : Reply) (old new : ControllerState) : Type 0 where
@@ -69,17 +71,11 @@ made_things config state name required limit capabilities capacity kept unnamed 
         → held_in (changed state kept (Makes name capacity capabilities)) other ≡ held_in state other
     others volume (Exists else) h = ap (option_map (λ (v : Volume). HasId v.id))
         (find-append_other (λ (v : Volume). same_text v.name else && v.is_live) state.volumes _ (and_left (same_text name else) true (text-turned name else ∙ h)))
-    others volume (Attached id node) h = refl
-    others volume (Staged id node) h = refl
-    others volume (Published id node target) h = refl
+    others volume thing h = refl
 
 -- DeleteVolume
 ended_own : (id : ℕ) (volume : Volume) → (volume.id == id) ≡ true → (ended_volume id volume).is_live ≡ false
 ended_own id volume h = rw h refl
-
--- a deletion leaves a volume of another id as it was
-ended_other : (id : ℕ) (volume : Volume) → (volume.id == id) ≡ false → ended_volume id volume ≡ volume
-ended_other id volume h = rw h refl
 
 -- what is so of a volume that is ended, of one that isn't
 by_id : (P : Volume → Type 0) (id : ℕ) (volume : Volume) → ((volume.id == id) ≡ true → P (ended_volume id volume)) → ((volume.id == id) ≡ false → P volume) → P (ended_volume id volume)
@@ -134,9 +130,7 @@ ended_things state id volume kept orderly is = record { done = λ h. ap (option_
     others (Exists name) h =
         ap (option_map (λ (v : Volume). HasId v.id)) (find-map_among (λ (v : Volume). same_text v.name name && v.is_live) (ended_volume id) state.volumes (unmoved name h))
         ∙ option_map-map (λ (v : Volume). HasId v.id) (ended_volume id) (live_named name state) (λ v. ap HasId ((end_leaves id).ids v))
-    others (Attached other node) h = refl
-    others (Staged other node) h = refl
-    others (Published other node target) h = refl
+    others thing h = refl
 
 -- and where the volume was deleted before
 ended_before_things : (state : ControllerState) (id : ℕ) (volume : Volume) → IsOrderly state → volume_with_id id state ≡ Some volume → live_volume id state ≡ None
@@ -146,14 +140,10 @@ ended_before_things state id volume orderly is none =
     (λ h. ap (option_map (λ (v : Volume). HasId v.id))
     (find-none (λ (v : Volume). same_text v.name volume.name && v.is_live) state.volumes (λ v among. second_fails (same_text v.name volume.name) v.is_live (dead v among))))
   where
-    not_live : (a b : Bool) → a ≡ true → (a && b) ≡ false → b ≡ false
-    not_live true b h e = e
-    not_live false b h e = absurd (true≢false (sym h))
-
     dead : (v : Volume) → IsAmong v state.volumes → same_text v.name volume.name ≡ true → v.is_live ≡ false
     dead v among same =
         let own : (v.id == id) ≡ true = ap (λ (u : Volume). u.id == id) (same_named state id volume v orderly is among same) ∙ has_own_id state id volume is in
-        not_live (v.id == id) v.is_live own (none_passes (λ (u : Volume). (u.id == id) && u.is_live) state.volumes v none among)
+        both_false (v.id == id) v.is_live own (none_passes (λ (u : Volume). (u.id == id) && u.is_live) state.volumes v none among)
 
 -- ControllerPublishVolume
 held_elsewhere : (holding : Holding) (id : ℕ) (node : List ℕ) → ((id == holding.volume) && same_text node holding.node) ≡ false → is_held_at id node holding ≡ false
@@ -165,10 +155,6 @@ held_elsewhere holding id node differs = by (holding.volume == id) (same_text ho
     by true true h k =
         absurd (true≢false
         (sym (and_from (id == holding.volume) (same_text node holding.node) (eq-eqb id holding.volume (sym (eqb-true holding.volume id h))) (text-turned node holding.node ∙ k)) ∙ differs))
-
--- a holding is its own volume's, at its own node
-itself_at : (holding : Holding) → is_held_at holding.volume holding.node holding ≡ true
-itself_at holding = and_from _ _ (eq-eqb holding.volume holding.volume refl) ((same_text-tells holding.node holding.node).1 refl)
 
 -- how a holding is there
 abbrev form_of : Holding → ThingForm
@@ -186,8 +172,7 @@ attached_things state holding kept none = record {
     others : (other : PluginThing) → same_plugin_thing other (Attached holding.volume holding.node) ≡ false → held_in (changed state kept (Attaches holding)) other ≡ held_in state other
     others (Exists name) h = refl
     others (Attached id node) h = ap (option_map form_of) (find-append_other (is_held_at id node) state.holdings holding (held_elsewhere holding id node h))
-    others (Staged id node) h = refl
-    others (Published id node target) h = refl
+    others thing h = refl
 
 -- ControllerUnpublishVolume
 at_both : (id : ℕ) (node : List ℕ) (other : ℕ) (there : List ℕ) (holding : Holding) → ((other == id) && same_text there node) ≡ false → is_held_at other there holding ≡ true → not (is_held_at id node holding) ≡ true

@@ -1,12 +1,8 @@
-pub mod Fenced
 pub mod Worked
-pub mod Laws
 pub mod OneRow
 pub mod Counts
 pub mod Plan
 pub mod PlanLaws
-pub mod Step
-pub mod Views
 pub mod SoundRow
 pub mod Judging
 pub mod Answers

@@ -1,30 +1,35 @@
 -- What a controller is once it answered a call, and once it was refused memory for that. Only private functions cite it.
-use Rattle.std.specs.Prelude.{◌≡◌, Option, None, option_map, Result, Ok, IfOk, IfSome, OnOk, OnErr, IsOk, IsTrue, not}
+use Rattle.std.specs.Prelude.{◌≡◌, Option, Some, None, option_map, Result, Ok, IfOk, IfSome, OnOk, OnErr, IsOk, IsTrue, not}
 use Rattle.csi_types.specs.declared.number.Number.{Number}
 use Rattle.csi_types.specs.declared.call.Call.{Call}
 use Rattle.csi_types.specs.declared.call.Party.{Party}
 use Rattle.csi_types.specs.declared.call.Party.TheVariants.{Controller}
 use Rattle.csi_types.specs.declared.frame.Body.TheVariants as bodies
 use Rattle.csi_types.specs.Model.Call.{kind_of}
+use Rattle.csi_types.specs.Model.Frame.{Frame}
 use Rattle.csi_types.specs.Model.Replies.{call_frame}
 use Rattle.csi_types.specs.Public.Call.{is_party_of}
 use Rattle.csi_types.specs.Public.Frame.{IsAllowed}
 use Rattle.csi_fence.specs.declared.answer.Answer.{Answer}
 use Rattle.csi_fence.specs.declared.fault.CoreFault.{CoreFault}
+use Rattle.csi_fence.specs.Model.Fenced.{Fenced, answered_in}
 use Rattle.csi_controller.specs.Model.State.{ControllerState}
-use Rattle.csi_controller.specs.Model.Fenced.{fenced, kept_for}
-use Rattle.csi_controller.specs.Private.Fenced.{answered_in}
+use Rattle.csi_controller.specs.Model.Fenced.{controller_with, fenced, kept_for}
 use Rattle.csi_controller.specs.Model.Core.{ControllerParts, Shows}
 use Rattle.csi_controller.specs.Public.Core.{IsAnsweredOk, IsUndoing}
 use Rattle.csi_fence.specs.Public.Repeats.{IsPlainRepeat}
 use Rattle.csi_controller.specs.Public.RowsLaw.{ChangesAt}
-use Rattle.csi_controller.specs.Private.Step.{IsFencedAnswer}
 use Rattle.csi_controller.specs.Public.Step.{answer_frame}
+
+-- from a state, the controller gave this frame and has these parts now, as the definitions have it
+pub record IsFencedAnswer (new : ControllerParts) (frame : Frame) (answer : Fenced ControllerState) : Type 0 where
+  pub reply : answer.reply ≡ Some frame
+  pub shown : Shows new answer.state
 
 -- the answer is what the definitions give, from each state that it showed, and it shows the state after it; the answer
 -- says where the row is that was changed
 pub record IsCallAnswered (old new : ControllerParts) (number : Number) (call : Call) (answer : Answer) : Type 0 where
-  pub told : (state : ControllerState) → Shows old state → IsFencedAnswer new (answer_frame number answer) (answered_in old.config state number call)
+  pub told : (state : ControllerState) → Shows old state → IsFencedAnswer new (answer_frame number answer) (answered_in (controller_with old.config) state number call)
   pub changes : ChangesAt answer.row number old new
   pub allowed : IsAllowed Controller (bodies.Reply answer.kind answer.reply)
   pub config : new.config ≡ old.config

@@ -3,11 +3,6 @@ use Rattle.std.specs.Prelude.{ℕ, Bool, ◌&&◌, nat_le, nat_lt, Option, Some,
 use Rattle.csi_types.specs.declared.rows.TheConstants.{MAX_ROWS}
 use Rattle.csi_controller.specs.declared.row.ControllerRow.{ControllerRow}
 use Rattle.csi_controller.specs.Private.SoundRow.{is_sound_row}
-use Rattle.csi_controller.specs.Public.WithoutSession.{stays_in}
-
--- the row is one of this session
-abbrev pub is_current_row : ℕ → ControllerRow → Bool
-is_current_row session row = nat_le row.last.session session && stays_in session row
 
 -- the row may follow so many others, the last of which has this id (0 where there is none), whatever their names are
 abbrev pub may_follow : ℕ → ℕ → ℕ → ControllerRow → Bool

@@ -1,5 +1,5 @@
 -- A row of a controller by its parts, what it shows of the state by itself, and what a call changes there. Only private functions cite it.
-use Rattle.std.specs.Prelude.{◌≡◌, ℕ, ◌<◌, List, [], find, length, Bool, true, false, not, is_some, Option, Some, None, IsTrue}
+use Rattle.std.specs.Prelude.{◌≡◌, ℕ, ◌<◌, List, [], find, length, Bool, true, false, not, is_some, Option, Some, None, IsTrue, if◌then◌else◌}
 use Rattle.csi_types.specs.declared.holding.Holding.{Holding}
 use Rattle.csi_types.specs.declared.node_use.NodeUse.{NodeUse}
 use Rattle.csi_types.specs.Model.Holding.{is_compatible}
@@ -12,6 +12,7 @@ use Rattle.csi_controller.specs.declared.row.NodeHolding.{NodeHolding}
 use Rattle.csi_controller.specs.Model.Table.{Change, Stays, Makes, Ends, Attaches, Detaches, Outcome, refused, done}
 use Rattle.csi_controller.specs.Public.Core.{volume_holding}
 use Rattle.csi_controller.specs.Public.OneRow.{RowShown}
+use Rattle.csi_controller.specs.declared.row.ControllerRow.{ControllerRow}
 
 -- a use of a volume at a node, as a row holds it
 abbrev pub held_so : NodeUse → NodeHolding
@@ -49,3 +50,8 @@ abbrev pub moved : Change → Option (List ℕ × Bool)
 moved (Attaches holding) = Some (holding.node, true)
 moved (Detaches id node) = Some (node, false)
 moved change = None
+
+-- id and capacity of the row's volume, unless it was deleted
+abbrev pub row_if_live : Option ControllerRow → Option (ℕ × ℕ)
+row_if_live None = None
+row_if_live (Some row) = if row.live then Some (row.id, row.capacity) else None

@@ -1,7 +1,7 @@
 -- The laws of a controller's plan, which its table cites: a row keeps its id, deleted volumes fill no node, a row that is made is that of a
 -- CreateVolume and has the next id, what is kept beside rows fits them where one keeps another call, and at most one row is a call's.
 use Rattle.std.proofs.Common.{◌≡◌, ℕ, zero, suc, ◌+◌, ◌<◌, ◌≤◌, List, [], ◌∷◌, length, get_or, set, Bool, true, false, cond, not, refl, sym, ◌∙◌, ap, subst}
-use Rattle.std.specs.Prelude.{Option, Some, None, filter, find, slice_get, ◌==◌, ◌||◌, ◌&&◌, nat_lt, nat_le, codes}
+use Rattle.std.specs.Prelude.{Some, None, filter, find, slice_get, ◌==◌, ◌||◌, ◌&&◌, nat_lt, nat_le, codes}
 use Rattle.std.specs.List.{AllByRecursion, list_any}
 use Rattle.std.proofs.Math.Nat.{lt-suc_self, lt_trans, ne_of_lt, zero-add}
 use Rattle.std.proofs.Math.Numerals.{suc-eq-add-one}
@@ -10,29 +10,35 @@ use Rattle.std.proofs.lemmas.Bool.{leb-false, ne_eqb, or_parts, true≢false}
 use Rattle.std.proofs.lemmas.List.{length-set}
 use Rattle.std.proofs.lemmas.List.Elements.{recursion_from_All}
 use Rattle.std.proofs.lemmas.Option.{get_or_from_slice_get, same_Some}
+use Rattle.std.proofs.Math.Bool.{not-not}
 use Rattle.csi_lists.proofs.Counts.{count-cons}
 use Rattle.csi_lists.proofs.Each.{each-at, each-set, each-weaker}
 use Rattle.csi_lists.proofs.Options.{some_is_not_none}
 use Rattle.csi_lists.proofs.Places.{AtMostOne-set}
-use Rattle.csi_lists.specs.Public.Places.{IsAt}
+use Rattle.csi_lists.specs.Public.Places.{AtMostOne, IsAt}
 use Rattle.csi_types.specs.declared.call.Call.{Call}
 use Rattle.csi_types.specs.declared.call.Call.TheVariants as calls
+use Rattle.csi_types.specs.declared.call.Party.TheVariants.{Controller}
 use Rattle.csi_types.specs.declared.capability.Capability.{Capability}
 use Rattle.csi_types.specs.declared.config.NodeSlots.{NodeSlots}
+use Rattle.csi_types.specs.declared.frame.Body.TheVariants as bodies
 use Rattle.csi_types.specs.declared.number.Number.{Number}
+use Rattle.csi_types.specs.declared.status.Status.{Status}
 use Rattle.csi_types.specs.declared.status.Status.TheVariants.{InvalidArgument, ResourceExhausted, OutOfRange}
 use Rattle.csi_types.specs.Model.Call.{kind_of}
 use Rattle.csi_types.specs.Model.Capacity.{is_bad_range, is_empty_range, capacity_wanted}
 use Rattle.csi_types.specs.Model.Config.{Config}
 use Rattle.csi_types.specs.Model.Replies.{ok_reply_with}
 use Rattle.csi_types.specs.Model.Same.{same_text}
-use Rattle.csi_fence.specs.Public.Rows.{Lacking, Answered, Made}
+use Rattle.csi_types.specs.Public.Frame.{IsAllowed}
+use Rattle.csi_fence.specs.Model.Fence.{Kept}
+use Rattle.csi_fence.specs.Public.Rows.{AreRising, Lacking, Answered, Made}
 use Rattle.csi_fence.specs.Public.Table.{IsOrderly, LetsKeep, HasOneRow}
 use Rattle.csi_fence.proofs.RisingRows.{once-rise, rows_rise}
 use Rattle.csi_controller.specs.declared.row.NodeHolding.{NodeHolding}
 use Rattle.csi_controller.specs.declared.table.ControllerTable.{ControllerTable}
-use Rattle.csi_controller.specs.Model.State.{live_volume}
-use Rattle.csi_controller.specs.Model.Table.{Outcome, Stays, Makes, argument_fault, create_new, publish, refused, unless}
+use Rattle.csi_controller.specs.Model.State.{Volume}
+use Rattle.csi_controller.specs.Model.Table.{Change, Stays, Makes, Outcome, lifecycle_row, refused, unless}
 use Rattle.csi_controller.specs.Public.Counts.{AreCounted, count_held, is_held}
 use Rattle.csi_controller.specs.Public.Making.{new_line}
 use Rattle.csi_controller.specs.Public.Names.{by_name}
@@ -68,33 +74,19 @@ counted-set node (r ∷ rs) (suc place) row new at same =
 
 -- a row is told the same by rows that are held alike
 pub line-alike : (config : Config) (rows others : List RowShown) (row : RowShown) (call : Call) → ((node : List ℕ) → count_held node rows ≡ count_held node others) → told_at config rows row call ≡ told_at config others row call
-line-alike config rows others row (calls.ControllerPublishVolume id node capability readonly) same =
-    ap (λ (n : ℕ). told_in (publish config (list_any (λ (entry : NodeSlots). same_text entry.id node && nat_le entry.slots n) config.nodes) (state_shown row) (record { volume = id; node = node; capability = capability; readonly = readonly }) (live_volume id (state_shown row)))) (same node)
-line-alike config rows others row (calls.CreateVolume name required limit capabilities) same = refl
-line-alike config rows others row (calls.DeleteVolume id) same = refl
-line-alike config rows others row (calls.ControllerUnpublishVolume id node) same = refl
-line-alike config rows others row (calls.NodeStageVolume id capability) same = refl
-line-alike config rows others row (calls.NodeUnstageVolume id) same = refl
-line-alike config rows others row (calls.NodePublishVolume id target capability readonly) same = refl
-line-alike config rows others row (calls.NodeUnpublishVolume id target) same = refl
-
--- what isn't not so isn't so
-twice : (b : Bool) → not (not b) ≡ false → b ≡ false
-twice true h = h
-twice false h = refl
+line-alike config rows others row call same =
+    λ i. told_in (lifecycle_row config (λ node. list_any (λ (entry : NodeSlots). same_text entry.id node && nat_le entry.slots (same node i)) config.nodes) (state_shown row) call)
 
 -- ---- what changes
 
+-- a change leaves all of the volume but whether it is live
+pub same-volume : (row : RowShown) (change : Change) → (row_changed row change).volume ≡ record row.volume { is_live = (row_changed row change).volume.is_live }
+same-volume row Stays = refl
+same-volume row change = refl
+
 -- a row that a call changes keeps its id
 change-id : (call : Call) (row : RowShown) → (row_changed row (call_change call)).volume.id ≡ row.volume.id
-change-id (calls.CreateVolume name required limit capabilities) row = refl
-change-id (calls.DeleteVolume id) row = refl
-change-id (calls.ControllerPublishVolume id node capability readonly) row = refl
-change-id (calls.ControllerUnpublishVolume id node) row = refl
-change-id (calls.NodeStageVolume id capability) row = refl
-change-id (calls.NodeUnstageVolume id) row = refl
-change-id (calls.NodePublishVolume id target capability readonly) row = refl
-change-id (calls.NodeUnpublishVolume id target) row = refl
+change-id call row = ap (λ (v : Volume). v.id) (same-volume row (call_change call))
 
 -- what is below a number is below the next one
 pub below-later : (k n : ℕ) → k < n → k < n + 1
@@ -112,72 +104,48 @@ abbrev row_or : RowShown → Lacking RowShown → RowShown
 row_or other (Answered reply) = other
 row_or other (Made row) = row
 
--- a fault changes nothing
-pub fault-stays : (required limit : ℕ) (wished : List Capability) (o : Outcome) → argument_fault required limit wished ≡ Some o → o.change ≡ Stays
-fault-stays required limit [] o e = let same : refused InvalidArgument (codes "capabilities") ≡ o = same_Some _ o e in ap (λ (x : Outcome). x.change) (sym same)
-fault-stays required limit (capability ∷ others) o e = by (is_bad_range required limit) (is_empty_range required limit) e
-  where
-    by : (bad none : Bool) → cond bad (Some (refused InvalidArgument (codes "capacity"))) (cond none (Some (refused OutOfRange (codes "range"))) None) ≡ Some o → o.change ≡ Stays
-    by true none e = ap (λ (x : Outcome). x.change) (sym (same_Some _ o e))
-    by false true e = ap (λ (x : Outcome). x.change) (sym (same_Some _ o e))
-    by false false e = absurd (some_is_not_none o (sym e))
+-- what a new name is answered: a refusal, or a volume that is made, for whose row there is room
+pub data IsNewLine (count next : ℕ) (name : List ℕ) (wished : List Capability) : Outcome → Type 0 where
+  refuses : (status : Status) (detail : List ℕ) → IsNewLine count next name wished (refused status detail)
+  makes : (capacity : ℕ) → count < 4096 → IsNewLine count next name wished (record { reply = ok_reply_with next; change = Makes name capacity wished })
 
--- a row that is made is that of a CreateVolume, which is answered so, and there is room for it
-pub record WasMade (greatest count next : ℕ) (number : Number) (call : Call) (row : RowShown) : Type 0 where
+-- it is one of these
+pub new-outcome : (greatest count next : ℕ) (name : List ℕ) (required limit : ℕ) (wished : List Capability) → IsNewLine count next name wished (new_line greatest count next name required limit wished)
+new-outcome greatest count next name required limit [] = refuses InvalidArgument (codes "capabilities")
+new-outcome greatest count next name required limit (first ∷ others) =
+    by (is_bad_range required limit) (is_empty_range required limit) (nat_lt greatest (capacity_wanted required limit)) (nat_le 4096 count || nat_le 18446744073709551616 next) refl
+  where
+    by : (bad none above full : Bool) → (nat_le 4096 count || nat_le 18446744073709551616 next) ≡ full
+        → IsNewLine count next name (first ∷ others)
+        (unless (cond bad (Some (refused InvalidArgument (codes "capacity"))) (cond none (Some (refused OutOfRange (codes "range"))) None))
+        (cond above (refused OutOfRange (codes "range")) (cond full (refused ResourceExhausted (codes "volumes")) (record { reply = ok_reply_with next; change = Makes name (capacity_wanted required limit) (first ∷ others) }))))
+    by true none above full e = refuses InvalidArgument (codes "capacity")
+    by false true above full e = refuses OutOfRange (codes "range")
+    by false false true full e = refuses OutOfRange (codes "range")
+    by false false false true e = refuses ResourceExhausted (codes "volumes")
+    by false false false false e = makes (capacity_wanted required limit) (leb-false 4096 count (or_parts (nat_le 4096 count) (nat_le 18446744073709551616 next) e).0)
+
+-- a row that is made is that of a CreateVolume, and there is room for it
+pub record WasMade (count next : ℕ) (number : Number) (call : Call) (row : RowShown) : Type 0 where
   pub name : List ℕ
   pub required : ℕ
   pub limit : ℕ
   pub capacity : ℕ
   pub wished : List Capability
   pub is_call : call ≡ calls.CreateVolume name required limit wished
-  pub line : new_line greatest count next name required limit wished ≡ record { reply = ok_reply_with next; change = Makes name capacity wished }
   pub is : row ≡ made_row number next name capacity wished
   pub room : count < 4096
 
 -- each row that is made is such a one
-pub was-made : (greatest count next : ℕ) (number : Number) (call : Call) (row : RowShown) → lacking greatest count next number call ≡ Made row → WasMade greatest count next number call row
-was-made greatest count next number (calls.CreateVolume name required limit wished) row h = by (argument_fault required limit wished) refl
+pub was-made : (greatest count next : ℕ) (number : Number) (call : Call) (row : RowShown) → lacking greatest count next number call ≡ Made row → WasMade count next number call row
+was-made greatest count next number (calls.CreateVolume name required limit wished) row h =
+    by (new_line greatest count next name required limit wished) (new-outcome greatest count next name required limit wished) h
   where
-    new : Outcome
-    new = create_new greatest count next name required limit wished
-
-    told : Outcome → Lacking RowShown
-    told o = created number next o.reply o.change
-
-    made : Outcome
-    made = record { reply = ok_reply_with next; change = Makes name (capacity_wanted required limit) wished }
-
-    by_new : (above full : Bool) → nat_lt greatest (capacity_wanted required limit) ≡ above → (nat_le 4096 count || nat_le 18446744073709551616 next) ≡ full → new_line greatest count next name required limit wished ≡ new
-        → told (cond above (refused OutOfRange (codes "range")) (cond full (refused ResourceExhausted (codes "volumes")) made)) ≡ Made row → WasMade greatest count next number (calls.CreateVolume name required limit wished) row
-    by_new true full a f line t = absurd (true≢false (sym (ap was t)))
-    by_new false true a f line t = absurd (true≢false (sym (ap was t)))
-    by_new false false a f line t = record {
-      name = name;
-      required = required;
-      limit = limit;
-      capacity = capacity_wanted required limit;
-      wished = wished;
-      is_call = refl;
-      line = line ∙ ap (λ (b : Bool). cond b (refused OutOfRange (codes "range")) (cond (nat_le 4096 count || nat_le 18446744073709551616 next) (refused ResourceExhausted (codes "volumes")) made)) a
-          ∙ ap (λ (b : Bool). cond b (refused ResourceExhausted (codes "volumes")) made) f;
-      is = sym (ap (row_or row) t);
-      room = leb-false 4096 count (or_parts (nat_le 4096 count) (nat_le 18446744073709551616 next) f).0;
-    }
-
-    by : (o : Option Outcome) → argument_fault required limit wished ≡ o → WasMade greatest count next number (calls.CreateVolume name required limit wished) row
-    by (Some fault) e =
-        let stays : (new_line greatest count next name required limit wished).change ≡ Stays = ap (λ (o : Option Outcome). (unless o new).change) e ∙ fault-stays required limit wished fault e in
-        absurd (true≢false (sym (ap was (sym (ap (created number next (new_line greatest count next name required limit wished).reply) stays) ∙ h))))
-    by None e =
-        let line : new_line greatest count next name required limit wished ≡ new = ap (λ (o : Option Outcome). unless o new) e in
-        by_new (nat_lt greatest (capacity_wanted required limit)) (nat_le 4096 count || nat_le 18446744073709551616 next) refl refl line (sym (ap told line) ∙ h)
-was-made greatest count next number (calls.DeleteVolume id) row h = absurd (true≢false (sym (ap was h)))
-was-made greatest count next number (calls.ControllerPublishVolume id node capability readonly) row h = absurd (true≢false (sym (ap was h)))
-was-made greatest count next number (calls.ControllerUnpublishVolume id node) row h = absurd (true≢false (sym (ap was h)))
-was-made greatest count next number (calls.NodeStageVolume id capability) row h = absurd (true≢false (sym (ap was h)))
-was-made greatest count next number (calls.NodeUnstageVolume id) row h = absurd (true≢false (sym (ap was h)))
-was-made greatest count next number (calls.NodePublishVolume id target capability readonly) row h = absurd (true≢false (sym (ap was h)))
-was-made greatest count next number (calls.NodeUnpublishVolume id target) row h = absurd (true≢false (sym (ap was h)))
+    by : (o : Outcome) → IsNewLine count next name wished o → created number next o.reply o.change ≡ Made row → WasMade count next number (calls.CreateVolume name required limit wished) row
+    by _ (refuses status detail) t = absurd (true≢false (sym (ap was t)))
+    by _ (makes capacity room) t =
+        record { name = name; required = required; limit = limit; capacity = capacity; wished = wished; is_call = refl; is = sym (ap (row_or row) t); room = room }
+was-made greatest count next number call row h = absurd (true≢false (sym (ap was h)))
 
 -- no row has the next id
 pub new-id : (next : ℕ) (rows : List RowShown) → AllByRecursion (IsSoundBy next) rows → find (λ (r : RowShown). r.volume.id == next) rows ≡ None
@@ -187,6 +155,22 @@ new-id next (r ∷ rs) each =
 
 -- ---- the laws
 
+-- a row that keeps the rules keeps them with another call, and under another next id
+sound-as : (next later : ℕ) (kept : Kept) (row : RowShown) → IsSoundBy next row → row.volume.id < later → IsAllowed Controller (bodies.Reply kept.kind kept.reply) → IsSoundBy later (row_keeping kept row)
+sound-as next later kept row sound below allowed = record {
+  below = below;
+  party = allowed.0;
+  reply = allowed.1;
+  apart = sound.apart;
+  compatible = sound.compatible;
+  gone = sound.gone;
+  capacity_from = sound.capacity_from;
+  capacity_to = sound.capacity_to;
+  capable = sound.capable;
+  listed = sound.listed;
+  limit = sound.limit;
+}
+
 -- the plan's laws
 pub is_orderly : IsOrderly controller_plan IsSoundBy
 is_orderly = record {
@@ -194,37 +178,13 @@ is_orderly = record {
   keep_kept = λ kept row. refl;
   keep_empty = λ kept row. refl;
   change_id = change-id;
-  keep_sound = λ config next kept row sound allowed. record {
-    below = sound.below;
-    party = allowed.0;
-    reply = allowed.1;
-    apart = sound.apart;
-    compatible = sound.compatible;
-    gone = sound.gone;
-    capacity_from = sound.capacity_from;
-    capacity_to = sound.capacity_to;
-    capable = sound.capable;
-    listed = sound.listed;
-    limit = sound.limit;
-  };
+  keep_sound = λ config next kept row sound allowed. sound-as next next kept row sound sound.below allowed;
   sound_allowed = λ config next row sound. (sound.party, sound.reply);
   line_full = λ config next rows row call sound.
       line-alike config (filter (λ (r : RowShown). not (not r.volume.is_live)) rows) rows row call
       (λ node. counted-left node (λ (r : RowShown). not (not r.volume.is_live)) rows
-      (each-weaker (IsSoundBy next) (λ (r : RowShown). not (not r.volume.is_live) ≡ false → r.items ≡ []) rows (λ r own h. own.gone (twice r.volume.is_live h)) (recursion_from_All (IsSoundBy next) rows sound)));
-  next_sound = λ next row sound. record {
-    below = below-later row.volume.id next sound.below;
-    party = sound.party;
-    reply = sound.reply;
-    apart = sound.apart;
-    compatible = sound.compatible;
-    gone = sound.gone;
-    capacity_from = sound.capacity_from;
-    capacity_to = sound.capacity_to;
-    capable = sound.capable;
-    listed = sound.listed;
-    limit = sound.limit;
-  };
+      (each-weaker (IsSoundBy next) (λ (r : RowShown). not (not r.volume.is_live) ≡ false → r.items ≡ []) rows (λ r own h. own.gone (sym (not-not r.volume.is_live) ∙ h)) (recursion_from_All (IsSoundBy next) rows sound)));
+  next_sound = λ next row sound. sound-as next (next + 1) row.volume.kept row sound (below-later row.volume.id next sound.below) (sound.party, sound.reply);
   made_kept = λ config next rows number call row is.
       let made = was-made config.greatest (length rows) next number call row is in
       (ap (λ (r : RowShown). r.volume.kept.number) made.is, ap (λ (r : RowShown). r.volume.kept.kind) made.is ∙ ap kind_of (sym made.is_call), made.room);
@@ -262,13 +222,17 @@ lets_keep table rows place row kept fits at =
     (counted-alike table.config.nodes rows (set rows place (row_keeping kept row)) table.counts (λ node. counted-set node rows place row (row_keeping kept row) (at-got rows place row at) refl) fits.counted)
     (each-at IsFree rows place row fits.free (at-got rows place row at))
 
--- at most one row is a call's
+-- at most one row is a call's, where no name is there twice and ids rise
+pub one-for : (rows : List RowShown) (call : Call) → ((name : List ℕ) → AtMostOne (λ (row : RowShown). same_text row.volume.name name) rows) → AreRising controller_plan.id rows → AtMostOne (controller_plan.is_for call) rows
+one-for rows (calls.CreateVolume name required limit capabilities) unique rising = unique name
+one-for rows (calls.DeleteVolume id) unique rising = once-rise controller_plan.id rows (rows_rise controller_plan.id rows rising) id
+one-for rows (calls.ControllerPublishVolume id node capability readonly) unique rising = once-rise controller_plan.id rows (rows_rise controller_plan.id rows rising) id
+one-for rows (calls.ControllerUnpublishVolume id node) unique rising = once-rise controller_plan.id rows (rows_rise controller_plan.id rows rising) id
+one-for rows (calls.NodeStageVolume id capability) unique rising = once-rise controller_plan.id rows (rows_rise controller_plan.id rows rising) id
+one-for rows (calls.NodeUnstageVolume id) unique rising = once-rise controller_plan.id rows (rows_rise controller_plan.id rows rising) id
+one-for rows (calls.NodePublishVolume id target capability readonly) unique rising = once-rise controller_plan.id rows (rows_rise controller_plan.id rows rising) id
+one-for rows (calls.NodeUnpublishVolume id target) unique rising = once-rise controller_plan.id rows (rows_rise controller_plan.id rows rising) id
+
+-- so it is with a table's
 pub has_one_row : (table : ControllerTable) → HasOneRow controller_plan (fits_table table)
-has_one_row table rows (calls.CreateVolume name required limit capabilities) fits rising = fits.unique name
-has_one_row table rows (calls.DeleteVolume id) fits rising = once-rise controller_plan.id rows (rows_rise controller_plan.id rows rising) id
-has_one_row table rows (calls.ControllerPublishVolume id node capability readonly) fits rising = once-rise controller_plan.id rows (rows_rise controller_plan.id rows rising) id
-has_one_row table rows (calls.ControllerUnpublishVolume id node) fits rising = once-rise controller_plan.id rows (rows_rise controller_plan.id rows rising) id
-has_one_row table rows (calls.NodeStageVolume id capability) fits rising = once-rise controller_plan.id rows (rows_rise controller_plan.id rows rising) id
-has_one_row table rows (calls.NodeUnstageVolume id) fits rising = once-rise controller_plan.id rows (rows_rise controller_plan.id rows rising) id
-has_one_row table rows (calls.NodePublishVolume id target capability readonly) fits rising = once-rise controller_plan.id rows (rows_rise controller_plan.id rows rising) id
-has_one_row table rows (calls.NodeUnpublishVolume id target) fits rising = once-rise controller_plan.id rows (rows_rise controller_plan.id rows rising) id
+has_one_row table rows call fits rising = one-for rows call fits.unique rising

@@ -16,12 +16,12 @@ use Rattle.csi_types.specs.declared.frame.Body.TheVariants as bodies
 use Rattle.csi_types.specs.Model.Config.{Config}
 use Rattle.csi_types.specs.Model.Frame.{Frame}
 use Rattle.csi_types.specs.Model.Replies.{plain_reply, ok_reply, ok_reply_with, call_frame}
+use Rattle.csi_fence.specs.Public.Lawful.{after_call}
 use Rattle.csi_controller.specs.Model.State.{ControllerState, empty_controller, holding_at}
 use Rattle.csi_controller.specs.Model.Fenced.{fenced}
 use Rattle.csi_controller.specs.Public.Fenced.{after_frames}
 use Rattle.csi_controller.specs.Model.Shown.{RowsShow}
-use Rattle.csi_controller.specs.Public.Laws.{ControllerTableLaw}
-use Rattle.csi_controller.specs.Private.Laws.{state_after}
+use Rattle.csi_controller.specs.Public.Laws.{ControllerTableLaw, plugin_with}
 
 -- a block capability
 abbrev pub block : Mode → Capability
@@ -145,5 +145,5 @@ publish_v = publish_call (codes "n1") single_writer true
 abbrev pub LawsTellPublish : Type 0
 LawsTellPublish =
     ControllerTableLaw
-    → holding_at 1 (codes "n1") (state_after four_nodes (after_frames four_nodes empty_controller made_v) second publish_v)
+    → holding_at 1 (codes "n1") (after_call (plugin_with four_nodes) (after_frames four_nodes empty_controller made_v) second publish_v)
     ≡ Some (record { volume = 1; node = codes "n1"; capability = single_writer; readonly = true })

@@ -5,7 +5,7 @@ ghost use Rattle.csi_fence.specs.Public.Rows.{AreRising};
 ghost use Rattle.csi_controller.specs.Public.Names.{by_name, by_text};
 ghost use Rattle.csi_controller.specs.Public.OneRow.{row_shown};
 ghost use Rattle.csi_controller.specs.Public.Plan.{controller_plan};
-ghost use Rattle.csi_controller.specs.Private.Views.{row_if_live};
+ghost use Rattle.csi_controller.specs.Private.OneRow.{row_if_live};
 ghost use Rattle.csi_controller.specs.Public.Views.{IsCopyOf};
 
 use crate::names::{place_of_id, place_of_name};

@@ -1,19 +1,17 @@
 -- One more name, which none of the earlier rows has.
-use Rattle.std.proofs.Common.{◌≡◌, ◌∙◌, ◌+◌, ℕ, Bool, List, [], ◌∷◌, ◌++◌, None, map, take, ap, refl, subst, sym}
+use Rattle.std.proofs.Common.{◌≡◌, ◌∙◌, ◌+◌, ℕ, Bool, List, [], ◌∷◌, ◌++◌, None, map, take, ap, subst, sym}
 use Rattle.std.specs.Prelude.{find, nat_eq, option_map}
 use Rattle.std.specs.String.{string_bytes}
 use Rattle.std.specs.Cmp.Lexicographic.{pointwise}
 use Rattle.std.proofs.lemmas.List.{map_push}
-use Rattle.csi_lists.proofs.Places.{at-index}
 use Rattle.csi_lists.proofs.Searches.{find-of_map}
-use Rattle.csi_lists.specs.Public.Places.{IsAt}
-use Rattle.csi_types.proofs.Equality.{same_text-tells}
 use Rattle.csi_types.specs.Model.Same.{same_text}
 use Rattle.csi_controller.specs.declared.row.ControllerRow.{ControllerRow}
+use Rattle.csi_controller.specs.Public.Core.{AreSoundRows}
 use Rattle.csi_controller.specs.Public.Names.{by_name, by_text}
 use Rattle.csi_controller.specs.Public.OneRow.{RowShown, row_shown}
-use Rattle.csi_controller.proofs.FirstRefused.{one-more}
-use Rattle.csi_controller.proofs.NameMaps.{new-name, of-ok, once-before}
+use Rattle.csi_controller.proofs.FirstRefused.{new-name as unnamed, one-more, sound-take}
+use Rattle.csi_controller.proofs.NameMaps.{new-name, of-ok}
 use Rattle.csi_controller.proofs.SameText.{text-turned}
 use Rattle.csi_controller.proofs.names.names_of.Goals as goal
 
@@ -24,8 +22,8 @@ loop-row-preserved c =
     let row = c.row-item.result in
     let q : RowShown → Bool = λ r. same_text r.volume.name row.name in
     let first : List RowShown = map row_shown (take index rows) in
-    let at : IsAt rows index row = subst (IsAt rows index) (sym c.row-item.is) (at-index rows index row c.loop-row-test.true) in
-    let none : find q first ≡ None = find-of_map q row_shown (take index rows) ∙ ap (option_map row_shown) (once-before (λ (r : ControllerRow). same_text r.name row.name) rows index row (c.requires.names row.name) at ((same_text-tells row.name row.name).1 refl)) in
+    let none : find q first ≡ None = find-of_map q row_shown (take index rows) ∙ ap (option_map row_shown) (unnamed c.args.next_id (take index rows) row
+    (subst (AreSoundRows c.args.next_id) (one-more rows index row c.loop-row-test.true c.row-item.is) (sound-take c.args.next_id rows (index + 1) c.requires))) in
     let named : string_bytes c.in_ok-text.text ≡ row.name = c.in_ok-text.ensures.ok ∙ c.as_str.ensures.value in
     let before : map by_text c.reserve.new.self.entries ≡ map by_name first = ap (map by_text) c.in_ok-reserve.ensures.entries ∙ c.loop-row.invariant in
     let entries = of-ok c.insert.result (c.insert.ensures.succeeds c.in_ok-reserve.ensures.ok) c.insert.ensures.entries

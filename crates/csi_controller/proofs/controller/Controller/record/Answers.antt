@@ -5,9 +5,8 @@ use Rattle.csi_controller.specs.Model.Core.{ControllerParts, Shows}
 use Rattle.csi_controller.specs.Public.Names.{by_text}
 use Rattle.csi_controller.specs.Public.Core.{AreSoundRows}
 use Rattle.csi_controller.specs.Public.Views.{AreSameRows, RecordParts}
-use Rattle.csi_controller.proofs.Copies.{shown-copies, sound-copies}
+use Rattle.csi_controller.proofs.Copies.{shown-copies, sound-copies, current-copies}
 use Rattle.csi_controller.proofs.RecordRules.{current-kept, sound-kept}
-use Rattle.csi_controller.proofs.Sessions.{current-copies}
 use Rattle.csi_controller.proofs.controller.Controller.record.Goals as goal
 
 pub copied-requires : goal.copied-requires

@@ -6,7 +6,7 @@ use Rattle.csi_controller.specs.declared.row.ControllerRow.{ControllerRow}
 use Rattle.csi_controller.specs.Public.Names.{by_name}
 use Rattle.csi_controller.specs.Public.OneRow.{row_shown}
 use Rattle.csi_controller.specs.Public.Plan.{controller_parts}
-use Rattle.csi_controller.specs.Private.Views.{row_if_live}
+use Rattle.csi_controller.specs.Private.OneRow.{row_if_live}
 use Rattle.csi_controller.specs.Model.Core.{ControllerParts, Shows}
 use Rattle.csi_controller.proofs.Readers.{volume-shown}
 use Rattle.csi_controller.proofs.controller.Controller.volume.Goals as goal

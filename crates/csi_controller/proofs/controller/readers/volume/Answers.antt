@@ -6,7 +6,7 @@ use Rattle.csi_lists.proofs.Searches.{find-no_place}
 use Rattle.csi_types.specs.Model.Same.{same_text}
 use Rattle.csi_controller.specs.declared.row.ControllerRow.{ControllerRow}
 use Rattle.csi_controller.specs.Public.OneRow.{RowShown, row_shown}
-use Rattle.csi_controller.specs.Private.Views.{row_if_live}
+use Rattle.csi_controller.specs.Private.OneRow.{row_if_live}
 use Rattle.csi_controller.proofs.NameMaps.{position-map}
 use Rattle.csi_controller.proofs.controller.readers.volume.Goals as goal
 
