@@ -180,7 +180,6 @@ impl<T: Table> Rows<T> {
             (T.plan.line (T.fixed self.old.table) (map T.shown self.old.rows.items) row (lent_call call.now)).reply.status ≡ OkStatus → IsOk result }
     {
         let row = &mut self.rows[place];
-        let was_empty = T::is_empty(row);
         let line = self.table.line(row, call);
         let is_done = line.is_done();
         let kept = match line.reply(self.alloc) {
@@ -192,13 +191,14 @@ impl<T: Table> Rows<T> {
             Err(fault) => return Err(fault),
         };
         if is_done {
+            let was_empty = T::is_empty(row);
             match self.table.change(row, self.alloc, call) {
                 Ok(()) => (),
                 Err(fault) => return Err(fault),
             }
+            self.empty = recounted(self.empty, was_empty, T::is_empty(row));
         }
         T::keep(row, number, call.kind(), kept);
-        self.empty = recounted(self.empty, was_empty, T::is_empty(row));
         Ok(reply)
     }
 

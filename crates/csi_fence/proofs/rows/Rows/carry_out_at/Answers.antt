@@ -1,9 +1,8 @@
-use Rattle.std.proofs.Common.{◌≡◌, ◌∙◌, ap, sym, subst, arith, Bool, map, slice_set, true, false, cond, refl, set-set}
-use Rattle.std.specs.Prelude.{count_by, slice_get, Some}
+use Rattle.std.proofs.Common.{◌≡◌, ◌∙◌, ap, sym, subst, arith, Bool, map, slice_set, cond, refl, set-set}
+use Rattle.std.specs.Prelude.{count_by}
 use Rattle.std.proofs.lemmas.List.{map-set}
 use Rattle.std.proofs.lemmas.Option.{same_Some, slice_get_within}
 use Rattle.std.proofs.Math.Seq.{map-set_same}
-use Rattle.csi_types.specs.declared.status.Status.TheVariants.{Ok as OkStatus}
 use Rattle.csi_types.specs.Model.Call.{kind_of}
 use Rattle.csi_types.specs.Public.Lent.{lent_call}
 use Rattle.csi_fence.specs.Model.Fence.{Kept}
@@ -90,12 +89,19 @@ returns-clause-empty g c =
     let was = c.index_mut-row.result.now in
     let at = shown-at shown rows c.args.place was c.index_mut-row.ensures.value c.requires.place in
     let sum = count-set g.T.Table.plan.is_empty (map shown rows) c.args.place (shown was) (shown c.keep.new.row) at in
-    let before = ap (λ (b : Bool). one_if b) c.is_empty-was_empty.ensures in
-    let now = ap (λ (b : Bool). one_if b) c.is_empty.ensures in
-    let counted = c.requires.kept.counted in
-    let again = c.recounted-self.ensures in
     let same = ap (count_by g.T.Table.plan.is_empty) (map-set shown rows c.args.place c.keep.new.row) in
-    omega (arith, sum, before, now, counted, again, same)
+    let counted = c.requires.kept.counted in
+    let kept = ap g.T.Table.plan.is_empty c.keep.ensures ∙ g.met.T.Table.orderly.keep_empty _ (shown c.if-is_done.row) in
+    elim c.if-is_done.branch [
+      | then-is_done+in-Ok-change w ↦
+          let before = ap (λ (b : Bool). one_if b) w.is_empty-was_empty.ensures in
+          let now = ap (λ (b : Bool). one_if b) (w.is_empty.ensures ∙ sym (kept ∙ ap (λ (r : g.row.T-Row.Denot). g.T.Table.plan.is_empty (shown r)) w.row-is)) in
+          let again = w.recounted-self.ensures in
+          rw (w.self-is) (omega (arith, sum, before, now, counted, again, same))
+      | else-is_done w ↦
+          let now = ap (λ (b : Bool). one_if b) (kept ∙ ap (λ (r : g.row.T-Row.Denot). g.T.Table.plan.is_empty (shown r)) w.row-is) in
+          rw (w.self-is) (omega (arith, sum, now, counted, same))
+    ]
 
 -- the row after the call
 pub returns-clause-ok : goal.returns-clause-ok
