@@ -1,79 +1,33 @@
 -- The readers of a use and of a goal read what is spelled.
-use Rattle.std.proofs.Common.{◌≡◌, ℕ, zero, suc, Bool, List, [], ◌∷◌, ◌++◌, Some, None, refl, sym, ap, subst, ◌∙◌, append_assoc}
+use Rattle.std.proofs.Common.{◌≡◌, ℕ, zero, suc, List, [], ◌∷◌, ◌++◌, Some, None, refl, sym, ap, subst, ◌∙◌, append_assoc}
 use Rattle.std.specs.Prelude.{Option}
-use Rattle.csi_types.specs.declared.capability.Capability.{Capability}
 use Rattle.csi_types.specs.Public.Text.{IsNodeId, IsTarget}
 use Rattle.csi_frames.specs.Public.Spelling as spelling
-use Rattle.csi_orchestrator.specs.declared.request.Usage.{Usage}
 use Rattle.csi_orchestrator.specs.declared.row.Goal.{Goal}
 use Rattle.csi_orchestrator.specs.declared.row.Goal.TheVariants.{Create, Use, Stop, Delete}
 use Rattle.csi_records.specs.declared.version.RecordVersion.{RecordVersion}
 use Rattle.csi_records.specs.Public.OrchestratorSpelling.{usage_bytes, goal_bytes}
-use Rattle.csi_records.specs.Public.Records.{IsCapabilityIn}
 use Rattle.csi_records.specs.Public.OrchestratorRows.{IsUsage, IsGoal}
 use Rattle.csi_records.specs.Private.OrchestratorReading.{read_usage, read_stop, read_goal_of, read_goal}
-use Rattle.csi_records.proofs.Readers.{Reads, Given, gives, in_words, Spelled, After, Made, after, makes, Always}
+use Rattle.csi_records.proofs.Readers.{Reads, Given, gives, in_words, Spelled, After, Made, after, makes, Always, also, fields}
 use Rattle.csi_records.proofs.FieldReaders.{byte_reads, one_byte, flag_reads, text_reads, capability_reads}
 use Rattle.csi_records.proofs.OrchestratorReaders.{SaysNothing, nothing_reads}
 
 -- ---- a use
 
--- a use is equal to one of its fields
-abbrev make_usage : List ℕ → List ℕ → Capability → Bool → Usage
-make_usage node target capability readonly = record { node = node; target = target; capability = capability; readonly = readonly }
-
--- the fields, one after another
-abbrev SaysUsage : RecordVersion → Usage → List ℕ → Type 0
-SaysUsage version =
-    After IsNodeId spelling.text (λ node. After IsTarget spelling.text (λ target. After (IsCapabilityIn version) spelling.capability (λ capability. Made Always spelling.flag (λ readonly. make_usage node target capability readonly))))
-
--- four pieces, one behind another
-join4 : (all a b c d r1 r2 r3 : List ℕ) → all ≡ a ++ r1 → r1 ≡ b ++ r2 → r2 ≡ c ++ r3 → r3 ≡ d → all ≡ a ++ b ++ c ++ d
-join4 all a b c d r1 r2 r3 p1 p2 p3 p4 = p1 ∙ ap (λ (t : List ℕ). a ++ t) (p2 ∙ ap (λ (t : List ℕ). b ++ t) (p3 ∙ ap (λ (t : List ℕ). c ++ t) p4)) ∙ simp append_assoc
-
--- four pieces apart
-apart4 : (a b c d : List ℕ) → a ++ b ++ c ++ d ≡ a ++ (b ++ (c ++ d))
-apart4 a b c d = simp append_assoc
-
--- the fields are the spelling
-usage-there : (version : RecordVersion) (value : Usage) (bytes : List ℕ) → SaysUsage version value bytes → Spelled (IsUsage version) usage_bytes value bytes
-usage-there version value bytes s =
-    let s1 = s.second in
-    let s2 = s1.second in
-    let s3 = s2.second in
-    subst (λ (v : Usage). Spelled (IsUsage version) usage_bytes v bytes) (sym s3.same)
-    (record {
-      fits = record { node = s.fits; target = s1.fits; capability = s2.fits };
-      are = join4 bytes (spelling.text s.before) (spelling.text s1.before) (spelling.capability s2.before) (spelling.flag s3.before) s.back s1.back s2.back s.parts s1.parts s2.parts s3.are;
-    })
-
--- the spelling is the fields
-usage-back : (version : RecordVersion) (value : Usage) (bytes : List ℕ) → Spelled (IsUsage version) usage_bytes value bytes → SaysUsage version value bytes
-usage-back version value bytes s =
-    let a : List ℕ = spelling.text value.node in
-    let b : List ℕ = spelling.text value.target in
-    let c : List ℕ = spelling.capability value.capability in
-    let d : List ℕ = spelling.flag value.readonly in
-    record {
-      before = value.node;
-      fits = s.fits.node;
-      back = b ++ (c ++ d);
-      parts = s.are ∙ apart4 a b c d;
-      second = record {
-        before = value.target;
-        fits = s.fits.target;
-        back = c ++ d;
-        parts = refl;
-        second = record { before = value.capability; fits = s.fits.capability; back = d; parts = refl; second = record { before = value.readonly; fits = tt; same = refl; are = refl } };
-      };
-    }
-
 -- the reader of a use reads what spells it
 pub usage_reads : (version : RecordVersion) → Reads (read_usage version) (Spelled (IsUsage version) usage_bytes)
 unfolding read_usage
 usage_reads version =
-    in_words (Spelled (IsUsage version) usage_bytes) (usage-there version) (usage-back version)
-    (after (text_reads 1 255) (λ node. after (text_reads 1 255) (λ target. after (capability_reads version) (λ capability. makes (λ readonly. make_usage node target capability readonly) flag_reads))))
+    fields
+    (also (text_reads 1 255) (λ node. also (text_reads 1 255) (λ target. also (capability_reads version) (λ capability.
+    makes (λ readonly. record { node = node; target = target; capability = capability; readonly = readonly }) flag_reads))))
+    (λ u f. ((u.node, (u.target, (u.capability, u.readonly))), (f.node, (f.target, (f.capability, tt))), refl))
+    (λ y f. record { node = f.0; target = f.1.0; capability = f.1.1.0 })
+    (λ y. pieces (spelling.text y.0) (spelling.text y.1.0) (spelling.capability y.1.1.0) (spelling.flag y.1.1.1))
+  where
+    pieces : (a b c d : List ℕ) → a ++ (b ++ (c ++ d)) ≡ a ++ b ++ c ++ d
+    pieces a b c d = simp append_assoc
 
 -- ---- a goal, if there is one
 

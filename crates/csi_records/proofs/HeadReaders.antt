@@ -9,7 +9,7 @@ use Rattle.csi_frames.specs.Public.Spelling as spelling
 use Rattle.csi_records.specs.Private.Reading.{Reader, go_on, ◌>>=◌, give, read_tag, read_session, read_controller_head, read_node_head}
 use Rattle.csi_records.specs.Public.Spelling.{session_bytes}
 use Rattle.csi_records.specs.Public.Records.{Head, IsSessionIf, IsHead}
-use Rattle.csi_records.proofs.Readers.{Reads, then, Given, gives, in_words, Either, either, Spelled, After, Made, after, makes}
+use Rattle.csi_records.proofs.Readers.{Reads, then, Given, gives, in_words, Either, either, Spelled, Made, makes, also, fields}
 use Rattle.csi_records.proofs.FieldReaders.{word_reads, text_reads, tag_reads}
 
 -- a reader behind a given byte reads that byte and what it reads itself
@@ -51,27 +51,11 @@ make_head own session = record { own = own; session = session }
 abbrev pub head_fields : {X : Type 0} → (X → List ℕ) → Head X → List ℕ
 head_fields spell head = spell head.own ++ session_bytes head.session
 
--- the fields of a head, one after another
-abbrev SaysHead : {X : Type 0} → RecordVersion → (X → Type 0) → (X → List ℕ) → Head X → List ℕ → Type 0
-SaysHead version Fits spell = After Fits spell (λ own. Made (IsSessionIf (has_session version)) session_bytes (λ session. make_head own session))
-
--- the fields of a head are its spelling
-head-there : {X : Type 0} (version : RecordVersion) (Fits : X → Type 0) (spell : X → List ℕ) (value : Head X) (bytes : List ℕ) → SaysHead version Fits spell value bytes → Spelled (IsHead Fits version) (head_fields spell) value bytes
-head-there {X} version Fits spell value bytes s =
-    subst (λ (v : Head X). Spelled (IsHead Fits version) (head_fields spell) v bytes) (sym s.second.same)
-    (record { fits = record { own = s.fits; session = s.second.fits }; are = s.parts ∙ ap (λ (t : List ℕ). spell s.before ++ t) s.second.are })
-
--- the spelling of a head is its fields
-head-back : {X : Type 0} (version : RecordVersion) (Fits : X → Type 0) (spell : X → List ℕ) (value : Head X) (bytes : List ℕ) → Spelled (IsHead Fits version) (head_fields spell) value bytes → SaysHead version Fits spell value bytes
-head-back version Fits spell value bytes s =
-    record { before = value.own; fits = s.fits.own; back = session_bytes value.session; parts = s.are; second = record { before = value.session; fits = s.fits.session; same = refl; are = refl } }
-
 -- a reader of the plugin's own field, and of the session behind it, reads a head's fields
 fields_read : {X : Type 0} {read : Reader X} (version : RecordVersion) (Fits : X → Type 0) (spell : X → List ℕ) → Reads read (Spelled Fits spell)
     → Reads (read >>= λ own. read_session version >>= λ session. give (make_head own session)) (Spelled (IsHead Fits version) (head_fields spell))
 fields_read version Fits spell one =
-    in_words (Spelled (IsHead Fits version) (head_fields spell)) (head-there version Fits spell) (head-back version Fits spell)
-    (after one (λ own. makes (λ session. make_head own session) (session_reads version)))
+    fields (also one (λ own. makes (λ session. make_head own session) (session_reads version))) (λ h f. ((h.own, h.session), (f.own, f.session), refl)) (λ y f. record { own = f.0; session = f.1 }) (λ y. refl)
 
 -- the reader of a controller's head reads what spells one behind the version
 pub controller_head_reads : (version : RecordVersion) → Reads (read_controller_head version) (Spelled (IsHead IsWord version) (λ head. 0 ∷ head_fields spelling.word head))

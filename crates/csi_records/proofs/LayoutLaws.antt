@@ -3,7 +3,7 @@ use Rattle.std.proofs.Common.{◌≡◌, ◌⊎◌, ℕ, ◌≤◌, ◌<◌, ◌
 use Rattle.std.specs.Prelude.{◌≢◌}
 use Rattle.std.specs.List.{flat_map, AllByRecursion}
 use Rattle.std.proofs.lemmas.Bool.{cases_order}
-use Rattle.std.proofs.lemmas.List.{append-nil, append_cancel_left, length-append, length-map, take-map, take_at}
+use Rattle.std.proofs.lemmas.List.{append-nil, length-append, length-map, take-map, take_at}
 use Rattle.csi_lists.proofs.Each.{each-map}
 use Rattle.csi_records.specs.declared.version.RecordVersion.{RecordVersion}
 use Rattle.csi_stores.specs.Public.Part.{StoredPart, IsPart}
@@ -74,20 +74,23 @@ begun-front layout one front p more whole are (inr is) =
 abbrev flat : List StoredPart → List ℕ
 flat parts = flat_map part_bytes parts
 
--- fewer parts are a front of more
-record Goes (few many : List StoredPart) (left right : List ℕ) : Type 0 where
-  more : List StoredPart
-  are : many ≡ few ++ more
-  left_is : left ≡ flat more ++ right
-
 -- of parts whose bytes, with a rest, are the same, the fewer are a front of the more
-goes : (few many : List StoredPart) (left right : List ℕ) → AllByRecursion IsPart few → AllByRecursion IsPart many → flat few ++ left ≡ flat many ++ right → length few ≤ length many → Goes few many left right
-goes [] many left right fit fits e le = record { more = many; are = refl; left_is = e }
+goes : (few many : List StoredPart) (left right : List ℕ) → AllByRecursion IsPart few → AllByRecursion IsPart many → flat few ++ left ≡ flat many ++ right → length few ≤ length many
+    → (more : List StoredPart) × (many ≡ few ++ more) × (left ≡ flat more ++ right)
+goes [] many left right fit fits e le = (many, refl, e)
 goes (p ∷ ps) [] left right fit fits e le = absurd (omega arith)
 goes (p ∷ ps) (q ∷ qs) left right fit fits e le =
-    let same = spelled-same part_reads p q (flat ps ++ left) (flat qs ++ right) (fit.0) (fits.0) (sym (append_assoc (part_bytes p) (flat ps) left) ∙ e ∙ append_assoc (part_bytes q) (flat qs) right) in
-    let rest = goes ps qs left right (fit.1) (fits.1) same.1 (omega arith) in
-    record { more = rest.more; are = ap (λ (r : StoredPart). r ∷ qs) (sym same.0) ∙ ap (λ (rs : List StoredPart). p ∷ rs) rest.are; left_is = rest.left_is }
+    let same = spelled-same part_reads p q (flat ps ++ left) (flat qs ++ right) fit.0 fits.0 (sym (append_assoc (part_bytes p) (flat ps) left) ∙ e ∙ append_assoc (part_bytes q) (flat qs) right) in
+    let rest = goes ps qs left right fit.1 fits.1 same.1 (omega arith) in
+    (rest.0, ap (λ (r : StoredPart). r ∷ qs) (sym same.0) ∙ ap (λ (rs : List StoredPart). p ∷ rs) rest.1, rest.2)
+
+-- the same of as many parts: they are the same, and so are the rests
+goes-all : (parts others : List StoredPart) (left right : List ℕ) → AllByRecursion IsPart parts → AllByRecursion IsPart others → flat parts ++ left ≡ flat others ++ right → length parts ≡ length others → (parts ≡ others) × (left ≡ right)
+goes-all parts others left right fit fits e count = let g = goes parts others left right fit fits e (omega (arith, count)) in none g.0 g.1 g.2
+  where
+    none : (more : List StoredPart) → others ≡ parts ++ more → left ≡ flat more ++ right → (parts ≡ others) × (left ≡ right)
+    none [] are rest = (sym (are ∙ append-nil parts), rest)
+    none (p ∷ ps) are rest = absurd (omega (arith, count, ap length are ∙ length-append parts (p ∷ ps)))
 
 -- with no part that comes next are the parts before it a record
 abbrev Refuses : (List StoredPart → Type 0) → List StoredPart → List ℕ → Type 0
@@ -102,11 +105,9 @@ begun-fit layout plain before (inr is) = (fit-parts layout plain before is).fit
 not-further : {H R : Type 0} (layout : Layout H R) → IsOneToOne layout → ArePlain layout → (before many : List StoredPart) (left right : List ℕ) → Begins (IsRecordOf layout) before → Refuses (IsRecordOf layout) before left
     → Begins (IsRecordOf layout) many → flat before ++ left ≡ flat many ++ right → length before < length many → ⊥
 not-further {H} {R} layout one plain before many left right begins refuses begun e less =
-    with g.more g.are g.left_is
+    let g = goes before many left right (begun-fit layout plain before begins) (begun-fit layout plain many begun) e (omega (arith, less)) in
+    with g.0 g.1 g.2
   where
-    g : Goes before many left right
-    g = goes before many left right (begun-fit layout plain before begins) (begun-fit layout plain many begun) e (omega (arith, less))
-
     with : (more : List StoredPart) → many ≡ before ++ more → left ≡ flat more ++ right → ⊥
     with [] are here = omega (arith, less, ap length are ∙ ap length (append-nil before))
     with (p ∷ ps) are here =
@@ -167,10 +168,6 @@ seen layouts plain bytes _ (more_bytes version parts rest is some are) =
       why = inr (refl, some, is);
     })
 
--- where parts alone and parts with a rest have the same bytes, the rest has none
-no-rest : (parts : List StoredPart) (rest : List ℕ) → flat parts ++ [] ≡ flat parts ++ rest → rest ≡ []
-no-rest parts rest e = sym (append_cancel_left (flat parts) [] rest e)
-
 -- a record's bytes have no refused part
 spelled-clash : {H R : Type 0} (layouts : RecordVersion → Layout H R) → ((version : RecordVersion) → IsOneToOne (layouts version)) → ((version : RecordVersion) → ArePlain (layouts version)) → (version : RecordVersion) (bytes : List ℕ) (parts : List StoredPart) (place : ℕ)
     → IsRecordOf (layouts version) parts → bytes ≡ record_bytes version parts → Bad layouts bytes place → ⊥
@@ -182,14 +179,7 @@ spelled-clash {H} {R} layouts one plain version bytes parts place is are bad =
   where
     by : IsRecordOf (layouts bad.version) parts → AllByRecursion IsPart parts → bad.count ≡ length parts → flat bad.before ++ bad.rest ≡ flat parts ++ [] → ((length bad.before < bad.count) × Refuses (IsRecordOf (layouts bad.version)) bad.before bad.rest) ⊎ ((length bad.before ≡ bad.count) × (bad.rest ≢ []) × IsRecordOf (layouts bad.version) bad.before) → ⊥
     by same fit count e (inl w) = not-further (layouts bad.version) (one bad.version) (plain bad.version) bad.before parts bad.rest [] bad.begins w.1 (inr same) e (omega (arith, w.0, count))
-    by same fit count e (inr w) = w.1 (ends (goes bad.before parts bad.rest [] (begun-fit (layouts bad.version) (plain bad.version) bad.before bad.begins) fit e (omega (arith, w.0, count))))
-      where
-        ends : Goes bad.before parts bad.rest [] → bad.rest ≡ []
-        ends g = none g.more g.are g.left_is
-          where
-            none : (more : List StoredPart) → parts ≡ bad.before ++ more → bad.rest ≡ flat more ++ [] → bad.rest ≡ []
-            none [] long here = here
-            none (p ∷ ps) long here = absurd (omega (arith, w.0, count, ap length long ∙ length-append bad.before (p ∷ ps)))
+    by same fit count e (inr w) = w.1 (goes-all bad.before parts bad.rest [] (begun-fit (layouts bad.version) (plain bad.version) bad.before bad.begins) fit e (omega (arith, w.0, count))).1
 
 -- bytes that are refused at one place aren't refused at a later one
 same-place : {H R : Type 0} (layouts : RecordVersion → Layout H R) → ((version : RecordVersion) → IsOneToOne (layouts version)) → ((version : RecordVersion) → ArePlain (layouts version)) → (bytes : List ℕ) (a b : ℕ) → Bad layouts bytes a → Bad layouts bytes b → a < b → ⊥
@@ -221,14 +211,7 @@ one-reading {H} {R} layouts one plain bytes = record {
         let fits = fit-parts (layouts version) (plain version) parts is in
         let fit = fit-parts (layouts another) (plain another) others other in
         let same = heads-same version another (length parts) (length others) (flat parts) (flat others) fits.few fit.few e in
-        (same.0, all (goes parts others [] [] fits.fit fit.fit (append-nil (flat parts) ∙ same.2 ∙ sym (append-nil (flat others))) (omega (arith, same.1))) same.1)
-      where
-        all : Goes parts others [] [] → length parts ≡ length others → parts ≡ others
-        all g count = none g.more g.are
-          where
-            none : (more : List StoredPart) → others ≡ parts ++ more → parts ≡ others
-            none [] are = sym (are ∙ append-nil parts)
-            none (p ∷ ps) are = absurd (omega (arith, count, ap length are ∙ length-append parts (p ∷ ps)))
+        (same.0, (goes-all parts others [] [] fits.fit fit.fit (append-nil (flat parts) ∙ same.2 ∙ sym (append-nil (flat others))) same.1).0)
 
     places : (a b : ℕ) → ((a ≡ 0) × HasNoHead bytes) ⊎ Bad layouts bytes a → ((b ≡ 0) × HasNoHead bytes) ⊎ Bad layouts bytes b → a ≡ b
     places a b (inl p) (inl q) = p.0 ∙ sym q.0
@@ -243,20 +226,15 @@ one-reading {H} {R} layouts one plain bytes = record {
 
 -- ---- the first part that is refused, among parts
 
--- a shorter front of the same list is a front of the longer one, and so is what stands behind it
-record GoesOn (front longer : List StoredPart) (part : StoredPart) : Type 0 where
-  more : List StoredPart
-  are : longer ≡ front ++ part ∷ more
-
 -- of two fronts of a list, each with the part behind it, the longer begins with the shorter and its part
-goes-on : (front longer : List StoredPart) (p q : StoredPart) (x y : List StoredPart) → front ++ p ∷ x ≡ longer ++ q ∷ y → length front < length longer → GoesOn front longer p
+goes-on : (front longer : List StoredPart) (p q : StoredPart) (x y : List StoredPart) → front ++ p ∷ x ≡ longer ++ q ∷ y → length front < length longer → (more : List StoredPart) × (longer ≡ front ++ p ∷ more)
 goes-on front [] p q x y e less = absurd (omega arith)
-goes-on [] (b ∷ bs) p q x y e less = let same : b ≡ p = cc in record { more = bs; are = ap (λ (r : StoredPart). r ∷ bs) same }
+goes-on [] (b ∷ bs) p q x y e less = let same : b ≡ p = cc in (bs, ap (λ (r : StoredPart). r ∷ bs) same)
 goes-on (a ∷ front) (b ∷ bs) p q x y e less =
     let same : b ≡ a = cc in
     let rest : front ++ p ∷ x ≡ bs ++ q ∷ y = cc in
     let on = goes-on front bs p q x y rest (omega arith) in
-    record { more = on.more; are = ap (λ (r : StoredPart). r ∷ bs) same ∙ ap (λ (rs : List StoredPart). a ∷ rs) on.are }
+    (on.0, ap (λ (r : StoredPart). r ∷ bs) same ∙ ap (λ (rs : List StoredPart). a ∷ rs) on.1)
 
 -- these parts are a record of some version
 abbrev AreSome : {H R : Type 0} → (RecordVersion → Layout H R) → List StoredPart → Type 0
@@ -272,7 +250,7 @@ some-front layouts one front p more whole are (inr is) = record { version = is.v
 refused-clash : {H R : Type 0} (layouts : RecordVersion → Layout H R) → ((version : RecordVersion) → IsOneToOne (layouts version)) → (parts : List StoredPart) (a b : ℕ) → IsRefusedAt (AreSome layouts) parts a → IsRefusedAt (AreSome layouts) parts b → a < b → ⊥
 refused-clash layouts one parts a b first second less =
     let on = goes-on first.before second.before first.part second.part first.after second.after (sym first.are ∙ second.are) (omega (arith, first.here, second.here, less)) in
-    first.refused (some-front layouts one first.before first.part on.more second.before on.are second.begins)
+    first.refused (some-front layouts one first.before first.part on.0 second.before on.1 second.begins)
 
 -- parts are a record's, or have one first part that is refused at most, and not both
 pub one-refusal : {H R : Type 0} (layouts : RecordVersion → Layout H R) → ((version : RecordVersion) → IsOneToOne (layouts version)) → (parts : List StoredPart) → HasOneRefusal (IsInSome (λ version. IsRecordOf (layouts version))) parts

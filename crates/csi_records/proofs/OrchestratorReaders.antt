@@ -1,5 +1,5 @@
 -- The reader of an orchestrator's head reads what is spelled.
-use Rattle.std.proofs.Common.{◌≡◌, ℕ, Bool, true, false, List, ◌∷◌, ◌++◌, refl, sym, ap, subst, ◌∙◌}
+use Rattle.std.proofs.Common.{◌≡◌, ℕ, Bool, true, false, List, ◌∷◌, ◌++◌, refl, sym, ◌∙◌}
 use Rattle.csi_types.specs.Public.Text.{IsNodeId}
 use Rattle.csi_types.specs.Public.Limits.{IsWord}
 use Rattle.csi_frames.specs.Public.Spelling as spelling
@@ -10,7 +10,7 @@ use Rattle.csi_records.specs.Public.OrchestratorSpelling.{orchestrator_head}
 use Rattle.csi_records.specs.Public.OrchestratorRows.{OrchestratorHeadShown, IsOrchestratorHead}
 use Rattle.csi_records.specs.Private.Reading.{◌>>=◌, give, nothing, read_word, read_counted, read_text, IsReadWhole}
 use Rattle.csi_records.specs.Private.OrchestratorReading.{read_orchestrator_head}
-use Rattle.csi_records.proofs.Readers.{Reads, in_words, Either, either, Spelled, After, Made, after, makes}
+use Rattle.csi_records.proofs.Readers.{Reads, in_words, Either, either, Spelled, makes, also, fields}
 use Rattle.csi_records.proofs.FieldReaders.{word_reads, text_reads}
 use Rattle.csi_records.proofs.HeadReaders.{tagged}
 use Rattle.csi_records.proofs.ValueReaders.{AreFew, counted_reads}
@@ -29,26 +29,11 @@ record AreFields (head : OrchestratorHeadShown) : Type 0 where
 abbrev fields_of : OrchestratorHeadShown → List ℕ
 fields_of head = spelling.word head.session ++ list_spelling spelling.text head.nodes
 
--- the fields, one after another
-abbrev SaysFields : OrchestratorHeadShown → List ℕ → Type 0
-SaysFields = After IsWord spelling.word (λ session. Made (AreFew IsNodeId 64) (list_spelling spelling.text) (λ nodes. make_head session nodes))
-
--- the fields of a head are its spelling
-fields-there : (value : OrchestratorHeadShown) (bytes : List ℕ) → SaysFields value bytes → Spelled AreFields fields_of value bytes
-fields-there value bytes s =
-    subst (λ (v : OrchestratorHeadShown). Spelled AreFields fields_of v bytes) (sym s.second.same)
-    (record { fits = record { session = s.fits; nodes = s.second.fits }; are = s.parts ∙ ap (λ (t : List ℕ). spelling.word s.before ++ t) s.second.are })
-
--- the spelling of a head is its fields
-fields-back : (value : OrchestratorHeadShown) (bytes : List ℕ) → Spelled AreFields fields_of value bytes → SaysFields value bytes
-fields-back value bytes s =
-    record { before = value.session; fits = s.fits.session; back = list_spelling spelling.text value.nodes; parts = s.are; second = record { before = value.nodes; fits = s.fits.nodes; same = refl; are = refl } }
-
 -- the reader of the fields reads what spells them
 fields_read : Reads (read_word >>= λ session. read_counted 64 (read_text 1 255) >>= λ nodes. give (make_head session nodes)) (Spelled AreFields fields_of)
 fields_read =
-    in_words (Spelled AreFields fields_of) fields-there fields-back
-    (after word_reads (λ session. makes (λ nodes. make_head session nodes) (counted_reads IsNodeId spelling.text 64 (text_reads 1 255))))
+    fields (also word_reads (λ session. makes (λ nodes. make_head session nodes) (counted_reads IsNodeId spelling.text 64 (text_reads 1 255))))
+    (λ h f. ((h.session, h.nodes), (f.session, f.nodes), refl)) (λ y f. record { session = f.0; nodes = f.1 }) (λ y. refl)
 
 -- no bytes spell what isn't there
 abbrev pub SaysNothing : {A : Type 0} → A → List ℕ → Type 0

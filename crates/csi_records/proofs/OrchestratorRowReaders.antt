@@ -2,25 +2,20 @@
 use Rattle.std.proofs.Common.{◌≡◌, ℕ, zero, suc, Bool, true, false, List, [], ◌∷◌, ◌++◌, Some, None, refl, sym, ap, subst, ◌∙◌, append_assoc, arith}
 use Rattle.std.specs.Prelude.{Option, IfSome}
 use Rattle.std.proofs.lemmas.List.{append-nil}
-use Rattle.csi_types.specs.declared.capability.Capability.{Capability}
-use Rattle.csi_types.specs.Public.Text.{IsTarget}
 use Rattle.csi_types.specs.Public.Limits.{IsWord}
 use Rattle.csi_types.specs.Public.VolumeId.{IsVolumeId}
 use Rattle.csi_frames.specs.Public.Spelling as spelling
-use Rattle.csi_orchestrator.specs.declared.request.Arguments.{Arguments}
-use Rattle.csi_orchestrator.specs.declared.row.TargetEntry.{TargetEntry}
 use Rattle.csi_orchestrator.specs.declared.thing.Known.{Known}
 use Rattle.csi_orchestrator.specs.declared.thing.Known.TheVariants.{Yes, No, Maybe}
 use Rattle.csi_records.specs.declared.version.RecordVersion.{RecordVersion}
-use Rattle.csi_records.specs.Public.Spelling.{list_spelling}
 use Rattle.csi_records.specs.Public.OrchestratorSpelling.{known_byte, known_bytes, arguments_bytes, id_bytes, target_entry_bytes}
 use Rattle.csi_records.specs.Public.Records.{IsCapabilityIn}
 use Rattle.csi_records.specs.Public.OrchestratorRows.{AreArguments, IsTargetEntry}
 use Rattle.csi_records.specs.Private.Reading.{id_from}
 use Rattle.csi_records.specs.Private.OrchestratorReading.{known_from, read_known, given_id, read_id_if, read_arguments, read_target_entry}
-use Rattle.csi_records.proofs.Readers.{Reads, Given, gives, in_words, Either, either, Spelled, After, Made, after, makes, Always}
+use Rattle.csi_records.proofs.Readers.{Reads, Given, gives, in_words, Either, either, Spelled, After, after, makes, Always, also, fields}
 use Rattle.csi_records.proofs.FieldReaders.{code_reads, flag_reads, word_reads, text_reads, capability_reads}
-use Rattle.csi_records.proofs.ValueReaders.{AreFew, counted_reads, join3}
+use Rattle.csi_records.proofs.ValueReaders.{counted_reads}
 use Rattle.csi_records.proofs.OrchestratorReaders.{SaysNothing, nothing_reads}
 
 -- ---- what is known
@@ -104,70 +99,22 @@ id_if_reads =
 
 -- ---- what a volume was to be created with
 
--- arguments are equal to those of their fields
-abbrev make_arguments : ℕ → ℕ → List Capability → Arguments
-make_arguments required limit capabilities = record { required = required; limit = limit; capabilities = capabilities }
-
--- the fields, one after another
-abbrev SaysArguments : RecordVersion → Arguments → List ℕ → Type 0
-SaysArguments version =
-    After IsWord spelling.word (λ required. After IsWord spelling.word (λ limit. Made (AreFew (IsCapabilityIn version) 8) (list_spelling spelling.capability) (λ capabilities. make_arguments required limit capabilities)))
-
--- the fields are the spelling
-arguments-there : (version : RecordVersion) (value : Arguments) (bytes : List ℕ) → SaysArguments version value bytes → Spelled (AreArguments version) arguments_bytes value bytes
-arguments-there version value bytes s =
-    let s1 = s.second in
-    let s2 = s1.second in
-    subst (λ (v : Arguments). Spelled (AreArguments version) arguments_bytes v bytes) (sym s2.same)
-    (record {
-      fits = record { required = s.fits; limit = s1.fits; count = s2.fits.few; capabilities = s2.fits.each };
-      are = join3 bytes (spelling.word s.before) (spelling.word s1.before) (list_spelling spelling.capability s2.before) s.back s.parts (s1.parts ∙ ap (λ (t : List ℕ). spelling.word s1.before ++ t) s2.are);
-    })
-
--- the spelling is the fields
-arguments-back : (version : RecordVersion) (value : Arguments) (bytes : List ℕ) → Spelled (AreArguments version) arguments_bytes value bytes → SaysArguments version value bytes
-arguments-back version value bytes s =
-    record {
-      before = value.required;
-      fits = s.fits.required;
-      back = spelling.word value.limit ++ list_spelling spelling.capability value.capabilities;
-      parts = s.are ∙ append_assoc (spelling.word value.required) (spelling.word value.limit) (list_spelling spelling.capability value.capabilities);
-      second = record {
-        before = value.limit;
-        fits = s.fits.limit;
-        back = list_spelling spelling.capability value.capabilities;
-        parts = refl;
-        second = record { before = value.capabilities; fits = record { few = s.fits.count; each = s.fits.capabilities }; same = refl; are = refl };
-      };
-    }
-
 -- the reader of arguments reads what spells them
 pub arguments_reads : (version : RecordVersion) → Reads (read_arguments version) (Spelled (AreArguments version) arguments_bytes)
 unfolding read_arguments
 arguments_reads version =
-    in_words (Spelled (AreArguments version) arguments_bytes) (arguments-there version) (arguments-back version)
-    (after word_reads (λ required. after word_reads (λ limit. makes (λ capabilities. make_arguments required limit capabilities) (counted_reads (IsCapabilityIn version) spelling.capability 8 (capability_reads version)))))
+    fields
+    (also word_reads (λ required. also word_reads (λ limit.
+    makes (λ capabilities. record { required = required; limit = limit; capabilities = capabilities }) (counted_reads (IsCapabilityIn version) spelling.capability 8 (capability_reads version)))))
+    (λ a f. ((a.required, (a.limit, a.capabilities)), (f.required, (f.limit, record { few = f.count; each = f.capabilities })), refl))
+    (λ y f. record { required = f.0; limit = f.1.0; count = f.1.1.few; capabilities = f.1.1.each })
+    (λ y. simp append_assoc)
 
 -- ---- targets' entries
-
--- these bytes spell a target's entry
-abbrev SaysTargetEntry : TargetEntry → List ℕ → Type 0
-SaysTargetEntry = After IsTarget spelling.text (λ target. Made Always known_bytes (λ published. record { target = target; published = published }))
-
--- a text and what is known are the spelling of a target's entry
-target-there : (value : TargetEntry) (bytes : List ℕ) → SaysTargetEntry value bytes → Spelled IsTargetEntry target_entry_bytes value bytes
-target-there value bytes s =
-    subst (λ (v : TargetEntry). Spelled IsTargetEntry target_entry_bytes v bytes) (sym s.second.same)
-    (record { fits = s.fits; are = s.parts ∙ ap (λ (t : List ℕ). spelling.text s.before ++ t) s.second.are })
-
--- the spelling of a target's entry is a text and what is known
-target-back : (value : TargetEntry) (bytes : List ℕ) → Spelled IsTargetEntry target_entry_bytes value bytes → SaysTargetEntry value bytes
-target-back value bytes s =
-    record { before = value.target; fits = s.fits; back = known_bytes value.published; parts = s.are; second = record { before = value.published; fits = tt; same = refl; are = refl } }
 
 -- the reader of a target's entry reads what spells one
 pub target_entry_reads : Reads read_target_entry (Spelled IsTargetEntry target_entry_bytes)
 unfolding read_target_entry
 target_entry_reads =
-    in_words (Spelled IsTargetEntry target_entry_bytes) target-there target-back
-    (after (text_reads 1 255) (λ target. makes (λ published. record { target = target; published = published }) known_reads))
+    fields (also (text_reads 1 255) (λ target. makes (λ published. record { target = target; published = published }) known_reads))
+    (λ e f. ((e.target, e.published), (f, tt), refl)) (λ y f. f.0) (λ y. refl)

@@ -1,8 +1,8 @@
 -- The records of both plugins by their layouts.
-use Rattle.std.proofs.Common.{◌≡◌, ℕ, ◌-◌, ◌≤◌, ◌<◌, List, [], ◌∷◌, length, take, drop, map, get_or, Some, None, refl, sym, ap, subst, ◌∙◌, arith}
+use Rattle.std.proofs.Common.{◌≡◌, ℕ, ◌≤◌, ◌<◌, List, [], ◌∷◌, length, take, map, get_or, Some, None, refl, sym, ap, subst, ◌∙◌, arith}
 use Rattle.std.specs.Prelude.{Option, IfSome}
 use Rattle.std.specs.List.{AllByRecursion}
-use Rattle.std.proofs.lemmas.List.{take_rest, take-map, length-append, length-take, length-map, get_or-take}
+use Rattle.std.proofs.lemmas.List.{take-map, length-append, length-take, length-map, get_or-take}
 use Rattle.std.proofs.lemmas.List.Elements.{All-take, recursion_from_All}
 use Rattle.csi_controller.specs.declared.row.ControllerRow.{ControllerRow}
 use Rattle.csi_controller.specs.Model.State.{Volume}
@@ -81,12 +81,6 @@ controller_one version = record {
   fronts = λ head shown k are. (take k are.0, sym (take-map volume_row k are.0) ∙ ap (take k) are.1, controller-take head.own head.session are.0 k are.2);
 }
 
--- parts, the first apart
-pub stored-split : (parts : List Part) (head : Part) → 1 ≤ length parts → head ≡ get_or parts 0 head → all_stored_in parts ≡ stored_in head ∷ all_stored_in (take (length parts - 1) (drop 1 parts))
-stored-split [] head some is = absurd (omega arith)
-stored-split (p ∷ ps) head some is =
-    ap (λ (q : Part). stored_in q ∷ all_stored_in ps) (sym is) ∙ ap (λ (qs : List Part). stored_in head ∷ all_stored_in qs) (sym (take_rest (p ∷ ps) 1))
-
 -- ---- a node's
 
 -- a front of a node's record keeps a record's rules
@@ -127,13 +121,13 @@ node_one version wanted = record {
 }
 
 -- another node's head
-pub node-unasked : (version : RecordVersion) (wanted : Option (List ℕ)) (head : Head (List ℕ)) (parts : List StoredPart) → IsHead IsNodeId version head → (IfSome wanted (λ id. head.own ≡ id) → ⊥)
-    → IsRefusedAt (IsRecordOf (node_layout version wanted)) (node_head version head.own head.session ∷ parts) 0
-node-unasked version wanted head parts fits other =
-    head-refused (node_layout version wanted) (node_head version head.own head.session) parts
-    (λ first fit same.
-    let is : first ≡ head = same_part (node_head_read version) first head (named version wanted first fit) fits same in
-    other (subst (λ (h : Head (List ℕ)). IfSome wanted (λ id. h.own ≡ id)) is fit.own.1))
+pub node-unasked : (version : RecordVersion) (wanted : Option (List ℕ)) (head : Head (List ℕ)) (parts : List Part) (item : Part) → 1 ≤ length parts → item ≡ get_or parts 0 item → node_head version head.own head.session ≡ stored_in item
+    → IsHead IsNodeId version head → (IfSome wanted (λ id. head.own ≡ id) → ⊥) → IsRefusedAt (IsRecordOf (node_layout version wanted)) (all_stored_in parts) 0
+node-unasked version wanted head parts item some is same fits other =
+    head-refused (node_layout version wanted) parts item some is
+    (λ first fit there.
+    let own : first ≡ head = same_part (node_head_read version) first head (named version wanted first fit) fits (there ∙ sym same) in
+    other (subst (λ (h : Head (List ℕ)). IfSome wanted (λ id. h.own ≡ id)) own fit.own.1))
 
 -- what keeps the rules can be written
 few-each : (rows : List NodeRow) → AllByRecursion IsSoundRow (map node_row_shown rows) → AllByRecursion ArePublishedFew rows

@@ -4,28 +4,15 @@ use Rattle.std.specs.Prelude.{Option, IfSome}
 use Rattle.std.specs.List.{flat_map, AllByRecursion}
 use Rattle.std.proofs.lemmas.List.Concat.{flat_map-cons}
 use Rattle.csi_types.specs.declared.capability.Capability.{Capability}
-use Rattle.csi_types.specs.declared.reply.Reply.{Reply}
-use Rattle.csi_fence.specs.Model.Fence.{Kept}
-use Rattle.csi_types.specs.Public.Status.{status_code}
-use Rattle.csi_types.specs.Model.Same.{kind_number}
-use Rattle.csi_types.specs.Public.Text.{IsText, IsNodeId, IsTarget}
 use Rattle.csi_types.specs.Public.VolumeId.{IsVolumeId}
-use Rattle.csi_types.specs.Public.Limits.{IsWord, IsNumber, IsReply}
+use Rattle.csi_types.specs.Public.Limits.{IsWord, IsReply}
 use Rattle.csi_records.specs.declared.version.RecordVersion.{RecordVersion}
 use Rattle.csi_frames.specs.Public.Spelling as spelling
-use Rattle.csi_controller.specs.declared.row.NodeHolding.{NodeHolding}
-use Rattle.csi_node.specs.declared.row.NodeTarget.{NodeTarget}
 use Rattle.csi_records.specs.Private.Reading.{Reader, read_items, read_counted, read_holding, read_target, read_reply_id, read_reply, read_kept, read_staged, id_from}
 use Rattle.csi_records.specs.Public.Spelling.{list_spelling, holding_bytes, target_bytes, kept_bytes, staged_bytes}
 use Rattle.csi_records.specs.Public.Records.{IsCapabilityIn, IsKeptCall, IsHolding, IsTargetRow, IsStagedSo}
-use Rattle.csi_records.proofs.Readers.{Reads, Given, gives, in_words, Either, either, Spelled, After, Made, after, makes, Always}
-use Rattle.csi_records.proofs.FieldReaders.{flag_reads, capability_reads, number_bytes, number_reads, status_reads, kind_reads, count_reads, word_reads, text_reads, IsCount, one_byte}
-
--- ---- what is made of fields one after another, as one list
-
--- what is one piece and then a middle, which is two more, is the three pieces
-pub join3 : (whole a b c mid : List ℕ) → whole ≡ a ++ mid → mid ≡ b ++ c → whole ≡ a ++ b ++ c
-join3 whole a b c mid one two = one ∙ ap (λ (t : List ℕ). a ++ t) two ∙ sym (append_assoc a b c)
+use Rattle.csi_records.proofs.Readers.{Reads, Given, gives, in_words, Either, either, Spelled, After, Made, after, makes, Always, also, fields}
+use Rattle.csi_records.proofs.FieldReaders.{flag_reads, capability_reads, number_reads, status_reads, kind_reads, count_reads, word_reads, text_reads, IsCount, one_byte}
 
 -- ---- so many
 
@@ -117,66 +104,19 @@ counted_reads Fits spell most one =
 
 -- ---- holdings and targets
 
--- these bytes spell a holding of this version
-abbrev SaysHolding : RecordVersion → NodeHolding → List ℕ → Type 0
-SaysHolding version = After IsNodeId spelling.text (λ node. After (IsCapabilityIn version) spelling.capability (λ capability. Made Always spelling.flag (λ readonly. record { node = node; capability = capability; readonly = readonly })))
-
--- a node id, a capability and a flag are the spelling of a holding
-holding-there : (version : RecordVersion) (value : NodeHolding) (bytes : List ℕ) → SaysHolding version value bytes → Spelled (IsHolding version) holding_bytes value bytes
-holding-there version value bytes s =
-    let s1 = s.second in
-    let s2 = s1.second in
-    subst (λ (v : NodeHolding). Spelled (IsHolding version) holding_bytes v bytes) (sym s2.same)
-    (record {
-      fits = record { node = s.fits; capability = s1.fits };
-      are = join3 bytes (spelling.text s.before) (spelling.capability s1.before) (spelling.flag s2.before) s.back s.parts (s1.parts ∙ ap (λ (t : List ℕ). spelling.capability s1.before ++ t) s2.are);
-    })
-
--- the spelling of a holding is a node id, a capability and a flag
-holding-back : (version : RecordVersion) (value : NodeHolding) (bytes : List ℕ) → Spelled (IsHolding version) holding_bytes value bytes → SaysHolding version value bytes
-holding-back version value bytes s =
-    record {
-      before = value.node;
-      fits = s.fits.node;
-      back = spelling.capability value.capability ++ spelling.flag value.readonly;
-      parts = s.are ∙ append_assoc (spelling.text value.node) (spelling.capability value.capability) (spelling.flag value.readonly);
-      second = record {
-        before = value.capability;
-        fits = s.fits.capability;
-        back = spelling.flag value.readonly;
-        parts = refl;
-        second = record { before = value.readonly; fits = tt; same = refl; are = refl };
-      };
-    }
-
 -- the reader of a holding reads what spells one
 pub holding_reads : (version : RecordVersion) → Reads (read_holding version) (Spelled (IsHolding version) holding_bytes)
 unfolding read_holding
 holding_reads version =
-    in_words (Spelled (IsHolding version) holding_bytes) (holding-there version) (holding-back version)
-    (after (text_reads 1 255) (λ node. after (capability_reads version) (λ capability. makes (λ readonly. record { node = node; capability = capability; readonly = readonly }) flag_reads)))
-
--- these bytes spell a target
-abbrev SaysTarget : NodeTarget → List ℕ → Type 0
-SaysTarget = After IsTarget spelling.text (λ target. Made Always spelling.flag (λ readonly. record { target = target; readonly = readonly }))
-
--- a text and a flag are the spelling of a target
-target-there : (value : NodeTarget) (bytes : List ℕ) → SaysTarget value bytes → Spelled IsTargetRow target_bytes value bytes
-target-there value bytes s =
-    subst (λ (v : NodeTarget). Spelled IsTargetRow target_bytes v bytes) (sym s.second.same)
-    (record { fits = s.fits; are = s.parts ∙ ap (λ (t : List ℕ). spelling.text s.before ++ t) s.second.are })
-
--- the spelling of a target is a text and a flag
-target-back : (value : NodeTarget) (bytes : List ℕ) → Spelled IsTargetRow target_bytes value bytes → SaysTarget value bytes
-target-back value bytes s =
-    record { before = value.target; fits = s.fits; back = spelling.flag value.readonly; parts = s.are; second = record { before = value.readonly; fits = tt; same = refl; are = refl } }
+    fields (also (text_reads 1 255) (λ node. also (capability_reads version) (λ capability. makes (λ readonly. record { node = node; capability = capability; readonly = readonly }) flag_reads)))
+    (λ h f. ((h.node, (h.capability, h.readonly)), (f.node, (f.capability, tt)), refl)) (λ y f. record { node = f.0; capability = f.1.0 }) (λ y. simp append_assoc)
 
 -- the reader of a target reads what spells one
 pub target_reads : Reads read_target (Spelled IsTargetRow target_bytes)
 unfolding read_target
 target_reads =
-    in_words (Spelled IsTargetRow target_bytes) target-there target-back
-    (after (text_reads 1 255) (λ target. makes (λ readonly. record { target = target; readonly = readonly }) flag_reads))
+    fields (also (text_reads 1 255) (λ target. makes (λ readonly. record { target = target; readonly = readonly }) flag_reads))
+    (λ t f. ((t.target, t.readonly), (f, tt), refl)) (λ y f. f.0) (λ y. refl)
 
 -- ---- a reply
 
@@ -184,107 +124,37 @@ target_reads =
 abbrev IsReplyId : Option ℕ → Type 0
 IsReplyId id = IfSome id IsVolumeId
 
--- a number of 64 bits stands for an id or, where it is 0, for none, and is spelled as that is
-id-there : (n : ℕ) → IsWord n → IfSome (id_from n) IsVolumeId × (spelling.word n ≡ spelling.reply_id (id_from n))
-id-there zero fits = (tt, refl)
-id-there (suc n) fits = (record { from_one = omega arith; in_range = fits }, refl)
-
--- an id, or none, is spelled as the number that stands for it
-id-back : (id : Option ℕ) → IsReplyId id → (n : ℕ) × IsWord n × (spelling.reply_id id ≡ spelling.word n) × (id ≡ id_from n)
-id-back None fits = (0, omega arith, refl, refl)
-id-back (Some zero) fits = absurd (omega (arith, fits.from_one))
-id-back (Some (suc n)) fits = (suc n, fits.in_range, refl, refl)
-
--- the reader of a reply's id reads what spells one, or none
+-- the reader of a reply's id reads what spells one, or none: a number that is 0 where there is none
 reply_id_reads : Reads read_reply_id (Spelled IsReplyId spelling.reply_id)
 unfolding read_reply_id
-reply_id_reads =
-    in_words (Spelled IsReplyId spelling.reply_id)
-    (λ value bytes s.
-    let p = id-there s.before s.fits in
-    subst (λ (v : Option ℕ). Spelled IsReplyId spelling.reply_id v bytes) (sym s.same) (record { fits = p.0; are = s.are ∙ p.1 }))
-    (λ value bytes s. let p = id-back value s.fits in record { before = p.0; fits = p.1; same = p.3; are = s.are ∙ p.2 })
-    (makes id_from word_reads)
+reply_id_reads = fields (makes id_from word_reads) apart whole same
+  where
+    apart : (id : Option ℕ) → IsReplyId id → (n : ℕ) × IsWord n × (id ≡ id_from n)
+    apart None fits = (0, omega arith, refl)
+    apart (Some zero) fits = absurd (omega (arith, fits.from_one))
+    apart (Some (suc n)) fits = (suc n, fits.in_range, refl)
 
--- these bytes spell a reply
-abbrev SaysReply : Reply → List ℕ → Type 0
-SaysReply =
-    After Always (λ status. status_code status ∷ []) (λ status. After IsReplyId spelling.reply_id (λ id. Made (IsText 0 255) spelling.text (λ detail. record { status = status; id = id; detail = detail })))
+    whole : (n : ℕ) → IsWord n → IsReplyId (id_from n)
+    whole zero fits = tt
+    whole (suc n) fits = record { from_one = omega arith; in_range = fits }
 
--- a status, an id and a detail are the spelling of a reply
-reply-there : (value : Reply) (bytes : List ℕ) → SaysReply value bytes → Spelled IsReply spelling.reply_fields value bytes
-reply-there value bytes s =
-    let s1 = s.second in
-    let s2 = s1.second in
-    subst (λ (v : Reply). Spelled IsReply spelling.reply_fields v bytes) (sym s2.same)
-    (record {
-      fits = record { id_fits = s1.fits; detail_fits = s2.fits };
-      are = join3 bytes (status_code s.before ∷ []) (spelling.reply_id s1.before) (spelling.text s2.before) s.back s.parts (s1.parts ∙ ap (λ (t : List ℕ). spelling.reply_id s1.before ++ t) s2.are);
-    })
-
--- the spelling of a reply is a status, an id and a detail
-reply-back : (value : Reply) (bytes : List ℕ) → Spelled IsReply spelling.reply_fields value bytes → SaysReply value bytes
-reply-back value bytes s =
-    record {
-      before = value.status;
-      fits = tt;
-      back = spelling.reply_id value.id ++ spelling.text value.detail;
-      parts = s.are;
-      second = record {
-        before = value.id;
-        fits = s.fits.id_fits;
-        back = spelling.text value.detail;
-        parts = refl;
-        second = record { before = value.detail; fits = s.fits.detail_fits; same = refl; are = refl };
-      };
-    }
+    same : (n : ℕ) → spelling.word n ≡ spelling.reply_id (id_from n)
+    same zero = refl
+    same (suc n) = refl
 
 -- the reader of a reply reads what spells one
 reply_reads : Reads read_reply (Spelled IsReply spelling.reply_fields)
 unfolding read_reply
 reply_reads =
-    in_words (Spelled IsReply spelling.reply_fields) reply-there reply-back
-    (after status_reads (λ status. after reply_id_reads (λ id. makes (λ detail. record { status = status; id = id; detail = detail }) (text_reads 0 255))))
-
--- these bytes spell a kept call
-abbrev SaysKept : Kept → List ℕ → Type 0
-SaysKept =
-    After IsNumber number_bytes (λ number. After Always (λ kind. (128 + kind_number kind) ∷ []) (λ kind. Made IsReply spelling.reply_fields (λ reply. record { number = number; kind = kind; reply = reply })))
-
--- a call's number, a kind byte and a reply are the spelling of what is kept
-kept-there : (value : Kept) (bytes : List ℕ) → SaysKept value bytes → Spelled IsKeptCall kept_bytes value bytes
-kept-there value bytes s =
-    let s1 = s.second in
-    let s2 = s1.second in
-    subst (λ (v : Kept). Spelled IsKeptCall kept_bytes v bytes) (sym s2.same)
-    (record {
-      fits = record { number = s.fits; reply = s2.fits };
-      are = s.parts ∙ ap (λ (t : List ℕ). number_bytes s.before ++ t) (s1.parts ∙ ap (λ (t : List ℕ). (128 + kind_number s1.before) ∷ t) s2.are);
-    })
-
--- the spelling of what is kept is a call's number, a kind byte and a reply
-kept-back : (value : Kept) (bytes : List ℕ) → Spelled IsKeptCall kept_bytes value bytes → SaysKept value bytes
-kept-back value bytes s =
-    record {
-      before = value.number;
-      fits = s.fits.number;
-      back = (128 + kind_number value.kind) ∷ spelling.reply_fields value.reply;
-      parts = s.are;
-      second = record {
-        before = value.kind;
-        fits = tt;
-        back = spelling.reply_fields value.reply;
-        parts = refl;
-        second = record { before = value.reply; fits = s.fits.reply; same = refl; are = refl };
-      };
-    }
+    fields (also status_reads (λ status. also reply_id_reads (λ id. makes (λ detail. record { status = status; id = id; detail = detail }) (text_reads 0 255))))
+    (λ r f. ((r.status, (r.id, r.detail)), (tt, (f.id_fits, f.detail_fits)), refl)) (λ y f. record { id_fits = f.1.0; detail_fits = f.1.1 }) (λ y. refl)
 
 -- the reader of what is kept reads what spells it
 pub kept_reads : Reads read_kept (Spelled IsKeptCall kept_bytes)
 unfolding read_kept
 kept_reads =
-    in_words (Spelled IsKeptCall kept_bytes) kept-there kept-back
-    (after number_reads (λ number. after kind_reads (λ kind. makes (λ reply. record { number = number; kind = kind; reply = reply }) reply_reads)))
+    fields (also number_reads (λ number. also kind_reads (λ kind. makes (λ reply. record { number = number; kind = kind; reply = reply }) reply_reads)))
+    (λ k f. ((k.number, (k.kind, k.reply)), (f.number, (tt, f.reply)), refl)) (λ y f. record { number = f.0; reply = f.1.1 }) (λ y. refl)
 
 -- ---- how a volume is staged
 
