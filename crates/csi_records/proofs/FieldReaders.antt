@@ -158,10 +158,8 @@ code_reads {A} value_of number code =
 -- a byte that stands for live or deleted is the one that spells it
 live-back : (b : ℕ) (a : Bool) → live_from b ≡ Some a → state_byte a ≡ b
 live-back zero a e = absurd cc
-live-back (suc zero) true e = refl
-live-back (suc zero) false e = absurd cc
-live-back (suc (suc zero)) true e = absurd cc
-live-back (suc (suc zero)) false e = refl
+live-back (suc zero) a e = ap state_byte (sym (same_Some true a e))
+live-back (suc (suc zero)) a e = ap state_byte (sym (same_Some false a e))
 live-back (suc (suc (suc n))) a e = absurd cc
 
 -- the byte that spells live or deleted stands for it
@@ -196,15 +194,9 @@ kind_reads = code_reads reply_kind_from (λ kind. 128 + kind_number kind) (recor
 -- a byte that stands for a version is its number, and each version is found at its number
 version-back : (b : ℕ) (version : RecordVersion) → record_version_from_number b ≡ Some version → record_version_number version ≡ b
 version-back zero version e = absurd cc
-version-back (suc zero) One e = refl
-version-back (suc zero) Two e = absurd cc
-version-back (suc zero) Three e = absurd cc
-version-back (suc (suc zero)) One e = absurd cc
-version-back (suc (suc zero)) Two e = refl
-version-back (suc (suc zero)) Three e = absurd cc
-version-back (suc (suc (suc zero))) One e = absurd cc
-version-back (suc (suc (suc zero))) Two e = absurd cc
-version-back (suc (suc (suc zero))) Three e = refl
+version-back (suc zero) version e = ap record_version_number (sym (same_Some One version e))
+version-back (suc (suc zero)) version e = ap record_version_number (sym (same_Some Two version e))
+version-back (suc (suc (suc zero))) version e = ap record_version_number (sym (same_Some Three version e))
 version-back (suc (suc (suc (suc n)))) version e = absurd cc
 
 -- each version is found at its number

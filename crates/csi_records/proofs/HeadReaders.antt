@@ -1,15 +1,15 @@
 -- The readers of heads read what is spelled.
-use Rattle.std.proofs.Common.{ℕ, Bool, true, false, List, [], ◌∷◌, ◌++◌, Some, None, refl, sym, ap, subst, ◌∙◌}
+use Rattle.std.proofs.Common.{◌≡◌, cond, ℕ, Bool, true, false, List, [], ◌∷◌, ◌++◌, Some, None, refl, ap, ◌∙◌}
 use Rattle.std.specs.Prelude.{Option}
 use Rattle.csi_types.specs.Public.Text.{IsNodeId}
 use Rattle.csi_types.specs.Public.Limits.{IsWord}
 use Rattle.csi_records.specs.declared.version.RecordVersion.{RecordVersion}
 use Rattle.csi_records.specs.Public.Version.{has_session}
 use Rattle.csi_frames.specs.Public.Spelling as spelling
-use Rattle.csi_records.specs.Private.Reading.{Reader, go_on, ◌>>=◌, give, read_tag, read_session, read_controller_head, read_node_head}
+use Rattle.csi_records.specs.Private.Reading.{Reader, go_on, ◌>>=◌, give, read_tag, read_word, read_session, read_controller_head, read_node_head}
 use Rattle.csi_records.specs.Public.Spelling.{session_bytes}
 use Rattle.csi_records.specs.Public.Records.{Head, IsSessionIf, IsHead}
-use Rattle.csi_records.proofs.Readers.{Reads, then, Given, gives, in_words, Either, either, Spelled, Made, makes, also, fields}
+use Rattle.csi_records.proofs.Readers.{Reads, then, in_words, Spelled, makes, also, fields, gives_only}
 use Rattle.csi_records.proofs.FieldReaders.{word_reads, text_reads, tag_reads}
 
 -- a reader behind a given byte reads that byte and what it reads itself
@@ -20,28 +20,22 @@ tagged {A} {read} n Fits spell one =
     (λ value bytes s. record { before = tt; front = n ∷ []; back = spell value; parts = s.are; first = record { one = refl }; second = record { fits = s.fits; are = refl } })
     (then (tag_reads n) (λ _. one))
 
--- the session is read, or none is asked for, by whether the version has it
-abbrev WasSession : Bool → Option ℕ → List ℕ → Type 0
-WasSession has = Either has (Made IsWord spelling.word (λ session. Some session)) (Given None)
-
--- what was read of the session, or of none, is its spelling
-session-there : (has : Bool) (value : Option ℕ) (bytes : List ℕ) → WasSession has value bytes → Spelled (IsSessionIf has) session_bytes value bytes
-session-there true value bytes s = subst (λ (v : Option ℕ). Spelled (IsSessionIf true) session_bytes v bytes) (sym s.same) (record { fits = s.fits; are = s.are })
-session-there false value bytes s = subst (λ (v : Option ℕ). Spelled (IsSessionIf false) session_bytes v bytes) (sym s.same) (record { fits = tt; are = s.none })
-
--- the spelling of the session, or of none, is what is read
-session-back : (has : Bool) (value : Option ℕ) (bytes : List ℕ) → Spelled (IsSessionIf has) session_bytes value bytes → WasSession has value bytes
-session-back true None bytes s = absurd s.fits
-session-back true (Some session) bytes s = record { before = session; fits = s.fits; same = refl; are = s.are }
-session-back false None bytes s = record { same = refl; none = s.are }
-session-back false (Some session) bytes s = absurd s.fits
-
 -- the reader of the session reads what spells it, where the version has it, and nothing else
 session_reads : (version : RecordVersion) → Reads (read_session version) (Spelled (IsSessionIf (has_session version)) session_bytes)
 unfolding read_session
-session_reads version =
-    in_words (Spelled (IsSessionIf (has_session version)) session_bytes) (session-there (has_session version)) (session-back (has_session version))
-    (either (has_session version) (makes (λ session. Some session) word_reads) (gives None))
+session_reads version = by (has_session version)
+  where
+    one : (session : Option ℕ) → IsSessionIf true session → (n : ℕ) × IsWord n × (session ≡ Some n)
+    one None fits = absurd fits
+    one (Some n) fits = (n, fits, refl)
+
+    none : (session : Option ℕ) → IsSessionIf false session → session ≡ None
+    none None fits = refl
+    none (Some n) fits = absurd fits
+
+    by : (has : Bool) → Reads (cond has (read_word >>= λ session. give (Some session)) (give None)) (Spelled (IsSessionIf has) session_bytes)
+    by true = fields (makes (λ session. Some session) word_reads) one (λ n fits. fits) (λ n. refl)
+    by false = gives_only None tt refl none
 
 -- a head is equal to one of its fields
 abbrev make_head : {X : Type 0} → X → Option ℕ → Head X

@@ -12,7 +12,7 @@ use Rattle.csi_records.specs.Public.Spelling.{present}
 use Rattle.csi_records.specs.Public.OrchestratorSpelling.{KeyedRow, orchestrator_part}
 use Rattle.csi_records.specs.Public.OrchestratorRecords.{keyed_from, IsKeyedRow}
 use Rattle.csi_records.proofs.KeyedRows.{make_keyed, keyed-push}
-use Rattle.csi_records.proofs.WritingPieces.{one_more, put-more}
+use Rattle.csi_records.proofs.WritingPieces.{one_more, one_more_told, put-push}
 
 -- rows under the keys from 1 on, as they are shown
 abbrev pub keyed_rows : List Row → List KeyedRow
@@ -51,11 +51,10 @@ one_more_read version rows row parts index part place inside is place_is so fits
 pub one_more_keyed : (rows : List Row) (index : ℕ) (row : Row) (place : ℕ) (old before after : List StoredChange) → index < length rows → row ≡ get_or rows index row → place ≡ index + 1
     → before ≡ old ++ put_all (map (orchestrator_part present) (keyed_rows (take index rows))) → after ≡ before ++ put_all (orchestrator_part present (make_keyed place (row_shown row)) ∷ [])
     → after ≡ old ++ put_all (map (orchestrator_part present) (keyed_rows (take (index + 1) rows)))
-one_more_keyed rows index row place old before after inside is place_is so_far one =
+one_more_keyed rows index row place old before after inside is place_is =
     let so_many : length (take index rows) ≡ index = length-take-le index rows (omega (arith, inside)) in
     let keyed = make_keyed place (row_shown row) in
-    let parts_so_far = map (orchestrator_part present) (keyed_rows (take index rows)) in
-    let more : map (orchestrator_part present) (keyed_rows (take (index + 1) rows)) ≡ parts_so_far ++ orchestrator_part present keyed ∷ [] =
-    ap (λ (rs : List Row). map (orchestrator_part present) (keyed_rows rs)) (one_more rows index row inside is)
-    ∙ ap (map (orchestrator_part present)) (keyed-more (take index rows) row place (omega (arith, so_many, place_is))) ∙ map_push (orchestrator_part present) (keyed_rows (take index rows)) keyed in
-    put-more old before after parts_so_far (orchestrator_part present keyed ∷ []) so_far one ∙ ap (λ (ps : List StoredPart). old ++ put_all ps) (sym more)
+    let rows_so_far = keyed_rows (take index rows) in
+    one_more_told (λ xs. put_all (map (orchestrator_part present) (keyed_rows xs))) rows index row (put_all (orchestrator_part present keyed ∷ [])) old before after inside is
+    (ap (λ ks. put_all (map (orchestrator_part present) ks)) (keyed-more (take index rows) row place (omega (arith, so_many, place_is))) ∙ ap put_all (map_push (orchestrator_part present) rows_so_far keyed)
+    ∙ put-push (map (orchestrator_part present) rows_so_far) (orchestrator_part present keyed))

@@ -20,5 +20,4 @@ pub mod KeyedRows
 pub mod OrchestratorSizes
 pub mod KeyedParts
 pub mod OrchestratorLayouts
-pub mod KindsApart
 pub mod OrchestratorBytes

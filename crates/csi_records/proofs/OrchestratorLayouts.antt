@@ -24,7 +24,7 @@ use Rattle.csi_records.proofs.Layouts.{IsOneToOne, head-refused}
 use Rattle.csi_records.proofs.OrchestratorReaders.{orchestrator_head_read}
 use Rattle.csi_records.proofs.OrchestratorSizes.{orchestrator_head_size, orchestrator_row_size}
 use Rattle.csi_records.proofs.PartReaders.{make_part, same_part}
-use Rattle.csi_records.proofs.Versions.{AreVersioned}
+use Rattle.csi_records.proofs.Versions.{AreOfKind}
 
 -- equal parts of rows mean equal rows under equal keys
 same-keyed : (version : RecordVersion) (a b : KeyedRow) → IsKeyedRow version a → IsKeyedRow version b → orchestrator_part version a ≡ orchestrator_part version b → a ≡ b
@@ -50,9 +50,9 @@ orchestrator_plain version = record {
   few = λ head keyed are. omega (arith, are.rules.few, keyed-length 1 are.rows, ap length are.places);
 }
 
--- an orchestrator's head begins with the byte of its version
-pub orchestrator_versioned : AreVersioned orchestrator_layout
-orchestrator_versioned = record { heads = λ version head. version-found version }
+-- an orchestrator's heads have the byte 2 behind that of their version
+pub orchestrator_kind : AreOfKind orchestrator_layout 2
+orchestrator_kind = record { versions = λ version head. version-found version; kinds = λ version head. refl }
 
 -- ---- what was read
 

@@ -2,6 +2,7 @@
 use Rattle.std.proofs.Common.{◌≡◌, ℕ, zero, suc, Bool, true, false, List, [], ◌∷◌, ◌++◌, Some, None, refl, sym, ap, subst, ◌∙◌, append_assoc, arith}
 use Rattle.std.specs.Prelude.{Option, IfSome}
 use Rattle.std.proofs.lemmas.List.{append-nil}
+use Rattle.std.proofs.lemmas.Option.{same_Some}
 use Rattle.csi_types.specs.Public.Limits.{IsWord}
 use Rattle.csi_types.specs.Public.VolumeId.{IsVolumeId}
 use Rattle.csi_frames.specs.Public.Spelling as spelling
@@ -22,15 +23,9 @@ use Rattle.csi_records.proofs.OrchestratorReaders.{SaysNothing, nothing_reads}
 
 -- a byte that stands for what is known is the one that spells it
 known-back : (b : ℕ) (a : Known) → known_from b ≡ Some a → known_byte a ≡ b
-known-back zero No e = refl
-known-back zero Yes e = absurd cc
-known-back zero Maybe e = absurd cc
-known-back (suc zero) No e = absurd cc
-known-back (suc zero) Yes e = refl
-known-back (suc zero) Maybe e = absurd cc
-known-back (suc (suc zero)) No e = absurd cc
-known-back (suc (suc zero)) Yes e = absurd cc
-known-back (suc (suc zero)) Maybe e = refl
+known-back zero a e = ap known_byte (sym (same_Some No a e))
+known-back (suc zero) a e = ap known_byte (sym (same_Some Yes a e))
+known-back (suc (suc zero)) a e = ap known_byte (sym (same_Some Maybe a e))
 known-back (suc (suc (suc n))) a e = absurd cc
 
 -- the byte that spells what is known stands for it

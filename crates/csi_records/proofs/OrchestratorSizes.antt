@@ -1,7 +1,6 @@
 -- How long the values of an orchestrator's parts are at most.
-use Rattle.std.proofs.Common.{◌≡◌, ℕ, ◌+◌, ◌*◌, ◌≤◌, List, [], ◌∷◌, ◌++◌, length, Some, None, arith}
+use Rattle.std.proofs.Common.{◌≡◌, ℕ, ◌+◌, ◌≤◌, List, ◌∷◌, ◌++◌, length, Some, None, arith}
 use Rattle.std.specs.Prelude.{Option}
-use Rattle.std.specs.List.{flat_map, AllByRecursion}
 use Rattle.std.proofs.lemmas.List.{length-append}
 use Rattle.csi_types.specs.Public.Text.{IsNodeId}
 use Rattle.csi_frames.specs.Public.Spelling as spelling
@@ -16,21 +15,21 @@ use Rattle.csi_records.specs.Public.Version.{record_version_number}
 use Rattle.csi_records.specs.Public.Spelling.{list_spelling}
 use Rattle.csi_records.specs.Public.OrchestratorSpelling.{orchestrator_head, known_bytes, arguments_bytes, id_bytes, usage_bytes, goal_bytes, target_entry_bytes, node_entry_bytes, orchestrator_row}
 use Rattle.csi_records.specs.Public.OrchestratorRows.{OrchestratorHeadShown, IsOrchestratorHead, AreArguments, IsUsage, IsGoal, IsTargetEntry, IsNodeEntry, IsOrchestratorRow}
-use Rattle.csi_records.proofs.ValueSizes.{capability-size, capabilities-size, length3, length6}
+use Rattle.csi_records.proofs.ValueSizes.{capability-size, flat-size, length3, length6}
+use Rattle.csi_records.specs.Public.Records.{IsCapabilityIn}
 
 -- the length of four pieces is the sum of theirs
 length4 : (a b c d : List ℕ) → length (a ++ b ++ c ++ d) ≡ length a + length b + length c + length d
 length4 a b c d = simp length-append
 
--- node ids have at most 256 bytes each
-nodes-size : (nodes : List (List ℕ)) → AllByRecursion IsNodeId nodes → length (flat_map spelling.text nodes) ≤ 256 * length nodes
-nodes-size [] fits = omega arith
-nodes-size (node ∷ nodes) fits = omega (arith, fits.0.no_longer, nodes-size nodes fits.1, length-append (spelling.text node) (flat_map spelling.text nodes))
+-- a node's id has at most 256 bytes
+node-size : (node : List ℕ) → IsNodeId node → length (spelling.text node) ≤ 256
+node-size node fits = omega (arith, fits.no_longer)
 
 -- a head has at most 16,395 bytes
 pub orchestrator_head_size : (version : RecordVersion) (head : OrchestratorHeadShown) → IsOrchestratorHead version head → length (orchestrator_head version head.session head.nodes).value ≤ 16395
 orchestrator_head_size version head fits =
-    omega (arith, fits.count, nodes-size head.nodes fits.nodes, length-append (spelling.word head.session) (list_spelling spelling.text head.nodes))
+    omega (arith, fits.count, flat-size IsNodeId spelling.text 256 node-size head.nodes fits.nodes, length-append (spelling.word head.session) (list_spelling spelling.text head.nodes))
 
 -- what a volume was to be created with has at most 1,065 bytes
 arguments-size : (version : RecordVersion) (arguments : Arguments) → AreArguments version arguments → length (arguments_bytes arguments) ≤ 1065
@@ -38,7 +37,7 @@ arguments-size version arguments fits =
     omega (
       arith,
       fits.count,
-      capabilities-size version arguments.capabilities fits.capabilities,
+      flat-size (IsCapabilityIn version) spelling.capability 131 (capability-size version) arguments.capabilities fits.capabilities,
       length3 (spelling.word arguments.required) (spelling.word arguments.limit) (list_spelling spelling.capability arguments.capabilities),
     )
 
@@ -66,17 +65,9 @@ goal-size version (Some (Use usage)) fits = omega (arith, usage-size version usa
 goal-size version (Some (Stop node target)) fits = omega (arith, fits.0.no_longer, fits.1.no_longer, length-append (spelling.text node) (spelling.text target))
 goal-size version (Some Delete) fits = omega arith
 
--- targets' entries have at most 257 bytes each
-target-entries-size : (entries : List TargetEntry) → AllByRecursion IsTargetEntry entries → length (flat_map target_entry_bytes entries) ≤ 257 * length entries
-target-entries-size [] fits = omega arith
-target-entries-size (entry ∷ entries) fits =
-    omega (
-      arith,
-      fits.0.no_longer,
-      target-entries-size entries fits.1,
-      length-append (spelling.text entry.target) (known_bytes entry.published),
-      length-append (target_entry_bytes entry) (flat_map target_entry_bytes entries),
-    )
+-- a target's entry has at most 257 bytes
+target-entry-size : (entry : TargetEntry) → IsTargetEntry entry → length (target_entry_bytes entry) ≤ 257
+target-entry-size entry fits = omega (arith, fits.no_longer, length-append (spelling.text entry.target) (known_bytes entry.published))
 
 -- a node's entry has at most 4,503 bytes
 node-entry-size : (version : RecordVersion) (entry : NodeEntryShown) → IsNodeEntry version entry → length (node_entry_bytes entry) ≤ 4503
@@ -86,16 +77,10 @@ node-entry-size version entry fits =
       fits.node.no_longer,
       capability-size version entry.capability fits.capability,
       fits.count,
-      target-entries-size entry.target_entries fits.targets,
+      flat-size IsTargetEntry target_entry_bytes 257 target-entry-size entry.target_entries fits.targets,
       length6 (spelling.text entry.node) (spelling.capability entry.capability) (spelling.flag entry.readonly) (known_bytes entry.attached) (known_bytes entry.staged)
           (list_spelling target_entry_bytes entry.target_entries),
     )
-
--- nodes' entries have at most 4,503 bytes each
-node-entries-size : (version : RecordVersion) (entries : List NodeEntryShown) → AllByRecursion (IsNodeEntry version) entries → length (flat_map node_entry_bytes entries) ≤ 4503 * length entries
-node-entries-size version [] fits = omega arith
-node-entries-size version (entry ∷ entries) fits =
-    omega (arith, node-entry-size version entry fits.0, node-entries-size version entries fits.1, length-append (node_entry_bytes entry) (flat_map node_entry_bytes entries))
 
 -- six lengths below these limits
 row-limit : (n a b c d e f : ℕ) → n ≡ a + b + c + d + e + f → a ≤ 130 → b ≤ 1065 → c ≤ 9 → d ≤ 1 → e ≤ 645 → f ≤ 288194 → n ≤ 290044
@@ -112,4 +97,4 @@ orchestrator_row_size version row fits =
     let f : List ℕ = row.tries ∷ list_spelling node_entry_bytes row.node_entries in
     row-limit (length (orchestrator_row version row)) (length a) (length b) (length c) (length d) (length e) (length f) (length6 a b c d e f)
     (omega (arith, fits.name.no_longer)) (arguments-size version row.arguments fits.arguments) (id-if-size row.id) (omega arith) (goal-size version row.goal fits.goal)
-    (omega (arith, fits.count, node-entries-size version row.node_entries fits.entries))
+    (omega (arith, fits.count, flat-size (IsNodeEntry version) node_entry_bytes 4503 (node-entry-size version) row.node_entries fits.entries))

@@ -165,22 +165,13 @@ read_under own version Fits body reads = record {
   again = λ first fits. whole-again version Fits body reads first fits;
 }
 
--- the key of a head
-abbrev pub IsHeadKey : ℕ → Type 0
-IsHeadKey key = 0 ≡ key
-
--- heads that are read behind the version are read as what spells them
-pub head_read : {H : Type 0} {read : Reader H} (version : RecordVersion) (Fits : H → Type 0) (body : H → List ℕ) → Reads read (Spelled Fits body)
-    → IsReadWhole version (λ key. read) IsHeadKey Fits (λ first. make_part 0 (record_version_number version ∷ body first))
-head_read version Fits body reads = read_under 0 version Fits body reads
-
 -- a controller's head is read as what spells it
-pub controller_head_read : (version : RecordVersion) → IsReadWhole version (λ key. read_controller_head version) IsHeadKey (IsHead IsWord version) (λ head. controller_head version head.own head.session)
-controller_head_read version = head_read version (IsHead IsWord version) (λ head. 0 ∷ head_fields spelling.word head) (controller_head_reads version)
+pub controller_head_read : (version : RecordVersion) → IsReadWhole version (λ key. read_controller_head version) (λ key. 0 ≡ key) (IsHead IsWord version) (λ head. controller_head version head.own head.session)
+controller_head_read version = read_under 0 version (IsHead IsWord version) (λ head. 0 ∷ head_fields spelling.word head) (controller_head_reads version)
 
 -- a node's head is read as what spells it
-pub node_head_read : (version : RecordVersion) → IsReadWhole version (λ key. read_node_head version) IsHeadKey (IsHead IsNodeId version) (λ head. node_head version head.own head.session)
-node_head_read version = head_read version (IsHead IsNodeId version) (λ head. 1 ∷ head_fields spelling.text head) (node_head_reads version)
+pub node_head_read : (version : RecordVersion) → IsReadWhole version (λ key. read_node_head version) (λ key. 0 ≡ key) (IsHead IsNodeId version) (λ head. node_head version head.own head.session)
+node_head_read version = read_under 0 version (IsHead IsNodeId version) (λ head. 1 ∷ head_fields spelling.text head) (node_head_reads version)
 
 module _ {R : Type 0} {version : RecordVersion} {row_in : ℕ → Reader R} {IsKey : ℕ → Type 0} {IsRow : R → Type 0} {row_part : R → StoredPart} (is_read : IsReadWhole version row_in IsKey IsRow row_part) where
   -- what is read of a part's value, as a part tells it

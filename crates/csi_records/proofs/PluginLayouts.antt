@@ -5,10 +5,10 @@ use Rattle.std.specs.List.{AllByRecursion}
 use Rattle.std.proofs.lemmas.List.{take-map, length-append, length-take, length-map, get_or-take}
 use Rattle.std.proofs.lemmas.List.Elements.{All-take, recursion_from_All}
 use Rattle.csi_controller.specs.declared.row.ControllerRow.{ControllerRow}
-use Rattle.csi_controller.specs.Model.State.{Volume}
-use Rattle.csi_controller.specs.Public.Core.{AreSoundRows as AreSoundControllerRows, IsCurrentRow, IsCurrent}
+use Rattle.csi_controller.specs.Public.Core.{AreSoundRows as AreSoundControllerRows, IsCurrentRow}
 use Rattle.csi_controller.specs.Public.Views.{AreSameRows}
 use Rattle.csi_controller.proofs.Copies.{sound-copies}
+use Rattle.csi_controller.proofs.Sessions.{current-copies}
 use Rattle.csi_controller.proofs.FirstRefused.{sound-take}
 use Rattle.csi_controller.specs.Public.Judging.{AreRecorded}
 use Rattle.csi_types.specs.Public.Limits.{IsWord}
@@ -29,7 +29,7 @@ use Rattle.csi_records.proofs.PartReaders.{volume_read, answered_read, controlle
 use Rattle.csi_records.proofs.ValueSizes.{volume_size, answered_size}
 use Rattle.csi_records.proofs.FieldReaders.{version-found}
 use Rattle.csi_records.proofs.LayoutLaws.{ArePlain, fit-parts}
-use Rattle.csi_records.proofs.Versions.{AreVersioned}
+use Rattle.csi_records.proofs.Versions.{AreOfKind}
 use Rattle.csi_records.proofs.Layouts.{IsOneToOne, each-take, head-refused}
 
 -- ---- the controller's
@@ -43,16 +43,6 @@ same-rows (a ∷ rows) (b ∷ bs) e =
     let one : volume_row a ≡ volume_row b = cc in
     let rest : map volume_row rows ≡ map volume_row bs = cc in
     (record { volume = sym (ap (λ (r : VolumeRow). r.volume) one); items = sym (ap (λ (r : VolumeRow). r.holdings) one) }, same-rows rows bs rest)
-
--- rows that say the same are of the same sessions
-current-copies : (session : ℕ) (rows copies : List ControllerRow) → AreSameRows rows copies → IsCurrent session rows → IsCurrent session copies
-current-copies session [] [] same are = tt
-current-copies session [] (b ∷ bs) same are = absurd same
-current-copies session (a ∷ rows) [] same are = absurd same
-current-copies session (a ∷ rows) (b ∷ bs) same are =
-    let last : b.last.session ≡ a.last.session = ap (λ (v : Volume). v.kept.number.session) same.0.volume in
-    let live : b.live ≡ a.live = ap (λ (v : Volume). v.is_live) same.0.volume in
-    (record { before = subst (λ (n : ℕ). n ≤ session) (sym last) are.0.before; gone = λ gone. last ∙ are.0.gone (sym live ∙ gone) }, current-copies session rows bs same.1 are.1)
 
 -- rows that say the same keep the same rules, by a session or without one
 rules-copies : (next_id : ℕ) (session : Option ℕ) (rows copies : List ControllerRow) → AreSameRows rows copies → AreControllerRows next_id session rows → AreControllerRows next_id session copies
@@ -165,13 +155,13 @@ node_plain version wanted = record {
 pub writable : {H R : Type 0} (layout : Layout H R) → ArePlain layout → (parts : List StoredPart) → IsRecordOf layout parts → CanBeWritten parts
 writable layout plain parts is = let fits = fit-parts layout plain parts is in record { each = fits.fit; few = fits.few }
 
--- the heads of either plugin begin with the byte of their version
-pub controller_versioned : AreVersioned controller_layout
-controller_versioned = record { heads = λ version head. version-found version }
+-- a controller's heads have the byte 0 behind that of their version
+pub controller_kind : AreOfKind controller_layout 0
+controller_kind = record { versions = λ version head. version-found version; kinds = λ version head. refl }
 
--- a node's head begins with the byte of its version
-pub node_versioned : (wanted : Option (List ℕ)) → AreVersioned (λ version. node_layout version wanted)
-node_versioned wanted = record { heads = λ version head. version-found version }
+-- a node's have 1
+pub node_kind : (wanted : Option (List ℕ)) → AreOfKind (λ version. node_layout version wanted) 1
+node_kind wanted = record { versions = λ version head. version-found version; kinds = λ version head. refl }
 
 -- ---- a record's parts in the present version, made of what the record shows
 

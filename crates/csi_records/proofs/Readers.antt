@@ -129,6 +129,12 @@ fields {Y} {B} {read} {Parts} {spell_parts} {make} {Fits} {spell} one apart whol
     (λ value bytes s. let p = apart value s.fits in record { before = p.0; fits = p.1; same = p.2; are = s.are ∙ ap spell p.2 ∙ sym (same p.0) })
     one
 
+-- what is given without a byte is read of no byte, where it is the one value within the limits
+pub gives_only : {B : Type 0} {Fits : B → Type 0} {spell : B → List ℕ} (made : B) → Fits made → spell made ≡ [] → ((b : B) → Fits b → b ≡ made) → Reads (give made) (Spelled Fits spell)
+gives_only {B} {Fits} {spell} made fits none only =
+    in_words (Spelled Fits spell) (λ value bytes s. record { fits = subst Fits (sym s.same) fits; are = s.none ∙ sym none ∙ ap spell (sym s.same) })
+    (λ value bytes s. record { same = only value s.fits; none = s.are ∙ ap spell (only value s.fits) ∙ none }) (gives made)
+
 -- six pieces, one behind another
 pub pieces6 : (a b c d e f : List ℕ) → a ++ (b ++ (c ++ (d ++ (e ++ f)))) ≡ a ++ b ++ c ++ d ++ e ++ f
 pieces6 a b c d e f = simp append_assoc

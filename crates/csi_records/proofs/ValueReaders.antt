@@ -11,8 +11,8 @@ use Rattle.csi_frames.specs.Public.Spelling as spelling
 use Rattle.csi_records.specs.Private.Reading.{Reader, read_items, read_counted, read_holding, read_target, read_reply_id, read_reply, read_kept, read_staged, id_from}
 use Rattle.csi_records.specs.Public.Spelling.{list_spelling, holding_bytes, target_bytes, kept_bytes, staged_bytes}
 use Rattle.csi_records.specs.Public.Records.{IsCapabilityIn, IsKeptCall, IsHolding, IsTargetRow, IsStagedSo}
-use Rattle.csi_records.proofs.Readers.{Reads, Given, gives, in_words, Either, either, Spelled, After, Made, after, makes, Always, also, fields}
-use Rattle.csi_records.proofs.FieldReaders.{flag_reads, capability_reads, number_reads, status_reads, kind_reads, count_reads, word_reads, text_reads, IsCount, one_byte}
+use Rattle.csi_records.proofs.Readers.{Reads, Given, gives, in_words, Either, either, Spelled, After, Made, after, makes, Always, also, fields, gives_only}
+use Rattle.csi_records.proofs.FieldReaders.{flag_reads, capability_reads, number_reads, status_reads, kind_reads, count_reads, word_reads, text_reads}
 
 -- ---- so many
 
@@ -21,85 +21,42 @@ pub record AreSo {A : Type 0} (Fits : A → Type 0) (count : ℕ) (values : List
   pub counted : length values ≡ count
   pub each : AllByRecursion Fits values
 
--- a first value, and so many others
-abbrev SaysMore : {A : Type 0} → (A → Type 0) → (A → List ℕ) → ℕ → List A → List ℕ → Type 0
-SaysMore Fits spell n = After Fits spell (λ first. Made (AreSo Fits n) (flat_map spell) (λ others. first ∷ others))
-
 -- the spelling of so many values
 abbrev SaysItems : {A : Type 0} → (A → Type 0) → (A → List ℕ) → ℕ → List A → List ℕ → Type 0
 SaysItems Fits spell n = Spelled (AreSo Fits n) (flat_map spell)
 
--- the spellings of a value and of so many others are that of one value more
-more-there : {A : Type 0} (Fits : A → Type 0) (spell : A → List ℕ) (n : ℕ) (value : List A) (bytes : List ℕ) → SaysMore Fits spell n value bytes → SaysItems Fits spell (suc n) value bytes
-more-there {A} Fits spell n value bytes s =
-    subst (λ (v : List A). SaysItems Fits spell (suc n) v bytes) (sym s.second.same)
-    (record {
-      fits = record { counted = ap suc s.second.fits.counted; each = (s.fits, s.second.fits.each) };
-      are = s.parts ∙ ap (λ (t : List ℕ). spell s.before ++ t) s.second.are ∙ sym (flat_map-cons spell s.before s.second.before);
-    })
+-- no values are none
+no-values : {A : Type 0} (Fits : A → Type 0) (xs : List A) → AreSo Fits 0 xs → xs ≡ []
+no-values Fits [] fits = refl
+no-values Fits (x ∷ xs) fits = absurd (cc fits.counted)
 
--- the spelling of one value more is that of a first one and those of so many others
-more-back : {A : Type 0} (Fits : A → Type 0) (spell : A → List ℕ) (n : ℕ) (value : List A) (bytes : List ℕ) → SaysItems Fits spell (suc n) value bytes → SaysMore Fits spell n value bytes
-more-back Fits spell n [] bytes s = absurd (cc s.fits.counted)
-more-back Fits spell n (first ∷ others) bytes s =
-    record {
-      before = first;
-      fits = s.fits.each.0;
-      back = flat_map spell others;
-      parts = s.are ∙ flat_map-cons spell first others;
-      second = record { before = others; fits = record { counted = omega (arith, s.fits.counted); each = s.fits.each.1 }; same = refl; are = refl };
-    }
-
--- no bytes are the spelling of no values
-nil-there : {A : Type 0} (Fits : A → Type 0) (spell : A → List ℕ) (value : List A) (bytes : List ℕ) → Given [] value bytes → SaysItems Fits spell 0 value bytes
-nil-there {A} Fits spell value bytes s = subst (λ (v : List A). SaysItems Fits spell 0 v bytes) (sym s.same) (record { fits = record { counted = refl; each = tt }; are = s.none })
-
--- the spelling of no values is no bytes
-nil-back : {A : Type 0} (Fits : A → Type 0) (spell : A → List ℕ) (value : List A) (bytes : List ℕ) → SaysItems Fits spell 0 value bytes → Given [] value bytes
-nil-back Fits spell [] bytes s = record { same = refl; none = s.are }
-nil-back Fits spell (first ∷ others) bytes s = absurd (cc s.fits.counted)
+-- one value more than so many are a first one and so many others
+first-of : {A : Type 0} (Fits : A → Type 0) (n : ℕ) (xs : List A) → AreSo Fits (suc n) xs → (y : A × List A) × (Fits y.0 × AreSo Fits n y.1) × (xs ≡ y.0 ∷ y.1)
+first-of Fits n [] fits = absurd (cc fits.counted)
+first-of Fits n (x ∷ xs) fits = ((x, xs), (fits.each.0, record { counted = omega (arith, fits.counted); each = fits.each.1 }), refl)
 
 -- a reader of single values that is asked so many times reads so many
 pub items_read : {A : Type 0} {read : Reader A} (Fits : A → Type 0) (spell : A → List ℕ) (n : ℕ) → Reads read (Spelled Fits spell) → Reads (read_items read n) (SaysItems Fits spell n)
 unfolding read_items
-items_read Fits spell zero one = in_words (SaysItems Fits spell 0) (nil-there Fits spell) (nil-back Fits spell) (gives [])
+items_read Fits spell zero one = gives_only [] (record { counted = refl; each = tt }) refl (no-values Fits)
 items_read Fits spell (suc n) one =
-    in_words (SaysItems Fits spell (suc n)) (more-there Fits spell n) (more-back Fits spell n)
-    (after one (λ first. makes (λ others. first ∷ others) (items_read Fits spell n one)))
+    fields (also one (λ first. makes (λ others. first ∷ others) (items_read Fits spell n one))) (first-of Fits n) (λ y f. record { counted = ap suc f.1.counted; each = (f.0, f.1.each) }) (λ y. sym (flat_map-cons spell y.0 y.1))
 
 -- at most so many
 pub record AreFew {A : Type 0} (Fits : A → Type 0) (most : ℕ) (values : List A) : Type 0 where
   pub few : length values ≤ most
   pub each : AllByRecursion Fits values
 
--- a count, and as many values
-abbrev SaysCounted : {A : Type 0} → (A → Type 0) → (A → List ℕ) → ℕ → List A → List ℕ → Type 0
-SaysCounted Fits spell most = After (IsCount most) one_byte (λ count. SaysItems Fits spell count)
-
--- a count and so many values are the spelling of a counted list
-counted-there : {A : Type 0} (Fits : A → Type 0) (spell : A → List ℕ) (most : ℕ) (value : List A) (bytes : List ℕ) → SaysCounted Fits spell most value bytes → Spelled (AreFew Fits most) (list_spelling spell) value bytes
-counted-there Fits spell most value bytes s =
-    record {
-      fits = record { few = omega (arith, s.second.fits.counted, s.fits.within); each = s.second.fits.each };
-      are = s.parts ∙ ap (λ (t : List ℕ). s.before ∷ t) s.second.are ∙ ap (λ (n : ℕ). n ∷ flat_map spell value) (sym s.second.fits.counted);
-    }
-
--- the spelling of a counted list is its count and its values
-counted-back : {A : Type 0} (Fits : A → Type 0) (spell : A → List ℕ) (most : ℕ) (value : List A) (bytes : List ℕ) → Spelled (AreFew Fits most) (list_spelling spell) value bytes → SaysCounted Fits spell most value bytes
-counted-back Fits spell most value bytes s =
-    record {
-      before = length value;
-      fits = record { within = s.fits.few };
-      back = flat_map spell value;
-      parts = s.are;
-      second = record { fits = record { counted = refl; each = s.fits.each }; are = refl };
-    }
-
 -- the reader of a counted list reads what spells one of at most so many values
 pub counted_reads : {A : Type 0} {read : Reader A} (Fits : A → Type 0) (spell : A → List ℕ) (most : ℕ) → Reads read (Spelled Fits spell) → Reads (read_counted most read) (Spelled (AreFew Fits most) (list_spelling spell))
 unfolding read_counted
 counted_reads Fits spell most one =
-    in_words (Spelled (AreFew Fits most) (list_spelling spell)) (counted-there Fits spell most) (counted-back Fits spell most)
+    in_words (Spelled (AreFew Fits most) (list_spelling spell))
+    (λ value bytes s. record {
+      fits = record { few = omega (arith, s.second.fits.counted, s.fits.within); each = s.second.fits.each };
+      are = s.parts ∙ ap (λ (t : List ℕ). s.before ∷ t) s.second.are ∙ ap (λ (n : ℕ). n ∷ flat_map spell value) (sym s.second.fits.counted);
+    })
+    (λ value bytes s. record { before = length value; fits = record { within = s.fits.few }; back = flat_map spell value; parts = s.are; second = record { fits = record { counted = refl; each = s.fits.each }; are = refl } })
     (after (count_reads most) (λ count. items_read Fits spell count one))
 
 -- ---- holdings and targets

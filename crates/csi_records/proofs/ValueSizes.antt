@@ -3,6 +3,7 @@ use Rattle.std.proofs.Common.{◌≡◌, ℕ, ◌+◌, ◌*◌, ◌≤◌, ◌<�
 use Rattle.std.specs.Prelude.{Option}
 use Rattle.std.specs.List.{flat_map, AllByRecursion}
 use Rattle.std.proofs.lemmas.List.{length-append}
+use Rattle.std.proofs.Math.Nat.{suc-mul}
 use Rattle.csi_types.specs.declared.capability.Access.{Access}
 use Rattle.csi_types.specs.declared.capability.Access.TheVariants.{Block, Mount}
 use Rattle.csi_types.specs.declared.capability.Capability.{Capability}
@@ -29,29 +30,19 @@ access-size (Mount fs_type) fits = omega (arith, fits.no_longer)
 pub capability-size : (version : RecordVersion) (c : Capability) → IsCapabilityIn version c → length (spelling.capability c) ≤ 131
 capability-size version c fits = omega (arith, access-size c.access fits.fits, length-append (spelling.access c.access) (mode_number c.mode ∷ []))
 
--- capabilities have at most 131 bytes each
-pub capabilities-size : (version : RecordVersion) (cs : List Capability) → AllByRecursion (IsCapabilityIn version) cs → length (flat_map spelling.capability cs) ≤ 131 * length cs
-capabilities-size version [] fits = omega arith
-capabilities-size version (c ∷ cs) fits = omega (arith, capability-size version c (fits.0), capabilities-size version cs (fits.1), length-append (spelling.capability c) (flat_map spelling.capability cs))
+-- items of at most so many bytes each
+pub flat-size : {X : Type 0} (Fits : X → Type 0) (spell : X → List ℕ) (most : ℕ) → ((x : X) → Fits x → length (spell x) ≤ most) → (xs : List X) → AllByRecursion Fits xs → length (flat_map spell xs) ≤ length xs * most
+flat-size Fits spell most one [] fits = omega arith
+flat-size Fits spell most one (x ∷ xs) fits = rw (suc-mul (length xs) most) (omega (arith, one x fits.0, flat-size Fits spell most one xs fits.1, length-append (spell x) (flat_map spell xs)))
 
 -- a holding has at most 388 bytes
 holding-size : (version : RecordVersion) (h : NodeHolding) → IsHolding version h → length (holding_bytes h) ≤ 388
 holding-size version h fits =
     omega (arith, fits.node.no_longer, capability-size version h.capability fits.capability, length-append (spelling.text h.node) (spelling.capability h.capability), length-append (spelling.text h.node ++ spelling.capability h.capability) (spelling.flag h.readonly))
 
--- holdings have at most 388 bytes each
-holdings-size : (version : RecordVersion) (hs : List NodeHolding) → AllByRecursion (IsHolding version) hs → length (flat_map holding_bytes hs) ≤ 388 * length hs
-holdings-size version [] fits = omega arith
-holdings-size version (h ∷ hs) fits = omega (arith, holding-size version h (fits.0), holdings-size version hs (fits.1), length-append (holding_bytes h) (flat_map holding_bytes hs))
-
 -- a target has at most 257 bytes
 target-size : (t : NodeTarget) → IsTargetRow t → length (target_bytes t) ≤ 257
 target-size t fits = omega (arith, fits.no_longer, length-append (spelling.text t.target) (spelling.flag t.readonly))
-
--- targets have at most 257 bytes each
-targets-size : (ts : List NodeTarget) → AllByRecursion IsTargetRow ts → length (flat_map target_bytes ts) ≤ 257 * length ts
-targets-size [] fits = omega arith
-targets-size (t ∷ ts) fits = omega (arith, target-size t (fits.0), targets-size ts (fits.1), length-append (target_bytes t) (flat_map target_bytes ts))
 
 -- a reply's id has at most 8 bytes
 id-size : (id : Option ℕ) → length (spelling.reply_id id) ≤ 8
@@ -82,7 +73,7 @@ pub length3 : (a b c : List ℕ) → length (a ++ b ++ c) ≡ length a + length 
 length3 a b c = simp length-append
 
 -- lengths below these limits add up to less than 2^32
-small : (n a b c d e f : ℕ) → n ≡ a + b + c + d + e + f → a ≤ 200 → b ≤ 200 → c ≤ 200 → d ≤ 2000 → e ≤ 30000 → f ≤ 300 → n < 2 ^ 32
+small : (n a b c d e f : ℕ) → n ≡ a + b + c + d + e + f → a ≤ 200 → b ≤ 200 → c ≤ 200 → d ≤ 2000 → e ≤ 30000 → f ≤ 282 → n < 2 ^ 32
 small n a b c d e f is ha hb hc hd he hf = omega arith
 
 -- the value of a volume's part, and below of a node's row, is shorter than 2^32 bytes
@@ -94,11 +85,8 @@ volume_size version row fits =
     let d : List ℕ = list_spelling spelling.capability row.volume.capabilities in
     let e : List ℕ = list_spelling holding_bytes row.holdings in
     small (length (volume_bytes version row)) (length a) (length b) (length c) (length d) (length e) (length (kept_bytes row.volume.kept)) (length6 a b c d e (kept_bytes row.volume.kept))
-    (omega arith) (omega (arith, fits.name.no_longer)) (omega arith) (omega (arith, fits.capability_count, capabilities-size version row.volume.capabilities fits.capabilities))
-    (omega (arith, fits.count, holdings-size version row.holdings fits.holdings)) (fewer (length (kept_bytes row.volume.kept)) (kept-size row.volume.kept fits.kept))
-  where
-    fewer : (n : ℕ) → n ≤ 282 → n ≤ 300
-    fewer n h = omega arith
+    (omega arith) (omega (arith, fits.name.no_longer)) (omega arith) (omega (arith, fits.capability_count, flat-size (IsCapabilityIn version) spelling.capability 131 (capability-size version) row.volume.capabilities fits.capabilities))
+    (omega (arith, fits.count, flat-size (IsHolding version) holding_bytes 388 (holding-size version) row.holdings fits.holdings)) (kept-size row.volume.kept fits.kept)
 
 -- the value of a node's row is shorter than 2^32 bytes
 pub answered_size : (version : RecordVersion) (row : NodeRowShown) → IsAnsweredRow version row → length (answered_bytes version row) < 2 ^ 32
@@ -107,10 +95,7 @@ answered_size version row fits =
     let b : List ℕ = list_spelling target_bytes row.targets in
     small (length (answered_bytes version row)) (length a) 0 0 0 (length b) (length (kept_bytes row.kept)) (ordered (length a) (length b) (length (kept_bytes row.kept)) (length3 a b (kept_bytes row.kept)))
     (omega (arith, staged-size version row.staged fits.staged)) (omega arith) (omega arith) (omega arith)
-    (omega (arith, fits.count, targets-size row.targets fits.targets)) (fewer (length (kept_bytes row.kept)) (kept-size row.kept fits.kept))
+    (omega (arith, fits.count, flat-size IsTargetRow target_bytes 257 target-size row.targets fits.targets)) (kept-size row.kept fits.kept)
   where
-    fewer : (n : ℕ) → n ≤ 282 → n ≤ 300
-    fewer n h = omega arith
-
     ordered : {n : ℕ} (a b c : ℕ) → n ≡ a + b + c → n ≡ a + 0 + 0 + 0 + b + c
     ordered a b c h = omega arith

@@ -23,9 +23,4 @@ returns-clause-parts c =
     c.parts_with.ensures.fit
 
 pub returns-clause-writable : goal.returns-clause-writable
-returns-clause-writable c =
-    let kept = c.args.self.now in
-    IfOk-weaker c.parts_with.result _ _
-    (λ parts each. writable (controller_layout present) (controller_plain present) _
-    (controller_is kept.next_id kept.session c.rows.result.now kept.rows c.rows.ensures.value (omega arith) (omega arith) (c.rows.ensures.sound, c.rows.ensures.current) each))
-    c.parts_with.ensures.fit
+returns-clause-writable c = IfOk-weaker c.parts_with.result _ _ (λ parts is. writable (controller_layout present) (controller_plain present) _ is) (returns-clause-parts c)

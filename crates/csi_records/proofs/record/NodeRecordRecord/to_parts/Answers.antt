@@ -31,10 +31,4 @@ returns-clause-parts c =
     c.parts_with.ensures.fit
 
 pub returns-clause-writable : goal.returns-clause-writable
-returns-clause-writable c =
-    let kept = c.args.self.now in
-    let id = subst IsNodeId c.id.ensures c.in_ok-head.ensures.fits in
-    IfOk-weaker c.parts_with.result _ _
-    (λ parts each. writable (node_layout present None) (node_plain present None) _
-    (node_is kept.id kept.session c.rows.result.now kept.rows c.rows.ensures.value id (omega arith) (c.rows.ensures.rules, c.rows.ensures.current) each))
-    c.parts_with.ensures.fit
+returns-clause-writable c = IfOk-weaker c.parts_with.result _ _ (λ parts is. writable (node_layout present None) (node_plain present None) _ is) (returns-clause-parts c)

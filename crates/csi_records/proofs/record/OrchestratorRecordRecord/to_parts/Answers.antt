@@ -24,13 +24,7 @@ returns-clause-changes c =
     IfOk-weaker c.keyed_parts.result _ _ (λ parts changes. changes ∙ ap put_all (kept-same kept c.in_ok-head.head.items (map row_shown c.rows.result.now) head c.rows.ensures.value)) c.keyed_parts.ensures.parts
 
 pub returns-clause-stored : goal.returns-clause-stored
-returns-clause-stored c =
-    let kept = c.args.self.now in
-    let head : c.in_ok-head.head.items ≡ (orchestrator_head present kept.session kept.nodes).value =
-    c.in_ok-head.ensures.value ∙ ap (λ (n : ℕ). (orchestrator_head present n c.nodes.result.now).value) c.session.ensures ∙ ap (λ (ns : List (List ℕ)). (orchestrator_head present kept.session ns).value) c.nodes.ensures.value in
-    IfOk-weaker c.keyed_parts.result _ _
-    (λ parts changes. stored_put parts.items (kept_parts kept) (changes ∙ ap put_all (kept-same kept c.in_ok-head.head.items (map row_shown c.rows.result.now) head c.rows.ensures.value)))
-    c.keyed_parts.ensures.parts
+returns-clause-stored c = IfOk-weaker c.keyed_parts.result _ _ (λ parts changes. stored_put parts.items (kept_parts c.args.self.now) changes) (returns-clause-changes c)
 
 pub returns-clause-parts : goal.returns-clause-parts
 returns-clause-parts c =
@@ -41,10 +35,4 @@ returns-clause-parts c =
     c.keyed_parts.ensures.fit
 
 pub returns-clause-writable : goal.returns-clause-writable
-returns-clause-writable c =
-    let kept = c.args.self.now in
-    let ids = subst (AllByRecursion IsNodeId) c.nodes.ensures.value c.in_ok-head.ensures.fits in
-    IfOk-weaker c.keyed_parts.result _ _
-    (λ parts each. writable (orchestrator_layout present) (orchestrator_plain present) _
-    (orchestrator_is kept.nodes kept.session kept.rows ids (omega arith) c.nodes.ensures.fit c.rows.ensures.kept (subst (AllByRecursion (IsOrchestratorRow present)) c.rows.ensures.value each)))
-    c.keyed_parts.ensures.fit
+returns-clause-writable c = IfOk-weaker c.keyed_parts.result _ _ (λ parts is. writable (orchestrator_layout present) (orchestrator_plain present) _ is) (returns-clause-parts c)
