@@ -21,7 +21,7 @@ use Rattle.csi_stores.specs.Public.Part.{StoredPart, stored_in, value_in}
 use Rattle.csi_records.specs.Private.Reading.{Reader, go_on, read_entirely, read_whole, IsReadWhole, read_tag, read_volume, read_answered, read_controller_head, read_node_head}
 use Rattle.csi_records.specs.Public.Spelling.{VolumeRow, state_byte, list_spelling, holding_bytes, target_bytes, kept_bytes, staged_bytes, volume_part, answered_part, controller_head, node_head}
 use Rattle.csi_records.specs.Public.Records.{IsCapabilityIn, IsHolding, IsVolumeRow, IsTargetRow, IsAnsweredRow, IsHead}
-use Rattle.csi_records.proofs.Readers.{Reads, Spelled, makes, also, fields, pieces6}
+use Rattle.csi_records.proofs.Readers.{Reads, Spelled, makes, also, fields, pieces6, in_words}
 use Rattle.csi_records.proofs.FieldReaders.{live_reads, word_reads, text_reads, capability_reads}
 use Rattle.csi_records.proofs.HeadReaders.{tagged, head_fields, controller_head_reads, node_head_reads}
 use Rattle.csi_records.proofs.ValueReaders.{counted_reads, holding_reads, target_reads, kept_reads, staged_reads}
@@ -108,11 +108,6 @@ ended-some (Some (x, [])) value e = let same : x ≡ value = cc in ap (λ y. Som
 ended-some (Some (x, b ∷ bytes)) value e = absurd cc
 ended-some None value e = absurd cc
 
--- where bytes are left, no whole value is given
-pub ended-more : {A : Type 0} (value : A) (bytes : List ℕ) → (bytes ≡ [] → ⊥) → read_entirely (Some (value, bytes)) ≡ None
-ended-more value [] some = absurd (some refl)
-ended-more value (b ∷ bytes) some = refl
-
 -- a whole value that is read is within its limits, and the bytes are the version and its spelling
 whole-takes : {A : Type 0} {read : Reader A} (version : RecordVersion) (Fits : A → Type 0) (spell : A → List ℕ) → Reads read (Spelled Fits spell) → (bytes : List ℕ) → AreBytes bytes → (value : A) → read_whole version read bytes ≡ Some value
     → Fits value × (bytes ≡ record_version_number version ∷ spell value)
@@ -135,9 +130,9 @@ whole-again {A} {read} version Fits spell one value fits =
 abbrev pub make_part : ℕ → List ℕ → StoredPart
 make_part key value = record { key = key; value = value }
 
--- rows that are read behind the version, under their ids, are read as what spells them
-row_read : {R : Type 0} {row_in : ℕ → Reader R} (version : RecordVersion) (IsRow : R → Type 0) (id_of : R → ℕ) (body : R → List ℕ) → ((id : ℕ) → IsVolumeId id → Reads (row_in id) (Spelled (IsRowOf IsRow id_of id) body))
-    → ((row : R) → IsRow row → IsVolumeId (id_of row)) → IsReadWhole version row_in IsVolumeId IsRow (λ row. make_part (id_of row) (record_version_number version ∷ body row))
+-- rows that are read behind the version, under their keys, are read as what spells them
+row_read : {R : Type 0} {row_in : ℕ → Reader R} {IsKey : ℕ → Type 0} (version : RecordVersion) (IsRow : R → Type 0) (id_of : R → ℕ) (body : R → List ℕ) → ((id : ℕ) → IsKey id → Reads (row_in id) (Spelled (IsRowOf IsRow id_of id) body))
+    → ((row : R) → IsRow row → IsKey (id_of row)) → IsReadWhole version row_in IsKey IsRow (λ row. make_part (id_of row) (record_version_number version ∷ body row))
 row_read version IsRow id_of body reads ids = record {
   takes = λ id value row is_id fits e.
       let read = whole-takes version (IsRowOf IsRow id_of id) body (reads id is_id) value fits row e in
@@ -157,13 +152,9 @@ answered_read version = row_read version (IsAnsweredRow version) (λ row. row.id
 -- values under this key that are read behind the version are read as what spells them
 pub read_under : {H : Type 0} {read : Reader H} (own : ℕ) (version : RecordVersion) (Fits : H → Type 0) (body : H → List ℕ) → Reads read (Spelled Fits body)
     → IsReadWhole version (λ key. read) (λ key. own ≡ key) Fits (λ first. make_part own (record_version_number version ∷ body first))
-read_under own version Fits body reads = record {
-  takes = λ key value first is fits e.
-      let read = whole-takes version Fits body reads value fits first e in
-      (read.0, ap (make_part own) (sym read.1) ∙ ap (λ k. make_part k value) is);
-  has_key = λ first fits. refl;
-  again = λ first fits. whole-again version Fits body reads first fits;
-}
+read_under own version Fits body reads =
+    row_read version Fits (λ first. own) body
+    (λ key is. in_words (Spelled (IsRowOf Fits (λ first. own) key) body) (λ value bytes s. record { fits = record { has_id = is; fits = s.fits }; are = s.are }) (λ value bytes s. record { fits = s.fits.fits; are = s.are }) reads) (λ first fits. refl)
 
 -- a controller's head is read as what spells it
 pub controller_head_read : (version : RecordVersion) → IsReadWhole version (λ key. read_controller_head version) (λ key. 0 ≡ key) (IsHead IsWord version) (λ head. controller_head version head.own head.session)

@@ -3,14 +3,14 @@ use Rattle.std.proofs.Common.{◌≡◌, ℕ, suc, ◌+◌, ◌≤◌, ◌<◌, 
 use Rattle.std.specs.Prelude.{◌⊎◌}
 use Rattle.std.specs.List.{flat_map, AllByRecursion}
 use Rattle.std.proofs.lemmas.Bool.{ltb-false, le-ltb, eqb-true}
-use Rattle.std.proofs.lemmas.List.{length-append, length-take, take_at, drop_at, take-append-drop}
+use Rattle.std.proofs.lemmas.List.{append-nil, length-append, length-take, take_at, drop_at, take-append-drop}
 use Rattle.std.proofs.lemmas.List.Concat.{flat_map-append}
 use Rattle.byteorder.specs.Endian.{big_bytes, big_number}
 use Rattle.byteorder.specs.Numbers.{big_from-lt}
 use Rattle.csi_records.specs.declared.version.RecordVersion.{RecordVersion}
 use Rattle.csi_frames.specs.Public.Bytes.{AreBytes}
 use Rattle.csi_frames.specs.Public.Spelling as spelling
-use Rattle.csi_frames.proofs.Bytes.{AreBytes-take, AreBytes-back, four-back, four-again, four-front}
+use Rattle.csi_frames.proofs.Bytes.{AreBytes-take, AreBytes-back, four-back, four-again}
 use Rattle.csi_lists.proofs.Each.{each-append_one}
 use Rattle.csi_stores.specs.Public.Part.{StoredPart, IsPart}
 use Rattle.csi_records.specs.Public.Spelling.{part_bytes, record_head}
@@ -23,44 +23,6 @@ use Rattle.csi_records.specs.Private.Reading.{◌>>=◌, give, read_long, read_b
 use Rattle.csi_records.proofs.Readers.{Took, Reads, in_words, done, some_is, Spelled, spelled-same, spelled-none, Made, after, makes, also, fields}
 use Rattle.csi_records.proofs.FieldReaders.{word_reads, version_reads}
 use Rattle.csi_records.proofs.WritingPieces.{flat_map-push}
-
--- ---- a number of 32 bits
-
--- the four bytes of a number
-abbrev pub long : ℕ → List ℕ
-long n = big_bytes 4 n
-
--- it fits 32 bits
-pub record IsLong (n : ℕ) : Type 0 where
-  pub fits : n < 2 ^ 32
-
--- where a number of 32 bits is read, the four bytes that spell it stand first; the test is a flag here
-long-takes : (bytes : List ℕ) (short : Bool) (x : ℕ × List ℕ) → AreBytes bytes → ltb (length bytes) 4 ≡ short → cond short None (done (big_number 4 bytes) (drop 4 bytes)) ≡ Some x → Took (Spelled IsLong long) bytes x
-long-takes bytes true x fits is e = absurd cc
-long-takes bytes false x fits is e =
-    let enough : 4 ≤ length bytes = ltb-false _ _ is in
-    let n = big_number 4 bytes in
-    let four : length (take 4 bytes) ≡ 4 = omega (arith, length-take 4 bytes) in
-    let back : take 4 bytes ≡ big_bytes 4 n = sym (four-back (take 4 bytes) four (AreBytes-take 4 bytes fits)) ∙ ap (big_bytes 4) (four-front bytes enough) in
-    let small : n < 2 ^ 32 = big_from-lt 0 4 bytes fits in
-    subst (λ (y : ℕ × List ℕ). Took (Spelled IsLong long) bytes y) (some_is n (drop 4 bytes) x e)
-    (record { front = take 4 bytes; parts = sym (take-append-drop 4 bytes); says = record { fits = record { fits = small }; are = back } })
-
--- where a number of 32 bits is read, the four bytes that spell it stand first
-long_in-takes : (bytes : List ℕ) → AreBytes bytes → (x : ℕ × List ℕ) → read_long bytes ≡ Some x → Took (Spelled IsLong long) bytes x
-unfolding read_long
-long_in-takes bytes fits x e = long-takes bytes (ltb (length bytes) 4) x fits refl e
-
--- the four bytes of a number are read as it
-long_in-four : (n : ℕ) (rest : List ℕ) → n < 2 ^ 32 → read_long (big_bytes 4 n ++ rest) ≡ Some (n, rest)
-unfolding read_long
-long_in-four n rest fits =
-    let enough : ltb (length (big_bytes 4 n ++ rest)) 4 ≡ false = le-ltb _ _ (omega (arith, length-append (big_bytes 4 n) rest)) in
-    rw (enough, four-again n rest fits, drop_at (big_bytes 4 n) rest 4 refl) refl
-
--- the reader of a number of 32 bits reads what spells one
-long_reads : Reads read_long (Spelled IsLong long)
-long_reads = record { takes = long_in-takes; again = λ n front rest s. ap (λ (t : List ℕ). read_long (t ++ rest)) s.are ∙ long_in-four n rest s.fits.fits }
 
 -- ---- so many bytes
 
@@ -99,6 +61,34 @@ bytes_read n = record {
   takes = λ bytes fits x e. bytes_in-takes n bytes x e;
   again = λ value front rest s. ap (λ (t : List ℕ). read_bytes n (t ++ rest)) s.are ∙ bytes_in-again n value rest s.fits.counted;
 }
+
+-- ---- a number of 32 bits
+
+-- the four bytes of a number
+abbrev pub long : ℕ → List ℕ
+long n = big_bytes 4 n
+
+-- it fits 32 bits
+pub record IsLong (n : ℕ) : Type 0 where
+  pub fits : n < 2 ^ 32
+
+-- the reader of a number of 32 bits reads what spells one
+long_reads : Reads read_long (Spelled IsLong long)
+unfolding read_long
+long_reads =
+    record {
+      takes = λ bytes fits x e.
+          let t = four.takes bytes fits x e in
+          let count : length t.front ≡ 4 = ap length t.says.are ∙ t.says.fits.counted in
+          let only : AreBytes t.front = subst AreBytes (take_at t.front x.1 4 count) (AreBytes-take 4 (t.front ++ x.1) (subst AreBytes t.parts fits)) in
+          let same : big_number 4 t.front ≡ x.0 = ap (big_number 4) t.says.are ∙ sym t.says.same in
+          record { front = t.front; parts = t.parts; says = record { fits = record { fits = subst (λ (n : ℕ). n < 2 ^ 32) same (big_from-lt 0 4 t.front only) }; are = sym (four-back t.front count only) ∙ ap (big_bytes 4) same } };
+      again = λ n front rest s.
+          four.again n front rest (record { before = long n; fits = record { counted = refl }; same = sym (four-again n [] s.fits.fits) ∙ ap (big_number 4) (append-nil (long n)); are = s.are });
+    }
+  where
+    four : Reads (read_bytes 4 >>= λ bytes. give (big_number 4 bytes)) (Made (IsOfLength 4) itself (big_number 4))
+    four = makes (big_number 4) (bytes_read 4)
 
 -- ---- a part
 

@@ -224,13 +224,15 @@ read_node_head version = do
 
 -- ---- a part of a whole record
 
--- a number of four bytes
-unfoldable pub read_long : Reader ℕ
-read_long bytes = if nat_lt (length bytes) 4 then None else Some (big_number 4 bytes, drop 4 bytes)
-
 -- so many bytes
 unfoldable pub read_bytes : ℕ → Reader (List ℕ)
 read_bytes n bytes = if nat_lt (length bytes) n then None else Some (take n bytes, drop n bytes)
+
+-- a number of four bytes
+unfoldable pub read_long : Reader ℕ
+read_long = do
+  four ← read_bytes 4
+  give (big_number 4 four)
 
 -- a part of the bytes of a record
 unfoldable pub read_part : Reader StoredPart
