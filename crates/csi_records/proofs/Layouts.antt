@@ -32,6 +32,10 @@ rows-same layout one (r ∷ rs) (s ∷ ss) fit fits e =
     let rest = rows-same layout one rs ss (fit.1) (fits.1) tails in
     λ i. first i ∷ rest i
 
+-- a head and rows within their limits, which keep the rules, have the parts of a record
+pub is-record : {H R : Type 0} (layout : Layout H R) (first : H) (rows : List R) → layout.is_head first → AllByRecursion layout.is_row rows → layout.are_rows first rows → IsRecordOf layout (layout.head first ∷ map layout.row rows)
+is-record layout first rows fits each rules = record { first = first; rows = rows; spelled = record { head_fits = fits; rows_fit = each; rules = rules; are = refl } }
+
 -- equal parts, whatever rules they keep, mean an equal head and equal rows
 same-both : {H R : Type 0} (layout : Layout H R) → IsOneToOne layout → (a b : H) (rs ss : List R) → layout.is_head a → layout.is_head b → AllByRecursion layout.is_row rs → AllByRecursion layout.is_row ss
     → layout.head a ∷ map layout.row rs ≡ layout.head b ∷ map layout.row ss → (a ≡ b) × (rs ≡ ss)
@@ -90,10 +94,6 @@ module _ {H R : Type 0} (layout : Layout H R) (Next : R → Type 0) (first : H) 
   behind : (ps : List StoredPart) → others ≡ ps → all_stored_in parts ≡ layout.head first ∷ ps
   behind ps are = stored-split parts item (layout.head first) some is same ∙ ap (λ (qs : List StoredPart). layout.head first ∷ qs) are
 
-  -- the first rows are a record's, where they keep the rules
-  front : (k : ℕ) → layout.are_rows first (take k rs) → IsRecordOf layout (layout.head first ∷ map layout.row (take k rs))
-  front k rules = record { first = first; rows = take k rs; spelled = record { head_fits = fits; rows_fit = each-take layout.is_row rs k each; rules = rules; are = refl } }
-
   -- all parts behind the head are rows, which keep the rules
   pub all-read : all ≡ true → layout.are_rows first rs → AreParts layout first rs (all_stored_in parts)
   all-read whole rules = record { head_fits = fits; rows_fit = each; rules = rules; are = behind (map layout.row rs) (subst (StopsAtRow layout.row Next others rs) whole stops) }
@@ -109,7 +109,7 @@ module _ {H R : Type 0} (layout : Layout H R) (Next : R → Type 0) (first : H) 
         after = stop.1;
         are = behind (map layout.row rs ++ stop.0 ∷ stop.1) stop.2;
         here = omega (arith, length-map rs layout.row, count);
-        begins = inr (record { first = first; rows = rs; spelled = record { head_fits = fits; rows_fit = each; rules = rules; are = refl } });
+        begins = inr (is-record layout first rs fits each rules);
         refused = λ is.
             let end = last stop.0 is.rows (map layout.row rs) is.spelled.rows_fit (tail (layout.head first) (layout.head is.first) (map layout.row rs ++ stop.0 ∷ []) (map layout.row is.rows) is.spelled.are) in
             stop.3 end.1 (next is.first end.0 end.1 end.4 (subst (layout.are_rows is.first) end.2 is.spelled.rules) (end.3 ∙ length-map rs layout.row)) end.5;
@@ -146,7 +146,7 @@ module _ {H R : Type 0} (layout : Layout H R) (Next : R → Type 0) (first : H) 
         are = behind (front_parts ++ part ∷ (more ++ rest.0))
             (rest.1 ∙ ap (λ (xs : List R). map layout.row xs ++ rest.0) cut.2 ∙ ap (λ (ps : List StoredPart). ps ++ rest.0) (map-append layout.row (take k rs) (cut.0 ∷ drop (suc k) rs)) ∙ append_assoc front_parts (part ∷ more) rest.0);
         here = omega (arith, length-map (take k rs) layout.row, length-take k rs, to);
-        begins = inr (front k (subst (λ (n : ℕ). layout.are_rows first (take n rs)) (omega arith) before));
+        begins = inr (is-record layout first (take k rs) fits (each-take layout.is_row rs k each) (subst (λ (n : ℕ). layout.are_rows first (take n rs)) (omega arith) before));
         refused = λ is.
             let s = is.spelled in
             let both : layout.head first ∷ map layout.row (take (suc k) rs) ≡ layout.head is.first ∷ map layout.row is.rows =

@@ -1,30 +1,30 @@
--- The record of an orchestrator by its layout.
-use Rattle.std.proofs.Common.{◌≡◌, ℕ, suc, ◌≤◌, List, [], ◌∷◌, ◌++◌, length, take, map, get_or, refl, sym, ap, subst, ◌∙◌, arith}
+-- The record of an orchestrator by its layout, and what can be written of it.
+use Rattle.std.proofs.Common.{◌≡◌, ℕ, suc, ◌≤◌, List, [], ◌∷◌, ◌++◌, length, take, map, get_or, refl, sym, ap, subst, ◌∙◌, arith, ◌+◌, ◌<◌, ◌^◌}
 use Rattle.std.specs.List.{AllByRecursion}
-use Rattle.csi_types.specs.Public.Text.{IsNodeId}
-use Rattle.csi_types.specs.Public.Limits.{IsWord}
 use Rattle.csi_orchestrator.specs.Model.Shown.{RowShown}
 use Rattle.csi_orchestrator.specs.Public.Record.{RecordParts, AreNodesFit}
 use Rattle.csi_orchestrator.specs.Public.Restored.{AreRestorable}
 use Rattle.csi_orchestrator.proofs.FirstRefused.{take-kept}
 use Rattle.csi_stores.specs.declared.part.Part.{Part}
-use Rattle.csi_stores.specs.Public.Part.{StoredPart, stored_in, all_stored_in}
+use Rattle.csi_stores.specs.Public.Part.{StoredPart, stored_in, all_stored_in, IsPart}
 use Rattle.csi_records.specs.declared.version.RecordVersion.{RecordVersion}
 use Rattle.csi_records.specs.Public.Spelling.{present}
-use Rattle.csi_records.specs.Public.OrchestratorSpelling.{KeyedRow, orchestrator_head, orchestrator_row, orchestrator_part, orchestrator_parts}
+use Rattle.csi_records.specs.Public.OrchestratorSpelling.{KeyedRow, orchestrator_head, orchestrator_row, orchestrator_part}
 use Rattle.csi_records.specs.Public.OrchestratorRows.{OrchestratorHeadShown, IsOrchestratorHead, IsOrchestratorRow}
 use Rattle.csi_records.specs.Public.OrchestratorRecords.{keyed_from, IsKeyedRow, AreKeyedRows, orchestrator_layout, kept_parts}
 use Rattle.csi_records.specs.Public.Records.{IsRecordOf, IsRefusedAt}
 use Rattle.csi_records.specs.Private.Stopping.{IsRowUnder}
-use Rattle.csi_records.proofs.EntryReaders.{orchestrator_row_read}
+use Rattle.csi_records.proofs.OrchestratorReaders.{orchestrator_row_read, orchestrator_head_read}
 use Rattle.csi_records.proofs.FieldReaders.{version-found}
-use Rattle.csi_records.proofs.KeyedRows.{make_keyed, keyed-same, keyed-length, keyed-take, keyed-last, keyed-each}
+use Rattle.csi_records.proofs.KeyedRows.{make_keyed, keyed-same, keyed-length, keyed-take, keyed-last}
 use Rattle.csi_records.proofs.LayoutLaws.{ArePlain}
 use Rattle.csi_records.proofs.Layouts.{IsOneToOne, head-refused}
-use Rattle.csi_records.proofs.OrchestratorReaders.{orchestrator_head_read}
 use Rattle.csi_records.proofs.OrchestratorSizes.{orchestrator_head_size, orchestrator_row_size}
 use Rattle.csi_records.proofs.PartReaders.{make_part, same_part}
 use Rattle.csi_records.proofs.Versions.{AreOfKind}
+use Rattle.std.proofs.lemmas.List.{length-map}
+use Rattle.csi_orchestrator.specs.Public.Shown.{closed}
+use Rattle.csi_records.specs.Public.Writing.{CanBeWritten}
 
 -- equal parts of rows mean equal rows under equal keys
 same-keyed : (version : RecordVersion) (a b : KeyedRow) → IsKeyedRow version a → IsKeyedRow version b → orchestrator_part version a ≡ orchestrator_part version b → a ≡ b
@@ -87,17 +87,22 @@ kept-same kept head rows heads same =
     ap (λ (value : List ℕ). make_part 0 value ∷ map (orchestrator_part present) (keyed_from 1 rows)) heads
     ∙ ap (λ (rs : List RowShown). orchestrator_head present kept.session kept.nodes ∷ map (orchestrator_part present) (keyed_from 1 rs)) same
 
--- what an orchestrator keeps is a record's parts in the present version
-pub orchestrator_is : (nodes : List (List ℕ)) (session : ℕ) (rows : List RowShown) → AllByRecursion IsNodeId nodes → IsWord session → AreNodesFit nodes → AreRestorable nodes rows
-    → AllByRecursion (IsOrchestratorRow present) rows → IsRecordOf (orchestrator_layout present) (orchestrator_parts present session nodes (keyed_from 1 rows))
-orchestrator_is nodes session rows ids session_fits fit kept each =
-    record {
-      first = record { session = session; nodes = nodes };
-      rows = keyed_from 1 rows;
-      spelled = record {
-        head_fits = record { fits = record { later = refl; session = session_fits; count = fit.few; nodes = ids }; nodes = fit };
-        rows_fit = keyed-each present nodes 1 rows (omega (arith, kept.few)) kept.each each;
-        rules = record { rows = rows; places = refl; rules = kept };
-        are = refl;
-      };
-    }
+-- a row's part doesn't tell its open call
+pub closed-parts : (key : ℕ) (rows : List RowShown) → map (orchestrator_part present) (keyed_from key rows) ≡ map (orchestrator_part present) (keyed_from key (map closed rows))
+closed-parts key [] = refl
+closed-parts key (row ∷ rows) = ap (λ (ps : List StoredPart). orchestrator_part present (make_keyed key row) ∷ ps) (closed-parts (suc key) rows)
+
+-- rows within their limits have parts within theirs
+fit-rows : (key : ℕ) (rows : List RowShown) → key + length rows < 2 ^ 64 → AllByRecursion (IsOrchestratorRow present) rows
+    → AllByRecursion IsPart (map (orchestrator_part present) (keyed_from key rows))
+fit-rows key [] few fits = tt
+fit-rows key (row ∷ rows) few fits =
+    (record { key = omega (arith, few); value = omega (arith, orchestrator_row_size present row fits.0) }, fit-rows (suc key) rows (omega (arith, few)) fits.1)
+
+-- so a head and few such rows can be written
+pub writable-rows : (head : List ℕ) (rows : List RowShown) → length head < 2 ^ 32 → length rows ≤ 4096 → AllByRecursion (IsOrchestratorRow present) rows
+    → CanBeWritten (make_part 0 head ∷ map (orchestrator_part present) (keyed_from 1 rows))
+writable-rows head rows short few fits = record {
+  each = (record { key = omega arith; value = short }, fit-rows 1 rows (omega (arith, few)) fits);
+  few = omega (arith, few, length-map (keyed_from 1 rows) (orchestrator_part present), keyed-length 1 rows);
+}

@@ -23,8 +23,7 @@ use Rattle.csi_records.specs.Public.Spelling.{VolumeRow, state_byte, list_spelli
 use Rattle.csi_records.specs.Public.Records.{IsCapabilityIn, IsHolding, IsVolumeRow, IsTargetRow, IsAnsweredRow, IsHead}
 use Rattle.csi_records.proofs.Readers.{Reads, Spelled, makes, also, fields, pieces6, in_words}
 use Rattle.csi_records.proofs.FieldReaders.{live_reads, word_reads, text_reads, capability_reads}
-use Rattle.csi_records.proofs.HeadReaders.{tagged, head_fields, controller_head_reads, node_head_reads}
-use Rattle.csi_records.proofs.ValueReaders.{counted_reads, holding_reads, target_reads, kept_reads, staged_reads}
+use Rattle.csi_records.proofs.ValueReaders.{tagged, head_fields, controller_head_reads, node_head_reads, counted_reads, holding_reads, target_reads, kept_reads, staged_reads}
 
 -- ---- a volume's row, behind the version
 

@@ -10,8 +10,6 @@ use Rattle.csi_controller.specs.Public.Views.{AreSameRows}
 use Rattle.csi_controller.proofs.Copies.{sound-copies}
 use Rattle.csi_controller.proofs.Sessions.{current-copies}
 use Rattle.csi_controller.proofs.FirstRefused.{sound-take}
-use Rattle.csi_controller.specs.Public.Judging.{AreRecorded}
-use Rattle.csi_types.specs.Public.Limits.{IsWord}
 use Rattle.csi_types.specs.Public.Text.{IsNodeId}
 use Rattle.csi_frames.specs.Public.Spelling as spelling
 use Rattle.csi_records.specs.declared.version.RecordVersion.{RecordVersion}
@@ -23,8 +21,8 @@ use Rattle.csi_node.specs.Public.Record.{AreSoundRows as AreSoundNodeRows, IsCur
 use Rattle.csi_stores.specs.declared.part.Part.{Part}
 use Rattle.csi_stores.specs.Public.Part.{StoredPart, stored_in, all_stored_in}
 use Rattle.csi_records.specs.Public.Writing.{ArePublishedFew, CanBeWritten}
-use Rattle.csi_records.specs.Public.Spelling.{VolumeRow, present, session_bytes, volume_row, node_head, controller_parts, node_parts}
-use Rattle.csi_records.specs.Public.Records.{Layout, Head, IsHead, IsAskedNode, IsVolumeRow, IsAnsweredRow, controller_layout, node_layout, AreControllerRows, AreVolumeRows, IsRecordOf, IsRefusedAt}
+use Rattle.csi_records.specs.Public.Spelling.{VolumeRow, session_bytes, volume_row, node_head}
+use Rattle.csi_records.specs.Public.Records.{Layout, Head, IsHead, IsAskedNode, controller_layout, node_layout, AreControllerRows, AreVolumeRows, IsRecordOf, IsRefusedAt}
 use Rattle.csi_records.proofs.PartReaders.{volume_read, answered_read, controller_head_read, node_head_read, same_part}
 use Rattle.csi_records.proofs.ValueSizes.{volume_size, answered_size}
 use Rattle.csi_records.proofs.FieldReaders.{version-found}
@@ -162,35 +160,3 @@ controller_kind = record { versions = λ version head. version-found version; ki
 -- a node's have 1
 pub node_kind : (wanted : Option (List ℕ)) → AreOfKind (λ version. node_layout version wanted) 1
 node_kind wanted = record { versions = λ version head. version-found version; kinds = λ version head. refl }
-
--- ---- a record's parts in the present version, made of what the record shows
-
--- a controller's
-pub controller_is : (next_id session : ℕ) (rs rows : List ControllerRow) → rs ≡ rows → IsWord next_id → IsWord session → AreRecorded next_id session rows → AllByRecursion (IsVolumeRow present) (map volume_row rs)
-    → IsRecordOf (controller_layout present) (controller_parts present next_id (Some session) (map volume_row rows))
-controller_is next_id session rs rows same next_fits session_fits rules each =
-    record {
-      first = record { own = next_id; session = Some session };
-      rows = map volume_row rows;
-      spelled = record {
-        head_fits = record { own = next_fits; session = session_fits };
-        rows_fit = subst (λ (xs : List ControllerRow). AllByRecursion (IsVolumeRow present) (map volume_row xs)) same each;
-        rules = (rows, refl, rules);
-        are = refl;
-      };
-    }
-
--- a node's
-pub node_is : (id : List ℕ) (session : ℕ) (rs rows : List NodeRow) → rs ≡ rows → IsNodeId id → IsWord session → KeepNodeRules (Some session) (map node_row_shown rows) → AllByRecursion (IsAnsweredRow present) (map node_row_shown rs)
-    → IsRecordOf (node_layout present None) (node_parts present id (Some session) (map node_row_shown rows))
-node_is id session rs rows same id_fits session_fits rules each =
-    record {
-      first = record { own = id; session = Some session };
-      rows = map node_row_shown rows;
-      spelled = record {
-        head_fits = record { own = (id_fits, tt); session = session_fits };
-        rows_fit = subst (λ (xs : List NodeRow). AllByRecursion (IsAnsweredRow present) (map node_row_shown xs)) same each;
-        rules = rules;
-        are = refl;
-      };
-    }

@@ -3,12 +3,13 @@ use Rattle.std.proofs.Common.{◌≡◌, ℕ, zero, suc, ◌+◌, ◌<◌, List,
 use Rattle.std.specs.Prelude.{Option, option_map, unwrap_or}
 use Rattle.std.specs.Global.{Vec}
 use Rattle.std.specs.List.{flat_map, AllByRecursion}
-use Rattle.std.proofs.lemmas.List.{append-nil, map-append, take_more}
+use Rattle.std.proofs.lemmas.List.{append-nil, map-append, take_more, length-map}
 use Rattle.std.proofs.lemmas.List.Concat.{flat_map-append}
 use Rattle.csi_lists.proofs.Each.{each-append_one}
 use Rattle.csi_stores.specs.declared.part.Part.{Part}
 use Rattle.csi_stores.specs.Public.Part.{StoredPart, IsPart, StoredChange, put_all, take_all, part_change, stored_in, all_stored_in, value_in, value_bytes}
-use Rattle.csi_records.specs.Public.Spelling.{part_bytes}
+use Rattle.csi_records.specs.Public.Spelling.{part_bytes, list_spelling}
+use Rattle.std.proofs.lemmas.List.Folds.{flat_map-map}
 
 -- a part, from its key and its value
 abbrev make_part : ℕ → List ℕ → StoredPart
@@ -109,3 +110,9 @@ pub put_same : {X R : Type 0} (part_of : R → StoredPart) (shown : X → R) (he
     → changes ≡ put_all (record { key = 0; value = value } ∷ map part_of (map shown rows))
 put_same {X} part_of shown head value rs rows changes heads same are =
     are ∙ ap (λ (v : List ℕ). put_all (record { key = 0; value = v } ∷ map part_of (map shown rs))) heads ∙ ap (λ (xs : List X). put_all (record { key = 0; value = value } ∷ map part_of (map shown xs))) same
+
+-- ---- lists of what is shown of their items
+
+-- what spells the items with their count, each by what is shown of it, spells the list of what is shown
+pub list-shown : {X R : Type 0} (f : R → List ℕ) (shown : X → R) (xs : List X) → list_spelling (λ x. f (shown x)) xs ≡ list_spelling f (map shown xs)
+list-shown f shown xs = ap (λ (n : ℕ). n ∷ flat_map (λ x. f (shown x)) xs) (sym (length-map xs shown)) ∙ ap (λ (t : List ℕ). length (map shown xs) ∷ t) (sym (flat_map-map f shown xs))

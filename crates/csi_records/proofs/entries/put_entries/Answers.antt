@@ -6,7 +6,7 @@ use Rattle.csi_orchestrator.specs.Public.Shown.{node_entry_shown}
 use Rattle.csi_records.specs.Public.Spelling.{present}
 use Rattle.csi_records.specs.Public.OrchestratorSpelling.{node_entry_bytes}
 use Rattle.csi_records.specs.Public.OrchestratorRows.{IsNodeEntry}
-use Rattle.csi_records.proofs.WritingEntries.{list-shown}
+use Rattle.csi_records.proofs.WritingPieces.{list-shown}
 use Rattle.csi_records.proofs.entries.put_entries.Goals as goal
 
 pub returns-clause-written : goal.returns-clause-written

@@ -4,7 +4,7 @@ use Rattle.csi_orchestrator.specs.Public.Shown.{row_shown}
 use Rattle.csi_stores.specs.Public.Part.{stored_in}
 use Rattle.csi_records.specs.Public.OrchestratorSpelling.{orchestrator_part}
 use Rattle.csi_records.specs.Private.Stopping.{IsRowUnder}
-use Rattle.csi_records.proofs.KeyedParts.{keyed_rows, one_more_read}
+use Rattle.csi_records.proofs.KeyedRows.{keyed_rows, one_more_read}
 use Rattle.csi_records.proofs.Layouts.{stops-here}
 use Rattle.csi_records.proofs.orchestrator_rows.orchestrator_rows.Goals as goal
 

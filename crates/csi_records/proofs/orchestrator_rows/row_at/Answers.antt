@@ -2,7 +2,7 @@ use Rattle.std.proofs.Common.{◌∙◌, ℕ, refl, sym, ap, arith}
 use Rattle.std.proofs.lemmas.Result.{IfOk-weaker}
 use Rattle.csi_orchestrator.specs.Public.Shown.{row_shown}
 use Rattle.csi_records.specs.Public.OrchestratorSpelling.{orchestrator_row}
-use Rattle.csi_records.proofs.EntryReaders.{orchestrator_row_read}
+use Rattle.csi_records.proofs.OrchestratorReaders.{orchestrator_row_read}
 use Rattle.csi_records.proofs.PartReaders.{make_part, read-of, unread-of}
 use Rattle.csi_records.proofs.orchestrator_rows.row_at.Goals as goal
 
