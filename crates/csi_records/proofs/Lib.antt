@@ -12,5 +12,4 @@ pub mod ValueSizes
 pub mod WritingPieces
 pub mod OrchestratorReaders
 pub mod KeyedRows
-pub mod OrchestratorSizes
 pub mod OrchestratorLayouts

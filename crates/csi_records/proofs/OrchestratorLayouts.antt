@@ -19,7 +19,7 @@ use Rattle.csi_records.proofs.FieldReaders.{version-found}
 use Rattle.csi_records.proofs.KeyedRows.{make_keyed, keyed-same, keyed-length, keyed-take, keyed-last}
 use Rattle.csi_records.proofs.LayoutLaws.{ArePlain}
 use Rattle.csi_records.proofs.Layouts.{IsOneToOne, head-refused}
-use Rattle.csi_records.proofs.OrchestratorSizes.{orchestrator_head_size, orchestrator_row_size}
+use Rattle.csi_records.proofs.ValueSizes.{orchestrator_head_size, orchestrator_row_size}
 use Rattle.csi_records.proofs.PartReaders.{make_part, same_part}
 use Rattle.csi_records.proofs.Versions.{AreOfKind}
 use Rattle.std.proofs.lemmas.List.{length-map}

@@ -168,10 +168,6 @@ module _ {R : Type 0} {version : RecordVersion} {row_in : ℕ → Reader R} {IsK
   abbrev value_of : StoredPart → Option R
   value_of part = read_whole version (row_in part.key) part.value
 
-  -- where nothing is read of a part, nothing has that part
-  unread : (part : StoredPart) → read_whole version (row_in part.key) part.value ≡ None → (row : R) → IsRow row → row_part row ≡ part → ⊥
-  unread part none row fits e = some_is_not_none row (sym (is_read.again row fits) ∙ ap value_of e ∙ none)
-
   -- what has equal parts is equal
   pub same_part : (a b : R) → IsRow a → IsRow b → row_part a ≡ row_part b → a ≡ b
   same_part a b fits fit e = same_Some a b (sym (is_read.again a fits) ∙ ap value_of e ∙ is_read.again b fit)
@@ -188,4 +184,4 @@ module _ {R : Type 0} {version : RecordVersion} {row_in : ℕ → Reader R} {IsK
 
   -- where nothing is read of a part's value, nothing has that part
   pub unread-of : read_whole version (row_in key) bytes ≡ None → (row : R) → IsRow row → row_part row ≡ stored_in part → ⊥
-  unread-of none row fits same = unread is_read (make_part key bytes) none row fits (same ∙ part-is part key bytes key_is bytes_are)
+  unread-of none row fits same = some_is_not_none row (sym (is_read.again row fits) ∙ ap (value_of is_read) (same ∙ part-is part key bytes key_is bytes_are) ∙ none)

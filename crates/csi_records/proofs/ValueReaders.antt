@@ -11,7 +11,7 @@ use Rattle.csi_frames.specs.Public.Spelling as spelling
 use Rattle.csi_records.specs.Private.Reading.{Reader, read_items, read_counted, read_holding, read_target, read_reply_id, read_reply, read_kept, read_staged, id_from, go_on, ◌>>=◌, give, read_tag, read_word, read_session, read_controller_head, read_node_head}
 use Rattle.csi_records.specs.Public.Spelling.{list_spelling, holding_bytes, target_bytes, kept_bytes, staged_bytes, session_bytes}
 use Rattle.csi_records.specs.Public.Records.{IsCapabilityIn, IsKeptCall, IsHolding, IsTargetRow, IsStagedSo, Head, IsSessionIf, IsHead}
-use Rattle.csi_records.proofs.Readers.{Reads, Given, gives, in_words, Either, either, Spelled, After, Made, after, makes, Always, also, fields, gives_only, then}
+use Rattle.csi_records.proofs.Readers.{Reads, Given, gives, in_words, Either, either, Spelled, After, Made, after, makes, Always, also, fields, gives_only}
 use Rattle.csi_records.proofs.FieldReaders.{flag_reads, capability_reads, number_reads, status_reads, kind_reads, count_reads, word_reads, text_reads, tag_reads}
 use Rattle.csi_types.specs.Public.Text.{IsNodeId}
 use Rattle.csi_records.specs.Public.Version.{has_session}
@@ -146,9 +146,9 @@ staged_reads version =
 pub tagged : {A : Type 0} {read : Reader A} (n : ℕ) (Fits : A → Type 0) (spell : A → List ℕ) → Reads read (Spelled Fits spell) → Reads (λ bytes. go_on (read_tag n bytes) (λ _. read)) (Spelled Fits (λ value. n ∷ spell value))
 tagged {A} {read} n Fits spell one =
     in_words (Spelled Fits (λ (value : A). n ∷ spell value))
-    (λ value bytes s. record { fits = s.second.fits; are = s.parts ∙ ap (λ (t : List ℕ). t ++ s.back) s.first.one ∙ ap (λ (t : List ℕ). n ∷ t) s.second.are })
-    (λ value bytes s. record { before = tt; front = n ∷ []; back = spell value; parts = s.are; first = record { one = refl }; second = record { fits = s.fits; are = refl } })
-    (then (tag_reads n) (λ _. one))
+    (λ value bytes s. record { fits = s.second.fits; are = s.parts ∙ ap (λ (t : List ℕ). n ∷ t) s.second.are })
+    (λ value bytes s. record { before = tt; fits = tt; back = spell value; parts = s.are; second = record { fits = s.fits; are = refl } })
+    (after (tag_reads n) (λ _. one))
 
 -- the reader of the session reads what spells it, where the version has it, and nothing else
 session_reads : (version : RecordVersion) → Reads (read_session version) (Spelled (IsSessionIf (has_session version)) session_bytes)

@@ -195,9 +195,7 @@ read_answered version id = do
 
 -- the byte of this number
 unfoldable pub read_tag : ℕ → Reader (Unit {0})
-read_tag n = do
-  b ← read_byte
-  if b == n then give tt else nothing
+read_tag n = read_code (λ b. if b == n then Some tt else None)
 
 -- the greatest session that came, where the version has it
 unfoldable pub read_session : RecordVersion → Reader (Option ℕ)
