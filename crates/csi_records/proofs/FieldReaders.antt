@@ -28,7 +28,7 @@ use Rattle.csi_frames.proofs.Codes.{kind-back}
 use Rattle.csi_frames.proofs.CapabilityReaders.{any_word_agrees, any_text_agrees, flag_agrees, capability_agrees}
 use Rattle.csi_frames.proofs.ReplyReaders.{status_agrees}
 use Rattle.csi_frames.proofs.BodyReaders.{number_agrees}
-use Rattle.csi_records.specs.Private.Reading.{Reader, taken, as_in_frames, read_byte, read_code, read_count, read_word, read_text, read_flag, read_capability, read_status, read_number, read_tag, live_from, or_none}
+use Rattle.csi_records.specs.Private.Reading.{taken, as_in_frames, read_byte, read_code, read_count, read_word, read_text, read_flag, read_capability, read_status, read_number, read_tag, live_from, or_none}
 use Rattle.csi_records.specs.Public.Spelling.{state_byte}
 use Rattle.csi_records.specs.Public.Records.{IsCapabilityIn}
 use Rattle.csi_records.proofs.Readers.{Reads, some_is, Spelled, Always, in_words, then}

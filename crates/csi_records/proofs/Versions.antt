@@ -51,11 +51,6 @@ same-head : (before : List StoredPart) (part : StoredPart) (more after : List St
 same-head [] part more after = refl
 same-head (b ∷ bs) part more after = refl
 
--- a record of one version is one of some version, and so is what begins one
-begins-some : (Is : RecordVersion → List StoredPart → Type 0) (version : RecordVersion) (parts : List StoredPart) → Begins (Is version) parts → Begins (IsInSome Is) parts
-begins-some Is version parts (inl none) = inl none
-begins-some Is version parts (inr is) = inr (record { version = version; there = is })
-
 -- where no version is told, the first part is refused, if there is one
 pub no-version : {X H R : Type 0} {kind : ℕ} (layouts : RecordVersion → Layout H R) → AreOfKind layouts kind → (AreOf : RecordVersion → List StoredPart → X → Type 0) (parts : List StoredPart) → version_in_parts parts ≡ None
     → ReadsStored (λ v. IsRecordOf (layouts v)) AreOf parts (Err (BadRecord 0))
@@ -81,10 +76,14 @@ refused-some {H} {R} layouts versioned version parts place told at =
       after = at.after;
       are = at.are;
       here = at.here;
-      begins = begins-some (λ v. IsRecordOf (layouts v)) version at.before at.begins;
+      begins = begins at.begins;
       refused = λ is. at.refused (subst (λ (v : RecordVersion). IsRecordOf (layouts v) (at.before ++ at.part ∷ [])) (same is) is.there);
     }
   where
+    begins : Begins (IsRecordOf (layouts version)) at.before → Begins (IsInSome (λ v. IsRecordOf (layouts v))) at.before
+    begins (inl none) = inl none
+    begins (inr is) = inr (record { version = version; there = is })
+
     same : (is : IsInSome (λ v. IsRecordOf (layouts v)) (at.before ++ at.part ∷ [])) → is.version ≡ version
     same is =
         let s = is.there.spelled in
