@@ -28,10 +28,10 @@ use Rattle.csi_frames.proofs.Codes.{kind-back}
 use Rattle.csi_frames.proofs.CapabilityReaders.{any_word_agrees, any_text_agrees, flag_agrees, capability_agrees}
 use Rattle.csi_frames.proofs.ReplyReaders.{status_agrees}
 use Rattle.csi_frames.proofs.BodyReaders.{number_agrees}
-use Rattle.csi_records.specs.Private.Reading.{Reader, give, nothing, taken, as_in_frames, read_byte, read_code, read_count, read_word, read_text, read_flag, read_capability, read_status, read_number, read_tag, live_from, or_none}
+use Rattle.csi_records.specs.Private.Reading.{taken, as_in_frames, read_byte, read_code, read_count, read_word, read_text, read_flag, read_capability, read_status, read_number, read_tag, live_from, or_none}
 use Rattle.csi_records.specs.Public.Spelling.{state_byte}
 use Rattle.csi_records.specs.Public.Records.{IsCapabilityIn}
-use Rattle.csi_records.proofs.Readers.{Took, Reads, some_is, Spelled, Always, in_words, then}
+use Rattle.csi_records.proofs.Readers.{Reads, some_is, Spelled, Always, in_words, then}
 
 -- ---- fields, as in frames
 
@@ -158,10 +158,8 @@ code_reads {A} value_of number code =
 -- a byte that stands for live or deleted is the one that spells it
 live-back : (b : ℕ) (a : Bool) → live_from b ≡ Some a → state_byte a ≡ b
 live-back zero a e = absurd cc
-live-back (suc zero) true e = refl
-live-back (suc zero) false e = absurd cc
-live-back (suc (suc zero)) true e = absurd cc
-live-back (suc (suc zero)) false e = refl
+live-back (suc zero) a e = ap state_byte (sym (same_Some true a e))
+live-back (suc (suc zero)) a e = ap state_byte (sym (same_Some false a e))
 live-back (suc (suc (suc n))) a e = absurd cc
 
 -- the byte that spells live or deleted stands for it
@@ -196,15 +194,9 @@ kind_reads = code_reads reply_kind_from (λ kind. 128 + kind_number kind) (recor
 -- a byte that stands for a version is its number, and each version is found at its number
 version-back : (b : ℕ) (version : RecordVersion) → record_version_from_number b ≡ Some version → record_version_number version ≡ b
 version-back zero version e = absurd cc
-version-back (suc zero) One e = refl
-version-back (suc zero) Two e = absurd cc
-version-back (suc zero) Three e = absurd cc
-version-back (suc (suc zero)) One e = absurd cc
-version-back (suc (suc zero)) Two e = refl
-version-back (suc (suc zero)) Three e = absurd cc
-version-back (suc (suc (suc zero))) One e = absurd cc
-version-back (suc (suc (suc zero))) Two e = absurd cc
-version-back (suc (suc (suc zero))) Three e = refl
+version-back (suc zero) version e = ap record_version_number (sym (same_Some One version e))
+version-back (suc (suc zero)) version e = ap record_version_number (sym (same_Some Two version e))
+version-back (suc (suc (suc zero))) version e = ap record_version_number (sym (same_Some Three version e))
 version-back (suc (suc (suc (suc n)))) version e = absurd cc
 
 -- each version is found at its number
@@ -219,31 +211,12 @@ version_reads = code_reads record_version_from_number record_version_number (rec
 
 -- ---- a byte of this number
 
--- the bytes are this one byte
-pub record IsTag (n : ℕ) (value : Unit {0}) (bytes : List ℕ) : Type 0 where
-  pub one : bytes ≡ n ∷ []
-
--- nothing but that it was there, if the test is passed
-abbrev tag_by : Bool → Reader (Unit {0})
-tag_by t = cond t (give tt) nothing
-
--- where a given byte is read, it stands first; the test is a flag here
-tag-takes : (n b : ℕ) (bytes : List ℕ) (t : Bool) (x : Unit {0} × List ℕ) → eqb b n ≡ t → tag_by t bytes ≡ Some x → Took (IsTag n) (b ∷ bytes) x
-tag-takes n b bytes true x is e =
-    subst (λ (y : Unit {0} × List ℕ). Took (IsTag n) (b ∷ bytes) y) (some_is tt bytes x e) (record { front = b ∷ []; parts = refl; says = record { one = ap (λ (k : ℕ). k ∷ []) (eqb-true _ _ is) } })
-tag-takes n b bytes false x is e = absurd cc
-
--- where a given byte is read, it stands first
-tag_in-takes : (n : ℕ) (bytes : List ℕ) (x : Unit {0} × List ℕ) → read_tag n bytes ≡ Some x → Took (IsTag n) bytes x
-unfolding read_tag read_byte byte_at
-tag_in-takes n [] x e = absurd cc
-tag_in-takes n (b ∷ bytes) x e = tag-takes n b bytes (eqb b n) x refl e
-
--- a given byte that stands first is read
-tag_in-again : (n : ℕ) (value : Unit {0}) (front rest : List ℕ) → IsTag n value front → read_tag n (front ++ rest) ≡ Some (value, rest)
-unfolding read_tag read_byte byte_at
-tag_in-again n value front rest s = let same : eqb n n ≡ true = eq-eqb n n refl in ap (λ (t : List ℕ). read_tag n (t ++ rest)) s.one ∙ rw same refl
+-- a byte that stands for nothing but that it was there is this one; the test is a flag here
+tag-back : (n b : ℕ) (t : Bool) (u : Unit {0}) → eqb b n ≡ t → cond t (Some tt) None ≡ Some u → n ≡ b
+tag-back n b true u is e = sym (eqb-true _ _ is)
+tag-back n b false u is e = absurd cc
 
 -- the reader of a given byte takes that byte and no other
-pub tag_reads : (n : ℕ) → Reads (read_tag n) (IsTag n)
-tag_reads n = record { takes = λ bytes fits x e. tag_in-takes n bytes x e; again = tag_in-again n }
+pub tag_reads : (n : ℕ) → Reads (read_tag n) (Spelled Always (λ u. n ∷ []))
+unfolding read_tag
+tag_reads n = code_reads (λ b. cond (eqb b n) (Some tt) None) (λ u. n) (record { back = λ b u e. tag-back n b (eqb b n) u refl e; again = λ u. let same : eqb n n ≡ true = eq-eqb n n refl in rw same refl })

@@ -1,9 +1,8 @@
 -- The laws of records by any layouts, one for each version: bytes are read in one way, and one part at most is the first that is refused.
 use Rattle.std.proofs.Common.{◌≡◌, ◌⊎◌, ℕ, ◌≤◌, ◌<◌, ◌^◌, List, [], ◌∷◌, ◌++◌, length, take, map, refl, sym, ap, subst, ◌∙◌, inl, inr, append_assoc, arith}
-use Rattle.std.specs.Prelude.{◌≢◌}
 use Rattle.std.specs.List.{flat_map, AllByRecursion}
 use Rattle.std.proofs.lemmas.Bool.{cases_order}
-use Rattle.std.proofs.lemmas.List.{append-nil, append_cancel_left, length-append, length-map, take-map, take_at}
+use Rattle.std.proofs.lemmas.List.{append-nil, length-append, length-map, take-map, take_at}
 use Rattle.csi_lists.proofs.Each.{each-map}
 use Rattle.csi_records.specs.declared.version.RecordVersion.{RecordVersion}
 use Rattle.csi_stores.specs.Public.Part.{StoredPart, IsPart}
@@ -74,20 +73,23 @@ begun-front layout one front p more whole are (inr is) =
 abbrev flat : List StoredPart → List ℕ
 flat parts = flat_map part_bytes parts
 
--- fewer parts are a front of more
-record Goes (few many : List StoredPart) (left right : List ℕ) : Type 0 where
-  more : List StoredPart
-  are : many ≡ few ++ more
-  left_is : left ≡ flat more ++ right
-
 -- of parts whose bytes, with a rest, are the same, the fewer are a front of the more
-goes : (few many : List StoredPart) (left right : List ℕ) → AllByRecursion IsPart few → AllByRecursion IsPart many → flat few ++ left ≡ flat many ++ right → length few ≤ length many → Goes few many left right
-goes [] many left right fit fits e le = record { more = many; are = refl; left_is = e }
+goes : (few many : List StoredPart) (left right : List ℕ) → AllByRecursion IsPart few → AllByRecursion IsPart many → flat few ++ left ≡ flat many ++ right → length few ≤ length many
+    → (more : List StoredPart) × (many ≡ few ++ more) × (left ≡ flat more ++ right)
+goes [] many left right fit fits e le = (many, refl, e)
 goes (p ∷ ps) [] left right fit fits e le = absurd (omega arith)
 goes (p ∷ ps) (q ∷ qs) left right fit fits e le =
-    let same = spelled-same part_reads p q (flat ps ++ left) (flat qs ++ right) (fit.0) (fits.0) (sym (append_assoc (part_bytes p) (flat ps) left) ∙ e ∙ append_assoc (part_bytes q) (flat qs) right) in
-    let rest = goes ps qs left right (fit.1) (fits.1) same.1 (omega arith) in
-    record { more = rest.more; are = ap (λ (r : StoredPart). r ∷ qs) (sym same.0) ∙ ap (λ (rs : List StoredPart). p ∷ rs) rest.are; left_is = rest.left_is }
+    let same = spelled-same part_reads p q (flat ps ++ left) (flat qs ++ right) fit.0 fits.0 (sym (append_assoc (part_bytes p) (flat ps) left) ∙ e ∙ append_assoc (part_bytes q) (flat qs) right) in
+    let rest = goes ps qs left right fit.1 fits.1 same.1 (omega arith) in
+    (rest.0, ap (λ (r : StoredPart). r ∷ qs) (sym same.0) ∙ ap (λ (rs : List StoredPart). p ∷ rs) rest.1, rest.2)
+
+-- the same of as many parts: they are the same, and so are the rests
+goes-all : (parts others : List StoredPart) (left right : List ℕ) → AllByRecursion IsPart parts → AllByRecursion IsPart others → flat parts ++ left ≡ flat others ++ right → length parts ≡ length others → (parts ≡ others) × (left ≡ right)
+goes-all parts others left right fit fits e count = let g = goes parts others left right fit fits e (omega (arith, count)) in none g.0 g.1 g.2
+  where
+    none : (more : List StoredPart) → others ≡ parts ++ more → left ≡ flat more ++ right → (parts ≡ others) × (left ≡ right)
+    none [] are rest = (sym (are ∙ append-nil parts), rest)
+    none (p ∷ ps) are rest = absurd (omega (arith, count, ap length are ∙ length-append parts (p ∷ ps)))
 
 -- with no part that comes next are the parts before it a record
 abbrev Refuses : (List StoredPart → Type 0) → List StoredPart → List ℕ → Type 0
@@ -102,11 +104,9 @@ begun-fit layout plain before (inr is) = (fit-parts layout plain before is).fit
 not-further : {H R : Type 0} (layout : Layout H R) → IsOneToOne layout → ArePlain layout → (before many : List StoredPart) (left right : List ℕ) → Begins (IsRecordOf layout) before → Refuses (IsRecordOf layout) before left
     → Begins (IsRecordOf layout) many → flat before ++ left ≡ flat many ++ right → length before < length many → ⊥
 not-further {H} {R} layout one plain before many left right begins refuses begun e less =
-    with g.more g.are g.left_is
+    let g = goes before many left right (begun-fit layout plain before begins) (begun-fit layout plain many begun) e (omega (arith, less)) in
+    with g.0 g.1 g.2
   where
-    g : Goes before many left right
-    g = goes before many left right (begun-fit layout plain before begins) (begun-fit layout plain many begun) e (omega (arith, less))
-
     with : (more : List StoredPart) → many ≡ before ++ more → left ≡ flat more ++ right → ⊥
     with [] are here = omega (arith, less, ap length are ∙ ap length (append-nil before))
     with (p ∷ ps) are here =
@@ -119,144 +119,117 @@ heads-same v w a b first second fits fit e =
     let same = spelled-same record_head_reads (make_head v a) (make_head w b) first second (record { fits = fits }) (record { fits = fit }) e in
     (ap (λ head. head.0) same.0, ap (λ head. head.1) same.0, same.1)
 
--- how bytes that have a refused part are seen: no number of parts; or a front, and what is refused behind it, or no more parts
-record Bad {H R : Type 0} (layouts : RecordVersion → Layout H R) (bytes : List ℕ) (place : ℕ) : Type 0 where
+-- a version and a number of parts, a front of them that is a record, if there are any, and a rest; the front is all of them, or what comes next is no
+-- part of a record that goes on
+record Front {H R : Type 0} (layouts : RecordVersion → Layout H R) (bytes : List ℕ) : Type 0 where
   version : RecordVersion
   count : ℕ
   before : List StoredPart
   rest : List ℕ
   from : 1 ≤ count
   to : count < 2 ^ 32
+  within : length before ≤ count
   are : bytes ≡ record_head version count ++ (flat before ++ rest)
-  here : length before ≡ place
   begins : Begins (IsRecordOf (layouts version)) before
-  why : ((length before < count) × Refuses (IsRecordOf (layouts version)) before rest) ⊎ ((length before ≡ count) × (rest ≢ []) × IsRecordOf (layouts version) before)
+  ends : (length before ≡ count) ⊎ Refuses (IsRecordOf (layouts version)) before rest
 
--- the records of each version
-abbrev Records : {H R : Type 0} → (RecordVersion → Layout H R) → RecordVersion → List StoredPart → Type 0
-Records layouts version = IsRecordOf (layouts version)
+module _ {H R : Type 0} (layouts : RecordVersion → Layout H R) (one : (version : RecordVersion) → IsOneToOne (layouts version)) (plain : (version : RecordVersion) → ArePlain (layouts version)) (bytes : List ℕ) where
+  -- no front is shorter than another one
+  shorter : (p q : Front layouts bytes) → p.version ≡ q.version → p.count ≡ q.count → flat p.before ++ p.rest ≡ flat q.before ++ q.rest → length p.before < length q.before → ⊥
+  shorter p q version count e less = by p.ends
+    where
+      by : (length p.before ≡ p.count) ⊎ Refuses (IsRecordOf (layouts p.version)) p.before p.rest → ⊥
+      by (inl all) = omega (arith, all, count, less, q.within)
+      by (inr refuses) =
+          not-further (layouts p.version) (one p.version) (plain p.version) p.before q.before p.rest q.rest p.begins refuses (subst (λ (v : RecordVersion). Begins (IsRecordOf (layouts v)) q.before) (sym version) q.begins) e less
 
--- bytes with a refused part have no number of parts and are refused at 0, or are as `Bad` says
-seen : {H R : Type 0} (layouts : RecordVersion → Layout H R) → ((version : RecordVersion) → ArePlain (layouts version)) → (bytes : List ℕ) (place : ℕ) → IsBadAt (Records layouts) bytes place → ((place ≡ 0) × HasNoHead bytes) ⊎ Bad layouts bytes place
-seen layouts plain bytes _ (no_head none) = inl (refl, none)
-seen layouts plain bytes _ (bad_part version count before rest to below are begins refuses) =
-    inr (record {
-      version = version;
-      count = count;
-      before = before;
-      rest = rest;
-      from = omega (arith, below);
-      to = to;
-      are = are ∙ append_assoc (record_head version count) (flat before) rest;
-      here = refl;
-      begins = begins;
-      why = inl (below, refuses);
-    })
-seen layouts plain bytes _ (more_bytes version parts rest is some are) =
-    let fits = fit-parts (layouts version) (plain version) parts is in
-    inr (record {
-      version = version;
-      count = length parts;
-      before = parts;
-      rest = rest;
-      from = fits.some;
-      to = fits.few;
-      are = are ∙ append_assoc (record_head version (length parts)) (flat parts) rest;
-      here = refl;
-      begins = inr is;
-      why = inr (refl, some, is);
-    })
+  -- so bytes have one front
+  same-front : (p q : Front layouts bytes) → (p.version ≡ q.version) × (p.count ≡ q.count) × (p.before ≡ q.before) × (p.rest ≡ q.rest)
+  same-front p q =
+      let heads = heads-same p.version q.version p.count q.count (flat p.before ++ p.rest) (flat q.before ++ q.rest) p.to q.to (sym p.are ∙ q.are) in
+      let both = by heads.0 heads.1 heads.2 (cases_order (length p.before) (length q.before)) in
+      (heads.0, heads.1, both.0, both.1)
+    where
+      by : p.version ≡ q.version → p.count ≡ q.count → flat p.before ++ p.rest ≡ flat q.before ++ q.rest → (length p.before ≡ length q.before) ⊎ ((length p.before < length q.before) ⊎ (length q.before < length p.before))
+          → (p.before ≡ q.before) × (p.rest ≡ q.rest)
+      by version count e (inl same) =
+          goes-all p.before q.before p.rest q.rest (begun-fit (layouts p.version) (plain p.version) p.before p.begins) (begun-fit (layouts q.version) (plain q.version) q.before q.begins) e same
+      by version count e (inr (inl less)) = absurd (shorter p q version count e less)
+      by version count e (inr (inr more)) = absurd (shorter q p (sym version) (sym count) (sym e) more)
 
--- where parts alone and parts with a rest have the same bytes, the rest has none
-no-rest : (parts : List StoredPart) (rest : List ℕ) → flat parts ++ [] ≡ flat parts ++ rest → rest ≡ []
-no-rest parts rest e = sym (append_cancel_left (flat parts) [] rest e)
+  -- a record, and what stands behind it
+  abbrev whole : (version : RecordVersion) (parts : List StoredPart) (rest : List ℕ) → IsRecordOf (layouts version) parts → bytes ≡ record_bytes version parts ++ rest → Front layouts bytes
+  whole version parts rest is are =
+      let fits = fit-parts (layouts version) (plain version) parts is in
+      record {
+        version = version;
+        count = length parts;
+        before = parts;
+        rest = rest;
+        from = fits.some;
+        to = fits.few;
+        within = omega arith;
+        are = are ∙ append_assoc (record_head version (length parts)) (flat parts) rest;
+        begins = inr is;
+        ends = inl refl;
+      }
 
--- a record's bytes have no refused part
-spelled-clash : {H R : Type 0} (layouts : RecordVersion → Layout H R) → ((version : RecordVersion) → IsOneToOne (layouts version)) → ((version : RecordVersion) → ArePlain (layouts version)) → (version : RecordVersion) (bytes : List ℕ) (parts : List StoredPart) (place : ℕ)
-    → IsRecordOf (layouts version) parts → bytes ≡ record_bytes version parts → Bad layouts bytes place → ⊥
-spelled-clash {H} {R} layouts one plain version bytes parts place is are bad =
-    let fits = fit-parts (layouts version) (plain version) parts is in
-    let whole : record_head bad.version bad.count ++ (flat bad.before ++ bad.rest) ≡ record_head version (length parts) ++ flat parts = sym bad.are ∙ are in
-    let same = heads-same bad.version version bad.count (length parts) (flat bad.before ++ bad.rest) (flat parts) bad.to fits.few whole in
-    by (subst (λ (v : RecordVersion). IsRecordOf (layouts v) parts) (sym same.0) is) fits.fit same.1 (same.2 ∙ sym (append-nil (flat parts))) bad.why
-  where
-    by : IsRecordOf (layouts bad.version) parts → AllByRecursion IsPart parts → bad.count ≡ length parts → flat bad.before ++ bad.rest ≡ flat parts ++ [] → ((length bad.before < bad.count) × Refuses (IsRecordOf (layouts bad.version)) bad.before bad.rest) ⊎ ((length bad.before ≡ bad.count) × (bad.rest ≢ []) × IsRecordOf (layouts bad.version) bad.before) → ⊥
-    by same fit count e (inl w) = not-further (layouts bad.version) (one bad.version) (plain bad.version) bad.before parts bad.rest [] bad.begins w.1 (inr same) e (omega (arith, w.0, count))
-    by same fit count e (inr w) = w.1 (ends (goes bad.before parts bad.rest [] (begun-fit (layouts bad.version) (plain bad.version) bad.before bad.begins) fit e (omega (arith, w.0, count))))
-      where
-        ends : Goes bad.before parts bad.rest [] → bad.rest ≡ []
-        ends g = none g.more g.are g.left_is
-          where
-            none : (more : List StoredPart) → parts ≡ bad.before ++ more → bad.rest ≡ flat more ++ [] → bad.rest ≡ []
-            none [] long here = here
-            none (p ∷ ps) long here = absurd (omega (arith, w.0, count, ap length long ∙ length-append bad.before (p ∷ ps)))
+  -- nothing stands behind it
+  abbrev alone : (version : RecordVersion) (parts : List StoredPart) → IsRecordOf (layouts version) parts → bytes ≡ record_bytes version parts → Front layouts bytes
+  alone version parts is are = whole version parts [] is (are ∙ sym (append-nil (record_bytes version parts)))
 
--- bytes that are refused at one place aren't refused at a later one
-same-place : {H R : Type 0} (layouts : RecordVersion → Layout H R) → ((version : RecordVersion) → IsOneToOne (layouts version)) → ((version : RecordVersion) → ArePlain (layouts version)) → (bytes : List ℕ) (a b : ℕ) → Bad layouts bytes a → Bad layouts bytes b → a < b → ⊥
-same-place {H} {R} layouts one plain bytes a b p q less =
-    let whole : record_head p.version p.count ++ (flat p.before ++ p.rest) ≡ record_head q.version q.count ++ (flat q.before ++ q.rest) = sym p.are ∙ q.are in
-    let same = heads-same p.version q.version p.count q.count (flat p.before ++ p.rest) (flat q.before ++ q.rest) p.to q.to whole in
-    by (subst (λ (v : RecordVersion). Begins (IsRecordOf (layouts v)) q.before) (sym same.0) q.begins) same.1 same.2 p.why q.why
-  where
-    by : Begins (IsRecordOf (layouts p.version)) q.before → p.count ≡ q.count → flat p.before ++ p.rest ≡ flat q.before ++ q.rest → ((length p.before < p.count) × Refuses (IsRecordOf (layouts p.version)) p.before p.rest) ⊎ ((length p.before ≡ p.count) × (p.rest ≢ []) × IsRecordOf (layouts p.version) p.before)
-        → ((length q.before < q.count) × Refuses (IsRecordOf (layouts q.version)) q.before q.rest) ⊎ ((length q.before ≡ q.count) × (q.rest ≢ []) × IsRecordOf (layouts q.version) q.before) → ⊥
-    by begun count e (inl w) v = not-further (layouts p.version) (one p.version) (plain p.version) p.before q.before p.rest q.rest p.begins w.1 begun e (omega (arith, p.here, q.here, less))
-    by begun count e (inr w) (inl v) = omega (arith, p.here, q.here, less, w.0, count, v.0)
-    by begun count e (inr w) (inr v) = omega (arith, p.here, q.here, less, w.0, count, v.0)
+  -- bytes with a refused part have no number of parts and are refused at 0, or have a front that isn't all of them
+  abbrev Seen : ℕ → Type 0
+  Seen place = ((place ≡ 0) × HasNoHead bytes) ⊎ ((f : Front layouts bytes) × (length f.before ≡ place) × (length f.before ≡ f.count → f.rest ≡ [] → ⊥))
 
--- bytes are a record's in one way, or are refused at one place at most, and not both
-pub one-reading : {H R : Type 0} (layouts : RecordVersion → Layout H R) → ((version : RecordVersion) → IsOneToOne (layouts version)) → ((version : RecordVersion) → ArePlain (layouts version)) → (bytes : List ℕ) → HasOneReading (λ version. IsRecordOf (layouts version)) bytes
-one-reading {H} {R} layouts one plain bytes = record {
-  spelled = λ version parts place is are bad. clash version parts place is are (seen layouts plain bytes place bad);
-  one_record = λ version another parts others is other are too. same-records version another parts others is other (sym are ∙ too);
-  one_place = λ a b first second. places a b (seen layouts plain bytes a first) (seen layouts plain bytes b second);
-}
-  where
-    clash : (version : RecordVersion) (parts : List StoredPart) (place : ℕ) → IsRecordOf (layouts version) parts → bytes ≡ record_bytes version parts → ((place ≡ 0) × HasNoHead bytes) ⊎ Bad layouts bytes place → ⊥
-    clash version parts place is are (inl none) = let fits = fit-parts (layouts version) (plain version) parts is in none.1 version (length parts) (flat parts) fits.some fits.few are
-    clash version parts place is are (inr bad) = spelled-clash layouts one plain version bytes parts place is are bad
+  -- so they are seen
+  seen : (place : ℕ) → IsBadAt (λ version. IsRecordOf (layouts version)) bytes place → Seen place
+  seen _ (no_head none) = inl (refl, none)
+  seen _ (bad_part version count before rest to below are begins refuses) =
+      let front : Front layouts bytes = record {
+        version = version;
+        count = count;
+        before = before;
+        rest = rest;
+        from = omega (arith, below);
+        to = to;
+        within = omega (arith, below);
+        are = are ∙ append_assoc (record_head version count) (flat before) rest;
+        begins = begins;
+        ends = inr refuses;
+      } in
+      inr (front, refl, λ all none. omega (arith, all, below))
+  seen _ (more_bytes version parts rest is some are) = inr (whole version parts rest is are, refl, λ all none. some none)
 
-    same-records : (version another : RecordVersion) (parts others : List StoredPart) → IsRecordOf (layouts version) parts → IsRecordOf (layouts another) others → record_bytes version parts ≡ record_bytes another others → (version ≡ another) × (parts ≡ others)
-    same-records version another parts others is other e =
-        let fits = fit-parts (layouts version) (plain version) parts is in
-        let fit = fit-parts (layouts another) (plain another) others other in
-        let same = heads-same version another (length parts) (length others) (flat parts) (flat others) fits.few fit.few e in
-        (same.0, all (goes parts others [] [] fits.fit fit.fit (append-nil (flat parts) ∙ same.2 ∙ sym (append-nil (flat others))) (omega (arith, same.1))) same.1)
-      where
-        all : Goes parts others [] [] → length parts ≡ length others → parts ≡ others
-        all g count = none g.more g.are
-          where
-            none : (more : List StoredPart) → others ≡ parts ++ more → parts ≡ others
-            none [] are = sym (are ∙ append-nil parts)
-            none (p ∷ ps) are = absurd (omega (arith, count, ap length are ∙ length-append parts (p ∷ ps)))
+  -- bytes are a record's in one way, or are refused at one place at most, and not both
+  pub one-reading : HasOneReading (λ version. IsRecordOf (layouts version)) bytes
+  one-reading = record {
+    spelled = λ version parts place is are bad. clash version parts place is are (seen place bad);
+    one_record = λ version another parts others is other are too. let same = same-front (alone version parts is are) (alone another others other too) in (same.0, same.2);
+    one_place = λ a b first second. places a b (seen a first) (seen b second);
+  }
+    where
+      clash : (version : RecordVersion) (parts : List StoredPart) (place : ℕ) → IsRecordOf (layouts version) parts → bytes ≡ record_bytes version parts → Seen place → ⊥
+      clash version parts place is are (inl none) = let f = alone version parts is are in none.1 f.version f.count (flat f.before ++ f.rest) f.from f.to f.are
+      clash version parts place is are (inr bad) = let same = same-front bad.0 (alone version parts is are) in bad.2 (ap length same.2 ∙ sym same.1) same.3
 
-    places : (a b : ℕ) → ((a ≡ 0) × HasNoHead bytes) ⊎ Bad layouts bytes a → ((b ≡ 0) × HasNoHead bytes) ⊎ Bad layouts bytes b → a ≡ b
-    places a b (inl p) (inl q) = p.0 ∙ sym q.0
-    places a b (inl p) (inr q) = absurd (p.1 q.version q.count (flat q.before ++ q.rest) q.from q.to q.are)
-    places a b (inr p) (inl q) = absurd (q.1 p.version p.count (flat p.before ++ p.rest) p.from p.to p.are)
-    places a b (inr p) (inr q) = by (cases_order a b)
-      where
-        by : (a ≡ b) ⊎ ((a < b) ⊎ (b < a)) → a ≡ b
-        by (inl same) = same
-        by (inr (inl less)) = absurd (same-place layouts one plain bytes a b p q less)
-        by (inr (inr more)) = absurd (same-place layouts one plain bytes b a q p more)
+      places : (a b : ℕ) → Seen a → Seen b → a ≡ b
+      places a b (inl p) (inl q) = p.0 ∙ sym q.0
+      places a b (inl p) (inr q) = absurd (p.1 q.0.version q.0.count (flat q.0.before ++ q.0.rest) q.0.from q.0.to q.0.are)
+      places a b (inr p) (inl q) = absurd (q.1 p.0.version p.0.count (flat p.0.before ++ p.0.rest) p.0.from p.0.to p.0.are)
+      places a b (inr p) (inr q) = sym p.1 ∙ ap length (same-front p.0 q.0).2 ∙ q.1
 
 -- ---- the first part that is refused, among parts
 
--- a shorter front of the same list is a front of the longer one, and so is what stands behind it
-record GoesOn (front longer : List StoredPart) (part : StoredPart) : Type 0 where
-  more : List StoredPart
-  are : longer ≡ front ++ part ∷ more
-
 -- of two fronts of a list, each with the part behind it, the longer begins with the shorter and its part
-goes-on : (front longer : List StoredPart) (p q : StoredPart) (x y : List StoredPart) → front ++ p ∷ x ≡ longer ++ q ∷ y → length front < length longer → GoesOn front longer p
+goes-on : (front longer : List StoredPart) (p q : StoredPart) (x y : List StoredPart) → front ++ p ∷ x ≡ longer ++ q ∷ y → length front < length longer → (more : List StoredPart) × (longer ≡ front ++ p ∷ more)
 goes-on front [] p q x y e less = absurd (omega arith)
-goes-on [] (b ∷ bs) p q x y e less = let same : b ≡ p = cc in record { more = bs; are = ap (λ (r : StoredPart). r ∷ bs) same }
+goes-on [] (b ∷ bs) p q x y e less = let same : b ≡ p = cc in (bs, ap (λ (r : StoredPart). r ∷ bs) same)
 goes-on (a ∷ front) (b ∷ bs) p q x y e less =
     let same : b ≡ a = cc in
     let rest : front ++ p ∷ x ≡ bs ++ q ∷ y = cc in
     let on = goes-on front bs p q x y rest (omega arith) in
-    record { more = on.more; are = ap (λ (r : StoredPart). r ∷ bs) same ∙ ap (λ (rs : List StoredPart). a ∷ rs) on.are }
+    (on.0, ap (λ (r : StoredPart). r ∷ bs) same ∙ ap (λ (rs : List StoredPart). a ∷ rs) on.1)
 
 -- these parts are a record of some version
 abbrev AreSome : {H R : Type 0} → (RecordVersion → Layout H R) → List StoredPart → Type 0
@@ -272,7 +245,7 @@ some-front layouts one front p more whole are (inr is) = record { version = is.v
 refused-clash : {H R : Type 0} (layouts : RecordVersion → Layout H R) → ((version : RecordVersion) → IsOneToOne (layouts version)) → (parts : List StoredPart) (a b : ℕ) → IsRefusedAt (AreSome layouts) parts a → IsRefusedAt (AreSome layouts) parts b → a < b → ⊥
 refused-clash layouts one parts a b first second less =
     let on = goes-on first.before second.before first.part second.part first.after second.after (sym first.are ∙ second.are) (omega (arith, first.here, second.here, less)) in
-    first.refused (some-front layouts one first.before first.part on.more second.before on.are second.begins)
+    first.refused (some-front layouts one first.before first.part on.0 second.before on.1 second.begins)
 
 -- parts are a record's, or have one first part that is refused at most, and not both
 pub one-refusal : {H R : Type 0} (layouts : RecordVersion → Layout H R) → ((version : RecordVersion) → IsOneToOne (layouts version)) → (parts : List StoredPart) → HasOneRefusal (IsInSome (λ version. IsRecordOf (layouts version))) parts

@@ -2,10 +2,11 @@
 use Rattle.std.proofs.Common.{◌≡◌, ℕ, zero, suc, ◌+◌, ◌-◌, ◌≤◌, ◌<◌, List, [], ◌∷◌, ◌++◌, length, take, drop, map, get_or, refl, sym, ap, subst, ◌∙◌, inl, inr, append_assoc, arith}
 use Rattle.std.specs.Prelude.{Bool, true, false}
 use Rattle.std.specs.List.{AllByRecursion}
-use Rattle.std.proofs.lemmas.List.{append-nil, length-map, length-take, take-append-drop, take-map, drop_more, map-append}
-use Rattle.csi_stores.specs.Public.Part.{StoredPart}
+use Rattle.std.proofs.lemmas.List.{append-nil, length-map, length-take, take-append-drop, take_rest, drop_more, map-append}
+use Rattle.csi_stores.specs.declared.part.Part.{Part}
+use Rattle.csi_stores.specs.Public.Part.{StoredPart, stored_in, all_stored_in}
 use Rattle.csi_records.specs.Public.Records.{Layout, AreParts, IsRecordOf, IsRefusedAt}
-use Rattle.csi_records.specs.Private.Stopping.{StopsAtRow, AreRead}
+use Rattle.csi_records.specs.Private.Stopping.{StopsAtRow}
 
 -- parts are spelled by one value each, and a front of a record is one
 pub record IsOneToOne {H R : Type 0} (layout : Layout H R) : Type 0 where
@@ -31,148 +32,128 @@ rows-same layout one (r ∷ rs) (s ∷ ss) fit fits e =
     let rest = rows-same layout one rs ss (fit.1) (fits.1) tails in
     λ i. first i ∷ rest i
 
--- equal parts mean equal records
-pub parts-same : {H R : Type 0} (layout : Layout H R) → IsOneToOne layout → (a b : H) (rs ss : List R) (parts : List StoredPart) → AreParts layout a rs parts → AreParts layout b ss parts → (a ≡ b) × (rs ≡ ss)
-parts-same layout one a b rs ss parts p q =
-    let both : layout.head a ∷ map layout.row rs ≡ layout.head b ∷ map layout.row ss = sym (p.are) ∙ q.are in
+-- a head and rows within their limits, which keep the rules, have the parts of a record
+pub is-record : {H R : Type 0} (layout : Layout H R) (first : H) (rows : List R) → layout.is_head first → AllByRecursion layout.is_row rows → layout.are_rows first rows → IsRecordOf layout (layout.head first ∷ map layout.row rows)
+is-record layout first rows fits each rules = record { first = first; rows = rows; spelled = record { head_fits = fits; rows_fit = each; rules = rules; are = refl } }
+
+-- equal parts, whatever rules they keep, mean an equal head and equal rows
+same-both : {H R : Type 0} (layout : Layout H R) → IsOneToOne layout → (a b : H) (rs ss : List R) → layout.is_head a → layout.is_head b → AllByRecursion layout.is_row rs → AllByRecursion layout.is_row ss
+    → layout.head a ∷ map layout.row rs ≡ layout.head b ∷ map layout.row ss → (a ≡ b) × (rs ≡ ss)
+same-both layout one a b rs ss fit fits each others e =
     let heads : layout.head a ≡ layout.head b = cc in
     let rest : map layout.row rs ≡ map layout.row ss = cc in
-    (one.heads a b (p.head_fits) (q.head_fits) heads, rows-same layout one rs ss (p.rows_fit) (q.rows_fit) rest)
+    (one.heads a b fit fits heads, rows-same layout one rs ss each others rest)
+
+-- equal parts mean equal records
+pub parts-same : {H R : Type 0} (layout : Layout H R) → IsOneToOne layout → (a b : H) (rs ss : List R) (parts : List StoredPart) → AreParts layout a rs parts → AreParts layout b ss parts → (a ≡ b) × (rs ≡ ss)
+parts-same layout one a b rs ss parts p q = same-both layout one a b rs ss p.head_fits q.head_fits p.rows_fit q.rows_fit (sym p.are ∙ q.are)
+
+-- parts, the first of which is this one
+stored-split : (parts : List Part) (item : Part) (head : StoredPart) → 1 ≤ length parts → item ≡ get_or parts 0 item → head ≡ stored_in item → all_stored_in parts ≡ head ∷ all_stored_in (take (length parts - 1) (drop 1 parts))
+stored-split [] item head some is same = absurd (omega arith)
+stored-split (p ∷ ps) item head some is same =
+    ap (λ (q : Part). stored_in q ∷ all_stored_in ps) (sym is) ∙ ap (λ (q : StoredPart). q ∷ all_stored_in ps) (sym same) ∙ ap (λ (qs : List Part). head ∷ all_stored_in qs) (sym (take_rest (p ∷ ps) 1))
 
 -- no head stands first
-pub head-refused : {H R : Type 0} (layout : Layout H R) (part : StoredPart) (rest : List StoredPart) → ((first : H) → layout.is_head first → layout.head first ≡ part → ⊥) → IsRefusedAt (IsRecordOf layout) (part ∷ rest) 0
-head-refused layout part rest none =
+pub head-refused : {H R : Type 0} (layout : Layout H R) (parts : List Part) (item : Part) → 1 ≤ length parts → item ≡ get_or parts 0 item → ((first : H) → layout.is_head first → layout.head first ≡ stored_in item → ⊥)
+    → IsRefusedAt (IsRecordOf layout) (all_stored_in parts) 0
+head-refused layout parts item some is none =
     record {
       before = [];
-      part = part;
-      after = rest;
-      are = refl;
+      part = stored_in item;
+      after = all_stored_in (take (length parts - 1) (drop 1 parts));
+      are = stored-split parts item (stored_in item) some is refl;
       here = refl;
       begins = inl refl;
       refused = λ is.
-          let both : part ∷ [] ≡ layout.head is.first ∷ map layout.row is.rows = is.spelled.are in
-          let same : layout.head is.first ≡ part = cc in
+          let both : stored_in item ∷ [] ≡ layout.head is.first ∷ map layout.row is.rows = is.spelled.are in
+          let same : layout.head is.first ≡ stored_in item = cc in
           none is.first is.spelled.head_fits same;
     }
 
--- all rows were read, and keep the rules
-pub is-record : {H R : Type 0} (layout : Layout H R) (first : H) (rs : List R) (parts : List StoredPart) → layout.is_head first → AllByRecursion layout.is_row rs → layout.are_rows first rs → parts ≡ map layout.row rs
-    → IsRecordOf layout (layout.head first ∷ parts)
-is-record layout first rs parts fits each rules are =
-    record { first = first; rows = rs; spelled = record { head_fits = fits; rows_fit = each; rules = rules; are = ap (λ (ps : List StoredPart). layout.head first ∷ ps) are } }
-
--- all parts behind the head are rows, which keep the rules
-pub all-read : {X H R : Type 0} (layout : Layout H R) (shown : X → R) (first : H) (rows : List X) (parts : List StoredPart) → layout.is_head first → AreRead layout.row layout.is_row parts (map shown rows) true
-    → layout.are_rows first (map shown rows) → AreParts layout first (map shown rows) (layout.head first ∷ parts)
-all-read layout shown first rows parts fits read rules = record { head_fits = fits; rows_fit = read.fit; rules = rules; are = ap (λ (ps : List StoredPart). layout.head first ∷ ps) read.stops }
-
--- rows that end in one of this part, behind so many others
-record EndsIn {H R : Type 0} (layout : Layout H R) (rows : List R) (place : ℕ) (part : StoredPart) : Type 0 where
-  front : List R
-  row : R
-  are : rows ≡ front ++ row ∷ []
-  count : length front ≡ place
-  fits : layout.is_row row
-  same : layout.row row ≡ part
-
--- the rows so far keep the rules, and the next part is no row that may stand behind so many
-pub row-unread : {H R : Type 0} (layout : Layout H R) (Next : R → Type 0) (first : H) (rs : List R) (part : StoredPart) (rest parts : List StoredPart)
-    → ((head : H) (front : List R) (row : R) → layout.is_row row → layout.are_rows head (front ++ row ∷ []) → length front ≡ length rs → Next row)
-    → layout.is_head first → AllByRecursion layout.is_row rs → layout.are_rows first rs
-    → parts ≡ map layout.row rs ++ part ∷ rest → ((row : R) → Next row → layout.row row ≡ part → ⊥) → IsRefusedAt (IsRecordOf layout) (layout.head first ∷ parts) (length rs + 1)
-row-unread {H} {R} layout Next first rs part rest parts next fits each rules are none =
-    record {
-      before = layout.head first ∷ map layout.row rs;
-      part = part;
-      after = rest;
-      are = ap (λ (ps : List StoredPart). layout.head first ∷ ps) are;
-      here = omega (arith, length-map rs layout.row);
-      begins = inr (is-record layout first rs (map layout.row rs) fits each rules refl);
-      refused = λ is.
-          let end = last is.rows (map layout.row rs) is.spelled.rows_fit (tail (layout.head first) (layout.head is.first) (map layout.row rs ++ part ∷ []) (map layout.row is.rows) is.spelled.are) in
-          none end.row (next is.first end.front end.row end.fits (subst (layout.are_rows is.first) end.are is.spelled.rules) (end.count ∙ length-map rs layout.row)) end.same;
-    }
-  where
-    tail : (a b : StoredPart) (ps qs : List StoredPart) → a ∷ ps ≡ b ∷ qs → ps ≡ qs
-    tail a b ps qs e = cc
-
-    empty : (ss : List R) → [] ≡ map layout.row ss → ss ≡ []
-    empty [] e = refl
-    empty (s ∷ ss) e = absurd cc
-
-    -- the last of the rows is the part
-    last : (ss : List R) (before : List StoredPart) → AllByRecursion layout.is_row ss → before ++ part ∷ [] ≡ map layout.row ss → EndsIn layout ss (length before) part
-    last [] [] all e = absurd cc
-    last [] (p ∷ before) all e = absurd cc
-    last (s ∷ ss) [] all e =
-        let same : layout.row s ≡ part = cc in
-        let rest : [] ≡ map layout.row ss = cc in
-        record { front = []; row = s; are = ap (λ (rows : List R). s ∷ rows) (empty ss rest); count = refl; fits = all.0; same = same }
-    last (s ∷ ss) (p ∷ before) all e =
-        let rest : before ++ part ∷ [] ≡ map layout.row ss = cc in
-        let end = last ss before all.1 rest in
-        record { front = s ∷ end.front; row = end.row; are = ap (λ (rows : List R). s ∷ rows) end.are; count = ap suc end.count; fits = end.fits; same = end.same }
-
--- the rows are read at least so far, and the first so many break a rule
-pub row-refused : {H R : Type 0} (layout : Layout H R) → IsOneToOne layout → (first : H) (rs : List R) (place : ℕ) (more parts : List StoredPart) → layout.is_head first → AllByRecursion layout.is_row rs
-    → 1 ≤ place → place ≤ length rs → layout.are_rows first (take (place - 1) rs) → (layout.are_rows first (take place rs) → ⊥) → parts ≡ map layout.row rs ++ more
-    → IsRefusedAt (IsRecordOf layout) (layout.head first ∷ parts) place
-row-refused layout one first [] zero more parts fits each from to before refused are = absurd (omega arith)
-row-refused layout one first [] (suc k) more parts fits each from to before refused are = absurd (omega arith)
-row-refused layout one first (r ∷ rs) zero more parts fits each from to before refused are = absurd (omega arith)
-row-refused {H} {R} layout one first (r ∷ rs) (suc k) more parts fits each from to before refused are =
-    let all = r ∷ rs in
-    let d = layout.row r in
-    let inside : k < length (map layout.row all) = omega (arith, length-map all layout.row) in
-    let part = get_or (map layout.row all) k d in
-    let split : map layout.row all ≡ take k (map layout.row all) ++ part ∷ drop (k + 1) (map layout.row all) =
-    sym (take-append-drop k (map layout.row all)) ∙ ap (λ (ps : List StoredPart). take k (map layout.row all) ++ ps) (drop_more (map layout.row all) k d inside) in
-    let front : take k (map layout.row all) ++ part ∷ [] ≡ map layout.row (take (suc k) all) = one_more (map layout.row all) k d inside ∙ take-map layout.row (suc k) all in
-    record {
-      before = layout.head first ∷ take k (map layout.row all);
-      part = part;
-      after = drop (k + 1) (map layout.row all) ++ more;
-      are = ap (λ (ps : List StoredPart). layout.head first ∷ ps) (are ∙ ap (λ (ps : List StoredPart). ps ++ more) split ∙ append_assoc (take k (map layout.row all)) (part ∷ drop (k + 1) (map layout.row all)) more);
-      here = omega (arith, length-take k (map layout.row all), inside);
-      begins = inr (is-record layout first (take k all) (take k (map layout.row all)) fits (each-take layout.is_row all k each) (subst (λ (n : ℕ). layout.are_rows first (take n all)) (omega arith) before) (take-map layout.row k all));
-      refused = λ is. refused (clash is.first is.rows is.spelled front);
-    }
-  where
-    one_more : (ps : List StoredPart) (i : ℕ) (p : StoredPart) → i < length ps → take i ps ++ get_or ps i p ∷ [] ≡ take (suc i) ps
-    one_more [] i p h = absurd (omega arith)
-    one_more (q ∷ ps) zero p h = refl
-    one_more (q ∷ ps) (suc i) p h = ap (λ (qs : List StoredPart). q ∷ qs) (one_more ps i p (omega arith))
-
-    clash : (f : H) (ss : List R) → AreParts layout f ss (layout.head first ∷ take k (map layout.row (r ∷ rs)) ++ get_or (map layout.row (r ∷ rs)) k (layout.row r) ∷ [])
-        → take k (map layout.row (r ∷ rs)) ++ get_or (map layout.row (r ∷ rs)) k (layout.row r) ∷ [] ≡ map layout.row (take (suc k) (r ∷ rs)) → layout.are_rows first (take (suc k) (r ∷ rs))
-    clash f ss spelled front =
-        let both : layout.head first ∷ map layout.row (take (suc k) (r ∷ rs)) ≡ layout.head f ∷ map layout.row ss = ap (λ (ps : List StoredPart). layout.head first ∷ ps) (sym front) ∙ spelled.are in
-        let heads : layout.head first ≡ layout.head f = cc in
-        let rest : map layout.row (take (suc k) (r ∷ rs)) ≡ map layout.row ss = cc in
-        let h : first ≡ f = one.heads first f fits spelled.head_fits heads in
-        let ts : take (suc k) (r ∷ rs) ≡ ss = rows-same layout one (take (suc k) (r ∷ rs)) ss (each-take layout.is_row (r ∷ rs) (suc k) each) spelled.rows_fit rest in
-        subst (λ (x : H). layout.are_rows x (take (suc k) (r ∷ rs))) (sym h) (subst (layout.are_rows f) (sym ts) spelled.rules)
+-- the item behind so many others, and what is in front of it and behind it
+cut-at : {X : Type 0} (xs : List X) (k : ℕ) → k < length xs → (x : X) × (take (suc k) xs ≡ take k xs ++ x ∷ []) × (xs ≡ take k xs ++ x ∷ drop (suc k) xs)
+cut-at [] k inside = absurd (omega arith)
+cut-at (x ∷ xs) zero inside = (x, refl, refl)
+cut-at (x ∷ xs) (suc k) inside = let cut = cut-at xs k (omega arith) in (cut.0, ap (λ ys. x ∷ ys) cut.1, ap (λ ys. x ∷ ys) cut.2)
 
 -- what was read before the first part that is no row
-abbrev pub rest_of : {R : Type 0} → (row_part : R → StoredPart) (IsRow : R → Type 0) (parts : List StoredPart) (rows : List R) (all : Bool) → StopsAtRow row_part IsRow parts rows all
+rest_of : {R : Type 0} → (row_part : R → StoredPart) (IsRow : R → Type 0) (parts : List StoredPart) (rows : List R) (all : Bool) → StopsAtRow row_part IsRow parts rows all
     → (more : List StoredPart) × (parts ≡ map row_part rows ++ more)
 rest_of row_part IsRow parts rows true stops = ([], stops ∙ sym (append-nil (map row_part rows)))
 rest_of row_part IsRow parts rows false stops = (stops.0 ∷ stops.1, stops.2)
 
--- where a plugin's rows so far keep the rules and the next part is no row, that part is refused
-pub rows-unread : {X H R : Type 0} (layout : Layout H R) (shown : X → R) (first : H) (rows : List X) (parts : List StoredPart) → layout.is_head first → AreRead layout.row layout.is_row parts (map shown rows) false
-    → layout.are_rows first (map shown rows) → IsRefusedAt (IsRecordOf layout) (layout.head first ∷ parts) (length rows + 1)
-rows-unread layout shown first rows parts fits read rules =
-    subst (λ (n : ℕ). IsRefusedAt (IsRecordOf layout) (layout.head first ∷ parts) (n + 1)) (length-map rows shown)
-    (row-unread layout layout.is_row first (map shown rows) read.stops.0 read.stops.1 parts (λ head front row own rules count. own) fits read.fit rules read.stops.2 read.stops.3)
+-- Parts, the first of which is a head. Behind it rows within their limits were read, all, or until a part is none of those that may come next.
+module _ {H R : Type 0} (layout : Layout H R) (Next : R → Type 0) (first : H) (rs : List R) (parts : List Part) (item : Part) (all : Bool) (some : 1 ≤ length parts) (is : item ≡ get_or parts 0 item) (same : layout.head first ≡ stored_in item)
+    (fits : layout.is_head first) (each : AllByRecursion layout.is_row rs) (stops : StopsAtRow layout.row Next (all_stored_in (take (length parts - 1) (drop 1 parts))) rs all) where
+  -- what stands behind the head
+  abbrev others : List StoredPart
+  others = all_stored_in (take (length parts - 1) (drop 1 parts))
 
--- where a row is the first with which a plugin's rows break the rules, its part is the first that is refused
-pub rows-refused : {X H R : Type 0} (layout : Layout H R) → IsOneToOne layout → (shown : X → R) (first : H) (rows : List X) (parts : List StoredPart) (all : Bool) (place : ℕ) → layout.is_head first → AreRead layout.row layout.is_row parts (map shown rows) all
-    → 1 ≤ place → place ≤ length rows → layout.are_rows first (map shown (take (place - 1) rows)) → (layout.are_rows first (map shown (take place rows)) → ⊥) → IsRefusedAt (IsRecordOf layout) (layout.head first ∷ parts) place
-rows-refused layout one shown first rows parts all place fits read from to before refused =
-    let rest = rest_of layout.row layout.is_row parts (map shown rows) all read.stops in
-    row-refused layout one first (map shown rows) place rest.0 parts fits read.fit from (omega (arith, to, length-map rows shown))
-    (subst (layout.are_rows first) (sym (take-map shown (place - 1) rows)) before) (λ is. refused (subst (layout.are_rows first) (take-map shown place rows) is)) rest.1
+  -- it is so behind the head
+  behind : (ps : List StoredPart) → others ≡ ps → all_stored_in parts ≡ layout.head first ∷ ps
+  behind ps are = stored-split parts item (layout.head first) some is same ∙ ap (λ (qs : List StoredPart). layout.head first ∷ qs) are
+
+  -- all parts behind the head are rows, which keep the rules
+  pub all-read : all ≡ true → layout.are_rows first rs → AreParts layout first rs (all_stored_in parts)
+  all-read whole rules = record { head_fits = fits; rows_fit = each; rules = rules; are = behind (map layout.row rs) (subst (StopsAtRow layout.row Next others rs) whole stops) }
+
+  -- the rows so far keep the rules, and the next part is none that may come next
+  pub row-unread : (place : ℕ) → length rs ≡ place → all ≡ false → ((head : H) (before : List R) (row : R) → layout.is_row row → layout.are_rows head (before ++ row ∷ []) → length before ≡ length rs → Next row) → layout.are_rows first rs
+      → IsRefusedAt (IsRecordOf layout) (all_stored_in parts) (place + 1)
+  row-unread place count part_left next rules =
+      let stop = subst (StopsAtRow layout.row Next others rs) part_left stops in
+      record {
+        before = layout.head first ∷ map layout.row rs;
+        part = stop.0;
+        after = stop.1;
+        are = behind (map layout.row rs ++ stop.0 ∷ stop.1) stop.2;
+        here = omega (arith, length-map rs layout.row, count);
+        begins = inr (is-record layout first rs fits each rules);
+        refused = λ is.
+            let end = last stop.0 is.rows (map layout.row rs) is.spelled.rows_fit (tail (layout.head first) (layout.head is.first) (map layout.row rs ++ stop.0 ∷ []) (map layout.row is.rows) is.spelled.are) in
+            stop.3 end.1 (next is.first end.0 end.1 end.4 (subst (layout.are_rows is.first) end.2 is.spelled.rules) (end.3 ∙ length-map rs layout.row)) end.5;
+      }
+    where
+      tail : (a b : StoredPart) (ps qs : List StoredPart) → a ∷ ps ≡ b ∷ qs → ps ≡ qs
+      tail a b ps qs e = cc
+
+      -- the last of the rows is the part
+      last : (part : StoredPart) (ss : List R) (before : List StoredPart) → AllByRecursion layout.is_row ss → before ++ part ∷ [] ≡ map layout.row ss
+          → (front : List R) × (row : R) × (ss ≡ front ++ row ∷ []) × (length front ≡ length before) × layout.is_row row × (layout.row row ≡ part)
+      last part [] [] fit e = absurd cc
+      last part [] (p ∷ before) fit e = absurd cc
+      last part (s ∷ []) [] fit e = let one : layout.row s ≡ part = cc in ([], s, refl, refl, fit.0, one)
+      last part (s ∷ t ∷ ss) [] fit e = absurd cc
+      last part (s ∷ ss) (p ∷ before) fit e =
+          let rest : before ++ part ∷ [] ≡ map layout.row ss = cc in
+          let end = last part ss before fit.1 rest in
+          (s ∷ end.0, end.1, ap (λ (rows : List R). s ∷ rows) end.2, ap suc end.3, end.4, end.5)
+
+  -- the rows are read at least so far, and the first so many break a rule
+  pub row-refused : IsOneToOne layout → (place : ℕ) → 1 ≤ place → place ≤ length rs → layout.are_rows first (take (place - 1) rs) → (layout.are_rows first (take place rs) → ⊥) → IsRefusedAt (IsRecordOf layout) (all_stored_in parts) place
+  row-refused one zero from to before refused = absurd (omega arith)
+  row-refused one (suc k) from to before refused =
+      let cut = cut-at rs k (omega (arith, to)) in
+      let rest = rest_of layout.row Next others rs all stops in
+      let front_parts = map layout.row (take k rs) in
+      let part = layout.row cut.0 in
+      let more = map layout.row (drop (suc k) rs) in
+      record {
+        before = layout.head first ∷ front_parts;
+        part = part;
+        after = more ++ rest.0;
+        are = behind (front_parts ++ part ∷ (more ++ rest.0))
+            (rest.1 ∙ ap (λ (xs : List R). map layout.row xs ++ rest.0) cut.2 ∙ ap (λ (ps : List StoredPart). ps ++ rest.0) (map-append layout.row (take k rs) (cut.0 ∷ drop (suc k) rs)) ∙ append_assoc front_parts (part ∷ more) rest.0);
+        here = omega (arith, length-map (take k rs) layout.row, length-take k rs, to);
+        begins = inr (is-record layout first (take k rs) fits (each-take layout.is_row rs k each) (subst (λ (n : ℕ). layout.are_rows first (take n rs)) (omega arith) before));
+        refused = λ is.
+            let s = is.spelled in
+            let both : layout.head first ∷ map layout.row (take (suc k) rs) ≡ layout.head is.first ∷ map layout.row is.rows =
+            ap (λ (ps : List StoredPart). layout.head first ∷ ps) (ap (map layout.row) cut.1 ∙ map-append layout.row (take k rs) (cut.0 ∷ [])) ∙ s.are in
+            let equal = same-both layout one first is.first (take (suc k) rs) is.rows fits s.head_fits (each-take layout.is_row rs (suc k) each) s.rows_fit both in
+            refused (subst (λ (h : H). layout.are_rows h (take (suc k) rs)) (sym equal.0) (subst (layout.are_rows is.first) (sym equal.1) s.rules));
+      }
 
 -- ---- reading row after row
 

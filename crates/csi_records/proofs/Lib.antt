@@ -2,7 +2,6 @@ pub mod ReadingLists
 pub mod Readers
 pub mod FieldReaders
 pub mod ValueReaders
-pub mod HeadReaders
 pub mod PartReaders
 pub mod Layouts
 pub mod SplittingBytes
@@ -11,14 +10,6 @@ pub mod Versions
 pub mod PluginLayouts
 pub mod ValueSizes
 pub mod WritingPieces
-pub mod WritingEntries
 pub mod OrchestratorReaders
-pub mod OrchestratorRowReaders
-pub mod GoalReaders
-pub mod EntryReaders
 pub mod KeyedRows
-pub mod OrchestratorSizes
-pub mod KeyedParts
 pub mod OrchestratorLayouts
-pub mod KindsApart
-pub mod OrchestratorBytes

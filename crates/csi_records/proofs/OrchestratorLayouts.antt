@@ -1,31 +1,30 @@
--- The record of an orchestrator by its layout.
-use Rattle.std.proofs.Common.{◌≡◌, ℕ, suc, ◌+◌, ◌-◌, List, [], ◌∷◌, ◌++◌, length, take, map, refl, sym, ap, subst, ◌∙◌, arith}
-use Rattle.std.specs.Prelude.{Bool, true, false}
+-- The record of an orchestrator by its layout, and what can be written of it.
+use Rattle.std.proofs.Common.{◌≡◌, ℕ, suc, ◌≤◌, List, [], ◌∷◌, ◌++◌, length, take, map, get_or, refl, sym, ap, subst, ◌∙◌, arith, ◌+◌, ◌<◌, ◌^◌}
 use Rattle.std.specs.List.{AllByRecursion}
-use Rattle.csi_types.specs.Public.Text.{IsNodeId}
-use Rattle.csi_types.specs.Public.Limits.{IsWord}
 use Rattle.csi_orchestrator.specs.Model.Shown.{RowShown}
-use Rattle.csi_orchestrator.specs.Public.Judging.{IsFirstRefused}
 use Rattle.csi_orchestrator.specs.Public.Record.{RecordParts, AreNodesFit}
 use Rattle.csi_orchestrator.specs.Public.Restored.{AreRestorable}
 use Rattle.csi_orchestrator.proofs.FirstRefused.{take-kept}
-use Rattle.csi_stores.specs.Public.Part.{StoredPart}
+use Rattle.csi_stores.specs.declared.part.Part.{Part}
+use Rattle.csi_stores.specs.Public.Part.{StoredPart, stored_in, all_stored_in, IsPart}
 use Rattle.csi_records.specs.declared.version.RecordVersion.{RecordVersion}
 use Rattle.csi_records.specs.Public.Spelling.{present}
-use Rattle.csi_records.specs.Public.OrchestratorSpelling.{KeyedRow, orchestrator_head, orchestrator_row, orchestrator_part, orchestrator_parts}
+use Rattle.csi_records.specs.Public.OrchestratorSpelling.{KeyedRow, orchestrator_head, orchestrator_row, orchestrator_part}
 use Rattle.csi_records.specs.Public.OrchestratorRows.{OrchestratorHeadShown, IsOrchestratorHead, IsOrchestratorRow}
-use Rattle.csi_records.specs.Public.OrchestratorRecords.{keyed_from, IsRecordHead, IsKeyedRow, AreKeyedRows, orchestrator_layout, kept_parts}
-use Rattle.csi_records.specs.Public.Records.{AreParts, IsRecordOf, IsRefusedAt}
-use Rattle.csi_records.specs.Private.Stopping.{IsRowUnder, AreReadInOrder}
-use Rattle.csi_records.proofs.EntryReaders.{orchestrator_row_read}
+use Rattle.csi_records.specs.Public.OrchestratorRecords.{keyed_from, IsKeyedRow, AreKeyedRows, orchestrator_layout, kept_parts}
+use Rattle.csi_records.specs.Public.Records.{IsRecordOf, IsRefusedAt}
+use Rattle.csi_records.specs.Private.Stopping.{IsRowUnder}
+use Rattle.csi_records.proofs.OrchestratorReaders.{orchestrator_row_read, orchestrator_head_read}
 use Rattle.csi_records.proofs.FieldReaders.{version-found}
-use Rattle.csi_records.proofs.KeyedRows.{make_keyed, keyed-same, keyed-length, keyed-take, keyed-last, keyed-each}
+use Rattle.csi_records.proofs.KeyedRows.{make_keyed, keyed-same, keyed-length, keyed-take, keyed-last}
 use Rattle.csi_records.proofs.LayoutLaws.{ArePlain}
-use Rattle.csi_records.proofs.Layouts.{IsOneToOne, head-refused, row-unread, row-refused, rest_of}
-use Rattle.csi_records.proofs.OrchestratorReaders.{orchestrator_head_read}
-use Rattle.csi_records.proofs.OrchestratorSizes.{orchestrator_head_size, orchestrator_row_size}
+use Rattle.csi_records.proofs.Layouts.{IsOneToOne, head-refused}
+use Rattle.csi_records.proofs.ValueSizes.{orchestrator_head_size, orchestrator_row_size}
 use Rattle.csi_records.proofs.PartReaders.{make_part, same_part}
-use Rattle.csi_records.proofs.Versions.{AreVersioned}
+use Rattle.csi_records.proofs.Versions.{AreOfKind}
+use Rattle.std.proofs.lemmas.List.{length-map}
+use Rattle.csi_orchestrator.specs.Public.Shown.{closed}
+use Rattle.csi_records.specs.Public.Writing.{CanBeWritten}
 
 -- equal parts of rows mean equal rows under equal keys
 same-keyed : (version : RecordVersion) (a b : KeyedRow) → IsKeyedRow version a → IsKeyedRow version b → orchestrator_part version a ≡ orchestrator_part version b → a ≡ b
@@ -51,52 +50,33 @@ orchestrator_plain version = record {
   few = λ head keyed are. omega (arith, are.rules.few, keyed-length 1 are.rows, ap length are.places);
 }
 
--- an orchestrator's head begins with the byte of its version
-pub orchestrator_versioned : AreVersioned orchestrator_layout
-orchestrator_versioned = record { heads = λ version head. version-found version }
+-- an orchestrator's heads have the byte 2 behind that of their version
+pub orchestrator_kind : AreOfKind orchestrator_layout 2
+orchestrator_kind = record { versions = λ version head. version-found version; kinds = λ version head. refl }
 
 -- ---- what was read
 
 -- a head whose nodes no record may have
-pub nodes-unfit : (version : RecordVersion) (head : OrchestratorHeadShown) (parts : List StoredPart) → IsOrchestratorHead version head → (AreNodesFit head.nodes → ⊥)
-    → IsRefusedAt (IsRecordOf (orchestrator_layout version)) (orchestrator_head version head.session head.nodes ∷ parts) 0
-nodes-unfit version head parts fits unfit =
-    head-refused (orchestrator_layout version) (orchestrator_head version head.session head.nodes) parts
-    (λ first fit same.
-    let is : first ≡ head = same_part (orchestrator_head_read version) first head fit.fits fits same in
-    unfit (subst (λ (h : OrchestratorHeadShown). AreNodesFit h.nodes) is fit.nodes))
+pub nodes-unfit : (version : RecordVersion) (head : OrchestratorHeadShown) (parts : List Part) (item : Part) → 1 ≤ length parts → item ≡ get_or parts 0 item → orchestrator_head version head.session head.nodes ≡ stored_in item
+    → IsOrchestratorHead version head → (AreNodesFit head.nodes → ⊥) → IsRefusedAt (IsRecordOf (orchestrator_layout version)) (all_stored_in parts) 0
+nodes-unfit version head parts item some is same fits unfit =
+    head-refused (orchestrator_layout version) parts item some is
+    (λ first fit there.
+    let own : first ≡ head = same_part (orchestrator_head_read version) first head fit.fits fits (there ∙ sym same) in
+    unfit (subst (λ (h : OrchestratorHeadShown). AreNodesFit h.nodes) own fit.nodes))
 
--- all parts behind the head are rows under their places, which keep the rules
-pub keyed-read : (version : RecordVersion) (head : OrchestratorHeadShown) (rows : List RowShown) (parts : List StoredPart) → IsRecordHead version head → AreReadInOrder version parts rows true
-    → AreRestorable head.nodes rows → AreParts (orchestrator_layout version) head (keyed_from 1 rows) (orchestrator_head version head.session head.nodes ∷ parts)
-keyed-read version head rows parts fits read rules = record {
-  head_fits = fits;
-  rows_fit = read.fit;
-  rules = record { rows = rows; places = refl; rules = rules };
-  are = ap (λ (ps : List StoredPart). orchestrator_head version head.session head.nodes ∷ ps) read.stops;
-}
+-- of rows that keep the rules the one behind so many stands under the next key
+pub keyed-next : (version : RecordVersion) (rows : List RowShown) (head : OrchestratorHeadShown) (front : List KeyedRow) (keyed : KeyedRow) → IsKeyedRow version keyed → AreKeyedRows head (front ++ keyed ∷ []) → length front ≡ length (keyed_from 1 rows)
+    → IsRowUnder version (suc (length rows)) keyed
+keyed-next version rows head front keyed own are count = record { under = omega (arith, keyed-last 1 front keyed are.rows are.places, count, keyed-length 1 rows); is = own }
 
--- the rows so far keep the rules, and the next part is no row under its place
-pub keyed-unread : (version : RecordVersion) (head : OrchestratorHeadShown) (rows : List RowShown) (parts : List StoredPart) → IsRecordHead version head → AreReadInOrder version parts rows false
-    → AreRestorable head.nodes rows → IsRefusedAt (IsRecordOf (orchestrator_layout version)) (orchestrator_head version head.session head.nodes ∷ parts) (length rows + 1)
-keyed-unread version head rows parts fits read rules =
-    subst (λ (n : ℕ). IsRefusedAt (IsRecordOf (orchestrator_layout version)) (orchestrator_head version head.session head.nodes ∷ parts) (n + 1)) (keyed-length 1 rows)
-    (row-unread (orchestrator_layout version) (IsRowUnder version (suc (length rows))) head (keyed_from 1 rows) read.stops.0 read.stops.1 parts next fits read.fit
-    (record { rows = rows; places = refl; rules = rules }) read.stops.2 read.stops.3)
-  where
-    next : (first : OrchestratorHeadShown) (front : List KeyedRow) (keyed : KeyedRow) → IsKeyedRow version keyed → AreKeyedRows first (front ++ keyed ∷ []) → length front ≡ length (keyed_from 1 rows)
-        → IsRowUnder version (suc (length rows)) keyed
-    next first front keyed own are count = record { under = omega (arith, keyed-last 1 front keyed are.rows are.places, count, keyed-length 1 rows); is = own }
+-- the first rows keep the rules where these do
+pub keyed-rules : (head : OrchestratorHeadShown) (rows : List RowShown) (k : ℕ) → AreRestorable head.nodes (take k rows) → AreKeyedRows head (take k (keyed_from 1 rows))
+keyed-rules head rows k rules = record { rows = take k rows; places = keyed-take 1 k rows; rules = rules }
 
--- a row is the first with which the rows break the rules
-pub keyed-refused : (version : RecordVersion) (head : OrchestratorHeadShown) (rows : List RowShown) (parts : List StoredPart) (all : Bool) (place : ℕ) → IsRecordHead version head
-    → AreReadInOrder version parts rows all → IsFirstRefused (AreRestorable head.nodes) rows place
-    → IsRefusedAt (IsRecordOf (orchestrator_layout version)) (orchestrator_head version head.session head.nodes ∷ parts) place
-keyed-refused version head rows parts all place fits read first =
-    let rest = rest_of (orchestrator_part version) (IsRowUnder version (suc (length rows))) parts (keyed_from 1 rows) all read.stops in
-    row-refused (orchestrator_layout version) (orchestrator_one version) head (keyed_from 1 rows) place rest.0 parts fits read.fit first.from (omega (arith, first.to, keyed-length 1 rows))
-    (record { rows = take (place - 1) rows; places = keyed-take 1 (place - 1) rows; rules = first.before })
-    (λ are. first.refused (subst (AreRestorable head.nodes) (keyed-same 1 are.rows (take place rows) (sym are.places ∙ keyed-take 1 place rows)) are.rules)) rest.1
+-- and the other way round
+pub rules-keyed : (head : OrchestratorHeadShown) (rows : List RowShown) (k : ℕ) → AreKeyedRows head (take k (keyed_from 1 rows)) → AreRestorable head.nodes (take k rows)
+rules-keyed head rows k are = subst (AreRestorable head.nodes) (keyed-same 1 are.rows (take k rows) (sym are.places ∙ keyed-take 1 k rows)) are.rules
 
 -- ---- what can be written
 
@@ -107,17 +87,22 @@ kept-same kept head rows heads same =
     ap (λ (value : List ℕ). make_part 0 value ∷ map (orchestrator_part present) (keyed_from 1 rows)) heads
     ∙ ap (λ (rs : List RowShown). orchestrator_head present kept.session kept.nodes ∷ map (orchestrator_part present) (keyed_from 1 rs)) same
 
--- what an orchestrator keeps is a record's parts in the present version
-pub orchestrator_is : (nodes : List (List ℕ)) (session : ℕ) (rows : List RowShown) → AllByRecursion IsNodeId nodes → IsWord session → AreNodesFit nodes → AreRestorable nodes rows
-    → AllByRecursion (IsOrchestratorRow present) rows → IsRecordOf (orchestrator_layout present) (orchestrator_parts present session nodes (keyed_from 1 rows))
-orchestrator_is nodes session rows ids session_fits fit kept each =
-    record {
-      first = record { session = session; nodes = nodes };
-      rows = keyed_from 1 rows;
-      spelled = record {
-        head_fits = record { fits = record { later = refl; session = session_fits; count = fit.few; nodes = ids }; nodes = fit };
-        rows_fit = keyed-each present nodes 1 rows (omega (arith, kept.few)) kept.each each;
-        rules = record { rows = rows; places = refl; rules = kept };
-        are = refl;
-      };
-    }
+-- a row's part doesn't tell its open call
+pub closed-parts : (key : ℕ) (rows : List RowShown) → map (orchestrator_part present) (keyed_from key rows) ≡ map (orchestrator_part present) (keyed_from key (map closed rows))
+closed-parts key [] = refl
+closed-parts key (row ∷ rows) = ap (λ (ps : List StoredPart). orchestrator_part present (make_keyed key row) ∷ ps) (closed-parts (suc key) rows)
+
+-- rows within their limits have parts within theirs
+fit-rows : (key : ℕ) (rows : List RowShown) → key + length rows < 2 ^ 64 → AllByRecursion (IsOrchestratorRow present) rows
+    → AllByRecursion IsPart (map (orchestrator_part present) (keyed_from key rows))
+fit-rows key [] few fits = tt
+fit-rows key (row ∷ rows) few fits =
+    (record { key = omega (arith, few); value = omega (arith, orchestrator_row_size present row fits.0) }, fit-rows (suc key) rows (omega (arith, few)) fits.1)
+
+-- so a head and few such rows can be written
+pub writable-rows : (head : List ℕ) (rows : List RowShown) → length head < 2 ^ 32 → length rows ≤ 4096 → AllByRecursion (IsOrchestratorRow present) rows
+    → CanBeWritten (make_part 0 head ∷ map (orchestrator_part present) (keyed_from 1 rows))
+writable-rows head rows short few fits = record {
+  each = (record { key = omega arith; value = short }, fit-rows 1 rows (omega (arith, few)) fits);
+  few = omega (arith, few, length-map (keyed_from 1 rows) (orchestrator_part present), keyed-length 1 rows);
+}

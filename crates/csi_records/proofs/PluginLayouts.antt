@@ -1,17 +1,15 @@
 -- The records of both plugins by their layouts.
-use Rattle.std.proofs.Common.{◌≡◌, ℕ, ◌-◌, ◌≤◌, ◌<◌, List, [], ◌∷◌, length, take, drop, map, get_or, Some, None, refl, sym, ap, subst, ◌∙◌, arith}
+use Rattle.std.proofs.Common.{◌≡◌, ℕ, ◌≤◌, ◌<◌, List, [], ◌∷◌, length, take, map, get_or, Some, None, refl, sym, ap, subst, ◌∙◌, arith}
 use Rattle.std.specs.Prelude.{Option, IfSome}
 use Rattle.std.specs.List.{AllByRecursion}
-use Rattle.std.proofs.lemmas.List.{take_rest, take-map, length-append, length-take, length-map, get_or-take}
+use Rattle.std.proofs.lemmas.List.{take-map, length-append, length-take, length-map, get_or-take}
 use Rattle.std.proofs.lemmas.List.Elements.{All-take, recursion_from_All}
 use Rattle.csi_controller.specs.declared.row.ControllerRow.{ControllerRow}
-use Rattle.csi_controller.specs.Model.State.{Volume}
-use Rattle.csi_controller.specs.Public.Core.{AreSoundRows as AreSoundControllerRows, IsCurrentRow, IsCurrent}
+use Rattle.csi_controller.specs.Public.Core.{AreSoundRows as AreSoundControllerRows, IsCurrentRow}
 use Rattle.csi_controller.specs.Public.Views.{AreSameRows}
 use Rattle.csi_controller.proofs.Copies.{sound-copies}
+use Rattle.csi_controller.proofs.Sessions.{current-copies}
 use Rattle.csi_controller.proofs.FirstRefused.{sound-take}
-use Rattle.csi_controller.specs.Public.Judging.{AreRecorded}
-use Rattle.csi_types.specs.Public.Limits.{IsWord}
 use Rattle.csi_types.specs.Public.Text.{IsNodeId}
 use Rattle.csi_frames.specs.Public.Spelling as spelling
 use Rattle.csi_records.specs.declared.version.RecordVersion.{RecordVersion}
@@ -23,13 +21,13 @@ use Rattle.csi_node.specs.Public.Record.{AreSoundRows as AreSoundNodeRows, IsCur
 use Rattle.csi_stores.specs.declared.part.Part.{Part}
 use Rattle.csi_stores.specs.Public.Part.{StoredPart, stored_in, all_stored_in}
 use Rattle.csi_records.specs.Public.Writing.{ArePublishedFew, CanBeWritten}
-use Rattle.csi_records.specs.Public.Spelling.{VolumeRow, present, session_bytes, volume_row, node_head, controller_parts, node_parts}
-use Rattle.csi_records.specs.Public.Records.{Layout, Head, IsHead, IsAskedNode, IsVolumeRow, IsAnsweredRow, controller_layout, node_layout, AreControllerRows, AreVolumeRows, IsRecordOf, IsRefusedAt}
+use Rattle.csi_records.specs.Public.Spelling.{VolumeRow, session_bytes, volume_row, node_head}
+use Rattle.csi_records.specs.Public.Records.{Layout, Head, IsHead, IsAskedNode, controller_layout, node_layout, AreControllerRows, AreVolumeRows, IsRecordOf, IsRefusedAt}
 use Rattle.csi_records.proofs.PartReaders.{volume_read, answered_read, controller_head_read, node_head_read, same_part}
 use Rattle.csi_records.proofs.ValueSizes.{volume_size, answered_size}
 use Rattle.csi_records.proofs.FieldReaders.{version-found}
 use Rattle.csi_records.proofs.LayoutLaws.{ArePlain, fit-parts}
-use Rattle.csi_records.proofs.Versions.{AreVersioned}
+use Rattle.csi_records.proofs.Versions.{AreOfKind}
 use Rattle.csi_records.proofs.Layouts.{IsOneToOne, each-take, head-refused}
 
 -- ---- the controller's
@@ -43,16 +41,6 @@ same-rows (a ∷ rows) (b ∷ bs) e =
     let one : volume_row a ≡ volume_row b = cc in
     let rest : map volume_row rows ≡ map volume_row bs = cc in
     (record { volume = sym (ap (λ (r : VolumeRow). r.volume) one); items = sym (ap (λ (r : VolumeRow). r.holdings) one) }, same-rows rows bs rest)
-
--- rows that say the same are of the same sessions
-current-copies : (session : ℕ) (rows copies : List ControllerRow) → AreSameRows rows copies → IsCurrent session rows → IsCurrent session copies
-current-copies session [] [] same are = tt
-current-copies session [] (b ∷ bs) same are = absurd same
-current-copies session (a ∷ rows) [] same are = absurd same
-current-copies session (a ∷ rows) (b ∷ bs) same are =
-    let last : b.last.session ≡ a.last.session = ap (λ (v : Volume). v.kept.number.session) same.0.volume in
-    let live : b.live ≡ a.live = ap (λ (v : Volume). v.is_live) same.0.volume in
-    (record { before = subst (λ (n : ℕ). n ≤ session) (sym last) are.0.before; gone = λ gone. last ∙ are.0.gone (sym live ∙ gone) }, current-copies session rows bs same.1 are.1)
 
 -- rows that say the same keep the same rules, by a session or without one
 rules-copies : (next_id : ℕ) (session : Option ℕ) (rows copies : List ControllerRow) → AreSameRows rows copies → AreControllerRows next_id session rows → AreControllerRows next_id session copies
@@ -80,12 +68,6 @@ controller_one version = record {
   rows = same_part (volume_read version);
   fronts = λ head shown k are. (take k are.0, sym (take-map volume_row k are.0) ∙ ap (take k) are.1, controller-take head.own head.session are.0 k are.2);
 }
-
--- parts, the first apart
-pub stored-split : (parts : List Part) (head : Part) → 1 ≤ length parts → head ≡ get_or parts 0 head → all_stored_in parts ≡ stored_in head ∷ all_stored_in (take (length parts - 1) (drop 1 parts))
-stored-split [] head some is = absurd (omega arith)
-stored-split (p ∷ ps) head some is =
-    ap (λ (q : Part). stored_in q ∷ all_stored_in ps) (sym is) ∙ ap (λ (qs : List Part). stored_in head ∷ all_stored_in qs) (sym (take_rest (p ∷ ps) 1))
 
 -- ---- a node's
 
@@ -127,13 +109,13 @@ node_one version wanted = record {
 }
 
 -- another node's head
-pub node-unasked : (version : RecordVersion) (wanted : Option (List ℕ)) (head : Head (List ℕ)) (parts : List StoredPart) → IsHead IsNodeId version head → (IfSome wanted (λ id. head.own ≡ id) → ⊥)
-    → IsRefusedAt (IsRecordOf (node_layout version wanted)) (node_head version head.own head.session ∷ parts) 0
-node-unasked version wanted head parts fits other =
-    head-refused (node_layout version wanted) (node_head version head.own head.session) parts
-    (λ first fit same.
-    let is : first ≡ head = same_part (node_head_read version) first head (named version wanted first fit) fits same in
-    other (subst (λ (h : Head (List ℕ)). IfSome wanted (λ id. h.own ≡ id)) is fit.own.1))
+pub node-unasked : (version : RecordVersion) (wanted : Option (List ℕ)) (head : Head (List ℕ)) (parts : List Part) (item : Part) → 1 ≤ length parts → item ≡ get_or parts 0 item → node_head version head.own head.session ≡ stored_in item
+    → IsHead IsNodeId version head → (IfSome wanted (λ id. head.own ≡ id) → ⊥) → IsRefusedAt (IsRecordOf (node_layout version wanted)) (all_stored_in parts) 0
+node-unasked version wanted head parts item some is same fits other =
+    head-refused (node_layout version wanted) parts item some is
+    (λ first fit there.
+    let own : first ≡ head = same_part (node_head_read version) first head (named version wanted first fit) fits (there ∙ sym same) in
+    other (subst (λ (h : Head (List ℕ)). IfSome wanted (λ id. h.own ≡ id)) own fit.own.1))
 
 -- what keeps the rules can be written
 few-each : (rows : List NodeRow) → AllByRecursion IsSoundRow (map node_row_shown rows) → AllByRecursion ArePublishedFew rows
@@ -171,42 +153,10 @@ node_plain version wanted = record {
 pub writable : {H R : Type 0} (layout : Layout H R) → ArePlain layout → (parts : List StoredPart) → IsRecordOf layout parts → CanBeWritten parts
 writable layout plain parts is = let fits = fit-parts layout plain parts is in record { each = fits.fit; few = fits.few }
 
--- the heads of either plugin begin with the byte of their version
-pub controller_versioned : AreVersioned controller_layout
-controller_versioned = record { heads = λ version head. version-found version }
+-- a controller's heads have the byte 0 behind that of their version
+pub controller_kind : AreOfKind controller_layout 0
+controller_kind = record { versions = λ version head. version-found version; kinds = λ version head. refl }
 
--- a node's head begins with the byte of its version
-pub node_versioned : (wanted : Option (List ℕ)) → AreVersioned (λ version. node_layout version wanted)
-node_versioned wanted = record { heads = λ version head. version-found version }
-
--- ---- a record's parts in the present version, made of what the record shows
-
--- a controller's
-pub controller_is : (next_id session : ℕ) (rs rows : List ControllerRow) → rs ≡ rows → IsWord next_id → IsWord session → AreRecorded next_id session rows → AllByRecursion (IsVolumeRow present) (map volume_row rs)
-    → IsRecordOf (controller_layout present) (controller_parts present next_id (Some session) (map volume_row rows))
-controller_is next_id session rs rows same next_fits session_fits rules each =
-    record {
-      first = record { own = next_id; session = Some session };
-      rows = map volume_row rows;
-      spelled = record {
-        head_fits = record { own = next_fits; session = session_fits };
-        rows_fit = subst (λ (xs : List ControllerRow). AllByRecursion (IsVolumeRow present) (map volume_row xs)) same each;
-        rules = (rows, refl, rules);
-        are = refl;
-      };
-    }
-
--- a node's
-pub node_is : (id : List ℕ) (session : ℕ) (rs rows : List NodeRow) → rs ≡ rows → IsNodeId id → IsWord session → KeepNodeRules (Some session) (map node_row_shown rows) → AllByRecursion (IsAnsweredRow present) (map node_row_shown rs)
-    → IsRecordOf (node_layout present None) (node_parts present id (Some session) (map node_row_shown rows))
-node_is id session rs rows same id_fits session_fits rules each =
-    record {
-      first = record { own = id; session = Some session };
-      rows = map node_row_shown rows;
-      spelled = record {
-        head_fits = record { own = (id_fits, tt); session = session_fits };
-        rows_fit = subst (λ (xs : List NodeRow). AllByRecursion (IsAnsweredRow present) (map node_row_shown xs)) same each;
-        rules = rules;
-        are = refl;
-      };
-    }
+-- a node's have 1
+pub node_kind : (wanted : Option (List ℕ)) → AreOfKind (λ version. node_layout version wanted) 1
+node_kind wanted = record { versions = λ version head. version-found version; kinds = λ version head. refl }

@@ -110,3 +110,31 @@ makes {A} {B} {r} {Fits} {spell} make one =
     (λ value bytes s. record { before = s.before; fits = s.first.fits; same = s.second.same; are = s.parts ∙ ap (λ (t : List ℕ). s.front ++ t) s.second.none ∙ append-nil s.front ∙ s.first.are })
     (λ value bytes s. record { before = s.before; front = bytes; back = []; parts = sym (append-nil bytes); first = record { fits = s.fits; are = s.are }; second = record { same = s.same; none = refl } })
     (then one (λ a. gives (make a)))
+
+-- a reader of a field with one spelling, and one behind it of what is made of other fields, read these fields one after another
+pub also : {A Y B : Type 0} {r : Reader A} {k : A → Reader B} {Fits : A → Type 0} {spell : A → List ℕ} {Others : Y → Type 0} {others : Y → List ℕ} {make : A → Y → B}
+    → Reads r (Spelled Fits spell) → ((a : A) → Reads (k a) (Made Others others (make a))) → Reads (r >>= k) (Made (λ (y : A × Y). Fits y.0 × Others y.1) (λ y. spell y.0 ++ others y.1) (λ y. make y.0 y.1))
+also {A} {Y} {B} {r} {k} {Fits} {spell} {Others} {others} {make} one two =
+    in_words (Made (λ (y : A × Y). Fits y.0 × Others y.1) (λ y. spell y.0 ++ others y.1) (λ y. make y.0 y.1))
+    (λ value bytes s. record { before = (s.before, s.second.before); fits = (s.fits, s.second.fits); same = s.second.same; are = s.parts ∙ ap (λ (t : List ℕ). spell s.before ++ t) s.second.are })
+    (λ value bytes s. record { before = s.before.0; fits = s.fits.0; back = others s.before.1; parts = s.are; second = record { before = s.before.1; fits = s.fits.1; same = s.same; are = refl } })
+    (after one two)
+
+-- where a value is within its limits as its fields are, and is spelled as they are, the reader of the fields reads it
+pub fields : {Y B : Type 0} {read : Reader B} {Parts : Y → Type 0} {spell_parts : Y → List ℕ} {make : Y → B} {Fits : B → Type 0} {spell : B → List ℕ} → Reads read (Made Parts spell_parts make)
+    → ((b : B) → Fits b → (y : Y) × Parts y × (b ≡ make y)) → ((y : Y) → Parts y → Fits (make y)) → ((y : Y) → spell_parts y ≡ spell (make y)) → Reads read (Spelled Fits spell)
+fields {Y} {B} {read} {Parts} {spell_parts} {make} {Fits} {spell} one apart whole same =
+    in_words (Spelled Fits spell)
+    (λ value bytes s. subst (λ (v : B). Spelled Fits spell v bytes) (sym s.same) (record { fits = whole s.before s.fits; are = s.are ∙ same s.before }))
+    (λ value bytes s. let p = apart value s.fits in record { before = p.0; fits = p.1; same = p.2; are = s.are ∙ ap spell p.2 ∙ sym (same p.0) })
+    one
+
+-- what is given without a byte is read of no byte, where it is the one value within the limits
+pub gives_only : {B : Type 0} {Fits : B → Type 0} {spell : B → List ℕ} (made : B) → Fits made → spell made ≡ [] → ((b : B) → Fits b → b ≡ made) → Reads (give made) (Spelled Fits spell)
+gives_only {B} {Fits} {spell} made fits none only =
+    in_words (Spelled Fits spell) (λ value bytes s. record { fits = subst Fits (sym s.same) fits; are = s.none ∙ sym none ∙ ap spell (sym s.same) })
+    (λ value bytes s. record { same = only value s.fits; none = s.are ∙ ap spell (only value s.fits) ∙ none }) (gives made)
+
+-- six pieces, one behind another
+pub pieces6 : (a b c d e f : List ℕ) → a ++ (b ++ (c ++ (d ++ (e ++ f)))) ≡ a ++ b ++ c ++ d ++ e ++ f
+pieces6 a b c d e f = simp append_assoc

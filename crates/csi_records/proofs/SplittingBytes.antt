@@ -7,63 +7,22 @@ use Rattle.std.proofs.lemmas.List.{append-nil, length-append, length-take, take_
 use Rattle.std.proofs.lemmas.List.Concat.{flat_map-append}
 use Rattle.byteorder.specs.Endian.{big_bytes, big_number}
 use Rattle.byteorder.specs.Numbers.{big_from-lt}
-use Rattle.csi_types.specs.Public.Limits.{IsWord}
 use Rattle.csi_records.specs.declared.version.RecordVersion.{RecordVersion}
-use Rattle.csi_records.specs.Public.Version.{record_version_number}
 use Rattle.csi_frames.specs.Public.Bytes.{AreBytes}
 use Rattle.csi_frames.specs.Public.Spelling as spelling
-use Rattle.csi_frames.proofs.Bytes.{AreBytes-take, AreBytes-back, four-back, four-again, four-front}
+use Rattle.csi_frames.proofs.Bytes.{AreBytes-take, AreBytes-back, four-back, four-again}
 use Rattle.csi_lists.proofs.Each.{each-append_one}
 use Rattle.csi_stores.specs.Public.Part.{StoredPart, IsPart}
-use Rattle.csi_records.specs.Public.Spelling.{part_bytes, record_head, record_bytes}
+use Rattle.csi_records.specs.Public.Spelling.{part_bytes, record_head}
 use Rattle.csi_records.specs.Public.Records.{Begins, IsRefusedAt}
 use Rattle.csi_records.specs.declared.fault.RecordStop.{RecordStop}
 use Rattle.csi_records.specs.declared.fault.RecordStop.TheVariants.{BadRecord, NoMemory}
 use Rattle.csi_records.specs.Public.Places.{IsBadAt, bad_part, more_bytes, ReadsParts, ReadsBytes}
 use Rattle.csi_records.specs.Private.Stopping.{AreSplit, SplitStops, HasNoHead}
-use Rattle.csi_records.specs.Private.Reading.{read_long, read_bytes, read_part, read_record_head}
-use Rattle.csi_records.proofs.Readers.{Took, Reads, in_words, done, some_is, Spelled, spelled-same, spelled-none, After, Made, after, makes, Always}
+use Rattle.csi_records.specs.Private.Reading.{◌>>=◌, give, read_long, read_bytes, read_part, read_record_head}
+use Rattle.csi_records.proofs.Readers.{Took, Reads, in_words, done, some_is, Spelled, spelled-same, spelled-none, Made, after, makes, also, fields}
 use Rattle.csi_records.proofs.FieldReaders.{word_reads, version_reads}
-use Rattle.csi_records.proofs.ValueReaders.{join3}
 use Rattle.csi_records.proofs.WritingPieces.{flat_map-push}
-
--- ---- a number of 32 bits
-
--- the four bytes of a number
-abbrev pub long : ℕ → List ℕ
-long n = big_bytes 4 n
-
--- it fits 32 bits
-pub record IsLong (n : ℕ) : Type 0 where
-  pub fits : n < 2 ^ 32
-
--- where a number of 32 bits is read, the four bytes that spell it stand first; the test is a flag here
-long-takes : (bytes : List ℕ) (short : Bool) (x : ℕ × List ℕ) → AreBytes bytes → ltb (length bytes) 4 ≡ short → cond short None (done (big_number 4 bytes) (drop 4 bytes)) ≡ Some x → Took (Spelled IsLong long) bytes x
-long-takes bytes true x fits is e = absurd cc
-long-takes bytes false x fits is e =
-    let enough : 4 ≤ length bytes = ltb-false _ _ is in
-    let n = big_number 4 bytes in
-    let four : length (take 4 bytes) ≡ 4 = omega (arith, length-take 4 bytes) in
-    let back : take 4 bytes ≡ big_bytes 4 n = sym (four-back (take 4 bytes) four (AreBytes-take 4 bytes fits)) ∙ ap (big_bytes 4) (four-front bytes enough) in
-    let small : n < 2 ^ 32 = big_from-lt 0 4 bytes fits in
-    subst (λ (y : ℕ × List ℕ). Took (Spelled IsLong long) bytes y) (some_is n (drop 4 bytes) x e)
-    (record { front = take 4 bytes; parts = sym (take-append-drop 4 bytes); says = record { fits = record { fits = small }; are = back } })
-
--- where a number of 32 bits is read, the four bytes that spell it stand first
-long_in-takes : (bytes : List ℕ) → AreBytes bytes → (x : ℕ × List ℕ) → read_long bytes ≡ Some x → Took (Spelled IsLong long) bytes x
-unfolding read_long
-long_in-takes bytes fits x e = long-takes bytes (ltb (length bytes) 4) x fits refl e
-
--- the four bytes of a number are read as it
-long_in-four : (n : ℕ) (rest : List ℕ) → n < 2 ^ 32 → read_long (big_bytes 4 n ++ rest) ≡ Some (n, rest)
-unfolding read_long
-long_in-four n rest fits =
-    let enough : ltb (length (big_bytes 4 n ++ rest)) 4 ≡ false = le-ltb _ _ (omega (arith, length-append (big_bytes 4 n) rest)) in
-    rw (enough, four-again n rest fits, drop_at (big_bytes 4 n) rest 4 refl) refl
-
--- the reader of a number of 32 bits reads what spells one
-long_reads : Reads read_long (Spelled IsLong long)
-long_reads = record { takes = long_in-takes; again = λ n front rest s. ap (λ (t : List ℕ). read_long (t ++ rest)) s.are ∙ long_in-four n rest s.fits.fits }
 
 -- ---- so many bytes
 
@@ -103,50 +62,56 @@ bytes_read n = record {
   again = λ value front rest s. ap (λ (t : List ℕ). read_bytes n (t ++ rest)) s.are ∙ bytes_in-again n value rest s.fits.counted;
 }
 
+-- ---- a number of 32 bits
+
+-- the four bytes of a number
+abbrev pub long : ℕ → List ℕ
+long n = big_bytes 4 n
+
+-- it fits 32 bits
+pub record IsLong (n : ℕ) : Type 0 where
+  pub fits : n < 2 ^ 32
+
+-- the reader of a number of 32 bits reads what spells one
+long_reads : Reads read_long (Spelled IsLong long)
+unfolding read_long
+long_reads =
+    record {
+      takes = λ bytes fits x e.
+          let t = four.takes bytes fits x e in
+          let count : length t.front ≡ 4 = ap length t.says.are ∙ t.says.fits.counted in
+          let only : AreBytes t.front = subst AreBytes (take_at t.front x.1 4 count) (AreBytes-take 4 (t.front ++ x.1) (subst AreBytes t.parts fits)) in
+          let same : big_number 4 t.front ≡ x.0 = ap (big_number 4) t.says.are ∙ sym t.says.same in
+          record { front = t.front; parts = t.parts; says = record { fits = record { fits = subst (λ (n : ℕ). n < 2 ^ 32) same (big_from-lt 0 4 t.front only) }; are = sym (four-back t.front count only) ∙ ap (big_bytes 4) same } };
+      again = λ n front rest s.
+          four.again n front rest (record { before = long n; fits = record { counted = refl }; same = sym (four-again n [] s.fits.fits) ∙ ap (big_number 4) (append-nil (long n)); are = s.are });
+    }
+  where
+    four : Reads (read_bytes 4 >>= λ bytes. give (big_number 4 bytes)) (Made (IsOfLength 4) itself (big_number 4))
+    four = makes (big_number 4) (bytes_read 4)
+
 -- ---- a part
 
 -- a part, from its key and its value
 abbrev make_part : ℕ → List ℕ → StoredPart
 make_part key value = record { key = key; value = value }
 
--- the fields of a part, one after another
-abbrev SaysPart : StoredPart → List ℕ → Type 0
-SaysPart = After IsWord spelling.word (λ key. After IsLong long (λ n. Made (IsOfLength n) itself (λ value. make_part key value)))
-
--- a key, a length and as many bytes are the spelling of a part
-part-there : (value : StoredPart) (bytes : List ℕ) → SaysPart value bytes → Spelled IsPart part_bytes value bytes
-part-there value bytes s =
-    let s1 = s.second in
-    let s2 = s1.second in
-    subst (λ (v : StoredPart). Spelled IsPart part_bytes v bytes) (sym s2.same)
-    (record {
-      fits = record { key = s.fits; value = subst (λ (n : ℕ). n < 2 ^ 32) (sym s2.fits.counted) s1.fits.fits };
-      are = join3 bytes (spelling.word s.before) (long (length s2.before)) s2.before s.back s.parts (s1.parts ∙ ap (λ (t : List ℕ). long s1.before ++ t) s2.are ∙ ap (λ (n : ℕ). long n ++ s2.before) (sym s2.fits.counted));
-    })
-
--- the spelling of a part is a key, a length and as many bytes
-part-back : (value : StoredPart) (bytes : List ℕ) → Spelled IsPart part_bytes value bytes → SaysPart value bytes
-part-back value bytes s =
-    record {
-      before = value.key;
-      fits = s.fits.key;
-      back = long (length value.value) ++ value.value;
-      parts = s.are ∙ append_assoc (spelling.word value.key) (long (length value.value)) value.value;
-      second = record {
-        before = length value.value;
-        fits = record { fits = s.fits.value };
-        back = value.value;
-        parts = refl;
-        second = record { before = value.value; fits = record { counted = refl }; same = refl; are = refl };
-      };
-    }
-
--- the reader of a part reads what spells one
+-- the reader of a part reads what spells one: a key, a length and as many bytes
 pub part_reads : Reads read_part (Spelled IsPart part_bytes)
 unfolding read_part
-part_reads =
-    in_words (Spelled IsPart part_bytes) part-there part-back
-    (after word_reads (λ key. after long_reads (λ n. makes (λ value. make_part key value) (bytes_read n))))
+part_reads = fields (also word_reads (λ key. value_behind key)) (λ p f. ((p.key, p.value), (f.key, f.value), refl)) (λ y f. record { key = f.0; value = f.1 }) (λ y. sym (append_assoc (spelling.word y.0) (long (length y.1)) y.1))
+  where
+    value_behind : (key : ℕ) → Reads (read_long >>= λ n. read_bytes n >>= λ value. give (make_part key value)) (Made (λ value. length value < 2 ^ 32) (λ value. long (length value) ++ value) (make_part key))
+    value_behind key =
+        in_words (Made (λ value. length value < 2 ^ 32) (λ value. long (length value) ++ value) (make_part key))
+        (λ part bytes s. record {
+          before = s.second.before;
+          fits = subst (λ (n : ℕ). n < 2 ^ 32) (sym s.second.fits.counted) s.fits.fits;
+          same = s.second.same;
+          are = s.parts ∙ ap (λ (t : List ℕ). long s.before ++ t) s.second.are ∙ ap (λ (n : ℕ). long n ++ s.second.before) (sym s.second.fits.counted);
+        })
+        (λ part bytes s. record { before = length s.before; fits = record { fits = s.fits }; back = s.before; parts = s.are; second = record { before = s.before; fits = record { counted = refl }; same = s.same; are = refl } })
+        (after long_reads (λ n. makes (make_part key) (bytes_read n)))
 
 -- ---- the number of parts
 
@@ -166,25 +131,10 @@ head_bytes head = record_head head.0 head.1
 abbrev pub make_head : RecordVersion → ℕ → Head
 make_head version count = (version, count)
 
--- these bytes spell it
-abbrev SaysHead : Head → List ℕ → Type 0
-SaysHead = After Always (λ version. record_version_number version ∷ []) (λ version. Made IsLong long (λ count. make_head version count))
-
--- a version's byte and four of a number are the spelling of both
-head-there : (value : Head) (bytes : List ℕ) → SaysHead value bytes → Spelled IsHead head_bytes value bytes
-head-there value bytes s =
-    subst (λ (v : Head). Spelled IsHead head_bytes v bytes) (sym s.second.same)
-    (record { fits = s.second.fits; are = s.parts ∙ ap (λ (t : List ℕ). record_version_number s.before ∷ t) s.second.are })
-
--- the spelling of a version and a number is the version's byte and four of the number
-head-back : (value : Head) (bytes : List ℕ) → Spelled IsHead head_bytes value bytes → SaysHead value bytes
-head-back value bytes s =
-    record { before = value.0; fits = tt; back = long value.1; parts = s.are; second = record { before = value.1; fits = s.fits; same = refl; are = refl } }
-
 -- the reader of a record's version and number of parts reads what spells them
 pub record_head_reads : Reads read_record_head (Spelled IsHead head_bytes)
 unfolding read_record_head
-record_head_reads = in_words (Spelled IsHead head_bytes) head-there head-back (after version_reads (λ version. makes (λ count. make_head version count) long_reads))
+record_head_reads = fields (also version_reads (λ version. makes (λ count. make_head version count) long_reads)) (λ h f. ((h.0, h.1), (tt, f), refl)) (λ y f. f.1) (λ y. refl)
 
 -- where no version and number of parts are read, none stand in front
 pub no-head : (bytes : List ℕ) → read_record_head bytes ≡ None → HasNoHead bytes
@@ -258,12 +208,6 @@ bad-end Is version bytes parts split begins = by split.stops begins
     by (inl h) (inl none) = absurd (omega (arith, h.0, ap length none, split.from))
     by (inl h) (inr is) = more_bytes version parts split.rest is h.1 (whole ∙ ap (λ (n : ℕ). record_head version n ++ flat_map part_bytes parts ++ split.rest) (sym h.0))
     by (inr h) here = bad_part version split.count parts split.rest split.to h.0 whole here (λ part more fits same is. h.1 part more fits same)
-
--- the bytes are those of the parts
-pub whole-split : (version : RecordVersion) (bytes : List ℕ) (parts : List StoredPart) → AreSplit version bytes parts true → bytes ≡ record_bytes version parts
-whole-split version bytes parts split =
-    split.are ∙ ap (λ (t : List ℕ). record_head version split.count ++ (flat_map part_bytes parts ++ t)) split.stops.1 ∙ ap (λ (t : List ℕ). record_head version split.count ++ t) (append-nil (flat_map part_bytes parts))
-    ∙ ap (λ (n : ℕ). record_head version n ++ flat_map part_bytes parts) (sym split.stops.0)
 
 -- ---- how splitting ends
 

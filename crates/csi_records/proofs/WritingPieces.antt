@@ -1,16 +1,15 @@
 -- What was written piece by piece.
 use Rattle.std.proofs.Common.{◌≡◌, ℕ, zero, suc, ◌+◌, ◌<◌, List, [], ◌∷◌, ◌++◌, length, take, map, get_or, Some, None, refl, sym, ap, subst, ◌∙◌, append_assoc, arith}
-use Rattle.std.specs.Prelude.{Option}
+use Rattle.std.specs.Prelude.{Option, option_map, unwrap_or}
 use Rattle.std.specs.Global.{Vec}
-use Rattle.std.proofs.lemmas.Option.{same_Some}
-use Rattle.csi_lists.proofs.Options.{some_is_not_none}
 use Rattle.std.specs.List.{flat_map, AllByRecursion}
-use Rattle.std.proofs.lemmas.List.{append-nil, map-append, take_more}
+use Rattle.std.proofs.lemmas.List.{append-nil, map-append, take_more, length-map}
 use Rattle.std.proofs.lemmas.List.Concat.{flat_map-append}
 use Rattle.csi_lists.proofs.Each.{each-append_one}
 use Rattle.csi_stores.specs.declared.part.Part.{Part}
-use Rattle.csi_stores.specs.Public.Part.{StoredPart, IsPart, StoredChange, put_all, take_all, part_change, stored_in, all_stored_in}
-use Rattle.csi_records.specs.Public.Spelling.{part_bytes}
+use Rattle.csi_stores.specs.Public.Part.{StoredPart, IsPart, StoredChange, put_all, take_all, part_change, stored_in, all_stored_in, value_in, value_bytes}
+use Rattle.csi_records.specs.Public.Spelling.{part_bytes, list_spelling}
+use Rattle.std.proofs.lemmas.List.Folds.{flat_map-map}
 
 -- a part, from its key and its value
 abbrev make_part : ℕ → List ℕ → StoredPart
@@ -36,25 +35,25 @@ part_at [] i part each inside is = absurd (omega arith)
 part_at (p ∷ ps) zero part each inside is = subst (λ (q : Part). IsPart (stored_in q)) (sym is) each.0
 part_at (p ∷ ps) (suc i) part each inside is = part_at ps i part each.1 (omega arith) is
 
+-- the part that a change puts in
+abbrev of_change : StoredChange → StoredPart
+of_change change = make_part change.key (unwrap_or change.value [])
+
 -- parts that are put in with their values are those values under their keys
 pub stored_put : (parts : List Part) (stored : List StoredPart) → map part_change parts ≡ put_all stored → all_stored_in parts ≡ stored
-stored_put [] [] e = refl
-stored_put [] (q ∷ qs) e = absurd cc
-stored_put (p ∷ ps) [] e = absurd cc
-stored_put (p ∷ ps) (q ∷ qs) e =
-    let one : part_change p ≡ record { key = q.key; value = Some q.value } = cc in
-    let rest : map part_change ps ≡ put_all qs = cc in
-    ap (λ (s : StoredPart). s ∷ all_stored_in ps) (one_stored p q one) ∙ ap (λ (ss : List StoredPart). q ∷ ss) (stored_put ps qs rest)
+stored_put parts stored e = from parts ∙ ap (map of_change) e ∙ to stored
   where
-    by : (key : ℕ) (value : Option (Vec ℕ)) (q : StoredPart) → part_change (record { key = key; value = value }) ≡ record { key = q.key; value = Some q.value } → stored_in (record { key = key; value = value }) ≡ q
-    by key None q same = absurd (some_is_not_none q.value (sym (ap (λ (c : StoredChange). c.value) same)))
-    by key (Some bytes) q same =
-        let k : key ≡ q.key = ap (λ (c : StoredChange). c.key) same in
-        let v : bytes.items ≡ q.value = same_Some bytes.items q.value (ap (λ (c : StoredChange). c.value) same) in
-        ap (λ (n : ℕ). make_part n bytes.items) k ∙ ap (make_part q.key) v
+    value : (bytes : Option (Vec ℕ)) → value_in bytes ≡ unwrap_or (option_map value_bytes bytes) []
+    value None = refl
+    value (Some bytes) = refl
 
-    one_stored : (p : Part) (q : StoredPart) → part_change p ≡ record { key = q.key; value = Some q.value } → stored_in p ≡ q
-    one_stored p q same = by p.key p.value q same
+    from : (ps : List Part) → all_stored_in ps ≡ map of_change (map part_change ps)
+    from [] = refl
+    from (p ∷ ps) = ap (λ (bytes : List ℕ). make_part p.key bytes ∷ all_stored_in ps) (value p.value) ∙ ap (λ (ss : List StoredPart). of_change (part_change p) ∷ ss) (from ps)
+
+    to : (ss : List StoredPart) → map of_change (put_all ss) ≡ ss
+    to [] = refl
+    to (s ∷ ss) = ap (λ (qs : List StoredPart). s ∷ qs) (to ss)
 
 -- the first items and the next one are one more of the first
 pub one_more : {X : Type 0} (xs : List X) (i : ℕ) (x : X) → i < length xs → x ≡ get_or xs i x → take (i + 1) xs ≡ take i xs ++ x ∷ []
@@ -64,20 +63,22 @@ one_more xs i x inside is = take_more xs i x inside ∙ ap (λ y. take i xs ++ y
 pub flat_map-push : {X : Type 0} (f : X → List ℕ) (xs : List X) (x : X) → flat_map f (xs ++ x ∷ []) ≡ flat_map f xs ++ f x
 flat_map-push f xs x = flat_map-append f xs (x ∷ []) ∙ ap (λ (t : List ℕ). flat_map f xs ++ t) (append-nil (f x))
 
+-- where what is told of the first items is there and then what the next one adds, what is told of one more is there
+pub one_more_told : {X Y : Type 0} (tell : List X → List Y) (xs : List X) (i : ℕ) (x : X) (own old before after : List Y) → i < length xs → x ≡ get_or xs i x → tell (take i xs ++ x ∷ []) ≡ tell (take i xs) ++ own
+    → before ≡ old ++ tell (take i xs) → after ≡ before ++ own → after ≡ old ++ tell (take (i + 1) xs)
+one_more_told {X} {Y} tell xs i x own old before after inside is adds so_far one =
+    one ∙ ap (λ (t : List Y). t ++ own) so_far ∙ append_assoc old (tell (take i xs)) own ∙ ap (λ (t : List Y). old ++ t) (sym adds ∙ ap tell (sym (one_more xs i x inside is)))
+
 -- where the first parts were written and the next one is, one part more was
 pub one_more_part : {X : Type 0} (part : X → StoredPart) (parts : List X) (i : ℕ) (next : X) (old before after : List ℕ) → i < length parts → next ≡ get_or parts i next
     → before ≡ old ++ flat_map part_bytes (map part (take i parts)) → after ≡ before ++ part_bytes (part next) → after ≡ old ++ flat_map part_bytes (map part (take (i + 1) parts))
-one_more_part part parts i next old before after inside is so_far one =
-    let parts_so_far = map part (take i parts) in
-    let more : map part (take (i + 1) parts) ≡ parts_so_far ++ part next ∷ [] = ap (map part) (one_more parts i next inside is) ∙ map-append part (take i parts) (next ∷ []) in
-    one ∙ ap (λ (t : List ℕ). t ++ part_bytes (part next)) so_far ∙ append_assoc old (flat_map part_bytes parts_so_far) (part_bytes (part next))
-    ∙ ap (λ (t : List ℕ). old ++ t) (sym (flat_map-push part_bytes parts_so_far (part next))) ∙ ap (λ ps. old ++ flat_map part_bytes ps) (sym more)
+one_more_part part parts i next old before after inside is =
+    one_more_told (λ xs. flat_map part_bytes (map part xs)) parts i next (part_bytes (part next)) old before after inside is
+    (ap (flat_map part_bytes) (map-append part (take i parts) (next ∷ [])) ∙ flat_map-push part_bytes (map part (take i parts)) (part next))
 
--- where some parts are put in and then others, all of them are
-pub put-more : (old before after : List StoredChange) (parts others : List StoredPart) → before ≡ old ++ put_all parts → after ≡ before ++ put_all others → after ≡ old ++ put_all (parts ++ others)
-put-more old before after parts others so_far one =
-    one ∙ ap (λ (cs : List StoredChange). cs ++ put_all others) so_far ∙ append_assoc old (put_all parts) (put_all others)
-    ∙ ap (λ (cs : List StoredChange). old ++ cs) (sym (map-append put_one parts others))
+-- the changes that put parts in, one part more
+pub put-push : (parts : List StoredPart) (part : StoredPart) → put_all (parts ++ part ∷ []) ≡ put_all parts ++ put_all (part ∷ [])
+put-push parts part = map-append put_one parts (part ∷ [])
   where
     put_one : StoredPart → StoredChange
     put_one p = record { key = p.key; value = Some p.value }
@@ -85,20 +86,14 @@ put-more old before after parts others so_far one =
 -- where the parts of the first rows are put in and the next row's part is, those of one row more are
 pub one_more_put : {X R : Type 0} (shown : X → R) (part : R → StoredPart) (rows : List X) (i : ℕ) (row : X) (old before after : List StoredChange) → i < length rows → row ≡ get_or rows i row
     → before ≡ old ++ put_all (map part (map shown (take i rows))) → after ≡ before ++ put_all (part (shown row) ∷ []) → after ≡ old ++ put_all (map part (map shown (take (i + 1) rows)))
-one_more_put shown part rows i row old before after inside is so_far one =
-    let rows_so_far = map part (map shown (take i rows)) in
-    let last : List StoredPart = part (shown row) ∷ [] in
-    let more : map part (map shown (take (i + 1) rows)) ≡ rows_so_far ++ last =
-    ap (λ xs. map part (map shown xs)) (one_more rows i row inside is) ∙ ap (map part) (map-append shown (take i rows) (row ∷ [])) ∙ map-append part (map shown (take i rows)) (shown row ∷ []) in
-    put-more old before after rows_so_far last so_far one ∙ ap (λ ps. old ++ put_all ps) (sym more)
+one_more_put shown part rows i row old before after inside is =
+    one_more_told (λ xs. put_all (map part (map shown xs))) rows i row (put_all (part (shown row) ∷ [])) old before after inside is
+    (ap (λ rs. put_all (map part rs)) (map-append shown (take i rows) (row ∷ [])) ∙ ap put_all (map-append part (map shown (take i rows)) (shown row ∷ [])) ∙ put-push (map part (map shown (take i rows))) (part (shown row)))
 
 -- where the first keys are taken out and the next one is, one key more is
 pub one_more_taken : (keys : List ℕ) (i key : ℕ) (old before after : List StoredChange) → i < length keys → key ≡ get_or keys i key → before ≡ old ++ take_all (take i keys) → after ≡ before ++ take_all (key ∷ [])
     → after ≡ old ++ take_all (take (i + 1) keys)
-one_more_taken keys i key old before after inside is so_far one =
-    let keys_so_far = take i keys in
-    one ∙ ap (λ (cs : List StoredChange). cs ++ take_all (key ∷ [])) so_far ∙ append_assoc old (take_all keys_so_far) (take_all (key ∷ []))
-    ∙ ap (λ (cs : List StoredChange). old ++ cs) (sym (map-append take_one keys_so_far (key ∷ []))) ∙ ap (λ (ks : List ℕ). old ++ take_all ks) (sym (one_more keys i key inside is))
+one_more_taken keys i key old before after inside is = one_more_told take_all keys i key (take_all (key ∷ [])) old before after inside is (map-append take_one (take i keys) (key ∷ []))
   where
     take_one : ℕ → StoredChange
     take_one n = record { key = n; value = None }
@@ -115,3 +110,9 @@ pub put_same : {X R : Type 0} (part_of : R → StoredPart) (shown : X → R) (he
     → changes ≡ put_all (record { key = 0; value = value } ∷ map part_of (map shown rows))
 put_same {X} part_of shown head value rs rows changes heads same are =
     are ∙ ap (λ (v : List ℕ). put_all (record { key = 0; value = v } ∷ map part_of (map shown rs))) heads ∙ ap (λ (xs : List X). put_all (record { key = 0; value = value } ∷ map part_of (map shown xs))) same
+
+-- ---- lists of what is shown of their items
+
+-- what spells the items with their count, each by what is shown of it, spells the list of what is shown
+pub list-shown : {X R : Type 0} (f : R → List ℕ) (shown : X → R) (xs : List X) → list_spelling (λ x. f (shown x)) xs ≡ list_spelling f (map shown xs)
+list-shown f shown xs = ap (λ (n : ℕ). n ∷ flat_map (λ x. f (shown x)) xs) (sym (length-map xs shown)) ∙ ap (λ (t : List ℕ). length (map shown xs) ∷ t) (sym (flat_map-map f shown xs))

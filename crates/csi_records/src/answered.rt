@@ -101,8 +101,8 @@ fn head_in(alloc: Global, version: RecordVersion, value: &[u8]) -> Result<NodeHe
 
 /// What this part, a head of this version, tells.
 pub(crate) fn head_of(alloc: Global, version: RecordVersion, part: &Part) -> Result<NodeHead, Stop>
-    ensures head { IfOk result (λ head. node_head version head.id head.session ≡ stored_in part.now) }
-    ensures fits { IfOk result (λ head. IsHead IsNodeId version (record { own = head.id; session = head.session })) }
+    ensures head { IfOk result (λ head. IsHead IsNodeId version (record { own = head.id; session = head.session })
+        × (node_head version head.id head.session ≡ stored_in part.now)) }
     ensures bad { IsErrOf result Stop.Bad → (head : Head (List ℕ)) → IsHead IsNodeId version head →
         node_head version head.own head.session ≡ stored_in part.now → ⊥ }
 {

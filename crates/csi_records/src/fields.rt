@@ -7,7 +7,7 @@ use crate::version::RecordVersion;
 use csi_frames::Fields;
 
 /// The byte `n`.
-#[tactic(auto, unfolding(crate::specs::Private::Reading::read_tag, crate::specs::Private::Reading::read_byte))]
+#[tactic(auto, unfolding(crate::specs::Private::Reading::read_tag, crate::specs::Private::Reading::read_code, crate::specs::Private::Reading::read_byte))]
 pub(crate) fn tag(fields: &mut Fields<'_>, n: u8) -> Result<(), Stop>
     ensures read { IfOk result (λ u. read_tag n fields.old.bytes.now ≡ Some (tt, fields.new.bytes.now)) }
     ensures bad { OnErr result (read_tag n fields.old.bytes.now ≡ None) }

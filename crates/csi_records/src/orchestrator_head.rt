@@ -79,8 +79,8 @@ pub(crate) fn orchestrator_head_of(
     version: RecordVersion,
     part: &Part,
 ) -> Result<OrchestratorHead, Stop>
-    ensures head { IfOk result (λ head. orchestrator_head version head.session head.nodes.items ≡ stored_in part.now) }
-    ensures fits { IfOk result (λ head. IsOrchestratorHead version (record { session = head.session; nodes = head.nodes.items })) }
+    ensures head { IfOk result (λ head. IsOrchestratorHead version (record { session = head.session; nodes = head.nodes.items })
+        × (orchestrator_head version head.session head.nodes.items ≡ stored_in part.now)) }
     ensures bad { IsErrOf result Stop.Bad → (head : OrchestratorHeadShown) → IsOrchestratorHead version head →
         orchestrator_head version head.session head.nodes ≡ stored_in part.now → ⊥ }
 {

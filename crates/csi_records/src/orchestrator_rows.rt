@@ -18,8 +18,8 @@ use std::alloc::Global;
 
 // The row that this part spells in this version, where it stands under its place, counted from 1.
 fn row_at(alloc: Global, version: RecordVersion, place: u64, part: &Part) -> Result<Row, Stop>
-    ensures fits { IfOk result (λ row. IsKeyedRow version (record { key = place; row = row_shown row })) }
-    ensures row { IfOk result (λ row. orchestrator_part version (record { key = place; row = row_shown row }) ≡ stored_in part.now) }
+    ensures row { IfOk result (λ row. IsKeyedRow version (record { key = place; row = row_shown row })
+        × (orchestrator_part version (record { key = place; row = row_shown row }) ≡ stored_in part.now)) }
     ensures bad { IsErrOf result Stop.Bad → (row : KeyedRow) → IsRowUnder version place row →
         orchestrator_part version row ≡ stored_in part.now → ⊥ }
 {

@@ -20,7 +20,7 @@ pub(crate) struct SplitParts {
 }
 
 // A number of 32 bits.
-#[tactic(auto, unfolding(crate::specs::Private::Reading::read_long))]
+#[tactic(auto, unfolding(crate::specs::Private::Reading::read_long, crate::specs::Private::Reading::read_bytes))]
 fn long(fields: &mut Fields<'_>) -> Result<u32, Stop>
     ensures read { IfOk result (λ n. read_long fields.old.bytes.now ≡ Some (n, fields.new.bytes.now)) }
     ensures bad { OnErr result (read_long fields.old.bytes.now ≡ None) }

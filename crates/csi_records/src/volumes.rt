@@ -111,8 +111,8 @@ fn head_in(version: RecordVersion, value: &[u8]) -> Result<ControllerHead, Stop>
 
 /// What this part, a head of this version, tells.
 pub(crate) fn head_of(version: RecordVersion, part: &Part) -> Option<ControllerHead>
-    ensures head { IfSome result (λ head. controller_head version head.next_id head.session ≡ stored_in part.now) }
-    ensures fits { IfSome result (λ head. IsHead IsWord version (record { own = head.next_id; session = head.session })) }
+    ensures head { IfSome result (λ head. IsHead IsWord version (record { own = head.next_id; session = head.session })
+        × (controller_head version head.next_id head.session ≡ stored_in part.now)) }
     ensures none { result ≡ None → (head : Head ℕ) → IsHead IsWord version head → controller_head version head.own head.session ≡ stored_in part.now → ⊥ }
 {
     if part.key != 0 {

@@ -195,9 +195,7 @@ read_answered version id = do
 
 -- the byte of this number
 unfoldable pub read_tag : ℕ → Reader (Unit {0})
-read_tag n = do
-  b ← read_byte
-  if b == n then give tt else nothing
+read_tag n = read_code (λ b. if b == n then Some tt else None)
 
 -- the greatest session that came, where the version has it
 unfoldable pub read_session : RecordVersion → Reader (Option ℕ)
@@ -224,13 +222,15 @@ read_node_head version = do
 
 -- ---- a part of a whole record
 
--- a number of four bytes
-unfoldable pub read_long : Reader ℕ
-read_long bytes = if nat_lt (length bytes) 4 then None else Some (big_number 4 bytes, drop 4 bytes)
-
 -- so many bytes
 unfoldable pub read_bytes : ℕ → Reader (List ℕ)
 read_bytes n bytes = if nat_lt (length bytes) n then None else Some (take n bytes, drop n bytes)
+
+-- a number of four bytes
+unfoldable pub read_long : Reader ℕ
+read_long = do
+  four ← read_bytes 4
+  give (big_number 4 four)
 
 -- a part of the bytes of a record
 unfoldable pub read_part : Reader StoredPart

@@ -6,13 +6,7 @@ use Rattle.csi_records.proofs.answered.head_of.Goals as goal
 pub returns-clause-head : goal.returns-clause-head
 returns-clause-head c =
     IfOk-weaker c.head_in.result _ _
-    (λ head read. (read-of (node_head_read c.args.version) c.args.part.now 0 c.value_of.result.now (sym c.if-part-ne0.false) c.value_of.ensures refl c.head_in.ensures.bytes _ read).1)
-    c.head_in.ensures.read
-
-pub returns-clause-fits : goal.returns-clause-fits
-returns-clause-fits c =
-    IfOk-weaker c.head_in.result _ _
-    (λ head read. (read-of (node_head_read c.args.version) c.args.part.now 0 c.value_of.result.now (sym c.if-part-ne0.false) c.value_of.ensures refl c.head_in.ensures.bytes _ read).0)
+    (λ head read. read-of (node_head_read c.args.version) c.args.part.now 0 c.value_of.result.now (sym c.if-part-ne0.false) c.value_of.ensures refl c.head_in.ensures.bytes _ read)
     c.head_in.ensures.read
 
 pub returns-clause-bad : goal.returns-clause-bad

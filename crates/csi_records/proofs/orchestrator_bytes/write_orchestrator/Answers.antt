@@ -7,9 +7,8 @@ use Rattle.csi_records.specs.Public.Spelling.{present, record_bytes}
 use Rattle.csi_records.specs.Public.OrchestratorSpelling.{orchestrator_head}
 use Rattle.csi_records.specs.Public.OrchestratorRecords.{kept_parts}
 use Rattle.csi_records.specs.Public.Writing.{CanBeWritten}
-use Rattle.csi_records.proofs.OrchestratorBytes.{closed-parts, writable-rows}
-use Rattle.csi_records.proofs.OrchestratorLayouts.{kept-same}
-use Rattle.csi_records.proofs.OrchestratorSizes.{orchestrator_head_size}
+use Rattle.csi_records.proofs.OrchestratorLayouts.{closed-parts, writable-rows, kept-same}
+use Rattle.csi_records.proofs.ValueSizes.{orchestrator_head_size}
 use Rattle.csi_records.proofs.PartReaders.{make_part}
 use Rattle.csi_records.proofs.WritingPieces.{stored_put}
 use Rattle.csi_records.proofs.orchestrator_bytes.write_orchestrator.Goals as goal

@@ -7,13 +7,7 @@ use Rattle.csi_records.proofs.orchestrator_head.orchestrator_head_of.Goals as go
 pub returns-clause-head : goal.returns-clause-head
 returns-clause-head c =
     IfOk-weaker c.head_in.result _ _
-    (λ head read. (read-of (orchestrator_head_read c.args.version) c.args.part.now 0 c.value_of.result.now (sym c.if-part-ne0.false) c.value_of.ensures refl c.head_in.ensures.bytes _ read).1)
-    c.head_in.ensures.read
-
-pub returns-clause-fits : goal.returns-clause-fits
-returns-clause-fits c =
-    IfOk-weaker c.head_in.result _ _
-    (λ head read. (read-of (orchestrator_head_read c.args.version) c.args.part.now 0 c.value_of.result.now (sym c.if-part-ne0.false) c.value_of.ensures refl c.head_in.ensures.bytes _ read).0)
+    (λ head read. read-of (orchestrator_head_read c.args.version) c.args.part.now 0 c.value_of.result.now (sym c.if-part-ne0.false) c.value_of.ensures refl c.head_in.ensures.bytes _ read)
     c.head_in.ensures.read
 
 pub returns-clause-bad : goal.returns-clause-bad

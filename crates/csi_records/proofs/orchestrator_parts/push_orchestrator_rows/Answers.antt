@@ -2,7 +2,7 @@ use Rattle.std.proofs.Common.{◌+◌, arith}
 use Rattle.csi_orchestrator.specs.Public.Shown.{row_shown}
 use Rattle.csi_records.specs.Public.Spelling.{present}
 use Rattle.csi_records.specs.Public.OrchestratorRows.{IsOrchestratorRow}
-use Rattle.csi_records.proofs.KeyedParts.{one_more_keyed}
+use Rattle.csi_records.proofs.KeyedRows.{one_more_keyed}
 use Rattle.csi_records.proofs.WritingPieces.{one_more_fit}
 use Rattle.csi_records.proofs.orchestrator_parts.push_orchestrator_rows.Goals as goal
 

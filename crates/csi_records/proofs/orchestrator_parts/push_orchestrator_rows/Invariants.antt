@@ -5,7 +5,7 @@ use Rattle.csi_stores.specs.Public.Part.{part_change, put_all}
 use Rattle.csi_records.specs.Public.Spelling.{present}
 use Rattle.csi_records.specs.Public.OrchestratorSpelling.{orchestrator_part}
 use Rattle.csi_records.specs.Public.OrchestratorRows.{IsOrchestratorRow}
-use Rattle.csi_records.proofs.KeyedParts.{keyed_rows}
+use Rattle.csi_records.proofs.KeyedRows.{keyed_rows}
 use Rattle.csi_records.proofs.orchestrator_parts.push_orchestrator_rows.Given as goal
 
 -- the parts of the rows so far are there, and the rows are within their limits

@@ -1,4 +1,4 @@
-use Rattle.csi_records.proofs.KeyedParts.{ReadSoFar}
+use Rattle.csi_records.proofs.KeyedRows.{ReadSoFar}
 use Rattle.csi_records.proofs.orchestrator_rows.orchestrator_rows.Given as goal
 
 -- the parts so far are rows under their places

@@ -5,9 +5,11 @@ use Rattle.csi_node.specs.declared.row.NodeRow.{NodeRow}
 use Rattle.csi_node.specs.Model.OneRow.{node_row_shown}
 use Rattle.csi_node.specs.Public.Record.{AreSoundRows as AreSoundNodeRows}
 use Rattle.csi_records.specs.Public.Spelling.{present, node_head, answered_part}
-use Rattle.csi_records.specs.Public.Records.{node_layout}
+use Rattle.csi_records.specs.Public.Records.{node_layout, IsAnsweredRow}
 use Rattle.csi_records.proofs.WritingPieces.{put_same, stored_put}
-use Rattle.csi_records.proofs.PluginLayouts.{few-targets, node_is, node_plain, writable}
+use Rattle.csi_records.proofs.PluginLayouts.{few-targets, node_plain, writable}
+use Rattle.std.specs.List.{AllByRecursion}
+use Rattle.csi_records.proofs.Layouts.{is-record}
 use Rattle.csi_records.proofs.record.NodeRecordRecord.to_parts.Goals as goal
 
 pub parts_with-requires : goal.parts_with-requires
@@ -27,14 +29,9 @@ returns-clause-parts c =
     let kept = c.args.self.now in
     let id = subst IsNodeId c.id.ensures c.in_ok-head.ensures.fits in
     IfOk-weaker c.parts_with.result _ _
-    (λ parts each. node_is kept.id kept.session c.rows.result.now kept.rows c.rows.ensures.value id (omega arith) (c.rows.ensures.rules, c.rows.ensures.current) each)
+    (λ parts each. is-record (node_layout present None) (record { own = kept.id; session = Some kept.session }) (map node_row_shown kept.rows) (record { own = (id, tt); session = omega arith })
+    (subst (λ rows. AllByRecursion (IsAnsweredRow present) (map node_row_shown rows)) c.rows.ensures.value each) (c.rows.ensures.rules, c.rows.ensures.current))
     c.parts_with.ensures.fit
 
 pub returns-clause-writable : goal.returns-clause-writable
-returns-clause-writable c =
-    let kept = c.args.self.now in
-    let id = subst IsNodeId c.id.ensures c.in_ok-head.ensures.fits in
-    IfOk-weaker c.parts_with.result _ _
-    (λ parts each. writable (node_layout present None) (node_plain present None) _
-    (node_is kept.id kept.session c.rows.result.now kept.rows c.rows.ensures.value id (omega arith) (c.rows.ensures.rules, c.rows.ensures.current) each))
-    c.parts_with.ensures.fit
+returns-clause-writable c = IfOk-weaker c.parts_with.result _ _ (λ parts is. writable (node_layout present None) (node_plain present None) _ is) (returns-clause-parts c)
