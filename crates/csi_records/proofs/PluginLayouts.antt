@@ -7,8 +7,7 @@ use Rattle.std.proofs.lemmas.List.Elements.{All-take, recursion_from_All}
 use Rattle.csi_controller.specs.declared.row.ControllerRow.{ControllerRow}
 use Rattle.csi_controller.specs.Public.Core.{AreSoundRows as AreSoundControllerRows, IsCurrentRow}
 use Rattle.csi_controller.specs.Public.Views.{AreSameRows}
-use Rattle.csi_controller.proofs.Copies.{sound-copies}
-use Rattle.csi_controller.proofs.Sessions.{current-copies}
+use Rattle.csi_controller.proofs.Copies.{sound-copies, current-copies}
 use Rattle.csi_controller.proofs.FirstRefused.{sound-take}
 use Rattle.csi_types.specs.Public.Text.{IsNodeId}
 use Rattle.csi_frames.specs.Public.Spelling as spelling
