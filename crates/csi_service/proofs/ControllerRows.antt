@@ -81,7 +81,7 @@ changes-of row place number old new is changes = record {
 pub controller-changes : (place : Option ℕ) (number : Number) (old new : ControllerParts) → ChangesAt place number old new → RowsChange controller_view place number old new
 controller-changes None number old new changes = changes-of None None number old new refl changes
 controller-changes (Some place) number old new changes =
-    changes-of (Some changes.0.id) (Some place) number old new (id-at controller_view place new (volume_row changes.0) (slice_get-map volume_row new.rows place ∙ ap (option_map volume_row) changes.1)) changes.2
+    changes-of (Some changes.0.id) (Some place) number old new (id-at controller_view (Some place) new (Some (volume_row changes.0)) (slice_get-map volume_row new.rows place ∙ ap (option_map volume_row) changes.1)) changes.2
 
 -- ---- a row is told by its volume and its holdings
 

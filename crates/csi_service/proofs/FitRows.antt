@@ -15,7 +15,7 @@ use Rattle.csi_node.specs.Model.Record.{NodeParts, parts}
 use Rattle.csi_node.specs.Public.WithoutSession as unsessioned
 use Rattle.csi_stores.specs.Public.Part.{StoredPart}
 use Rattle.csi_records.specs.declared.version.RecordVersion.{RecordVersion}
-use Rattle.csi_records.specs.Public.Spelling.{present, VolumeRow, volume_row, volume_part, answered_part}
+use Rattle.csi_records.specs.Public.Spelling.{present, VolumeRow, volume_row, volume_part}
 use Rattle.csi_records.specs.Public.Records.{IsCapabilityIn, IsHolding, IsVolumeRow, IsStagedSo, IsAnsweredRow, controller_record_of, node_record_of, IsControllerOf, IsNodeOf}
 use Rattle.csi_service.specs.Public.Services.{AreFitControllerRows, AreFitNodeRows}
 
@@ -78,8 +78,3 @@ node-read version wanted found kept is =
 pub controller-none : (head other : StoredPart) (rows : List ControllerRow) → (head ∷ map (volume_part present) (map volume_row rows)) ≡ other ∷ [] → AreFitControllerRows rows
 controller-none head other [] are = tt
 controller-none head other (row ∷ rows) are = absurd (omega (arith, ap length are))
-
--- nor has a node
-pub node-none : (head other : StoredPart) (rows : List NodeRowShown) → (head ∷ map (answered_part present) rows) ≡ other ∷ [] → AreFitNodeRows rows
-node-none head other [] are = tt
-node-none head other (row ∷ rows) are = absurd (omega (arith, ap length are))

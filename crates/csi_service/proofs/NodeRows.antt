@@ -1,7 +1,6 @@
 -- A node as it is seen: a call changes its rows as it changes any plugin's, and the state that it shows tells what its record tells.
 use Rattle.std.proofs.Common.{◌≡◌, ◌∙◌, sym, ap, refl, ℕ, Bool, true, false, cond, List, [], ◌∷◌, map, arith}
-use Rattle.std.specs.Prelude.{Option, Some, None, filter, not, option_map, option_to_list, is_some, is_none, nat_lt, ◌==◌}
-use Rattle.std.proofs.lemmas.Bool.{eqb-true}
+use Rattle.std.specs.Prelude.{Option, Some, None, filter, not, option_map, option_to_list, is_some, is_none, ◌==◌}
 use Rattle.std.proofs.lemmas.Bool.Decides.{nat_tests}
 use Rattle.csi_lists.proofs.Searches.{find-of_map}
 use Rattle.csi_types.specs.declared.capability.Capability.{Capability}
@@ -35,36 +34,15 @@ gone-shown rows = λ i. map (λ (row : NodeRowShown). row.id) (filter (λ (row :
 
 -- ---- a row that is put in
 
--- where the first row has the id, it is found
-own-first : (row : NodeRowShown) (rows : List NodeRowShown) → row_by_id row.id (row ∷ rows) ≡ Some row
-own-first row rows = let self : (row.id == row.id) ≡ true = grind (arith, nat_tests) in rw self refl
-
 -- a row that was put in is found by its id
 found-put : (row : NodeRowShown) (rows : List NodeRowShown) → row_by_id row.id (put_row row rows) ≡ Some row
-found-put row [] = own-first row []
-found-put row (other ∷ others) = by (nat_lt other.id row.id) (other.id == row.id) refl (found-put row others)
-  where
-    by : (a b : Bool) → nat_lt other.id row.id ≡ a → row_by_id row.id (put_row row others) ≡ Some row
-        → row_by_id row.id (cond a (other ∷ put_row row others) (cond b (row ∷ others) (row ∷ other ∷ others))) ≡ Some row
-    by true b t rest = let differs : (other.id == row.id) ≡ false = grind (arith, nat_tests) in rw differs rest
-    by false true t rest = own-first row others
-    by false false t rest = own-first row (other ∷ others)
+found-put row [] = grind (arith, nat_tests)
+found-put row (other ∷ others) = grind (arith, nat_tests, found-put row others)
 
 -- and leaves what is found of any other
-found-other : (row : NodeRowShown) (rows : List NodeRowShown) (id : ℕ) → (row.id == id) ≡ false → row_by_id id (put_row row rows) ≡ row_by_id id rows
-found-other row [] id differs = rw differs refl
-found-other row (other ∷ others) id differs = by (nat_lt other.id row.id) (other.id == row.id) refl (found-other row others id differs)
-  where
-    skip : (rs : List NodeRowShown) → row_by_id id (row ∷ rs) ≡ row_by_id id rs
-    skip rs = rw differs refl
-
-    by : (a b : Bool) → (other.id == row.id) ≡ b → row_by_id id (put_row row others) ≡ row_by_id id others
-        → row_by_id id (cond a (other ∷ put_row row others) (cond b (row ∷ others) (row ∷ other ∷ others))) ≡ row_by_id id (other ∷ others)
-    by true b u rest = ap (λ (o : Option NodeRowShown). cond (other.id == id) (Some other) o) rest
-    by false true u rest =
-        let passed : (other.id == id) ≡ false = ap (λ (n : ℕ). n == id) (eqb-true other.id row.id u) ∙ differs in
-        skip others ∙ sym (rw passed refl)
-    by false false u rest = skip (other ∷ others)
+found-other : (row : NodeRowShown) (rows : List NodeRowShown) (id : ℕ) → (row.id ≡ id → ⊥) → row_by_id id (put_row row rows) ≡ row_by_id id rows
+found-other row [] id differs = grind (arith, nat_tests, differs)
+found-other row (other ∷ others) id differs = grind (arith, nat_tests, differs, found-other row others id differs)
 
 -- ---- a call
 
@@ -86,16 +64,12 @@ changes-of row place number old new is changes = record {
     by None e id other = ap (row_by_id id) (changes.same e)
     by (Some key) e id other =
         let put = changes.put key e in
-        ap (row_by_id id) put.3 ∙ found-other put.0 stay id (ap (λ (n : ℕ). n == id) put.1 ∙ differs (key == id) refl)
-      where
-        differs : (b : Bool) → (key == id) ≡ b → (key == id) ≡ false
-        differs true t = absurd (other (e ∙ ap Some (eqb-true key id t)))
-        differs false t = t
+        ap (row_by_id id) put.3 ∙ found-other put.0 stay id (λ same. other (e ∙ ap Some (sym put.1 ∙ same)))
 
 -- so it did at the row's place
 pub node-changes : (place : Option ℕ) (number : Number) (old new : NodeParts) → ChangesAt place number old new → RowsChange node_view place number old new
 node-changes None number old new changes = changes-of None None number old new refl changes
-node-changes (Some place) number old new changes = changes-of (Some changes.0.id) (Some place) number old new (id-at node_view place new changes.0 changes.1) changes.2
+node-changes (Some place) number old new changes = changes-of (Some changes.0.id) (Some place) number old new (id-at node_view (Some place) new (Some changes.0) changes.1) changes.2
 
 -- ---- two nodes that show one state
 

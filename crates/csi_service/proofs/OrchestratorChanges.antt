@@ -1,10 +1,10 @@
 -- What a call changes of the parts of an orchestrator's record: one row at its place.
-use Rattle.std.proofs.Common.{◌≡◌, ◌∙◌, sym, ap, refl, subst, ℕ, zero, suc, ◌<◌, ◌≤◌, ◌+◌, Bool, true, false, cond, List, [], ◌∷◌, map, length, take, drop, slice_get, arith, IfSome, Ok}
-use Rattle.std.specs.Prelude.{Option, Some, None, position, nat_lt, not}
+use Rattle.std.proofs.Common.{◌≡◌, ◌∙◌, sym, ap, refl, subst, inl, inr, ℕ, zero, suc, ◌<◌, ◌≤◌, ◌+◌, Bool, true, false, cond, List, [], ◌∷◌, map, length, take, drop, slice_get, arith, IfSome, Ok}
+use Rattle.std.specs.Prelude.{Option, Some, None, position, not}
 use Rattle.std.specs.List.{AllByRecursion, position_or_len}
 use Rattle.std.proofs.lemmas.Bool.Decides.{nat_tests}
-use Rattle.std.proofs.lemmas.Option.{same_Some, get_or_from_slice_get}
-use Rattle.csi_lists.proofs.Options.{some_is_not_none}
+use Rattle.std.proofs.lemmas.List.Sums.{prefix_len-le-length}
+use Rattle.std.proofs.lemmas.Option.{slice_get_cases}
 use Rattle.csi_lists.proofs.Places.{FirstAt-position, FirstAt-passes, FirstAt-is_at}
 use Rattle.csi_lists.specs.Public.Places.{IsAt, FirstAt}
 use Rattle.csi_types.specs.declared.number.Number.{Number}
@@ -28,78 +28,59 @@ use Rattle.csi_service.proofs.RisingParts.{put-head, put-row}
 
 -- ---- lists of which one element is another
 
--- lists with the same first elements, where there are some, have the same first element, and the same after it
-first-same : {X : Type 0} (x y : X) (xs ys : List X) → (x ∷ xs) ≡ (y ∷ ys) → x ≡ y
-first-same x y xs ys e = same_Some x y (ap (λ zs. slice_get zs 0) e)
-
--- what is after it
-rest-same : {X : Type 0} (x y : X) (xs ys : List X) → (x ∷ xs) ≡ (y ∷ ys) → xs ≡ ys
-rest-same x y xs ys e = ap (λ zs. drop 1 zs) e
-
--- a list that has an element isn't empty
-some-first : {X : Type 0} (x : X) (xs : List X) → (x ∷ xs) ≡ [] → ⊥
-some-first x xs e = some_is_not_none x (ap (λ zs. slice_get zs 0) e)
-
--- within a list there is an element at each place
-within-some : {X : Type 0} (xs : List X) (place : ℕ) → place < length xs → slice_get xs place ≡ None → ⊥
-within-some [] place within none = omega (arith, within)
-within-some (x ∷ xs) zero within none = some_is_not_none x none
-within-some (x ∷ xs) (suc place) within none = within-some xs place (omega (arith, within)) none
-
 -- what holds of all elements of a list, and of the one that is another in a second list, holds of all elements of that
 each-at : {X : Type 0} (P : X → Type 0) (place : ℕ) (olds news : List X) → place < length news → take place news ≡ take place olds → drop (suc place) news ≡ drop (suc place) olds
     → IfSome (slice_get news place) P → AllByRecursion P olds → AllByRecursion P news
 each-at P place olds [] within before behind here each = tt
 each-at P zero [] (new ∷ news) within before behind here each = (here, subst (AllByRecursion P) (sym behind) tt)
 each-at P zero (old ∷ olds) (new ∷ news) within before behind here each = (here, subst (AllByRecursion P) (sym behind) each.1)
-each-at P (suc place) [] (new ∷ news) within before behind here each = absurd (some-first new (take place news) before)
-each-at P (suc place) (old ∷ olds) (new ∷ news) within before behind here each = (
-  subst P (sym (first-same new old (take place news) (take place olds) before)) each.0,
-  each-at P place olds news (omega (arith, within)) (rest-same new old (take place news) (take place olds) before) behind here each.1,
-)
+each-at P (suc place) [] (new ∷ news) within before behind here each = absurd cc
+each-at P (suc place) (old ∷ olds) (new ∷ news) within before behind here each =
+    let same : old ≡ new = cc in
+    let rest : take place news ≡ take place olds = cc in
+    (subst P same each.0, each-at P place olds news (omega (arith, within)) rest behind here each.1)
 
 -- where the first that passes stands now, and what stood there passed too, there was the first that passed, or the end
-pub first-place : {X : Type 0} (p : X → Bool) (place : ℕ) (now : X) (olds news : List X) → FirstAt p news place now → take place news ≡ take place olds
+first-place : {X : Type 0} (p : X → Bool) (place : ℕ) (now : X) (olds news : List X) → FirstAt p news place now → take place news ≡ take place olds
     → ((was : X) → IsAt olds place was → p was ≡ true) → position_or_len p olds ≡ place
 first-place p place now olds [] first before stays = absurd first
 first-place p zero now [] (new ∷ news) first before stays = refl
 first-place p zero now (old ∷ olds) (new ∷ news) first before stays = rw (stays old refl) refl
-first-place p (suc place) now [] (new ∷ news) first before stays = absurd (some-first new (take place news) before)
+first-place p (suc place) now [] (new ∷ news) first before stays = absurd cc
 first-place p (suc place) now (old ∷ olds) (new ∷ news) first before stays =
-    let same : new ≡ old = first-same new old (take place news) (take place olds) before in
-    let fails : p old ≡ false = ap p (sym same) ∙ first.0 in
-    let rest = first-place p place now olds news first.1 (rest-same new old (take place news) (take place olds) before) stays in
-    rw fails (omega (arith, rest))
+    let rest : take place news ≡ take place olds = cc in
+    let fails : p old ≡ false = let same : new ≡ old = cc in rw (sym same) first.0 in
+    let later = first-place p place now olds news first.1 rest stays in
+    rw fails (omega (arith, later))
 
 -- ---- rows, as their parts
 
--- the parts of rows under the keys from one on
-abbrev pub row_parts : ℕ → List RowShown → List StoredPart
-row_parts key rows = map (orchestrator_part present) (keyed_from key (map closed rows))
-
 -- the part of a row
-abbrev pub row_part : ℕ → RowShown → StoredPart
+abbrev row_part : ℕ → RowShown → StoredPart
 row_part key row = orchestrator_part present (record { key = key; row = closed row })
 
+-- the parts of rows under the keys from one on
+abbrev row_parts : ℕ → List RowShown → List StoredPart
+row_parts key rows = map (orchestrator_part present) (keyed_from key (map closed rows))
+
 -- the part of the row that is another, put in
-put-at : (key at place : ℕ) (row : RowShown) (olds news : List RowShown) → at ≡ key + place → place < length news → take place news ≡ take place olds → drop (suc place) news ≡ drop (suc place) olds
+put-at : (key at place : ℕ) (row : RowShown) (olds news : List RowShown) → at ≡ key + place → take place news ≡ take place olds → drop (suc place) news ≡ drop (suc place) olds
     → slice_get news place ≡ Some row → put_in (row_part at row) (row_parts key olds) ≡ row_parts key news
-put-at key at place row olds [] is within before behind here = absurd (some_is_not_none row (sym here))
-put-at key at zero row [] (new ∷ news) is within before behind here =
-    let same : new ≡ row = same_Some new row here in
+put-at key at place row olds [] is before behind here = absurd cc
+put-at key at zero row [] (new ∷ news) is before behind here =
+    let same : new ≡ row = cc in
     let own : at ≡ key = omega (arith, is) in
     λ i. row_part (own i) (sym same i) ∷ row_parts (suc key) (sym behind i)
-put-at key at zero row (old ∷ olds) (new ∷ news) is within before behind here =
-    let same : new ≡ row = same_Some new row here in
+put-at key at zero row (old ∷ olds) (new ∷ news) is before behind here =
+    let same : new ≡ row = cc in
     let own : at ≡ key = omega (arith, is) in
     put-head (row_part at row) (row_part key old) (row_parts (suc key) olds) (sym own) ∙ (λ i. row_part (own i) (sym same i) ∷ row_parts (suc key) (sym behind i))
-put-at key at (suc place) row [] (new ∷ news) is within before behind here = absurd (some-first new (take place news) before)
-put-at key at (suc place) row (old ∷ olds) (new ∷ news) is within before behind here =
-    let same : new ≡ old = first-same new old (take place news) (take place olds) before in
-    let less : key < at = omega (arith, is) in
-    let next : at ≡ suc key + place = omega (arith, is) in
-    let rest = put-at (suc key) at place row olds news next (omega (arith, within)) (rest-same new old (take place news) (take place olds) before) behind here in
-    put-row (row_part key old) (row_part at row) (row_parts (suc key) olds) less ∙ (λ i. row_part key (sym same i) ∷ rest i)
+put-at key at (suc place) row [] (new ∷ news) is before behind here = absurd cc
+put-at key at (suc place) row (old ∷ olds) (new ∷ news) is before behind here =
+    let same : new ≡ old = cc in
+    let first : take place news ≡ take place olds = cc in
+    let rest = put-at (suc key) at place row olds news (omega (arith, is)) first behind here in
+    put-row (row_part key old) (row_part at row) (row_parts (suc key) olds) (omega (arith, is)) ∙ (λ i. row_part key (sym same i) ∷ rest i)
 
 -- ---- a call
 
@@ -110,17 +91,14 @@ module _ (place : ℕ) (old new : OrchestratorParts) (nodes : new.nodes ≡ old.
 
   -- what was changed at a place leads from the parts before to those after
   row-changed : parts_of_orchestrator new ≡ all_changed (orchestrator_row_change place (slice_get new.rows place)) (parts_of_orchestrator old)
-  row-changed = by (slice_get new.rows place) refl
-    where
-      by : (o : Option RowShown) → slice_get new.rows place ≡ o → parts_of_orchestrator new ≡ all_changed (orchestrator_row_change place (slice_get new.rows place)) (parts_of_orchestrator old)
-      by None e = absurd (within-some new.rows place rows.within e)
-      by (Some row) e =
-          let key : place + 1 ≡ 1 + place = omega arith in
-          let above : 0 < place + 1 = omega arith in
-          let put = put-at 1 (place + 1) place row old.rows new.rows key rows.within rows.before behind e in
-          (λ i. orchestrator_head present (session i) (nodes i) ∷ sym put i)
-          ∙ sym (put-row (orchestrator_head present old.last.session old.nodes) (row_part (place + 1) row) (row_parts 1 old.rows) above)
-          ∙ ap (λ (o : Option RowShown). all_changed (orchestrator_row_change place o) (parts_of_orchestrator old)) (sym e)
+  row-changed = elim (slice_get_cases new.rows place).1 [
+    | inl there ↦
+        let put = put-at 1 (place + 1) place there.0 old.rows new.rows (omega arith) rows.before behind there.2 in
+        (λ i. orchestrator_head present (session i) (nodes i) ∷ sym put i)
+        ∙ sym (put-row (orchestrator_head present old.last.session old.nodes) (row_part (place + 1) there.0) (row_parts 1 old.rows) (omega arith))
+        ∙ ap (λ (o : Option RowShown). all_changed (orchestrator_row_change place o) (parts_of_orchestrator old)) (sym there.2)
+    | inr past ↦ absurd (omega (arith, rows.within, past.0))
+  ]
 
   -- and all that the rows have stays within its limits, where all of that row is
   row-fit : IfSome (slice_get new.rows place) (IsOrchestratorRow present) → AreFitOrchestratorRows old.rows → AreFitOrchestratorRows new.rows
@@ -164,15 +142,15 @@ heard-told (Taken sent) number found changed old was new same at is changes =
 
 -- the row that a create changed stands where it did, or at the end
 created-at : (name : List ℕ) (was new : OrchestratorParts) (changes : ChangesRowOf name was new) → position_or_len (λ (row : RowShown). same_text row.name name) was.rows ≡ changes.place
-created-at name was new changes = by (slice_get new.rows changes.place) refl
-  where
-    by : (o : Option RowShown) → slice_get new.rows changes.place ≡ o → position_or_len (λ (row : RowShown). same_text row.name name) was.rows ≡ changes.place
-    by None e = absurd (within-some new.rows changes.place changes.rows.within e)
-    by (Some row) e =
-        let p = λ (r : RowShown). same_text r.name name in
-        let first = FirstAt-position p new.rows changes.place row changes.there (sym (get_or_from_slice_get new.rows changes.place row row e)) in
-        first-place p changes.place row was.rows new.rows first changes.rows.before
-        (λ r at. ap (λ (n : List ℕ). same_text n name) (sym (changes.rows.named r row at (FirstAt-is_at p new.rows changes.place row first))) ∙ FirstAt-passes p new.rows changes.place row first)
+created-at name was new changes =
+    let p = λ (r : RowShown). same_text r.name name in
+    elim (slice_get_cases new.rows changes.place).1 [
+      | inl there ↦
+          let first = FirstAt-position p new.rows changes.place there.0 changes.there (sym there.3) in
+          first-place p changes.place there.0 was.rows new.rows first changes.rows.before
+          (λ r at. ap (λ (n : List ℕ). same_text n name) (sym (changes.rows.named r there.0 at (FirstAt-is_at p new.rows changes.place there.0 first))) ∙ FirstAt-passes p new.rows changes.place there.0 first)
+      | inr past ↦ absurd (omega (arith, changes.rows.within, past.0))
+    ]
 
 -- so a create tells that row
 pub created-told : {A : Type 0} (answer : A) (name : List ℕ) (place : ℕ) (old : ServedOrchestrator) (was new : OrchestratorParts) → was ≡ old.orchestrator
@@ -181,21 +159,6 @@ pub created-told : {A : Type 0} (answer : A) (name : List ℕ) (place : ℕ) (ol
 created-told answer name place old was new same at changes =
     row-told answer (place_by_name name new.rows) (Row place) old was new same (ap Row (at ∙ created-at name was new changes) ∙ ap changed_at (sym changes.there)) changes
 
--- ---- where a row stands
-
--- no more rows stand before it than there are
-before-few : {X : Type 0} (p : X → Bool) (xs : List X) → position_or_len p xs ≤ length xs
-before-few p [] = omega arith
-before-few p (x ∷ xs) = by (p x) (before-few p xs)
-  where
-    by : (b : Bool) → position_or_len p xs ≤ length xs → cond (not b) (1 + position_or_len p xs) 0 ≤ suc (length xs)
-    by true rest = omega arith
-    by false rest = omega (arith, rest)
-
--- where none is found, it is the count of all
+-- where none is found, the count of all is where a row will stand
 pub place-missed : {X : Type 0} (p : X → Bool) (xs : List X) → position p xs ≡ None → length xs ≡ position_or_len p xs
-place-missed p xs none = by (nat_lt (position_or_len p xs) (length xs)) refl
-  where
-    by : (b : Bool) → nat_lt (position_or_len p xs) (length xs) ≡ b → length xs ≡ position_or_len p xs
-    by true t = absurd (some_is_not_none (position_or_len p xs) (sym (ap (λ (b : Bool). cond b (Some (position_or_len p xs)) None) t) ∙ none))
-    by false t = let few = before-few p xs in grind (arith, nat_tests, t, few)
+place-missed p xs none = grind (arith, nat_tests, none, prefix_len-le-length (λ x. not (p x)) xs)

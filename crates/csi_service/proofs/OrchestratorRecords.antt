@@ -80,7 +80,7 @@ remembered-fit : (rows : List RowShown) → AreFitOrchestratorRows rows → AreF
 remembered-fit rows fit = each-filter (IsOrchestratorRow present) (λ row. not (is_row_forgotten row)) rows fit
 
 -- the version of a record is the present one
-pub is-present : (version : RecordVersion) (parts : List StoredPart) (kept : RecordParts) → IsOrchestratorOf version parts kept → version ≡ present
+is-present : (version : RecordVersion) (parts : List StoredPart) (kept : RecordParts) → IsOrchestratorOf version parts kept → version ≡ present
 is-present One parts kept is = absurd (true≢false (sym is.head_fits.fits.later))
 is-present Two parts kept is = absurd (true≢false (sym is.head_fits.fits.later))
 is-present Three parts kept is = refl
@@ -124,10 +124,6 @@ read-made nodes found version kept made changes was rules begun =
     begun-made nodes found kept (inr here) (read-fit 1 kept.rows here.rows_fit)
     (ap (all_changed (session_changes (length kept.rows) (opened_parts kept nodes))) here.are ∙ session-told kept nodes rules.each) made changes begun (λ fault refused. here)
 
--- of no parts no session is refused
-never-refused : (nodes : List (List ℕ)) (kept : RecordParts) (fault : OrchFault) → kept ≡ new_record → opening_refusal kept nodes ≡ Some fault → ⊥
-never-refused nodes kept fault is refused = some_is_not_none fault (sym refused ∙ ap (λ (k : RecordParts). opening_refusal k nodes) is)
-
 -- from no parts
 pub none-made : (nodes : List (List ℕ)) (found : List StoredPart) (kept : RecordParts) (made : OrchestratorMade) (changes : List StoredChange)
     → found ≡ [] → kept ≡ new_record → IsBegun kept nodes made changes → IsMade (orchestrator_opening nodes) found made changes
@@ -135,7 +131,7 @@ none-made nodes found kept made changes none is begun =
     begun-made nodes found kept (inl (none, is)) (subst (λ (k : RecordParts). AreFitOrchestratorRows k.rows) (sym is) tt)
     (ap (all_changed (session_changes (length kept.rows) (opened_parts kept nodes))) none
     ∙ subst (λ (k : RecordParts). all_changed (session_changes (length k.rows) (opened_parts k nodes)) [] ≡ parts_of_orchestrator (opened_parts k nodes)) (sym is) refl)
-    made changes begun (λ fault refused. absurd (never-refused nodes kept fault is refused))
+    made changes begun (λ fault refused. absurd (some_is_not_none fault (sym refused ∙ ap (λ (k : RecordParts). opening_refusal k nodes) is)))
 
 -- what begins is as it was asked for
 pub newly-made : (nodes : List (List ℕ)) (kept : RecordParts) (made : OrchestratorMade) (changes : List StoredChange) → AreFitOrchestratorRows kept.rows → IsBegun kept nodes made changes

@@ -1,9 +1,8 @@
 -- The parts of a record, in whichever version they are, rise by key; and a node's record is that of the node that its head tells.
-use Rattle.std.proofs.Common.{◌≡◌, ◌∙◌, sym, ap, subst, ℕ, zero, suc, ◌<◌, List, [], ◌∷◌, ◌++◌, map, length, take, None, Some, arith}
+use Rattle.std.proofs.Common.{◌≡◌, ◌∙◌, sym, ap, subst, ℕ, zero, suc, ◌<◌, List, [], ◌∷◌, ◌++◌, map, length, get_or, take, drop, None, Some, arith}
 use Rattle.std.specs.Prelude.{Option}
 use Rattle.std.specs.List.{AllByRecursion}
-use Rattle.std.proofs.Math.Seq.{take-length}
-use Rattle.std.proofs.lemmas.List.{take-append-le}
+use Rattle.std.proofs.Math.Seq.{take-append_seam}
 use Rattle.csi_frames.specs.Public.Spelling.{text}
 use Rattle.csi_controller.specs.declared.row.ControllerRow.{ControllerRow}
 use Rattle.csi_controller.specs.Public.Core.{AreRisingRows}
@@ -83,21 +82,7 @@ text-told : (a b s t : List ℕ) → text a ++ s ≡ text b ++ t → a ≡ b
 text-told a b s t same =
     let lengths : length a ≡ length b = cc in
     let rest : a ++ s ≡ b ++ t = cc in
-    sym (front a s) ∙ ap (take (length a)) rest ∙ ap (λ (n : ℕ). take n (b ++ t)) lengths ∙ front b t
-  where
-    front : (xs ys : List ℕ) → take (length xs) (xs ++ ys) ≡ xs
-    front xs ys = take-append-le (length xs) xs ys (omega arith) ∙ take-length xs
-
--- what stands behind the first two bytes of the first part
-abbrev behind_two : List ℕ → List ℕ
-behind_two [] = []
-behind_two (a ∷ []) = []
-behind_two (a ∷ b ∷ bytes) = bytes
-
--- the bytes behind the first two of the first part
-abbrev head_fields : List StoredPart → List ℕ
-head_fields [] = []
-head_fields (part ∷ parts) = behind_two part.value
+    sym (take-append_seam a s) ∙ ap (take (length a)) rest ∙ ap (λ (n : ℕ). take n (b ++ t)) lengths ∙ take-append_seam b t
 
 -- a node's record in the present version is the record of that node
 pub node-wanted : (node : List ℕ) (session : Option ℕ) (rows : List NodeRowShown) → IsRecordOf (node_layout present None) (node_parts present node session rows)
@@ -114,4 +99,5 @@ node-wanted node session rows is = record {
 }
   where
     own : is.first.own ≡ node
-    own = text-told is.first.own node (session_bytes is.first.session) (session_bytes session) (sym (ap head_fields is.spelled.are))
+    own = text-told is.first.own node (session_bytes is.first.session) (session_bytes session) 
+        (sym (ap (λ (parts : List StoredPart). drop 2 (get_or parts 0 (record { key = 0; value = [] })).value) is.spelled.are))

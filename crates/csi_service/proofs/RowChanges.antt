@@ -8,7 +8,7 @@ use Rattle.std.proofs.lemmas.Option.{same_Some, slice_get-map}
 use Rattle.csi_lists.specs.Model.Members.{IsAmong}
 use Rattle.csi_lists.proofs.Members.{each_of, all_of, in-map, among-filter, among-find}
 use Rattle.csi_lists.proofs.Options.{some_is_not_none, some-from_map}
-use Rattle.csi_lists.proofs.Searches.{find-of_map, find-passes}
+use Rattle.csi_lists.proofs.Searches.{find-of_map}
 use Rattle.csi_types.specs.Public.VolumeId.{IsVolumeId}
 use Rattle.csi_types.specs.declared.number.Number.{Number}
 use Rattle.csi_types.specs.Model.Frame.{Frame}
@@ -16,11 +16,12 @@ use Rattle.csi_fence.specs.Model.Fence.{begins}
 use Rattle.csi_fence.specs.Model.Fenced.{fenced}
 use Rattle.csi_stores.specs.Public.Part.{StoredPart, StoredChange, put_all, take_all}
 use Rattle.csi_stores.specs.Public.Content.{all_changed, AreRisingParts}
+use Rattle.csi_stores.proofs.RisingChanges.{rising-all}
 use Rattle.csi_service.specs.declared.changed.Changed.{Changed}
 use Rattle.csi_service.specs.Public.Plugins.{View, head_change, row_parts, head_of, record_parts, record_changes, at_place, row_id, row_by_id, last_in, Differs, AreFit, IsNamedFit, IsFrom, Answers}
 use Rattle.csi_service.specs.Private.Plugins.{gone_ids, forgotten_by, staying, RowsChange, TellSame}
-use Rattle.csi_service.proofs.RisingParts.{part_at, same-parts, put-there}
-use Rattle.csi_service.proofs.StayingRows.{rising-staying, gone-taken, gone-there, gone-nowhere, headed-changed, above-zero}
+use Rattle.csi_service.proofs.RisingParts.{part_at, same-parts, at-put}
+use Rattle.csi_service.proofs.StayingRows.{all-append, behind-first, gone-taken, gone-there, gone-nowhere, headed-changed, above-zero}
 
 module _ {P Own R State : Type 0} (view : View P Own R State) where
   -- ---- rows and their parts
@@ -33,108 +34,45 @@ module _ {P Own R State : Type 0} (view : View P Own R State) where
   pub at-row : (id : ℕ) (rows : List R) → part_at id (map view.part rows) ≡ option_map view.part (row_by_id view id rows)
   at-row id rows = find-of_map (λ (part : StoredPart). part.key == id) view.part rows
 
-  -- the row of an id has it
-  own-id : (id : ℕ) (rows : List R) (row : R) → row_by_id view id rows ≡ Some row → id_of row ≡ id
-  own-id id rows row found = eqb-true (id_of row) id (find-passes (λ (r : R). id_of r == id) rows row found)
-
   -- of rows by rising id each is found by its own
-  pub found-own : (rows : List R) (row : R) → AreRisingParts (map view.part rows) → IsAmong row rows → row_by_id view (id_of row) rows ≡ Some row
+  found-own : (rows : List R) (row : R) → AreRisingParts (map view.part rows) → IsAmong row rows → row_by_id view (id_of row) rows ≡ Some row
   found-own [] row rising among = absurd among
-  found-own (first ∷ rows) row rising (inl is) = subst (λ (r : R). row_by_id view (id_of r) (first ∷ rows) ≡ Some r) (sym is) here
-    where
-      here : row_by_id view (id_of first) (first ∷ rows) ≡ Some first
-      here = let self : (id_of first == id_of first) ≡ true = grind (arith, nat_tests) in rw self refl
+  found-own (first ∷ rows) row rising (inl is) = grind (arith, nat_tests, is)
   found-own (first ∷ rows) row rising (inr there) =
       let less : id_of first < id_of row = each_of (λ (part : StoredPart). id_of first < part.key) (map view.part rows) (view.part row) rising.0 (in-map view.part rows row there) in
-      let differs : (id_of first == id_of row) ≡ false = grind (arith, nat_tests) in
-      rw differs (found-own rows row rising.1 there)
+      grind (arith, nat_tests, less, found-own rows row rising.1 there)
 
   -- the part at a place is that of the row there
   pub at-part : (place : Option ℕ) (rows : List R) → at_place place (map view.part rows) ≡ option_map view.part (at_place place rows)
   at-part None rows = refl
   at-part (Some place) rows = slice_get-map view.part rows place
 
-  -- a row at a place has its id there
-  pub id-at : (place : ℕ) (plugin : P) (row : R) → slice_get (view.rows plugin) place ≡ Some row → row_id view (Some place) plugin ≡ Some (id_of row)
-  id-at place plugin row is = ap (option_map (λ (part : StoredPart). part.key)) (at-part (Some place) (view.rows plugin) ∙ ap (option_map view.part) is)
+  -- so is its id
+  pub id-at : (place : Option ℕ) (plugin : P) (o : Option R) → at_place place (view.rows plugin) ≡ o → row_id view place plugin ≡ option_map id_of o
+  id-at place plugin None is = ap (option_map (λ (part : StoredPart). part.key)) (at-part place (view.rows plugin) ∙ ap (option_map view.part) is)
+  id-at place plugin (Some row) is = ap (option_map (λ (part : StoredPart). part.key)) (at-part place (view.rows plugin) ∙ ap (option_map view.part) is)
 
-  -- the row of an id, if one is named
-  abbrev named_row : Option ℕ → List R → Option R
-  named_row None rows = None
-  named_row (Some id) rows = row_by_id view id rows
+  -- what is there is one of the rows
+  among-at : (place : Option ℕ) (rows : List R) (row : R) → at_place place rows ≡ Some row → IsAmong row rows
+  among-at None rows row is = absurd cc
+  among-at (Some place) [] row is = absurd cc
+  among-at (Some zero) (r ∷ rs) row is = inl (sym (same_Some r row is))
+  among-at (Some (suc place)) (r ∷ rs) row is = inr (among-at (Some place) rs row is)
 
-  -- the row at a place is the one that is found by its id
-  named-at : (place : Option ℕ) (plugin : P) → AreRisingParts (row_parts view plugin) → at_place place (view.rows plugin) ≡ named_row (row_id view place plugin) (view.rows plugin)
-  named-at place plugin rising = by (at_place place (view.rows plugin)) refl
-    where
-      named : Option StoredPart → Option R
-      named o = named_row (option_map (λ (part : StoredPart). part.key) o) (view.rows plugin)
-
-      among : (place : Option ℕ) (rows : List R) (row : R) → at_place place rows ≡ Some row → IsAmong row rows
-      among None rows row is = absurd (some_is_not_none row (sym is))
-      among (Some place) [] row is = absurd (some_is_not_none row (sym is))
-      among (Some zero) (r ∷ rs) row is = inl (sym (same_Some r row is))
-      among (Some (suc place)) (r ∷ rs) row is = inr (among (Some place) rs row is)
-
-      by : (o : Option R) → at_place place (view.rows plugin) ≡ o → at_place place (view.rows plugin) ≡ named (at_place place (row_parts view plugin))
-      by None is = is ∙ sym (ap named (at-part place (view.rows plugin) ∙ ap (option_map view.part) is))
-      by (Some row) is =
-          is ∙ sym (found-own (view.rows plugin) row rising (among place (view.rows plugin) row is)) ∙ sym (ap named (at-part place (view.rows plugin) ∙ ap (option_map view.part) is))
-
-  -- what is told of a row that is named
+  -- what is told of a row that is there
   abbrev row_change : Option R → List StoredChange
   row_change o = put_all (option_to_list (option_map view.part o))
 
-  -- it is what is told of the row that was found at a place
-  pub pushed : (place : Option ℕ) (at : ℕ) (plugin : P) (o : Option R) → place ≡ Some at → o ≡ slice_get (view.rows plugin) at → put_all (option_to_list (at_place place (row_parts view plugin))) ≡ row_change o
-  pushed place at plugin o is found =
-      ap (λ (p : Option ℕ). put_all (option_to_list (at_place p (row_parts view plugin)))) is
-      ∙ ap (λ (part : Option StoredPart). put_all (option_to_list part)) (at-part (Some at) (view.rows plugin) ∙ ap (option_map view.part) (sym found))
-
-  -- and of the one that is named
-  change-at : (place : Option ℕ) (plugin : P) → AreRisingParts (row_parts view plugin)
-      → put_all (option_to_list (at_place place (row_parts view plugin))) ≡ row_change (named_row (row_id view place plugin) (view.rows plugin))
-  change-at place plugin rising = ap (λ (o : Option StoredPart). put_all (option_to_list o)) (at-part place (view.rows plugin) ∙ ap (option_map view.part) (named-at place plugin rising))
-
-  -- its key is above a head's
-  named-above : (row : Option ℕ) (rows : List R) → IfSome row IsVolumeId → AllByRecursion (λ (change : StoredChange). 0 < change.key) (row_change (named_row row rows))
-  named-above None rows fits = tt
-  named-above (Some id) rows fits = by (row_by_id view id rows) refl
-    where
-      by : (o : Option R) → row_by_id view id rows ≡ o → AllByRecursion (λ (change : StoredChange). 0 < change.key) (row_change o)
-      by None e = tt
-      by (Some row) e = let own : id_of row ≡ id = own-id id rows row e in (omega (arith, own, fits.from_one), tt)
-
-  -- ---- a session that a call may begin
-
-  -- the parts of the rows that stay rise
-  stay-rising : (b : Bool) (rows : List R) → AreRisingParts (map view.part rows) → AreRisingParts (map view.part (cond b (filter view.stays rows) rows))
-  stay-rising true rows rising = rising-staying view.part view.stays rows rising
-  stay-rising false rows rising = rising
-
-  -- the others, taken out, leave them
-  stay-taken : (b : Bool) (plugin : P) → AreRisingParts (row_parts view plugin)
-      → all_changed (take_all (cond b (gone_ids view plugin) [])) (row_parts view plugin) ≡ map view.part (cond b (filter view.stays (view.rows plugin)) (view.rows plugin))
-  stay-taken true plugin rising = gone-taken view.part view.stays (view.rows plugin) rising
-  stay-taken false plugin rising = refl
-
-  -- none of the others is there then, and each was
-  stay-nowhere : (b : Bool) (id : ℕ) (plugin : P) → AreRisingParts (row_parts view plugin) → IsAmong id (cond b (gone_ids view plugin) [])
-      → (row_by_id view id (cond b (filter view.stays (view.rows plugin)) (view.rows plugin)) ≡ None) × ((row : R) × (row_by_id view id (view.rows plugin) ≡ Some row))
-  stay-nowhere true id plugin rising among = (gone-nowhere view.part view.stays id (view.rows plugin) rising among, gone-there view.part view.stays id (view.rows plugin) among)
-  stay-nowhere false id plugin rising among = absurd among
-
-  -- a row that stays was there
-  among-staying : (b : Bool) (rows : List R) (row : R) → IsAmong row (cond b (filter view.stays rows) rows) → IsAmong row rows
-  among-staying true rows row among = among-filter view.stays rows row among
-  among-staying false rows row among = among
-
   -- ---- a call
 
-  module _ (old new : P) (place : Option ℕ) (number : Number) (rising : AreRisingParts (row_parts view old)) (rising_too : AreRisingParts (row_parts view new)) (changes : RowsChange view place number old new) where
-    -- the row that the call changed or made
+  module _ (old new : P) (changed : Changed) (number : Number) (rising : AreRisingParts (row_parts view old)) (rising_too : AreRisingParts (row_parts view new)) (changes : RowsChange view changed.row number old new)
+      (are : changed.forgotten.items ≡ forgotten_by view number old) where
+    -- the id of the row that the call changed or made, and that row
     abbrev own_row : Option ℕ
-    own_row = row_id view place new
+    own_row = row_id view changed.row new
+
+    abbrev put : Option R
+    put = at_place changed.row (view.rows new)
 
     -- the call begins a session
     abbrev begun : Bool
@@ -144,129 +82,120 @@ module _ {P Own R State : Type 0} (view : View P Own R State) where
     abbrev stay : List R
     stay = staying view number old
 
-    -- an id other than that one
-    abbrev IsOther : ℕ → Type 0
-    IsOther id = own_row ≡ Some id → ⊥
-
-    -- another id than the one that is named is no other's
-    other-id : (key id : ℕ) → (key == id) ≡ false → own_row ≡ Some key → IsOther id
-    other-id key id differs e is = let same : key ≡ id = same_Some key id (sym e ∙ is) in grind (arith, nat_tests)
-
-    -- each other part that stays is as it was
-    same-at : (id : ℕ) → IsOther id → part_at id (row_parts view new) ≡ part_at id (map view.part stay)
-    same-at id other = at-row id (view.rows new) ∙ ap (option_map view.part) (changes.others id other) ∙ sym (at-row id stay)
-
-    -- the row of the call, or none, is put in among those that stay
-    row-put : (o : Option ℕ) → own_row ≡ o → all_changed (row_change (named_row o (view.rows new))) (map view.part stay) ≡ row_parts view new
-    row-put None e =
-        sym (same-parts (row_parts view new) (map view.part stay) rising_too (stay-rising begun (view.rows old) rising) (λ id. same-at id (λ is. some_is_not_none id (sym is ∙ e))))
-    row-put (Some id) e =
-        ap (λ (o : Option R). all_changed (row_change o) (map view.part stay)) found
-        ∙ sym (put-there (view.part there) (map view.part stay) (row_parts view new) (stay-rising begun (view.rows old) rising) rising_too own_part
-        (λ key differs. same-at key (other-id id key (ap (λ (n : ℕ). n == key) (sym own) ∙ differs) e)))
+    -- an id is that one, or another
+    by-own : {A : Type 0} (id : ℕ) → (own_row ≡ Some id → A) → ((own_row ≡ Some id → ⊥) → A) → A
+    by-own {A} id own other = by own_row refl
       where
-        there : R
-        there = (changes.put id e).0
+        either : (key : ℕ) (b : Bool) → (key == id) ≡ b → own_row ≡ Some key → A
+        either key true t e = own (e ∙ ap Some (eqb-true key id t))
+        either key false t e = other (λ is. let same : key ≡ id = same_Some key id (sym e ∙ is) in grind (arith, nat_tests))
 
-        found : row_by_id view id (view.rows new) ≡ Some there
-        found = (changes.put id e).1
+        by : (o : Option ℕ) → own_row ≡ o → A
+        by None e = other (λ is. some_is_not_none id (sym is ∙ e))
+        by (Some key) e = either key (key == id) refl e
 
-        own : id_of there ≡ id
-        own = own-id id (view.rows new) there found
+    -- the row of that id is the one at the place
+    own-put : (id : ℕ) → own_row ≡ Some id → row_by_id view id (view.rows new) ≡ put
+    own-put id own = by put refl
+      where
+        by : (o : Option R) → put ≡ o → row_by_id view id (view.rows new) ≡ put
+        by None e = absurd (some_is_not_none id (sym own ∙ id-at changed.row new None e))
+        by (Some row) e =
+            let same : id_of row ≡ id = same_Some (id_of row) id (sym (id-at changed.row new (Some row) e) ∙ own) in
+            ap (λ (n : ℕ). row_by_id view n (view.rows new)) (sym same) ∙ found-own (view.rows new) row rising_too (among-at changed.row (view.rows new) row e) ∙ sym e
 
-        own_part : part_at (id_of there) (row_parts view new) ≡ Some (view.part there)
-        own_part = at-row (id_of there) (view.rows new) ∙ ap (option_map view.part) (ap (λ (n : ℕ). row_by_id view n (view.rows new)) own ∙ found)
+    -- the old parts without those that don't stay
+    abbrev left : List StoredPart
+    left = all_changed (take_all (forgotten_by view number old)) (row_parts view old)
+
+    -- are those of the rows that stay
+    stay-left : left ≡ map view.part stay
+    stay-left = by begun
+      where
+        by : (b : Bool) → all_changed (take_all (cond b (gone_ids view old) [])) (row_parts view old) ≡ map view.part (cond b (filter view.stays (view.rows old)) (view.rows old))
+        by true = gone-taken view.part view.stays (view.rows old) rising
+        by false = refl
+
+    -- each other part of them is as it was
+    same-at : (id : ℕ) → (own_row ≡ Some id → ⊥) → part_at id left ≡ part_at id (row_parts view new)
+    same-at id other = ap (part_at id) stay-left ∙ at-row id stay ∙ ap (option_map view.part) (sym (changes.others id other)) ∙ sym (at-row id (view.rows new))
+
+    -- with the row of the call put in, they are the new ones
+    row-put : all_changed (row_change put) left ≡ row_parts view new
+    row-put = same-parts (all_changed (row_change put) left) (row_parts view new) (rising-all (row_change put) left (rising-all (take_all (forgotten_by view number old)) (row_parts view old) rising)) rising_too (by put refl)
+      where
+        by : (o : Option R) → put ≡ o → (key : ℕ) → part_at key (all_changed (row_change o) left) ≡ part_at key (row_parts view new)
+        by None e key = same-at key (λ is. some_is_not_none key (sym is ∙ id-at changed.row new None e))
+        by (Some row) e key = at-put key (view.part row) left ∙ either (id_of row == key) refl
+          where
+            either : (b : Bool) → (id_of row == key) ≡ b → cond b (Some (view.part row)) (part_at key left) ≡ part_at key (row_parts view new)
+            either true t =
+                let own : own_row ≡ Some key = id-at changed.row new (Some row) e ∙ ap Some (eqb-true (id_of row) key t) in
+                sym (at-row key (view.rows new) ∙ ap (option_map view.part) (own-put key own ∙ e))
+            either false t = same-at key (λ is. let same : id_of row ≡ key = same_Some (id_of row) key (sym (id-at changed.row new (Some row) e) ∙ is) in grind (arith, nat_tests))
+
+    -- its key is above a head's
+    put-above : (o : Option R) → put ≡ o → IfSome own_row IsVolumeId → AllByRecursion (λ (change : StoredChange). 0 < change.key) (row_change o)
+    put-above None e fits = tt
+    put-above (Some row) e fits = ((subst (λ (o : Option ℕ). IfSome o IsVolumeId) (id-at changed.row new (Some row) e) fits).from_one, tt)
 
     -- what a call changed makes the parts of the old plugin those of the new one
-    pub parts-changed : (changed : Changed) → changed.row ≡ place → (changed.new_head ≡ false → head_of view new ≡ head_of view old)
-        → changed.forgotten.items ≡ forgotten_by view number old → AllByRecursion IsVolumeId changed.forgotten.items → IfSome own_row IsVolumeId
+    pub parts-changed : (changed.new_head ≡ false → head_of view new ≡ head_of view old) → AllByRecursion IsVolumeId changed.forgotten.items → IfSome own_row IsVolumeId
         → record_parts view new ≡ all_changed (record_changes view changed new) (record_parts view old)
-    parts-changed changed is same are fit fits =
-        sym (ap (λ (o : Option ℕ). all_changed (head_change changed.new_head (head_of view new) ++ take_all changed.forgotten.items ++ put_all (option_to_list (at_place o (row_parts view new)))) (record_parts view old)) is
-        ∙ ap (λ (changes : List StoredChange). all_changed (head_change changed.new_head (head_of view new) ++ take_all changed.forgotten.items ++ changes) (record_parts view old)) (change-at place new rising_too)
-        ∙ headed-changed changed.new_head (head_of view old) (head_of view new) (take_all changed.forgotten.items) (row_change (named_row own_row (view.rows new))) (row_parts view old) (row_parts view new) refl same
-        (above-zero changed.forgotten.items fit) (named-above own_row (view.rows new) fits)
-        (ap (λ (ids : List ℕ). all_changed (row_change (named_row own_row (view.rows new))) (all_changed (take_all ids) (row_parts view old))) are
-        ∙ ap (all_changed (row_change (named_row own_row (view.rows new)))) (stay-taken begun old rising)
-        ∙ row-put own_row refl))
+    parts-changed same fit fits =
+        let gone = take_all changed.forgotten.items in
+        sym (ap (λ (o : Option StoredPart). all_changed (head_change changed.new_head (head_of view new) ++ gone ++ put_all (option_to_list o)) (record_parts view old)) (at-part changed.row (view.rows new))
+        ∙ all-append (head_change changed.new_head (head_of view new) ++ gone) (row_change put) (record_parts view old)
+        ∙ ap (all_changed (row_change put)) (headed-changed changed.new_head (head_of view old) (head_of view new) gone (row_parts view old) refl same (above-zero changed.forgotten.items fit))
+        ∙ behind-first (head_of view new) (row_change put) (all_changed gone (row_parts view old)) (put-above put refl fits)
+        ∙ ap (λ (ps : List StoredPart). head_of view new ∷ ps) (ap (λ (ids : List ℕ). all_changed (row_change put) (all_changed (take_all ids) (row_parts view old))) are ∙ row-put))
 
     -- ---- what is told is other than it was
 
     -- the row that was changed or made has another last number than before
     named-differs : (id : ℕ) → own_row ≡ Some id → last_in view new id ≡ last_in view old id → ⊥
     named-differs id named same =
-        let put = changes.put id named in
-        let was = some-from_map view.last (row_by_id view id (view.rows old)) (view.last put.0) (sym same ∙ ap (option_map view.last) put.1) in
-        changes.fresh id was.0 named was.1 (was.2 ∙ put.2)
+        let row = changes.put id named in
+        let was = some-from_map view.last (row_by_id view id (view.rows old)) (view.last row.0) (sym same ∙ ap (option_map view.last) row.1) in
+        changes.fresh id was.0 named was.1 (was.2 ∙ row.2)
 
     -- a row that was forgotten was there, and no row of its id is, unless it was made anew
     forgotten-differs : (id : ℕ) → IsAmong id (forgotten_by view number old) → last_in view new id ≡ last_in view old id → ⊥
-    forgotten-differs id among same = by own_row refl
+    forgotten-differs id among same =
+        by-own id (λ named. named-differs id named same) (λ other.
+        let was = told begun among in
+        some_is_not_none (view.last was.1.0) (sym (ap (option_map view.last) was.1.1) ∙ sym same ∙ ap (option_map view.last) (changes.others id other ∙ was.0)))
       where
-        told : (row_by_id view id stay ≡ None) × ((r : R) × (row_by_id view id (view.rows old) ≡ Some r))
-        told = stay-nowhere begun id old rising among
-
-        other : IsOther id → ⊥
-        other differs =
-            some_is_not_none (view.last told.1.0) (sym (ap (option_map view.last) told.1.1) ∙ sym same ∙ ap (option_map view.last) (changes.others id differs ∙ told.0))
-
-        either : (key : ℕ) (b : Bool) → (key == id) ≡ b → own_row ≡ Some key → ⊥
-        either key true t e = named-differs id (e ∙ ap Some (eqb-true key id t)) same
-        either key false t e = other (other-id key id t e)
-
-        by : (o : Option ℕ) → own_row ≡ o → ⊥
-        by None e = other (λ own. some_is_not_none id (sym own ∙ e))
-        by (Some key) e = either key (key == id) refl e
+        told : (b : Bool) → IsAmong id (cond b (gone_ids view old) [])
+            → (row_by_id view id (cond b (filter view.stays (view.rows old)) (view.rows old)) ≡ None) × ((row : R) × (row_by_id view id (view.rows old) ≡ Some row))
+        told true among = (gone-nowhere view.part view.stays id (view.rows old) rising among, gone-there view.part view.stays id (view.rows old) among)
+        told false among = absurd among
 
     -- all that is told is other than it was
-    pub all-differ : (changed : Changed) → changed.row ≡ place → (changed.new_head ≡ true → view.numbers new ≢ view.numbers old) → changed.forgotten.items ≡ forgotten_by view number old → Differs view changed old new
-    all-differ changed is head are = record {
+    pub all-differ : (changed.new_head ≡ true → view.numbers new ≢ view.numbers old) → Differs view changed old new
+    all-differ head = record {
       head = head;
-      rows = λ id told.
-          elim told [
-            | inl among ↦ forgotten-differs id (subst (IsAmong id) are among)
-            | inr named ↦ named-differs id (ap (λ (o : Option ℕ). row_id view o new) (sym is) ∙ named)
-          ];
+      rows = λ id told. elim told [ inl among ↦ forgotten-differs id (subst (IsAmong id) are among) | inr named ↦ named-differs id named ];
     }
 
     -- ---- limits
 
-    -- a row is within its limits where those before the call are, and the one that it changed
-    one-fit : AreFit view old → IsNamedFit view place new → (row : R) → IsAmong row (view.rows new) → view.IsRow row
-    one-fit fit named row among = by own_row refl
+    -- rows are within their limits where those before the call are, and the one that it changed
+    pub all-fit : AreFit view old → IsNamedFit view changed.row new → AreFit view new
+    all-fit fit named = all_of view.IsRow (view.rows new) (λ row among.
+        let found = found-own (view.rows new) row rising_too among in
+        by-own (id_of row) (λ own. subst (λ (o : Option R). IfSome o view.IsRow) (sym (own-put (id_of row) own) ∙ found) named)
+        (λ other. each_of view.IsRow (view.rows old) row fit (was begun row (among-find (λ (r : R). id_of r == id_of row) stay row (sym (changes.others (id_of row) other) ∙ found)))))
       where
-        found : row_by_id view (id_of row) (view.rows new) ≡ Some row
-        found = found-own (view.rows new) row rising_too among
-
-        other : IsOther (id_of row) → view.IsRow row
-        other differs =
-            let stayed : IsAmong row stay = among-find (λ (r : R). id_of r == id_of row) stay row (sym (changes.others (id_of row) differs) ∙ found) in
-            each_of view.IsRow (view.rows old) row fit (among-staying begun (view.rows old) row stayed)
-
-        own : own_row ≡ Some (id_of row) → view.IsRow row
-        own e = subst (λ (o : Option R). IfSome o view.IsRow) (named-at place new rising_too ∙ ap (λ (o : Option ℕ). named_row o (view.rows new)) e ∙ found) named
-
-        either : (key : ℕ) (b : Bool) → (key == id_of row) ≡ b → own_row ≡ Some key → view.IsRow row
-        either key true t e = own (e ∙ ap Some (eqb-true key (id_of row) t))
-        either key false t e = other (other-id key (id_of row) t e)
-
-        by : (o : Option ℕ) → own_row ≡ o → view.IsRow row
-        by None e = other (λ is. some_is_not_none (id_of row) (sym is ∙ e))
-        by (Some key) e = either key (key == id_of row) refl e
-
-    -- so are all
-    pub all-fit : AreFit view old → IsNamedFit view place new → AreFit view new
-    all-fit fit named = all_of view.IsRow (view.rows new) (one-fit fit named)
+        was : (b : Bool) (row : R) → IsAmong row (cond b (filter view.stays (view.rows old)) (view.rows old)) → IsAmong row (view.rows old)
+        was true row among = among-filter view.stays (view.rows old) row among
+        was false row among = among
 
     -- ---- the session
 
     -- a call doesn't take it back
     pub risen : (view.numbers old).1 ≤ (view.numbers new).1
-    risen = by begun refl changes.session
-      where
-        by : (b : Bool) → begun ≡ b → (view.numbers new).1 ≡ cond b number.session (view.numbers old).1 → (view.numbers old).1 ≤ (view.numbers new).1
-        by true t is = let less : (view.numbers old).1 < number.session = grind (arith, nat_tests) in omega (arith, less, is)
-        by false t is = omega (arith, is)
+    risen = grind (arith, nat_tests, changes.session)
 
   -- ---- nothing is told
 

@@ -1,5 +1,6 @@
 -- What serving has come to where it ends.
 use Rattle.std.proofs.Common.{◌≡◌, ◌∙◌, sym, ap, subst, refl, inr, ℕ, ◌+◌, ◌-◌, ◌<◌, ◌≤◌, ◌^◌, min, zero, suc, List, [], ◌∷◌, ◌++◌, length, take, take_all, arith, length-append, append_assoc}
+use Rattle.std.proofs.lemmas.List.{length-take}
 use Rattle.std.specs.Prelude.{Option, Some, None, is_some, slice_get, Result, Ok, Err}
 use Rattle.std.specs.List.{flat_map}
 use Rattle.std.specs.Io.KnownBytes.{Appends, IsAtEnd}
@@ -25,7 +26,7 @@ use Rattle.csi_service.specs.declared.serving.fault.ServeFault.{ServeFault}
 use Rattle.csi_service.specs.declared.serving.answering.FrameStop.{FrameStop}
 use Rattle.csi_service.specs.declared.serving.answering.FrameStop.TheVariants as why
 use Rattle.csi_service.specs.Public.Failing.{Stays, ReaderStaysAt, WriterStaysAt}
-use Rattle.csi_service.specs.Private.Handling.{stopped_by}
+use Rattle.csi_service.specs.Private.Handling.{call_setting, stopped_by}
 use Rattle.csi_service.specs.Public.Serving.{Setting, AnswersEach, reply_bytes, output_of, reply_count, AllDone, Waits, frames_counted, EndsBy, Serves}
 use Rattle.csi_service.proofs.StoreCalls.{follows-more, only-more, left-more, refusal-more}
 use Rattle.csi_service.proofs.GrowingAnswers.{answers-push, answers-length}
@@ -77,40 +78,37 @@ module _ {C K W : Type 0} (answers : C → Frame → Option Frame → C → Type
   came : (to : Serving C K W) (frames : List Frame) → Runs (handles answers parts_of store contents) (flushes answers parts_of store contents) first frames to → Came to frames
   came to frames runs = progress_of answers parts_of store contents first to frames none runs
 
+  -- the same, of as many as are counted, where these are all
+  came_all : (frames : List Frame) → Runs (handles answers parts_of store contents) (flushes answers parts_of store contents) first frames now → count ≡ length frames → Came now (take count frames)
+  came_all frames runs all = subst (Came now) (sym (take_all count frames (omega (arith, all)))) (came now frames runs)
+
   -- what serving is judged by
   abbrev Full : Type 0 → Type 0 → Type 0 → Setting C
-  Full at_end reader_failed endless = record {
-    answers = answers;
-    parts_of = parts_of;
-    core = first.own.core;
-    before = store first.store;
-    after = store now.store;
-    written_before = contents first.out.inner;
-    written_after = contents now.out.inner;
-    at_end = at_end;
-    reader_failed = reader_failed;
-    writer_failed = HasRisen first.out.faults now.out.faults;
-    endless = endless;
-  }
+  Full at_end reader_failed endless =
+      record (call_setting answers parts_of first.own.core (store first.store) (store now.store) (contents first.out.inner) (contents now.out.inner) first.out.faults now.out.faults) {
+        at_end = at_end;
+        reader_failed = reader_failed;
+        endless = endless;
+      }
 
   module _ (P Q E : Type 0) where
-    -- all that was handled is done
-    done : (frames : List Frame) (p : Came now frames) → AllDone (Full P Q E) p.replies now.own.core
-    done frames p = record { kept = p.kept; written = p.written }
+    -- how it served, what calls never change of the store, and the writer's count
+    abbrev pub Ended : List ℕ → Result Served ServeFault → Type 0
+    Ended bytes result = Serves (Full P Q E) bytes result × FollowsStore (store first.store) (store now.store) × Stays WriterStaysAt first.out.faults now.out.faults result
 
-    -- as many as are counted
-    counted_all : (frames : List Frame) (p : Came now frames) → count ≡ length frames → AnswersEach answers first.own.core (take count frames) p.replies now.own.core
-    counted_all frames p is = subst (λ (fs : List Frame). AnswersEach answers first.own.core fs p.replies now.own.core) (sym (take_all count frames (omega arith))) p.runs
+    -- all that was handled is done
+    done : {frames : List Frame} (p : Came now frames) → AllDone (Full P Q E) p.replies now.own.core
+    done p = record { kept = p.kept; written = p.written }
 
     -- replies are no more than bytes
-    few_replies : (bytes : List ℕ) (frames : List Frame) (rest : List ℕ) (p : Came now frames) → FramesOf bytes frames rest → length bytes < 2 ^ 64 → now.own.replies ≡ reply_count p.replies
+    few_replies : (bytes : List ℕ) (frames : List Frame) (rest : List ℕ) (p : Came now (take count frames)) → FramesOf bytes frames rest → length bytes < 2 ^ 64 → now.own.replies ≡ reply_count p.replies
     few_replies bytes frames rest p of few =
-        omega (arith, p.replied, count_by-le-length is_some p.replies, answers-length answers first.own.core frames p.replies now.own.core p.runs, frames_few frames, ap length of.whole, length-append (flat_map spelling frames) rest)
+        omega (arith, p.replied, count_by-le-length is_some p.replies, answers-length answers first.own.core (take count frames) p.replies now.own.core p.runs, length-take count frames, frames_few frames, ap length of.whole, length-append (flat_map spelling frames) rest)
 
     -- some frames were handled, as many as are counted, and then it ended so
-    serves_some : {end : Result (Unit {0}) (Stop (FramesFault FrameStop))} (r : Read end) (to : Serving C K W) (p : Came to (take count r.frames)) (result : Result Served ServeFault) → frames_counted result ≡ count → count ≤ length r.frames
+    serves : {end : Result (Unit {0}) (Stop (FramesFault FrameStop))} (r : Read end) (to : Serving C K W) (p : Came to (take count r.frames)) (result : Result Served ServeFault) → frames_counted result ≡ count → count ≤ length r.frames
         → EndsBy (Full P Q E) r.frames r.rest p.replies to.own.core result → Serves (Full P Q E) r.read result
-    serves_some r to p result counted within ends = record {
+    serves r to p result counted within ends = record {
       frames = r.frames;
       rest = r.rest;
       stream = r.stream;
@@ -121,44 +119,30 @@ module _ {C K W : Type 0} (answers : C → Frame → Option Frame → C → Type
       ends = ends;
     }
 
-    -- all frames were handled, and then it ended so
-    serves_all : {end : Result (Unit {0}) (Stop (FramesFault FrameStop))} (r : Read end) (p : Came now r.frames) (result : Result Served ServeFault) → frames_counted result ≡ count → count ≡ length r.frames
-        → EndsBy (Full P Q E) r.frames r.rest p.replies now.own.core result → Serves (Full P Q E) r.read result
-    serves_all r p result counted all ends = record {
-      frames = r.frames;
-      rest = r.rest;
-      stream = r.stream;
-      within = omega (arith, counted, all);
-      replies = p.replies;
-      now = now.own.core;
-      runs = subst (λ (k : ℕ). AnswersEach answers first.own.core (take k r.frames) p.replies now.own.core) (sym counted) (counted_all r.frames p all);
-      ends = ends;
-    }
-
     -- the reader has ended
-    pub served : (done : Unit {0}) (r : Read (Ok done)) → (IsAtEnd left' → P) → Serves (Full P Q E) r.read (Ok (record { frames = count; replies = now.own.replies }))
+    pub served : (done : Unit {0}) (r : Read (Ok done)) → (IsAtEnd left' → P) → Ended r.read (Ok (record { frames = count; replies = now.own.replies }))
     served _ r at_end =
         let all = r.ends.2 in
-        let p = came now r.frames all.runs in
-        serves_all r p (Ok (record { frames = count; replies = now.own.replies })) refl all.counted (all.counted, r.ends.1, few_replies r.read r.frames r.rest p r.stream r.few, at_end r.ends.0, done r.frames p)
+        let p = came_all r.frames all.runs all.counted in
+        (serves r now p (Ok (record { frames = count; replies = now.own.replies })) refl (omega (arith, all.counted)) (all.counted, r.ends.1, few_replies r.read r.frames r.rest p r.stream r.few, at_end r.ends.0, done p), p.follows, p.quiet)
 
     -- it stopped before
-    pub halted : (s : Stop (FramesFault FrameStop)) (r : Read (Err s)) → (IsAtEnd left' → P) → (s ≡ stop.Input → Q) → (2 ^ 63 ≤ length r.read → E) → Serves (Full P Q E) r.read (Err (stopped_by s count))
+    pub halted : (s : Stop (FramesFault FrameStop)) (r : Read (Err s)) → (IsAtEnd left' → P) → (s ≡ stop.Input → Q) → (2 ^ 63 ≤ length r.read → E) → Ended r.read (Err (stopped_by s count))
     halted stop.Input r at_end failed endless =
         let all = r.ends.1 in
-        let p = came now r.frames all.runs in
-        serves_all r p (Err (stopped_by stop.Input count)) refl all.counted (all.counted, failed refl, waits_so r.rest r.ends.0, done r.frames p)
+        let p = came_all r.frames all.runs all.counted in
+        (serves r now p (Err (stopped_by stop.Input count)) refl (omega (arith, all.counted)) (all.counted, failed refl, waits_so r.rest r.ends.0, done p), p.follows, p.quiet)
     halted stop.Endless r at_end failed endless =
         let all = r.ends.2 in
-        let p = came now r.frames all.runs in
-        serves_all r p (Err (stopped_by stop.Endless count)) refl all.counted (all.counted, endless r.ends.0, waits_so r.rest r.ends.1, done r.frames p)
+        let p = came_all r.frames all.runs all.counted in
+        (serves r now p (Err (stopped_by stop.Endless count)) refl (omega (arith, all.counted)) (all.counted, endless r.ends.0, waits_so r.rest r.ends.1, done p), p.follows, p.quiet)
     halted (stop.Consumer (frames_faults.Frame kind place)) r at_end failed endless =
         let all = r.ends.2 in
-        let p = came now r.frames all.runs in
-        serves_all r p (Err (stopped_by (stop.Consumer (frames_faults.Frame kind place)) count)) refl all.counted (all.counted, r.ends.1, λ short. at_end (r.ends.0 short), done r.frames p)
+        let p = came_all r.frames all.runs all.counted in
+        (serves r now p (Err (stopped_by (stop.Consumer (frames_faults.Frame kind place)) count)) refl (omega (arith, all.counted)) (all.counted, r.ends.1, λ short. at_end (r.ends.0 short), done p), p.follows, p.quiet)
     halted (stop.Consumer frames_faults.NoMemory) r at_end failed endless =
         let p = came now (take count r.frames) r.ends.runs in
-        serves_some r now p (Err (stopped_by (stop.Consumer frames_faults.NoMemory) count)) refl r.ends.within (record { kept = p.kept; written = p.written })
+        (serves r now p (Err (stopped_by (stop.Consumer frames_faults.NoMemory) count)) refl r.ends.within (done p), p.follows, p.quiet)
     halted (stop.Consumer (frames_faults.Handler fault)) r at_end failed endless = at_frame fault r.ends.frame r.ends.behind r.ends.stopped
       where
         e : Halts (handles answers parts_of store contents) (flushes answers parts_of store contents) (stops answers parts_of store contents) first now r.frames count fault
@@ -170,18 +154,21 @@ module _ {C K W : Type 0} (answers : C → Frame → Option Frame → C → Type
         p : Came before (take count r.frames)
         p = came before (take count r.frames) e.runs
 
+        follows : FollowsStore (store before.store) (store now.store) → FollowsStore (store first.store) (store now.store)
+        follows more = follows-more (store first.store) (store before.store) (store now.store) p.follows more
+
         at_frame : (fault : FrameStop) (next : Option Frame) → IsBehind r.frames count next → stops answers parts_of store contents before next now fault
-            → Serves (Full P Q E) r.read (Err (stopped_by (stop.Consumer (frames_faults.Handler fault)) count))
+            → Ended r.read (Err (stopped_by (stop.Consumer (frames_faults.Handler fault)) count))
         at_frame fault None behind stopped = absurd stopped
         at_frame why.NoMemory (Some frame) behind stopped =
-            serves_some r before p (Err (stopped_by (stop.Consumer (frames_faults.Handler why.NoMemory)) count)) refl e.within
+            (serves r before p (Err (stopped_by (stop.Consumer (frames_faults.Handler why.NoMemory)) count)) refl e.within
             (record {
               kept = only-more (store first.store) (store before.store) (store now.store) (parts_of first.own.core) (parts_of before.own.core) (parts_of before.own.core) stopped.follows p.kept stopped.answer.kept;
               written = same-written (contents first.out.inner) (contents before.out.inner) (contents now.out.inner) p.replies p.written stopped.answer.written;
-            })
+            }), follows stopped.follows, stopped.quiet ∙ p.quiet)
         at_frame (why.Keep fault) (Some frame) behind stopped =
             let refused = stopped.answer in
-            serves_some r before p (Err (stopped_by (stop.Consumer (frames_faults.Handler (why.Keep fault))) count)) refl e.within (
+            (serves r before p (Err (stopped_by (stop.Consumer (frames_faults.Handler (why.Keep fault))) count)) refl e.within (
               frame,
               behind,
               record {
@@ -192,13 +179,13 @@ module _ {C K W : Type 0} (answers : C → Frame → Option Frame → C → Type
                 cause = refusal-more (store first.store) (store before.store) (store now.store) (parts_of first.own.core) (parts_of before.own.core) (parts_of refused.next) fault p.follows stopped.follows p.kept refused.cause;
                 written = same-written (contents first.out.inner) (contents before.out.inner) (contents now.out.inner) p.replies p.written refused.written;
               },
-            )
+            ), follows stopped.follows, stopped.quiet ∙ p.quiet)
         at_frame why.Output (Some frame) behind stopped =
             let reply : Option Frame = stopped.answer.0 in
             let last = stopped.answer.3 in
             let small : count + 1 < 2 ^ 64 = omega (arith, next-within r.frames count frame behind, frames_few r.frames, r.few, ap length r.stream.whole, length-append (flat_map spelling r.frames) r.rest) in
             let sum : min (count + 1) (2 ^ 64 - 1) ≡ suc count = omega (arith, small) in
-            record {
+            (record {
               frames = r.frames;
               rest = r.rest;
               stream = r.stream;
@@ -222,28 +209,4 @@ module _ {C K W : Type 0} (answers : C → Frame → Option Frame → C → Type
                       (Appends-trans (contents first.out.inner) (contents before.out.inner) (contents now.out.inner) (output_of p.replies) (output_of last.earlier ++ last.front) p.written last.written);
                 },
               );
-            }
-
-  -- ---- what calls never change, and the writer's count
-
-  -- where it ended well, the store follows, and the writer didn't fail
-  pub served_so : (done : Unit {0}) → Read (Ok done) → FollowsStore (store first.store) (store now.store) × (now.out.faults ≡ first.out.faults)
-  served_so done r = let p = came now r.frames r.ends.2.runs in (p.follows, p.quiet)
-
-  -- it does wherever it stopped, and the writer failed at Output alone
-  pub halted_so : (s : Stop (FramesFault FrameStop)) → Read (Err s) → FollowsStore (store first.store) (store now.store) × Stays {A = Served} WriterStaysAt first.out.faults now.out.faults (Err (stopped_by s count))
-  halted_so stop.Input r = let p = came now r.frames r.ends.1.runs in (p.follows, p.quiet)
-  halted_so stop.Endless r = let p = came now r.frames r.ends.2.runs in (p.follows, p.quiet)
-  halted_so (stop.Consumer (frames_faults.Frame kind place)) r = let p = came now r.frames r.ends.2.runs in (p.follows, p.quiet)
-  halted_so (stop.Consumer frames_faults.NoMemory) r = let p = came now (take count r.frames) r.ends.runs in (p.follows, p.quiet)
-  halted_so (stop.Consumer (frames_faults.Handler fault)) r = by fault r.ends.frame r.ends.stopped
-    where
-      p : Came r.ends.before (take count r.frames)
-      p = came r.ends.before (take count r.frames) r.ends.runs
-
-      by : (fault : FrameStop) (next : Option Frame) → stops answers parts_of store contents r.ends.before next now fault
-          → FollowsStore (store first.store) (store now.store) × Stays {A = Served} WriterStaysAt first.out.faults now.out.faults (Err (stopped_by (stop.Consumer (frames_faults.Handler fault)) count))
-      by fault None stopped = absurd stopped
-      by why.NoMemory (Some frame) stopped = (follows-more (store first.store) (store r.ends.before.store) (store now.store) p.follows stopped.follows, stopped.quiet ∙ p.quiet)
-      by (why.Keep fault) (Some frame) stopped = (follows-more (store first.store) (store r.ends.before.store) (store now.store) p.follows stopped.follows, stopped.quiet ∙ p.quiet)
-      by why.Output (Some frame) stopped = (follows-more (store first.store) (store r.ends.before.store) (store now.store) p.follows stopped.follows, tt)
+            }, follows stopped.follows, tt)

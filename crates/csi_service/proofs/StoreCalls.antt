@@ -7,34 +7,7 @@ use Rattle.csi_stores.specs.Public.Part.{StoredPart}
 use Rattle.csi_stores.specs.Public.Counting.{HasRisen}
 use Rattle.csi_stores.specs.Public.Stores.{Store, Found, Parts, IsOnly, FindsSome, IsCommitFault, FollowsStore, LeavesOnly, LeavesEither, IsContentRefusal}
 
--- ---- a commit
-
--- one that was made leaves what it was to lead to
-pub done-only : (before after : Store) (first next : List StoredPart) (change : List StoredPart → List StoredPart) → change first ≡ next
-    → (after.honest → (content : List StoredPart) → before.holds content → IsOnly after (Parts (change content))) → LeavesOnly before after first next
-done-only before after first next change leads done = λ honest only. subst (λ (parts : List StoredPart). IsOnly after (Parts parts)) leads (done honest first only.there)
-
--- one that was refused leaves what was there, or that
-pub refused-left : (before after : Store) (first next : List StoredPart) (change : List StoredPart → List StoredPart) → change first ≡ next
-    → (after.honest → (content : List StoredPart) → before.holds content → (other : Found) → after.leaves other → before.leaves other ⊎ (other ≡ Parts (change content)))
-    → (after.honest → (content : List StoredPart) → IsOnly before (Parts content) → FindsSome after) → LeavesEither before after first first next
-refused-left before after first next change leads refused some = λ honest only. record {
-  some = some honest first only;
-  each = λ other leaves. elim (refused honest first only.there other leaves) [
-    | inl old ↦ inl (only.alone other old)
-    | inr new ↦ inr (new ∙ ap Parts leads)
-  ];
-}
-
--- the cause of a commit's refusal is that of the content to which it was to lead
-pub refused-cause : (before after : Store) (first next : List StoredPart) (change : List StoredPart → List StoredPart) (fault : KeepFault) → change first ≡ next
-    → IsCommitFault before after change fault → IsContentRefusal before after first next fault
-refused-cause before after first next change Device leads cause = cause
-refused-cause before after first next change NoMemory leads cause = tt
-refused-cause before after first next change (BadRecord place) leads cause = cause
-refused-cause before after first next change Full leads cause = λ honest only fits. cause honest first only.there (subst before.fits (sym leads) fits)
-
--- ---- one call after another
+-- a store that isn't called follows itself
 pub follows-same : (now : Store) → FollowsStore now now
 follows-same now = record { honest = λ h. h; room = λ content h. h; no_more_room = λ content h. h; faults = omega arith }
 

@@ -25,13 +25,17 @@ use Rattle.csi_records.specs.Public.OrchestratorSpelling.{orchestrator_head, orc
 use Rattle.csi_records.specs.Public.Spelling.{present}
 use Rattle.csi_service.specs.declared.orchestrator_changes.OrchestratorChanged.TheVariants.{Head, Whole}
 use Rattle.csi_service.specs.Public.OrchestratorServices.{ServedOrchestrator, parts_of_orchestrator, keys_from, whole_change, session_changes, orchestrator_changes_of, TellsChanges}
-use Rattle.csi_service.proofs.RenewedParts.{all-put}
-use Rattle.csi_service.proofs.RisingParts.{part_at, at-own, at-other, put-head}
+use Rattle.csi_service.proofs.RisingParts.{put-head}
+use Rattle.csi_service.proofs.StayingRows.{take-first, behind-first}
 
 -- ---- rows under keys
 
+-- the part of a row
+abbrev row_part : ℕ → RowShown → StoredPart
+row_part key row = orchestrator_part present (record { key = key; row = row })
+
 -- the parts of rows under the keys from one on
-abbrev pub keyed_parts : ℕ → List RowShown → List StoredPart
+abbrev keyed_parts : ℕ → List RowShown → List StoredPart
 keyed_parts key rows = map (orchestrator_part present) (keyed_from key rows)
 
 -- they are above each key before
@@ -39,54 +43,31 @@ above : (low key : ℕ) (rows : List RowShown) → low < key → AllByRecursion 
 above low key [] less = tt
 above low key (row ∷ rows) less = (less, above low (suc key) rows (omega (arith, less)))
 
--- and rise
-rising : (key : ℕ) (rows : List RowShown) → AreRisingParts (keyed_parts key rows)
-rising key [] = tt
-rising key (row ∷ rows) = (above key (suc key) rows (omega arith), rising (suc key) rows)
+-- so are changes that put them in, and then take out so many keys
+above-told : (low key next count : ℕ) (rows : List RowShown) → low < key → low < next
+    → AllByRecursion (λ (change : StoredChange). low < change.key) (put_all (keyed_parts key rows) ++ take_all (keys_from next count))
+above-told low key next zero [] less less_too = tt
+above-told low key next (suc count) [] less less_too = (less_too, above-told low key (suc next) count [] less (omega (arith, less_too)))
+above-told low key next count (row ∷ rows) less less_too = (less, above-told low (suc key) next count rows (omega (arith, less)) less_too)
 
--- what is found has one of so many keys
-within : (at key : ℕ) (rows : List RowShown) (part : StoredPart) → part_at at (keyed_parts key rows) ≡ Some part → (key ≤ at) × (at < key + length rows)
-within at key [] part e = absurd (some_is_not_none part (sym e))
-within at key (row ∷ rows) part e = by (key == at) refl (within at (suc key) rows part)
-  where
-    by : (b : Bool) → (key == at) ≡ b → (part_at at (keyed_parts (suc key) rows) ≡ Some part → (suc key ≤ at) × (at < suc key + length rows)) → (key ≤ at) × (at < key + suc (length rows))
-    by true t later = let is : key ≡ at = eqb-true key at t in (omega (arith, is), omega (arith, is))
-    by false t later =
-        let rest = later (sym (at-other at (orchestrator_part present (record { key = key; row = row })) (keyed_parts (suc key) rows) t) ∙ e) in
-        let low = rest.0 in
-        let high = rest.1 in
-        (omega (arith, low), omega (arith, high))
-
--- and under each of them something is
-is-found : (at key : ℕ) (rows : List RowShown) → key ≤ at → at < key + length rows → part_at at (keyed_parts key rows) ≡ None → ⊥
-is-found at key [] low high none = omega (arith, low, high)
-is-found at key (row ∷ rows) low high none = by (key == at) refl (λ next. is-found at (suc key) rows next (omega (arith, high)))
-  where
-    first : StoredPart
-    first = orchestrator_part present (record { key = key; row = row })
-
-    by : (b : Bool) → (key == at) ≡ b → (suc key ≤ at → part_at at (keyed_parts (suc key) rows) ≡ None → ⊥) → ⊥
-    by true t later = some_is_not_none first (sym (at-own at first (keyed_parts (suc key) rows) t) ∙ none)
-    by false t later =
-        let next : suc key ≤ at = grind (arith, nat_tests) in
-        later next (sym (at-other at first (keyed_parts (suc key) rows) t) ∙ none)
+-- rows, put in, and so many keys behind them, taken out, are all that is there of as many rows
+rows-told : (key next count : ℕ) (olds news : List RowShown) → next ≡ key + length news → count ≡ length olds - length news
+    → all_changed (put_all (keyed_parts key news) ++ take_all (keys_from next count)) (keyed_parts key olds) ≡ keyed_parts key news
+rows-told key next count [] [] from all = let none : count ≡ 0 = omega (arith, all) in rw none refl
+rows-told key next count (old ∷ olds) [] from all =
+    let own : next ≡ key = omega (arith, from) in
+    let more : count ≡ suc (length olds) = omega (arith, all) in
+    rw (own, more) (ap (all_changed (take_all (keys_from (suc key) (length olds)))) (take-first (row_part key old) (keyed_parts (suc key) olds) (above key (suc key) olds (omega arith)))
+    ∙ rows-told (suc key) (suc key) (length olds) olds [] (omega arith) (omega arith))
+rows-told key next count [] (new ∷ news) from all =
+    behind-first (row_part key new) (put_all (keyed_parts (suc key) news) ++ take_all (keys_from next count)) [] (above-told key (suc key) next count news (omega arith) (omega (arith, from)))
+    ∙ ap (λ (ps : List StoredPart). row_part key new ∷ ps) (rows-told (suc key) next count [] news (omega (arith, from)) (omega (arith, all)))
+rows-told key next count (old ∷ olds) (new ∷ news) from all =
+    ap (all_changed (put_all (keyed_parts (suc key) news) ++ take_all (keys_from next count))) (put-head (row_part key new) (row_part key old) (keyed_parts (suc key) olds) refl)
+    ∙ behind-first (row_part key new) (put_all (keyed_parts (suc key) news) ++ take_all (keys_from next count)) (keyed_parts (suc key) olds) (above-told key (suc key) next count news (omega arith) (omega (arith, from)))
+    ∙ ap (λ (ps : List StoredPart). row_part key new ∷ ps) (rows-told (suc key) next count olds news (omega (arith, from)) (omega (arith, all)))
 
 -- ---- so many keys
-
--- which they are
-among-from : (at key count : ℕ) → IsAmong at (keys_from key count) → (key ≤ at) × (at < key + count)
-among-from at key zero among = absurd among
-among-from at key (suc count) (inl own) = (omega (arith, own), omega (arith, own))
-among-from at key (suc count) (inr there) = let rest = among-from at (suc key) count there in (omega (arith, rest.0), omega (arith, rest.1))
-
--- and back
-in-from : (at key count : ℕ) → key ≤ at → at < key + count → IsAmong at (keys_from key count)
-in-from at key zero low high = absurd (omega (arith, low, high))
-in-from at key (suc count) low high = by (key == at) refl (λ next. in-from at (suc key) count next (omega (arith, high)))
-  where
-    by : (b : Bool) → (key == at) ≡ b → (suc key ≤ at → IsAmong at (keys_from (suc key) count)) → IsAmong at (keys_from key (suc count))
-    by true t later = inl (sym (eqb-true key at t))
-    by false t later = let next : suc key ≤ at = grind (arith, nat_tests) in inr (later next)
 
 -- one key more, behind them
 keys-more : (key count : ℕ) → keys_from key (suc count) ≡ keys_from key count ++ (key + count) ∷ []
@@ -114,42 +95,19 @@ one-more-behind now place old before after low so_far one =
 -- ---- a whole record
 
 -- the head of an orchestrator
-abbrev pub head_of : OrchestratorParts → StoredPart
+abbrev head_of : OrchestratorParts → StoredPart
 head_of parts = orchestrator_head present parts.last.session parts.nodes
 
 -- all of the new parts, put in, and the keys behind them, taken out, lead from the old parts to the new ones
-pub whole-told : (old new : OrchestratorParts) (before : ℕ) → before ≡ length old.rows → all_changed (whole_change before new) (parts_of_orchestrator old) ≡ parts_of_orchestrator new
+whole-told : (old new : OrchestratorParts) (before : ℕ) → before ≡ length old.rows → all_changed (whole_change before new) (parts_of_orchestrator old) ≡ parts_of_orchestrator new
 whole-told old new before is =
-    all-put (parts_of_orchestrator old) (parts_of_orchestrator new) (keys_from (length new.rows + 1) (before - length new.rows))
-    (above 0 1 (map closed old.rows) (omega arith), rising 1 (map closed old.rows)) (above 0 1 (map closed new.rows) (omega arith), rising 1 (map closed new.rows)) stays goes
-  where
-    stays : (key : ℕ) (part : StoredPart) → part_at key (parts_of_orchestrator new) ≡ Some part → IsAmong key (keys_from (length new.rows + 1) (before - length new.rows)) → ⊥
-    stays key part e among =
-        let behind = among-from key (length new.rows + 1) (before - length new.rows) among in
-        let low = behind.0 in
-        let differs : (0 == key) ≡ false = grind (arith, nat_tests) in
-        let inside = within key 1 (map closed new.rows) part (sym (at-other key (head_of new) (keyed_parts 1 (map closed new.rows)) differs) ∙ e) in
-        omega (arith, low, inside.1, length-map new.rows closed)
-
-    goes : (key : ℕ) (part : StoredPart) → part_at key (parts_of_orchestrator old) ≡ Some part → part_at key (parts_of_orchestrator new) ≡ None → IsAmong key (keys_from (length new.rows + 1) (before - length new.rows))
-    goes key part e none = by (0 == key) refl
-      where
-        by : (b : Bool) → (0 == key) ≡ b → IsAmong key (keys_from (length new.rows + 1) (before - length new.rows))
-        by true t = absurd (some_is_not_none (head_of new) (sym (at-own key (head_of new) (keyed_parts 1 (map closed new.rows)) t) ∙ none))
-        by false t =
-            let inside = within key 1 (map closed old.rows) part (sym (at-other key (head_of old) (keyed_parts 1 (map closed old.rows)) t) ∙ e) in
-            let missed = sym (at-other key (head_of new) (keyed_parts 1 (map closed new.rows)) t) ∙ none in
-            next inside missed (nat_lt key (length new.rows + 1)) refl
-          where
-            next : (1 ≤ key) × (key < 1 + length (map closed old.rows)) → part_at key (keyed_parts 1 (map closed new.rows)) ≡ None → (b : Bool) → nat_lt key (length new.rows + 1) ≡ b
-                → IsAmong key (keys_from (length new.rows + 1) (before - length new.rows))
-            next inside missed true t =
-                let less : key < length new.rows + 1 = grind (arith, nat_tests) in
-                absurd (is-found key 1 (map closed new.rows) inside.0 (omega (arith, less, length-map new.rows closed)) missed)
-            next inside missed false t =
-                let low : length new.rows + 1 ≤ key = grind (arith, nat_tests) in
-                let high = inside.1 in
-                in-from key (length new.rows + 1) (before - length new.rows) low (omega (arith, high, low, is, length-map old.rows closed))
+    let next = length new.rows + 1 in
+    let count = before - length new.rows in
+    let told = put_all (keyed_parts 1 (map closed new.rows)) ++ take_all (keys_from next count) in
+    ap (all_changed told) (put-head (head_of new) (head_of old) (keyed_parts 1 (map closed old.rows)) refl)
+    ∙ behind-first (head_of new) told (keyed_parts 1 (map closed old.rows)) (above-told 0 1 next count (map closed new.rows) (omega arith) (omega arith))
+    ∙ ap (λ (ps : List StoredPart). head_of new ∷ ps)
+    (rows-told 1 next count (map closed old.rows) (map closed new.rows) (omega (arith, length-map new.rows closed)) (omega (arith, is, length-map old.rows closed, length-map new.rows closed)))
 
 -- a row's open call isn't in its part
 closed-parts : (key : ℕ) (rows : List RowShown) → keyed_parts key rows ≡ keyed_parts key (map closed rows)
@@ -183,22 +141,10 @@ whole-pushed rows own parts before first second third fourth shown same head put
 -- where as many are kept, all are
 kept-all : {X : Type 0} (p : X → Bool) (xs : List X) → length xs ≡ length (filter p xs) → filter p xs ≡ xs
 kept-all p [] same = refl
-kept-all {X = X} p (x ∷ xs) same = by (p x) refl (kept-all p xs)
-  where
-    chosen : Bool → List X
-    chosen b = cond b (x ∷ filter p xs) (filter p xs)
-
-    by : (b : Bool) → p x ≡ b → (length xs ≡ length (filter p xs) → filter p xs ≡ xs) → chosen (p x) ≡ x ∷ xs
-    by true t rest =
-        let more : suc (length xs) ≡ suc (length (filter p xs)) = same ∙ ap (λ (b : Bool). length (chosen b)) t in
-        let fewer : length xs ≡ length (filter p xs) = omega (arith, more) in
-        ap chosen t ∙ ap (λ (ys : List X). x ∷ ys) (rest fewer)
-    by false t rest =
-        let more : suc (length xs) ≡ length (filter p xs) = same ∙ ap (λ (b : Bool). length (chosen b)) t in
-        absurd (omega (arith, more, filter-no_longer p xs))
+kept-all p (x ∷ xs) same = grind (arith, same, filter-no_longer p xs, kept-all p xs)
 
 -- rows without open calls are as they are without them
-pub closed-same : (nodes : List (List ℕ)) (rows : List RowShown) → AllByRecursion (IsRestorable nodes) rows → map closed rows ≡ rows
+closed-same : (nodes : List (List ℕ)) (rows : List RowShown) → AllByRecursion (IsRestorable nodes) rows → map closed rows ≡ rows
 closed-same nodes [] each = refl
 closed-same nodes (row ∷ rows) each =
     let quiet = each.0.quiet in
@@ -220,19 +166,13 @@ session-told kept nodes each = by (length kept.rows == length (remembered kept.r
     own : kept_parts kept ≡ parts_of_orchestrator (kept_as kept)
     own = ap (λ (rows : List RowShown). orchestrator_head present kept.session kept.nodes ∷ keyed_parts 1 rows) (sym (closed-same kept.nodes kept.rows each))
 
-    chosen : (b : Bool) → (length kept.rows == length (remembered kept.rows)) ≡ b → session_changes (length kept.rows) opened ≡ orchestrator_changes_of (cond b Head (Whole (length kept.rows))) opened
-    chosen b t = ap (λ (c : Bool). orchestrator_changes_of (cond c Head (Whole (length kept.rows))) opened) t
-
-    by : (b : Bool) → (length kept.rows == length (remembered kept.rows)) ≡ b → all_changed (session_changes (length kept.rows) opened) (kept_parts kept) ≡ parts_of_orchestrator opened
+    by : (b : Bool) → (length kept.rows == length (remembered kept.rows)) ≡ b → all_changed (orchestrator_changes_of (cond b Head (Whole (length kept.rows))) opened) (kept_parts kept) ≡ parts_of_orchestrator opened
     by true t =
         let same : remembered kept.rows ≡ kept.rows = kept-all (λ row. not (is_row_forgotten row)) kept.rows (eqb-true (length kept.rows) (length (remembered kept.rows)) t) in
-        ap (λ cs. all_changed cs (kept_parts kept)) (chosen true t)
-        ∙ put-head (head_of opened) (orchestrator_head present kept.session kept.nodes) (keyed_parts 1 kept.rows) refl
+        put-head (head_of opened) (orchestrator_head present kept.session kept.nodes) (keyed_parts 1 kept.rows) refl
         ∙ ap (λ (rows : List RowShown). head_of opened ∷ keyed_parts 1 rows) (sym (closed-same kept.nodes kept.rows each))
         ∙ ap (λ (rows : List RowShown). head_of opened ∷ keyed_parts 1 (map closed rows)) (sym same)
-    by false t =
-        ap (λ cs. all_changed cs (kept_parts kept)) (chosen false t) ∙ ap (all_changed (whole_change (length kept.rows) opened)) own
-        ∙ whole-told (kept_as kept) opened (length kept.rows) refl
+    by false t = ap (all_changed (whole_change (length kept.rows) opened)) own ∙ whole-told (kept_as kept) opened (length kept.rows) refl
 
 -- ---- a node that is lost
 

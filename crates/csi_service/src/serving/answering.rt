@@ -1,12 +1,12 @@
 //! A frame, answered: what it changed is committed, and then its reply written.
 ghost use Rattle.std.specs.Prelude.{◌≡◌, ◌≤◌, IfOk, IfErr, OnOk, Err};
-ghost use Rattle.csi_stores.specs.Public.Counting.{HasRisen};
 ghost use Rattle.csi_frames.specs.Public.Lent.{lent_frame};
 ghost use Rattle.csi_stores.specs.Public.Stores.{LeavesOnly, FollowsStore};
 ghost use Rattle.csi_service.specs.Public.Answering.{AppendsReply, AnswersInRecord};
 ghost use Rattle.csi_service.specs.Private.Answering.{StopsUnwritten, AnswersOne};
 ghost use Rattle.csi_service.specs.Public.Failing.{Stays};
 ghost use Rattle.csi_service.specs.Private.Failing.{FrameStays};
+ghost use Rattle.csi_service.specs.Private.Handling.{call_setting};
 
 use crate::plugin_core::Core;
 use csi_frames::FrameRef;
@@ -66,19 +66,8 @@ pub(crate) fn answer_frame<C: Core, K: Keep, W: Write>(
     frame: &FrameRef<'_>,
     out: &mut Vec<u8>,
 ) -> Result<bool, FrameStop>
-    ensures answer { AnswersOne (record {
-      answers = AnswersInRecord C.is_fit C.spells C.parts_of C.answers;
-      parts_of = C.parts_of;
-      core = core.old;
-      before = K.store keep.old;
-      after = K.store keep.new;
-      written_before = W.contents writer.old.inner;
-      written_after = W.contents writer.new.inner;
-      at_end = ⊥;
-      reader_failed = ⊥;
-      writer_failed = HasRisen writer.old.faults writer.new.faults;
-      endless = ⊥;
-    }) (lent_frame frame.now) core.new result }
+    ensures answer { AnswersOne (call_setting (AnswersInRecord C.is_fit C.spells C.parts_of C.answers) C.parts_of core.old (K.store keep.old)
+        (K.store keep.new) (W.contents writer.old.inner) (W.contents writer.new.inner) writer.old.faults writer.new.faults) (lent_frame frame.now) core.new result }
     ensures follows { FollowsStore (K.store keep.old) (K.store keep.new) }
     ensures faults { writer.old.faults ≤ writer.new.faults }
     ensures quiet { Stays FrameStays writer.old.faults writer.new.faults result }

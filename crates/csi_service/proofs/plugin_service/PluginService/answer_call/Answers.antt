@@ -71,22 +71,23 @@ returns g c =
     let rising_too = c.plugin_law-2.ensures.rising in
     let changes = told-answer (λ a. RowsChange view a.row number old new) c.in-Ok.answer answer c.unwrap-answer.ensures c.in-Ok.ensures.changes in
     let changed : Changed = record { new_head = not same; forgotten = c.in_ok-forgotten.forgotten; row = answer.row } in
-    let differ = all-differ view old new answer.row number rising rising_too changes changed refl (differs same (view.numbers new) (view.numbers old) tells) c.in_ok-forgotten.ensures.ids in
+    let ids = c.in_ok-forgotten.ensures.ids in
+    let differ = all-differ view old new changed number rising rising_too changes ids (differs same (view.numbers new) (view.numbers old) tells) in
     let own = c.in-Ok.ensures.own in
     subst (λ (seen : ServedPlugin _). AnswersCall view seen (record { plugin = new; changed = changed }) number call (Ok answer)) c.self.view_is (record {
       answered = record {
         own = own;
-        session = (risen view old new answer.row number rising rising_too changes, c.plugin_law-2.ensures.session);
+        session = (risen view old new changed number rising rising_too changes ids, c.plugin_law-2.ensures.session);
         gets = λ state shown. ap (option_map (answer_frame (party_of view old) number)) (sym c.unwrap-answer.ensures) ∙ c.in-Ok.ensures.gets state shown;
         leads = c.in-Ok.ensures.leads;
       };
       allowed = told-answer (λ a. IsAllowed (party_of view old) (bodies.Reply a.kind a.reply)) c.in-Ok.answer answer c.unwrap-answer.ensures c.in-Ok.ensures.allowed;
-      parts = parts-changed view old new answer.row number rising rising_too changes changed refl
-          (λ e. let numbers = stays same (view.numbers new) (view.numbers old) tells e in λ i. record { key = 0; value = view.head (own i) (numbers i) }) c.in_ok-forgotten.ensures.ids c.in_ok-forgotten.ensures.limits c.id_law.ensures;
+      parts = parts-changed view old new changed number rising rising_too changes ids
+          (λ e. let numbers = stays same (view.numbers new) (view.numbers old) tells e in λ i. record { key = 0; value = view.head (own i) (numbers i) }) c.in_ok-forgotten.ensures.limits c.id_law.ensures;
       nothing = λ state shown leaves. nothing-told view old new changed (c.plugin_law.ensures.told new state shown (subst (view.Shows new) leaves (c.in-Ok.ensures.leads state shown))) differ;
       own = own;
       differs = differ;
-      fit = all-fit view old new answer.row number rising rising_too changes;
+      fit = all-fit view old new changed number rising rising_too changes ids;
       err_answers = tt;
       err_shows = λ state shown. tt;
       err = tt;
