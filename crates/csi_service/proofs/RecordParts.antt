@@ -99,5 +99,5 @@ node-wanted node session rows is = record {
 }
   where
     own : is.first.own ≡ node
-    own = text-told is.first.own node (session_bytes is.first.session) (session_bytes session) 
+    own = text-told is.first.own node (session_bytes is.first.session) (session_bytes session)
         (sym (ap (λ (parts : List StoredPart). drop 2 (get_or parts 0 (record { key = 0; value = [] })).value) is.spelled.are))

@@ -160,53 +160,62 @@ module _ {C K W : Type 0} (answers : C → Frame → Option Frame → C → Type
         at_frame : (fault : FrameStop) (next : Option Frame) → IsBehind r.frames count next → stops answers parts_of store contents before next now fault
             → Ended r.read (Err (stopped_by (stop.Consumer (frames_faults.Handler fault)) count))
         at_frame fault None behind stopped = absurd stopped
-        at_frame why.NoMemory (Some frame) behind stopped =
-            (serves r before p (Err (stopped_by (stop.Consumer (frames_faults.Handler why.NoMemory)) count)) refl e.within
-            (record {
-              kept = only-more (store first.store) (store before.store) (store now.store) (parts_of first.own.core) (parts_of before.own.core) (parts_of before.own.core) stopped.follows p.kept stopped.answer.kept;
-              written = same-written (contents first.out.inner) (contents before.out.inner) (contents now.out.inner) p.replies p.written stopped.answer.written;
-            }), follows stopped.follows, stopped.quiet ∙ p.quiet)
+        at_frame why.NoMemory (Some frame) behind stopped = (
+          serves r before p (Err (stopped_by (stop.Consumer (frames_faults.Handler why.NoMemory)) count)) refl e.within
+              (record {
+                kept = only-more (store first.store) (store before.store) (store now.store) (parts_of first.own.core) (parts_of before.own.core) (parts_of before.own.core) stopped.follows p.kept stopped.answer.kept;
+                written = same-written (contents first.out.inner) (contents before.out.inner) (contents now.out.inner) p.replies p.written stopped.answer.written;
+              }),
+          follows stopped.follows,
+          stopped.quiet ∙ p.quiet,
+        )
         at_frame (why.Keep fault) (Some frame) behind stopped =
-            let refused = stopped.answer in
-            (serves r before p (Err (stopped_by (stop.Consumer (frames_faults.Handler (why.Keep fault))) count)) refl e.within (
-              frame,
-              behind,
-              record {
-                reply = refused.reply;
-                next = refused.next;
-                answered = refused.answered;
-                left = left-more (store first.store) (store before.store) (store now.store) (parts_of first.own.core) (parts_of before.own.core) (parts_of before.own.core) (parts_of refused.next) stopped.follows p.kept refused.left;
-                cause = refusal-more (store first.store) (store before.store) (store now.store) (parts_of first.own.core) (parts_of before.own.core) (parts_of refused.next) fault p.follows stopped.follows p.kept refused.cause;
-                written = same-written (contents first.out.inner) (contents before.out.inner) (contents now.out.inner) p.replies p.written refused.written;
-              },
-            ), follows stopped.follows, stopped.quiet ∙ p.quiet)
+            let refused = stopped.answer in (
+              serves r before p (Err (stopped_by (stop.Consumer (frames_faults.Handler (why.Keep fault))) count)) refl e.within (
+                frame,
+                behind,
+                record {
+                  reply = refused.reply;
+                  next = refused.next;
+                  answered = refused.answered;
+                  left = left-more (store first.store) (store before.store) (store now.store) (parts_of first.own.core) (parts_of before.own.core) (parts_of before.own.core) (parts_of refused.next) stopped.follows p.kept refused.left;
+                  cause = refusal-more (store first.store) (store before.store) (store now.store) (parts_of first.own.core) (parts_of before.own.core) (parts_of refused.next) fault p.follows stopped.follows p.kept refused.cause;
+                  written = same-written (contents first.out.inner) (contents before.out.inner) (contents now.out.inner) p.replies p.written refused.written;
+                },
+              ),
+              follows stopped.follows,
+              stopped.quiet ∙ p.quiet,
+            )
         at_frame why.Output (Some frame) behind stopped =
             let reply : Option Frame = stopped.answer.0 in
             let last = stopped.answer.3 in
             let small : count + 1 < 2 ^ 64 = omega (arith, next-within r.frames count frame behind, frames_few r.frames, r.few, ap length r.stream.whole, length-append (flat_map spelling r.frames) r.rest) in
-            let sum : min (count + 1) (2 ^ 64 - 1) ≡ suc count = omega (arith, small) in
-            (record {
-              frames = r.frames;
-              rest = r.rest;
-              stream = r.stream;
-              within = omega (arith, sum, next-within r.frames count frame behind);
-              replies = p.replies ++ reply ∷ [];
-              now = now.own.core;
-              runs =
-                  subst (λ (fs : List Frame). AnswersEach answers first.own.core fs (p.replies ++ reply ∷ []) now.own.core) (sym (ap (λ (k : ℕ). take k r.frames) sum ∙ take-next r.frames count frame behind))
-                  (answers-push answers first.own.core (take count r.frames) p.replies before.own.core frame reply now.own.core p.runs stopped.answer.1);
-              ends = (
-                subst (λ (faults : ℕ). HasRisen faults now.out.faults) p.quiet stopped.answer.2,
-                record {
-                  kept = only-more (store first.store) (store before.store) (store now.store) (parts_of first.own.core) (parts_of before.own.core) (parts_of now.own.core) stopped.follows p.kept last.kept;
-                  earlier = p.replies ++ last.earlier;
-                  last = last.last;
-                  are = ap (λ rs. p.replies ++ rs) last.are ∙ sym (append_assoc p.replies last.earlier (last.last ∷ []));
-                  front = last.front;
-                  more = last.more;
-                  parts = last.parts;
-                  written = subst (Appends (contents first.out.inner) (contents now.out.inner)) (sym (append_assoc (output_of p.replies) (output_of last.earlier) last.front) ∙ ap (λ bytes. bytes ++ last.front) (sym (flat_map-append reply_bytes p.replies last.earlier)))
-                      (Appends-trans (contents first.out.inner) (contents before.out.inner) (contents now.out.inner) (output_of p.replies) (output_of last.earlier ++ last.front) p.written last.written);
-                },
-              );
-            }, follows stopped.follows, tt)
+            let sum : min (count + 1) (2 ^ 64 - 1) ≡ suc count = omega (arith, small) in (
+              record {
+                frames = r.frames;
+                rest = r.rest;
+                stream = r.stream;
+                within = omega (arith, sum, next-within r.frames count frame behind);
+                replies = p.replies ++ reply ∷ [];
+                now = now.own.core;
+                runs =
+                    subst (λ (fs : List Frame). AnswersEach answers first.own.core fs (p.replies ++ reply ∷ []) now.own.core) (sym (ap (λ (k : ℕ). take k r.frames) sum ∙ take-next r.frames count frame behind))
+                    (answers-push answers first.own.core (take count r.frames) p.replies before.own.core frame reply now.own.core p.runs stopped.answer.1);
+                ends = (
+                  subst (λ (faults : ℕ). HasRisen faults now.out.faults) p.quiet stopped.answer.2,
+                  record {
+                    kept = only-more (store first.store) (store before.store) (store now.store) (parts_of first.own.core) (parts_of before.own.core) (parts_of now.own.core) stopped.follows p.kept last.kept;
+                    earlier = p.replies ++ last.earlier;
+                    last = last.last;
+                    are = ap (λ rs. p.replies ++ rs) last.are ∙ sym (append_assoc p.replies last.earlier (last.last ∷ []));
+                    front = last.front;
+                    more = last.more;
+                    parts = last.parts;
+                    written = subst (Appends (contents first.out.inner) (contents now.out.inner)) (sym (append_assoc (output_of p.replies) (output_of last.earlier) last.front) ∙ ap (λ bytes. bytes ++ last.front) (sym (flat_map-append reply_bytes p.replies last.earlier)))
+                        (Appends-trans (contents first.out.inner) (contents before.out.inner) (contents now.out.inner) (output_of p.replies) (output_of last.earlier ++ last.front) p.written last.written);
+                  },
+                );
+              },
+              follows stopped.follows,
+              tt,
+            )

@@ -1,11 +1,10 @@
 -- Stores, one call after another.
-use Rattle.std.proofs.Common.{◌≡◌, ◌∙◌, inl, inr, sym, ap, subst, ℕ, ◌≤◌, List, arith}
-use Rattle.std.specs.Prelude.{◌⊎◌}
+use Rattle.std.proofs.Common.{inl, inr, ℕ, ◌≤◌, List, arith}
 use Rattle.csi_stores.specs.declared.keep.KeepFault.{KeepFault}
 use Rattle.csi_stores.specs.declared.keep.KeepFault.TheVariants.{Device, NoMemory, BadRecord, Full}
 use Rattle.csi_stores.specs.Public.Part.{StoredPart}
 use Rattle.csi_stores.specs.Public.Counting.{HasRisen}
-use Rattle.csi_stores.specs.Public.Stores.{Store, Found, Parts, IsOnly, FindsSome, IsCommitFault, FollowsStore, LeavesOnly, LeavesEither, IsContentRefusal}
+use Rattle.csi_stores.specs.Public.Stores.{Store, FollowsStore, LeavesOnly, LeavesEither, IsContentRefusal}
 
 -- a store that isn't called follows itself
 pub follows-same : (now : Store) → FollowsStore now now

@@ -1,13 +1,10 @@
 -- Where a session begins, what is told leads from the parts before it to those after it: all of them, where names were forgotten.
-use Rattle.std.proofs.Common.{◌≡◌, ◌∙◌, sym, ap, refl, inl, inr, ℕ, zero, suc, ◌<◌, ◌≤◌, ◌+◌, ◌-◌, ◌==◌, Bool, true, false, cond, not, nat_lt, List, [], ◌∷◌, ◌++◌, append_assoc, map, filter, length, arith, Ok}
-use Rattle.std.specs.Prelude.{Some, None}
+use Rattle.std.proofs.Common.{◌≡◌, ◌∙◌, sym, ap, refl, ℕ, zero, suc, ◌<◌, ◌≤◌, ◌+◌, ◌-◌, ◌==◌, Bool, true, false, cond, not, List, [], ◌∷◌, ◌++◌, append_assoc, map, filter, length, arith, Ok}
+use Rattle.std.specs.Prelude.{None}
 use Rattle.std.specs.List.{AllByRecursion}
 use Rattle.std.proofs.lemmas.Bool.{eqb-true}
-use Rattle.std.proofs.lemmas.Bool.Decides.{nat_tests}
 use Rattle.std.proofs.lemmas.List.{length-map, map-append}
-use Rattle.csi_lists.specs.Model.Members.{IsAmong}
 use Rattle.csi_lists.proofs.Filters.{filter-no_longer}
-use Rattle.csi_lists.proofs.Options.{some_is_not_none}
 use Rattle.csi_lists.proofs.Pairs.{two-filter}
 use Rattle.csi_types.specs.Model.Same.{same_text}
 use Rattle.csi_orchestrator.specs.Model.Moves.{without_node}
@@ -19,7 +16,7 @@ use Rattle.csi_orchestrator.specs.Public.Restored.{IsRestorable}
 use Rattle.csi_orchestrator.specs.declared.row.Row.{Row}
 use Rattle.csi_orchestrator.specs.Public.Shown.{row_shown, closed}
 use Rattle.csi_stores.specs.Public.Part.{StoredPart, StoredChange, put_all, take_all}
-use Rattle.csi_stores.specs.Public.Content.{all_changed, AreRisingParts}
+use Rattle.csi_stores.specs.Public.Content.{all_changed}
 use Rattle.csi_records.specs.Public.OrchestratorRecords.{keyed_from, kept_parts}
 use Rattle.csi_records.specs.Public.OrchestratorSpelling.{orchestrator_head, orchestrator_part}
 use Rattle.csi_records.specs.Public.Spelling.{present}

@@ -13,7 +13,7 @@ returns-in-Ok-clause-serves g c =
       read.read,
       read.consumed,
       (served (AnswersInRecord g.C.Core.is_fit g.C.Core.spells g.C.Core.parts_of g.C.Core.answers) g.C.Core.parts_of g.K.Keep.store g.W.Write.contents _ _ _ _ _ refl
-      (IsAtEnd (g.R.Read.remaining c.read.new.reader.inner)) (HasRisen c.args.reader.now.faults c.read.new.reader.faults) (2 ^ 63 ≤ length read.read) tt read (λ at_end. at_end)).0,
+          (IsAtEnd (g.R.Read.remaining c.read.new.reader.inner)) (HasRisen c.args.reader.now.faults c.read.new.reader.faults) (2 ^ 63 ≤ length read.read) tt read (λ at_end. at_end)).0,
     )
 
 pub returns-in-Ok-clause-writer : goal.returns-in-Ok-clause-writer
@@ -33,8 +33,8 @@ returns-clause-serves g c =
       read.read,
       read.consumed,
       (halted (AnswersInRecord g.C.Core.is_fit g.C.Core.spells g.C.Core.parts_of g.C.Core.answers) g.C.Core.parts_of g.K.Keep.store g.W.Write.contents _ _ _ _ _ refl
-      (IsAtEnd (g.R.Read.remaining c.read.new.reader.inner)) (HasRisen c.args.reader.now.faults c.read.new.reader.faults) (2 ^ 63 ≤ length read.read) c.in-Err.stop read (λ at_end. at_end)
-      (reader_failed c.args.reader.now.faults c.read.new.reader.faults c.in-Err.stop c.in-Err.ensures.reader) (λ many. many)).0,
+          (IsAtEnd (g.R.Read.remaining c.read.new.reader.inner)) (HasRisen c.args.reader.now.faults c.read.new.reader.faults) (2 ^ 63 ≤ length read.read) c.in-Err.stop read (λ at_end. at_end)
+          (reader_failed c.args.reader.now.faults c.read.new.reader.faults c.in-Err.stop c.in-Err.ensures.reader) (λ many. many)).0,
     )
 
 pub returns-clause-reader : goal.returns-clause-reader
