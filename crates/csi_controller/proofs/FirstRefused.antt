@@ -1,8 +1,8 @@
 -- The first row that no record has there, and the walk that finds it.
-use Rattle.std.proofs.Common.{◌≡◌, ◌<◌, ◌≤◌, ◌+◌, ◌-◌, ℕ, length, get_or, take, drop, Bool, true, false, cond, List, [], ◌∷◌, ◌++◌, refl, sym, ◌∙◌, ap, subst, arith}
-use Rattle.std.specs.Prelude.{Some, None, find, ◌||◌}
+use Rattle.std.proofs.Common.{◌≡◌, ◌<◌, ◌≤◌, ◌+◌, ◌-◌, ℕ, length, get_or, take, drop, Bool, true, false, List, [], ◌∷◌, ◌++◌, refl, sym, ◌∙◌, ap, subst, arith}
+use Rattle.std.specs.Prelude.{None, find, ◌||◌}
 use Rattle.std.specs.List.{list_any}
-use Rattle.std.proofs.lemmas.Bool.{false≢true, true≢false}
+use Rattle.std.proofs.lemmas.Bool.{false_from_ne_true, false≢true, true≢false}
 use Rattle.std.proofs.lemmas.List.{take-append-drop, take_all}
 use Rattle.std.proofs.lemmas.List.Folds.{list_any-append}
 use Rattle.std.proofs.Math.Bool.{or-false, or_comm}
@@ -27,31 +27,17 @@ use Rattle.csi_controller.proofs.SoundRow.{row-sound, sound-row}
 
 -- ---- at most one
 
--- what isn't found in a list isn't found in a front of it
-find-front : {X : Type 0} (p : X → Bool) (xs ys : List X) → find p (xs ++ ys) ≡ None → find p xs ≡ None
-find-front p xs ys none = find-none p xs (λ x among. none_passes p (xs ++ ys) x none (among-append xs ys x among))
-
 -- where at most one of a list passes, at most one of a front of it does
 AtMostOne-front : {X : Type 0} (p : X → Bool) (xs ys : List X) → AtMostOne p (xs ++ ys) → AtMostOne p xs
 AtMostOne-front p [] ys one = tt
-AtMostOne-front p (x ∷ xs) ys one = (λ e. find-front p xs ys (one.0 e), AtMostOne-front p xs ys one.1)
-
--- where the last of a list passes, something is found
-last-found : {X : Type 0} (p : X → Bool) (xs : List X) (x : X) → p x ≡ true → find p (xs ++ x ∷ []) ≡ None → ⊥
-last-found p xs x passes none = true≢false (sym passes ∙ none_passes p (xs ++ x ∷ []) x none (among-last xs x))
+AtMostOne-front p (x ∷ xs) ys one = (λ e. find-none p xs (λ y among. none_passes p (xs ++ ys) y (one.0 e) (among-append xs ys y among)), AtMostOne-front p xs ys one.1)
 
 -- where the last one passes, none before it does
 AtMostOne-last : {X : Type 0} (p : X → Bool) (xs : List X) (x : X) → AtMostOne p (xs ++ x ∷ []) → p x ≡ true → find p xs ≡ None
 AtMostOne-last p [] x one passes = refl
-AtMostOne-last p (y ∷ ys) x one passes = by (p y) refl (AtMostOne-last p ys x one.1 passes)
-  where
-    by : (b : Bool) → p y ≡ b → find p ys ≡ None → cond b (Some y) (find p ys) ≡ None
-    by true e rest = absurd (last-found p ys x passes (one.0 e))
-    by false e rest = rest
-
--- where none passes, none is found
-none-found : {X : Type 0} (p : X → Bool) (xs : List X) → list_any p xs ≡ false → find p xs ≡ None
-none-found p xs h = none-from_is_some (find p xs) (sym (any-find p xs) ∙ h)
+AtMostOne-last p (y ∷ ys) x one passes =
+    let fails : p y ≡ false = false_from_ne_true (p y) (λ e. true≢false (sym passes ∙ none_passes p (ys ++ x ∷ []) x (one.0 e) (among-last ys x))) in
+    rw fails (AtMostOne-last p ys x one.1 passes)
 
 -- ---- the rules of rows
 
@@ -95,20 +81,17 @@ pub record SoFar (n : ℕ) (rows : List ControllerRow) (place last : ℕ) (has :
   pub once : AreNamedOnce (take place rows)
   pub names : (name : List ℕ) → has name ≡ list_any (λ (row : ControllerRow). same_text row.name name) (take place rows)
 
--- the walk begins so, before the first row and while no name is had
-pub begins : (n : ℕ) (rows : List ControllerRow) (has : List ℕ → Bool) → ((name : List ℕ) → has name ≡ false) → SoFar n rows 0 0 has
-begins n rows has none = record { walk = judging.begins id_of (is_sound_row n); once = λ name. tt; names = none }
-
--- it goes on so after a row that may follow and has a new name, once that name is put in
+-- the walk goes on so after a row that may follow and has a new name, once that name is put in
 pub goes_on : (n : ℕ) (rows : List ControllerRow) (place last : ℕ) (has now_has : List ℕ → Bool) (row : ControllerRow) → SoFar n rows place last has → place < length rows → row ≡ get_or rows place row
     → may_follow n place last row ≡ true → has row.name ≡ false → ((name : List ℕ) → now_has name ≡ (same_text row.name name || has name)) → SoFar n rows (place + 1) row.id now_has
 goes_on n rows place last has now_has row so inside is follows absent adds =
     let more : take (place + 1) rows ≡ take place rows ++ row ∷ [] = one-more rows place row inside is in
-    let none = none-found (λ (r : ControllerRow). same_text r.name row.name) (take place rows) (sym (so.names row.name) ∙ absent) in
+    let same : ControllerRow → Bool = λ r. same_text r.name row.name in
+    let none = none-from_is_some (find same (take place rows)) (sym (any-find same (take place rows)) ∙ sym (so.names row.name) ∙ absent) in
     record {
       walk = subst (λ (l : List ControllerRow). judging.SoFar id_of (is_sound_row n) l (place + 1) row.id) (sym more) (judging.goes_on id_of (is_sound_row n) (take place rows) place last row so.walk follows);
       once = subst AreNamedOnce (sym more) (λ name. AtMostOne-append (λ (r : ControllerRow). same_text r.name name) (take place rows) row (so.once name)
-      (λ e. subst (λ k. find (λ (r : ControllerRow). same_text r.name k) (take place rows) ≡ None) ((same_text-tells row.name name).0 e) none));
+          (λ e. subst (λ k. find (λ (r : ControllerRow). same_text r.name k) (take place rows) ≡ None) ((same_text-tells row.name name).0 e) none));
       names = λ name.
           let among : List ControllerRow → Bool = list_any (λ (r : ControllerRow). same_text r.name name) in
           adds name ∙ ap (λ b. same_text row.name name || b) (so.names name) ∙ or_comm (same_text row.name name) (among (take place rows)) ∙ ap (λ b. among (take place rows) || b) (sym (or-false (same_text row.name name)))

@@ -1,5 +1,5 @@
 -- Rows that are judged in order, of which each may follow those before it.
-use Rattle.std.proofs.Common.{◌≡◌, ◌<◌, ◌≤◌, ◌+◌, ℕ, length, get_or, take, drop, Bool, true, List, [], ◌∷◌, ◌++◌, refl, sym, ◌∙◌, ap, subst, arith}
+use Rattle.std.proofs.Common.{◌≡◌, ◌<◌, ◌≤◌, ◌+◌, ℕ, length, get_or, take, drop, Bool, true, List, [], ◌∷◌, ◌++◌, sym, ◌∙◌, ap, subst, arith}
 use Rattle.std.specs.Prelude.{◌&&◌, nat_lt}
 use Rattle.std.specs.List.{AllByRecursion}
 use Rattle.std.proofs.lemmas.Bool.{and_from, and_parts, lt-ltb, ltb-true}
@@ -50,11 +50,7 @@ module _ {S : Type 0} (id : S → ℕ) (fits : S → Bool) where
     pub above : AllByRecursion (λ (row : S). id row ≤ last) rows
     pub least : (n : ℕ) → 0 < n → AllByRecursion (λ (row : S). id row < n) rows → last < n
 
-  -- so a walk begins
-  pub begins : SoFar [] 0 0
-  begins = record { judged = record { limit = omega arith; each = tt; rising = tt }; count = refl; above = tt; least = λ n from below. from }
-
-  -- it goes on so with a row that may follow
+  -- the walk goes on so with a row that may follow
   pub goes_on : (rows : List S) (place last : ℕ) (row : S) → SoFar rows place last → may_follow place last row ≡ true → SoFar (rows ++ row ∷ []) (place + 1) (id row)
   goes_on rows place last row so follows =
       let all = and_parts (nat_lt place 4096 && nat_lt last (id row)) (fits row) follows in
