@@ -20,7 +20,7 @@ two-rise [] rising = tt
 two-rise (row ∷ rows) rising = (rising.0, two-rise rows rising.1)
 
 -- and the other way round
-rise-two : (rows : List ControllerRow) → EachTwo (λ (a b : ControllerRow). a.id < b.id) rows → AreRisingRows rows
+pub rise-two : (rows : List ControllerRow) → EachTwo (λ (a b : ControllerRow). a.id < b.id) rows → AreRisingRows rows
 rise-two [] rising = tt
 rise-two (row ∷ rows) rising = (rising.0, rise-two rows rising.1)
 

@@ -17,3 +17,4 @@ pub mod Delivered
 pub mod LetThrough
 pub mod Simulating
 pub mod FoundPlaces
+pub mod JudgedRows

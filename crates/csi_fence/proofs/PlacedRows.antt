@@ -5,11 +5,11 @@ use Rattle.std.specs.List.{insert}
 use Rattle.std.specs.List.Sorted.{IsSearchInRange, IsBinarySearchResult, IsNonDecreasingBy}
 use Rattle.std.specs.Ordering.{nat_cmp, ordering_index}
 use Rattle.std.proofs.lemmas.Cmp.{ranked}
-use Rattle.std.proofs.lemmas.List.{map-set, map-append, take-map, drop-map, length-map}
+use Rattle.std.proofs.lemmas.List.{map-append, take-map, drop-map, length-map}
 use Rattle.std.proofs.lemmas.List.Sums.{sum_by-insert}
 use Rattle.std.proofs.lemmas.Bool.Decides.{nat_tests}
 use Rattle.csi_fence.specs.Public.Rows.{AreRising, IsGapFor, IsPlaceOf, id_of, put_row}
-use Rattle.csi_fence.proofs.PutRows.{put-insert, put-set, row_of}
+use Rattle.csi_fence.proofs.PutRows.{put-insert, row_of}
 
 module _ {S : Type 0} (id : S → ℕ) where
   -- no row before the place has the id
@@ -130,14 +130,6 @@ module _ {R S : Type 0} (id : S → ℕ) (shown : R → S) where
       map-append shown (take place rows) (row ∷ drop place rows)
       ∙ ap (λ (front : List S). front ++ shown row ∷ map shown (drop place rows)) (sym (take-map shown place rows))
       ∙ ap (λ (back : List S). take place (map shown rows) ++ shown row ∷ back) (sym (drop-map shown place rows))
-
-  -- a new row in the gap for it is put
-  pub insert-put : (rows : List R) (place : ℕ) (new : R) → IsGapFor id (map shown rows) (id (shown new)) place → map shown (insert rows place new) ≡ put_row id (shown new) (map shown rows)
-  insert-put rows place new gap = shown-insert rows place new ∙ sym (put-insert id (map shown rows) (id (shown new)) place (shown new) gap refl)
-
-  -- so is a row in the place of its id
-  pub set-put : (rows : List R) (place : ℕ) (new : R) → AreRising id (map shown rows) → IsPlaceOf id (map shown rows) (id (shown new)) place → map shown (slice_set rows place new) ≡ put_row id (shown new) (map shown rows)
-  set-put rows place new rising at = map-set shown rows place new ∙ sym (put-set id (map shown rows) (id (shown new)) place (shown new) rising at refl)
 
   -- a new row was put in
   pub record WasPut (rows after : List R) (place : ℕ) (row : R) : Type 0 where

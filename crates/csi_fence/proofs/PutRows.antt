@@ -1,5 +1,5 @@
 -- A row that is put among rows by rising id: where it goes, what is found then, and the rules.
-use Rattle.std.proofs.Common.{◌≡◌, ℕ, zero, suc, ◌+◌, ◌<◌, ◌≤◌, List, [], ◌∷◌, length, Bool, true, false, cond, refl, sym, ◌∙◌, ap, subst, arith}
+use Rattle.std.proofs.Common.{◌≡◌, ℕ, zero, suc, ◌+◌, ◌<◌, List, [], ◌∷◌, length, Bool, true, false, cond, refl, sym, ◌∙◌, ap, subst, arith}
 use Rattle.std.specs.Prelude.{All, Option, Some, None, find, ◌==◌, nat_lt, slice_get, slice_set}
 use Rattle.std.specs.List.{insert, AllByRecursion}
 use Rattle.std.proofs.lemmas.Bool.{eqb-true, ltb-true}
@@ -179,18 +179,3 @@ module _ {S : Type 0} (id : S → ℕ) where
       by rest true c = (λ e. other e (q new) refl, rest)
       by rest false true = (λ e. (find-missed (q row) row (find q rows) (none e)).1, one.1)
       by rest false false = (none, one)
-
-  -- a row that is there takes its own place
-  pub put-limit : (new : S) (rows : List S) (most : ℕ) → AreRising id rows → length rows ≤ most → (row_of (id new) rows ≡ None → length rows < most) → length (put_row id new rows) ≤ most
-  put-limit new rows most rising few room = by (row_of (id new) rows) refl
-    where
-      long : length (put_row id new rows) ≡ grown (row_of (id new) rows) (length rows)
-      long = put-length new rows (rows_rise id rows rising)
-
-      by : (o : Option S) → row_of (id new) rows ≡ o → length (put_row id new rows) ≤ most
-      by None none =
-          let count : length (put_row id new rows) ≡ length rows + 1 = long ∙ ap (λ (o : Option S). grown o (length rows)) none in
-          omega (arith, count, room none)
-      by (Some row) found =
-          let count : length (put_row id new rows) ≡ length rows = long ∙ ap (λ (o : Option S). grown o (length rows)) found in
-          omega (arith, count, few)

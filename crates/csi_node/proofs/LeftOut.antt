@@ -37,21 +37,12 @@ parts-left session rows =
     ∙ filter_agree (λ (row : NodeRowShown). is_some row.staged || (row.kept.number.session == session)) (behind.stays_in node_plan session)
     (λ row. ap (λ (b : Bool). b || (row.kept.number.session == session)) (sym (staged-tells row.staged))) (parts rows)
 
--- they keep the rules of a record of that session
-rules-left : (rows : List NodeRow) → AreSoundRows (parts rows)
-    → AreSoundRows (parts (filter (stays_in (latest_session rows)) rows)) × IsCurrent (latest_session rows) (parts (filter (stays_in (latest_session rows)) rows))
-rules-left rows rules =
-    let session : ℕ = latest_session rows in
-    let left : List NodeRow = filter (stays_in session) rows in
-    let kept : AreNodeRows session left (count_by node_plan.is_empty (parts left)) =
-    kept-filter node_plan is_sound_by (λ l. Unit {0}) session (parts rows) (record { own = tt; session = session; rows = parts left }) (count_by node_plan.is_empty (parts left))
-    (places-rise (parts rows) rules.rising) rules.limit rules.each (latest-shown rows) refl (parts-left session rows) tt refl in
-    (record-rules session left (count_by node_plan.is_empty (parts left)) kept, record-current session left (count_by node_plan.is_empty (parts left)) kept)
-
--- so do those that were found so, in the session that was found
+-- they keep the rules of a record of the greatest session
 pub rules-found : (rows left : List NodeRow) (session : ℕ) → session ≡ latest_session rows → left ≡ filter (stays_in session) rows → AreSoundRows (parts rows)
     → AreSoundRows (parts left) × IsCurrent session (parts left)
 rules-found rows left session latest stay rules =
-    let own : left ≡ filter (stays_in (latest_session rows)) rows = stay ∙ ap (λ (s : ℕ). filter (stays_in s) rows) latest in
-    subst (λ (l : List NodeRow). AreSoundRows (parts l) × IsCurrent session (parts l)) (sym own)
-    (subst (λ (s : ℕ). AreSoundRows (parts (filter (stays_in (latest_session rows)) rows)) × IsCurrent s (parts (filter (stays_in (latest_session rows)) rows))) (sym latest) (rules-left rows rules))
+    let most : All (IsUpTo node_plan session) (parts rows) = subst (λ (s : ℕ). All (IsUpTo node_plan s) (parts rows)) (sym latest) (latest-shown rows) in
+    let kept : AreNodeRows session left (count_by node_plan.is_empty (parts left)) =
+    kept-filter node_plan is_sound_by (λ l. Unit {0}) session (parts rows) (record { own = tt; session = session; rows = parts left }) (count_by node_plan.is_empty (parts left))
+    (places-rise (parts rows) rules.rising) rules.limit rules.each most refl (ap parts stay ∙ parts-left session rows) tt refl in
+    (record-rules session left (count_by node_plan.is_empty (parts left)) kept, record-current session left (count_by node_plan.is_empty (parts left)) kept)

@@ -9,6 +9,10 @@ abbrev pub is_current : Option ℕ → NodeRowShown → Bool
 is_current None row = true
 is_current (Some session) row = nat_le row.kept.number.session session && (is_some row.staged || (row.kept.number.session == session))
 
+-- a record may have the row, whichever rows are before it
+abbrev pub is_fit : Option ℕ → NodeRowShown → Bool
+is_fit session row = is_sound_row row && is_current session row
+
 -- the row may follow so many others, the last of which has this id (0 where there is none)
 abbrev pub may_follow : Option ℕ → ℕ → ℕ → NodeRowShown → Bool
-may_follow session count last row = nat_lt count MAX_ROWS && nat_lt last row.id && is_sound_row row && is_current session row
+may_follow session count last row = nat_lt count MAX_ROWS && nat_lt last row.id && is_fit session row

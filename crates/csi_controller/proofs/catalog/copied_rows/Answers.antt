@@ -1,9 +1,9 @@
 -- One more copy.
 use Rattle.std.proofs.Common.{[], ◌∷◌, ◌++◌, List, take, sym, subst}
+use Rattle.csi_fence.proofs.JudgedRows.{one-more}
 use Rattle.csi_controller.specs.declared.row.ControllerRow.{ControllerRow}
 use Rattle.csi_controller.specs.Public.Views.{AreSameRows}
 use Rattle.csi_controller.proofs.Copies.{AreSameRows-append}
-use Rattle.csi_controller.proofs.FirstRefused.{one-more}
 use Rattle.csi_controller.proofs.catalog.copied_rows.Goals as goal
 
 pub loop-row-preserved : goal.loop-row-preserved

@@ -4,7 +4,7 @@ use Rattle.std.specs.BTreeSet.{contains_by}
 use Rattle.std.specs.Cmp.Lexicographic.{slice_cmp}
 use Rattle.std.proofs.lemmas.Bool.{not-false, not-true}
 use Rattle.csi_types.specs.Model.Same.{same_text}
-use Rattle.csi_controller.proofs.FirstRefused.{SoFar, goes_on, refused-name, refused-rules}
+use Rattle.csi_controller.proofs.FirstRefused.{SoFar, ends, goes_on, refused-name, refused-rules}
 use Rattle.csi_controller.proofs.judging.first_refused.Goals as goal
 
 pub returns-then-not-may_follow : goal.returns-then-not-may_follow
@@ -29,3 +29,6 @@ loop-index-preserved c =
     subst (λ last. SoFar c.args.next_id c.args.rows.now (c.loop-index.index + 1) last now_has) (sym c.number-id.ensures.value)
     (goes_on c.args.next_id c.args.rows.now c.loop-index.index c.loop-index.last has now_has row c.loop-index.invariant (omega arith) c.index-rows-index.is
     (sym c.may_follow.ensures ∙ c.if-not-may_follow.false) absent adds)
+
+pub returns : goal.returns
+returns c = ends c.args.next_id c.args.rows.now c.loop-index.index c.loop-index.last _ c.loop-index.invariant (omega arith)

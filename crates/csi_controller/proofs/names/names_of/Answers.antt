@@ -6,11 +6,12 @@ use Rattle.std.specs.Cmp.Lexicographic.{pointwise}
 use Rattle.std.proofs.lemmas.List.{map_push}
 use Rattle.csi_lists.proofs.Searches.{find-of_map}
 use Rattle.csi_types.specs.Model.Same.{same_text}
+use Rattle.csi_fence.proofs.JudgedRows.{one-more}
 use Rattle.csi_controller.specs.declared.row.ControllerRow.{ControllerRow}
 use Rattle.csi_controller.specs.Public.Core.{AreSoundRows}
 use Rattle.csi_controller.specs.Public.Names.{by_name, by_text}
 use Rattle.csi_controller.specs.Public.OneRow.{RowShown, row_shown}
-use Rattle.csi_controller.proofs.FirstRefused.{new-name as unnamed, one-more, sound-take}
+use Rattle.csi_controller.proofs.FirstRefused.{new-name as unnamed, sound-take}
 use Rattle.csi_controller.proofs.NameMaps.{new-name, of-ok}
 use Rattle.csi_controller.proofs.SameText.{text-turned}
 use Rattle.csi_controller.proofs.names.names_of.Goals as goal
