@@ -1,44 +1,34 @@
 //! What a process does with the store in a file.
 ghost use Rattle.std.specs.Prelude.{◌≡◌};
-ghost use Rattle.csi_plugins.specs.Public.Ending.{ending_unopened as by_opening};
 ghost use Rattle.csi_replay.specs.Private.Closing.{ending_done, ending_closed};
 
 use csi_endings::Ending;
 use csi_orchestration::{asked_nodes, orchestrator};
 use csi_plugins::{Plugin, ending_unopened, plugin, record};
-use csi_sqlite::{SqliteKeep, close_file, close_found, find_at};
-use csi_stores::{Counted, KeepFault};
+use csi_sqlite::{OverStore, over_file, over_found};
+use csi_stores::{Counted, Keep, KeepFault};
 use csi_types::NodeId;
-use sqlite::{Alter, Unknown};
 use std::rt::Files;
 use std::{fs, io};
 
 // What serves over a store: a plugin, or the orchestrator of these nodes.
+#[derive(Drop)]
 enum Asked {
     Plugin(Plugin),
     Orchestrator(Vec<NodeId>),
 }
 
-// Serves standard input to standard output, over this store.
-fn serve<S: Alter>(rt: &HostRuntime, asked: Asked, keep: &mut SqliteKeep<S>) -> Ending {
-    let alloc = rt.alloc();
-    let mut reader = Counted::new(rt.stdin());
-    let mut writer = Counted::new(rt.stdout());
-    match asked {
-        Asked::Plugin(asked) => plugin(alloc, asked, keep, &mut reader, &mut writer),
-        Asked::Orchestrator(nodes) => orchestrator(alloc, nodes, keep, &mut reader, &mut writer),
-    }
-}
-
-// How a process ends whose store can't be opened, for this cause.
-fn unopened(asked: Asked, fault: KeepFault) -> Ending
-    ensures { result ≡ by_opening fault }
-{
-    match asked {
-        Asked::Plugin(asked) => asked.unopened(fault),
-        Asked::Orchestrator(nodes) => {
-            drop(nodes);
-            ending_unopened(fault)
+// Serves standard input to standard output.
+impl OverStore<Ending> for Asked {
+    fn run<K: Keep>(self, rt: &HostRuntime, keep: &mut K) -> Ending {
+        let alloc = rt.alloc();
+        let mut reader = Counted::new(rt.stdin());
+        let mut writer = Counted::new(rt.stdout());
+        match self {
+            Asked::Plugin(asked) => plugin(alloc, asked, keep, &mut reader, &mut writer),
+            Asked::Orchestrator(nodes) => {
+                orchestrator(alloc, nodes, keep, &mut reader, &mut writer)
+            }
         }
     }
 }
@@ -64,14 +54,12 @@ fn closed(ending: Ending, closing: Result<(), KeepFault>) -> Ending
     }
 }
 
-// Serves over the store in this file. After a crash it is read as SQLite reads it: a write that was cut short left each byte old or new.
+// Serves over the store in this file.
 fn serve_from(rt: &HostRuntime, path: &str, asked: Asked) -> Ending {
-    let mut keep = match SqliteKeep::open_file(rt, path, Unknown) {
-        Ok(keep) => keep,
-        Err(fault) => return unopened(asked, fault),
-    };
-    let ending = serve(rt, asked, &mut keep);
-    closed(ending, close_file(keep))
+    match over_file(rt, path, asked) {
+        Ok((ending, closing)) => closed(ending, closing),
+        Err(fault) => ending_unopened(fault),
+    }
 }
 
 // The controller plugin under the configuration in this file.
@@ -121,21 +109,23 @@ pub fn serve_orchestrator(rt: &HostRuntime, store: &str, config: &str) -> Ending
     }
 }
 
-// Tells what this store has.
-fn tell_of<S: Alter>(rt: &HostRuntime, keep: &mut SqliteKeep<S>) -> Ending {
-    let mut out = Counted::new(io::writer(rt));
-    record(rt.alloc(), keep, &mut out)
+// Tells what a store has.
+#[derive(Drop)]
+struct Telling;
+
+impl OverStore<Ending> for Telling {
+    fn run<K: Keep>(self, rt: &HostRuntime, keep: &mut K) -> Ending {
+        let mut out = Counted::new(io::writer(rt));
+        record(rt.alloc(), keep, &mut out)
+    }
 }
 
 /// Writes what the store in the SQLite file at this path has to standard output, and answers how the process ends: as `record` says,
 /// or `StoreNotOpened` where there is no store, or `Memory` where that was the cause. The file and the log beside it are only read.
 /// This profile's own.
 pub fn tell(rt: &HostRuntime, path: &str) -> Ending {
-    let mut keep = match find_at(rt, path) {
-        Ok(keep) => keep,
-        Err(fault) => return ending_unopened(fault),
-    };
-    let ending = tell_of(rt, &mut keep);
-    close_found(keep);
-    ending
+    match over_found(rt, path, Telling) {
+        Ok(ending) => ending,
+        Err(fault) => ending_unopened(fault),
+    }
 }

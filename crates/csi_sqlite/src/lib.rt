@@ -6,4 +6,6 @@ mod rows;
 mod sqlite_keep;
 
 pub use rows::{all_rows, has_other, has_table, make_table, put_row, remove_row};
-pub use sqlite_keep::{SqliteKeep, close_file, close_found, copies, find_at};
+pub use sqlite_keep::{
+    OverStore, SqliteKeep, close_file, close_found, copies, find_at, over_file, over_found,
+};

@@ -27,11 +27,13 @@ use std::alloc::Global;
 mod changing;
 mod file;
 mod found;
+mod over;
 mod reading;
 
 use changing::change_at_once;
 pub use file::close_file;
 pub use found::{close_found, copies, find_at};
+pub use over::{OverStore, over_file, over_found};
 use reading::parts_of;
 
 /// A store in a SQLite database: a part is a row of the table `parts`, its key in eight bytes, the greatest first. A commit is

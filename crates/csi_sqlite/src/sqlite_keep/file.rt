@@ -12,6 +12,7 @@ ghost use Rattle.csi_sqlite.specs.Public.Tables.{StoresParts, HoldsParts, OpensO
 ghost use Rattle.csi_sqlite.specs.Public.Refusals.{IsToldFault};
 ghost use Rattle.csi_sqlite.specs.Public.Closing.{PutsBack, IsPutBack, IsNotPutBack};
 
+use crate::rows::has_table;
 use crate::sqlite_keep::found::look_at;
 use crate::sqlite_keep::{SqliteKeep, is_memory};
 use csi_stores::KeepFault;
@@ -19,21 +20,43 @@ use sqlite::{Alter, Connection, FileFrom, FileStore, Files, Start, Unknown};
 use sqlite_disk::Disk;
 use std::alloc::Global;
 
-// The store in this database; at a refusal the database is closed.
+// The store in this database, in which the table `parts` is made where nothing is listed, unless it has to be there; then the database
+// is as it was. At a refusal the database is closed.
 fn kept<S: Alter + Drop>(
     alloc: Global,
     connection: Connection<S>,
+    has_to_be_there: bool,
 ) -> Result<SqliteKeep<S>, KeepFault>
     ensures found { IfOk result (λ keep. OpensOver (state S.Store connection) (state S.Store keep.connection)
         × (HasCleanDisk (state S.Store keep.connection) → (content : List StoredPart) → IsTrue (state S.Store connection).is_open →
         StoresParts (state S.Store connection).now.trees content → HoldsParts (state S.Store keep.connection) content)) }
+    ensures there { IsTrue has_to_be_there → IfOk result (λ keep. keep.connection ≡ connection) }
     ensures faults { IfOk result (λ keep. keep.faults ≡ 0) }
     ensures cause { IfErr result (λ fault. (fault ≡ KeepFault.Device) ⊎ (fault ≡ KeepFault.NoMemory)) }
 {
+    if has_to_be_there && !has_table(&connection) {
+        return Err(KeepFault::Device);
+    }
     match SqliteKeep::new(alloc, connection) {
         Ok(keep) => Ok(keep),
         Err((fault, _connection)) => Err(fault),
     }
+}
+
+/// The same of a database in files: what has to be known of such a database is known here once.
+pub(crate) fn kept_files<D: Disk + Drop>(
+    alloc: Global,
+    connection: Connection<FileStore<D>>,
+    has_to_be_there: bool,
+) -> Result<SqliteKeep<FileStore<D>>, KeepFault>
+    ensures found { IfOk result (λ keep. OpensOver (file_state connection) (file_state keep.connection)
+        × (HasCleanDisk (file_state keep.connection) → (content : List StoredPart) → IsTrue (file_state connection).is_open →
+        StoresParts (file_state connection).now.trees content → HoldsParts (file_state keep.connection) content)) }
+    ensures there { IsTrue has_to_be_there → IfOk result (λ keep. keep.connection ≡ connection) }
+    ensures faults { IfOk result (λ keep. keep.faults ≡ 0) }
+    ensures cause { IfErr result (λ fault. (fault ≡ KeepFault.Device) ⊎ (fault ≡ KeepFault.NoMemory)) }
+{
+    kept(alloc, connection, has_to_be_there)
 }
 
 impl<S: Start> SqliteKeep<FileStore<FileFrom<S>>> {
@@ -57,7 +80,7 @@ impl<S: Start> SqliteKeep<FileStore<FileFrom<S>>> {
             Err((error, _left)) if is_memory(&error) => return Err(KeepFault::NoMemory),
             Err(_) => return Err(KeepFault::Device),
         };
-        kept(rt.alloc(), connection)
+        kept_files(rt.alloc(), connection, false)
     }
 }
 

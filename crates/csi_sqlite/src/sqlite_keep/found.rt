@@ -1,5 +1,5 @@
 //! Files that are looked at in copies, and a store that is found there: the files are only read.
-ghost use Rattle.std.specs.Prelude.{◌≡◌, ◌⊎◌, List, IsTrue, IfOk, IfErr, OnOk};
+ghost use Rattle.std.specs.Prelude.{◌≡◌, ◌⊎◌, ◌↔◌, List, IsTrue, IfOk, IfErr, OnOk};
 ghost use Rattle.sqlite_disk.specs.Memory.{memory_bytes, memory_is_usable};
 ghost use Rattle.sqlite_trees.specs.Tree.{Trees};
 ghost use Rattle.sqlite.specs.Held.{state};
@@ -7,9 +7,11 @@ ghost use Rattle.sqlite.specs.State.{HasCleanDisk};
 ghost use Rattle.sqlite.specs.Files.{file_state, image_of, Finds, HoldsDatabase};
 ghost use Rattle.csi_stores.specs.Public.Part.{StoredPart};
 ghost use Rattle.csi_sqlite.specs.Private.Looking.{ListsTableAtMost};
+ghost use Rattle.csi_sqlite.specs.Public.Listed.{ListsOther};
 ghost use Rattle.csi_sqlite.specs.Public.Tables.{StoresParts, HoldsParts};
 
-use crate::rows::{has_other, has_table};
+use crate::rows::has_other;
+use crate::sqlite_keep::file::kept_files;
 use crate::sqlite_keep::{SqliteKeep, is_memory};
 use csi_stores::KeepFault;
 use csi_types::NoMemory;
@@ -19,26 +21,6 @@ use std::alloc::Global;
 use std::fs;
 use std::io::ErrorKind;
 use std::rt::Files as Reads;
-
-// The store in this database, where it lists the table `parts` alone; it is as it was then.
-fn listed<S: Alter + Drop>(
-    alloc: Global,
-    connection: Connection<S>,
-) -> Result<SqliteKeep<S>, KeepFault>
-    ensures found { IfOk result (λ keep. (keep.connection ≡ connection)
-        × (HasCleanDisk (state S.Store keep.connection) → (content : List StoredPart) → IsTrue (state S.Store connection).is_open →
-        StoresParts (state S.Store connection).now.trees content → HoldsParts (state S.Store keep.connection) content)) }
-    ensures faults { IfOk result (λ keep. keep.faults ≡ 0) }
-    ensures cause { IfErr result (λ fault. (fault ≡ KeepFault.Device) ⊎ (fault ≡ KeepFault.NoMemory)) }
-{
-    if !has_table(&connection) {
-        return Err(KeepFault::Device);
-    }
-    match SqliteKeep::new(alloc, connection) {
-        Ok(keep) => Ok(keep),
-        Err((fault, _connection)) => Err(fault),
-    }
-}
 
 impl<D: Disk + Drop> SqliteKeep<FileStore<D>> {
     /// The store that these two files have, a database file and its log, where they are a database that lists the table `parts` alone;
@@ -57,7 +39,17 @@ impl<D: Disk + Drop> SqliteKeep<FileStore<D>> {
             Err((error, _left)) if is_memory(&error) => return Err(KeepFault::NoMemory),
             Err(_) => return Err(KeepFault::Device),
         };
-        listed(alloc, connection)
+        kept_files(alloc, connection, true)
+    }
+
+    // Lets it go.
+    fn let_go(self) {
+        let SqliteKeep {
+            alloc: _,
+            connection: back,
+            faults: _,
+        } = self;
+        let _ = files_listed_other(back);
     }
 }
 
@@ -169,6 +161,20 @@ pub fn find_at(
     SqliteKeep::find(rt.alloc(), files)
 }
 
+// Whether a database lists anything but the table `parts`; the database is let go.
+fn listed_other<S: Alter + Drop>(connection: Connection<S>) -> bool
+    ensures { IsTrue result ↔ ListsOther (state S.Store connection).now.schema }
+{
+    has_other(&connection)
+}
+
+// The same of a database in files. A function that lets one go by this one proves nothing of how it is let go.
+fn files_listed_other<D: Disk + Drop>(connection: Connection<FileStore<D>>) -> bool
+    ensures { IsTrue result ↔ ListsOther (file_state connection).now.schema }
+{
+    listed_other(connection)
+}
+
 // Refuses files that are no database, or one that lists anything but the table `parts`.
 fn judge<D: Disk + Drop>(alloc: Global, files: Files<D>) -> Result<(), KeepFault>
     requires log { IsTrue (D.Disk.is_usable files.log) }
@@ -177,8 +183,12 @@ fn judge<D: Disk + Drop>(alloc: Global, files: Files<D>) -> Result<(), KeepFault
     ensures cause { IfErr result (λ fault. (fault ≡ KeepFault.Device) ⊎ (fault ≡ KeepFault.NoMemory)) }
 {
     match Connection::open_files(alloc, files, Options::new(1)) {
-        Ok(connection) if has_other(&connection) => Err(KeepFault::Device),
-        Ok(_connection) => Ok(()),
+        Ok(connection) => {
+            if files_listed_other(connection) {
+                return Err(KeepFault::Device);
+            }
+            Ok(())
+        }
         Err((error, _left)) if is_memory(&error) => Err(KeepFault::NoMemory),
         Err(_) => Err(KeepFault::Device),
     }
@@ -197,5 +207,5 @@ pub(crate) fn look_at(rt: &(impl Reads + AllocGlobal), path: &str) -> Result<(),
 
 /// Lets a store go that `find_at` found, with its copies, as `close_file` does with a store in a file.
 pub fn close_found(keep: SqliteKeep<FileStore<Memory>>) {
-    drop(keep);
+    keep.let_go();
 }

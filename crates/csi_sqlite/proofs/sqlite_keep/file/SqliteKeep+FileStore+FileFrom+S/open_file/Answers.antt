@@ -10,9 +10,9 @@ use Rattle.csi_sqlite.proofs.sqlite_keep.file.SqliteKeep+FileStore+FileFrom+S.op
 
 pub returns-clause-found : goal.returns-clause-found
 returns-clause-found g c =
-    IfOk-weaker c.kept.result _ _ (λ keep found clean db content held stored.
+    IfOk-weaker c.kept_files.result _ _ (λ keep found clean db content held stored.
     let was = c.in-Ok.connection in
     let early : HasCleanDisk (file_state was) = found.0.honest clean in
     let opened = (c.in-Ok.ensures.opened early).0 in
     let trees : (file_state was).now.trees ≡ db = ap (λ (d : Database). d.trees) opened.clean ∙ (c.in-Ok.ensures.found early).holds db held in
-    found.1 clean content opened.is_open (subst (λ (t : Trees). StoresParts t content) (sym trees) stored)) c.kept.ensures.found
+    found.1 clean content opened.is_open (subst (λ (t : Trees). StoresParts t content) (sym trees) stored)) c.kept_files.ensures.found

@@ -1,5 +1,5 @@
 -- The table was there, so the connection is the one that was opened; what the files held is what it has.
-use Rattle.std.proofs.Common.{◌≡◌, ◌∙◌, sym, ap, subst}
+use Rattle.std.proofs.Common.{◌≡◌, ◌∙◌, refl, sym, ap, subst}
 use Rattle.std.proofs.lemmas.Result.{IfOk-weaker}
 use Rattle.sqlite_trees.specs.Tree.{Trees}
 use Rattle.sqlite.specs.Effect.{Database}
@@ -10,13 +10,13 @@ use Rattle.csi_sqlite.proofs.sqlite_keep.found.SqliteKeep+FileStore+D.find.Goals
 
 pub returns-clause-finds : goal.returns-clause-finds
 returns-clause-finds g c =
-    IfOk-weaker c.listed.result _ _ (λ keep found clean. subst (Finds c.args.files) (sym found.0) (c.in-Ok.ensures.found (subst (λ it. HasCleanDisk (file_state it)) found.0 clean))) c.listed.ensures.found
+    IfOk-weaker c.kept_files.result _ _ (λ keep same clean. subst (Finds c.args.files) (sym same) (c.in-Ok.ensures.found (subst (λ it. HasCleanDisk (file_state it)) same clean))) (c.kept_files.ensures.there refl)
 
 pub returns-clause-found : goal.returns-clause-found
 returns-clause-found g c =
-    IfOk-weaker c.listed.result _ _ (λ keep found clean db content held stored.
+    IfOk-weaker c.kept_files.result _ _ (λ keep found clean db content held stored.
     let was = c.in-Ok.connection in
-    let early : HasCleanDisk (file_state was) = subst (λ it. HasCleanDisk (file_state it)) found.0 clean in
+    let early : HasCleanDisk (file_state was) = found.0.honest clean in
     let opened = (c.in-Ok.ensures.opened early).0 in
     let trees : (file_state was).now.trees ≡ db = ap (λ (d : Database). d.trees) opened.clean ∙ (c.in-Ok.ensures.found early).holds db held in
-    found.1 clean content opened.is_open (subst (λ (t : Trees). StoresParts t content) (sym trees) stored)) c.listed.ensures.found
+    found.1 clean content opened.is_open (subst (λ (t : Trees). StoresParts t content) (sym trees) stored)) c.kept_files.ensures.found
