@@ -1,4 +1,4 @@
-/* A controller's calls: each line of the table of docs/FORMATS.md, "What a reply says". */
+/* A controller's calls: each line of the table of docs/FRAMES.md, "What a reply says". */
 #include "playing.h"
 
 #define CREATE "controller CreateVolume "

@@ -1,4 +1,4 @@
-/* Streams of frames, and bytes that begin with no frame: docs/FORMATS.md, "Faults of a frame". */
+/* Streams of frames, and bytes that begin with no frame: docs/FRAMES.md, "Faults of a frame". */
 #include "playing.h"
 
 /* A frame of which a byte is another: the place counts from the frame's first byte. */

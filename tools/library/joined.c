@@ -1,4 +1,4 @@
-/* Nodes that join with a session: docs/FORMATS.md, "Records", SESSION. */
+/* Nodes that join with a session: docs/RECORDS.md, "Records", SESSION. */
 #include "playing.h"
 
 #define OF_N1 "node:\"n1\" "

@@ -1,4 +1,4 @@
-/* Nodes that are lost: docs/FORMATS.md, "Schedules" (`lose`) and "Records". */
+/* Nodes that are lost: docs/LINES.md, "Schedules" (`lose`) and "Records". */
 #include "playing.h"
 
 #define CONFIG "{\"greatest\":1000,\"nodes\":[{\"id\":\"n1\",\"slots\":4},{\"id\":\"n2\",\"slots\":4}]}"

@@ -1,4 +1,4 @@
-/* An orchestrator's calls: its commands, timeouts and replies, by docs/FORMATS.md, "Reports", "Records" and "What a reply says". */
+/* An orchestrator's calls: its commands, timeouts and replies, by docs/LINES.md, "Reports", "Records" and "What a reply says". */
 #include "playing.h"
 
 #define CONFIG "{\"greatest\":1000,\"nodes\":[{\"id\":\"n1\",\"slots\":4},{\"slots\":0,\"id\":\"n2\"}]}"

@@ -1,4 +1,4 @@
-/* Records of three versions, and what isn't one: docs/FORMATS.md, "Records". */
+/* Records of three versions, and what isn't one: docs/RECORDS.md, "Records". */
 #include "playing.h"
 
 #define CONFIG "{\"greatest\":1000,\"nodes\":[{\"id\":\"n1\",\"slots\":4},{\"id\":\"n2\",\"slots\":4}]}"

@@ -1,4 +1,4 @@
-/* An orchestrator's record, opened: docs/FORMATS.md, "Records". */
+/* An orchestrator's record, opened: docs/RECORDS.md, "Records". */
 #include "playing.h"
 
 #define CONFIG "{\"greatest\":1000,\"nodes\":[{\"id\":\"n1\",\"slots\":4},{\"slots\":0,\"id\":\"n2\"}]}"

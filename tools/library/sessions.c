@@ -1,4 +1,4 @@
-/* What becomes of an orchestrator's store where a session begins: docs/FORMATS.md, "Records". */
+/* What becomes of an orchestrator's store where a session begins: docs/RECORDS.md, "Records". */
 #include "library.h"
 
 bytes nodes_of(const char *config) {

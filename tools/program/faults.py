@@ -1,4 +1,4 @@
-"""Bytes that begin with no frame, each with the kind and the place of its fault by docs/FORMATS.md: what `show`, `answer`,
+"""Bytes that begin with no frame, each with the kind and the place of its fault by docs/FRAMES.md: what `show`, `answer`,
 `controller` and `node` say, and do before."""
 from .frames import block, counted, create, delete, flag, framed, mount, number, publish, reply, stage, text, unstage
 from .running import Case, ended

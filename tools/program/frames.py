@@ -1,4 +1,4 @@
-"""Frames as bytes, written from docs/FORMATS.md alone."""
+"""Frames as bytes, written from docs/FRAMES.md alone."""
 
 KINDS = {
     "CreateVolume": 1,

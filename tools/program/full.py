@@ -1,7 +1,10 @@
-"""The program at full size: stores of 4,096 volumes, of which one is at 64 nodes, or at 16 targets; and a stream of more calls than that."""
+"""The program at full size: stores of 4,096 volumes, of which one is at 64 nodes, or at 16 targets, or at 16 targets of each of 64 nodes; and a stream of
+more calls than that."""
 from . import stores
-from .frames import attach, block, create, delete, publish, reply, stage
+from .frames import attach, block, create, delete, mount, publish, reply, stage
+from .orchestrators import record_line, volume_line
 from .running import Case, ended, of_rows, wanted
+from .talks import about, first, line
 
 VOLUMES, NODES, TARGETS = 4096, 64, 16
 CONFIG = b'{"greatest":1000,"nodes":[%s]}' % b",".join(b'{"id":"n%02d","slots":4096}' % at for at in range(NODES))
@@ -89,6 +92,101 @@ OF_NODE = [
 NEXT_OF_NODE = [(stage(NEXT, 9999), reply("NodeStageVolume", NEXT))]
 
 
+# ---- an orchestrator of the longest texts, whose first volume is to be used at the last target of the last node. The others are used at one target of one
+# node each, but for the last
+
+IDS = [f"{at:02}".ljust(255, "n") for at in range(NODES)]
+PATHS = [f"/{at:02}".ljust(255, "t") for at in range(TARGETS)]
+LAST = IDS[-1], PATHS[-1]
+LONGEST = "v" * 128
+WAYS = {mount("f" * 128, 5): {"access": "mount", "fs": "f" * 128, "mode": 5}, block(5): {"access": "block", "mode": 5}}
+MOUNT, BLOCK = WAYS
+
+
+def use_of(name, way):
+    return {"use": {"capability": WAYS[way], "name": name, "node": LAST[0], "readonly": False, "target": LAST[1]}}
+
+
+def known(place, name, way, at, goal=(stores.NO_GOAL, None), tries=0):
+    """A volume as a part, and in the line; it is attached at these nodes, and published at these targets, or left there where there are none."""
+    sure = lambda published: "yes" if published else "no"
+    there = [stores.at_node(node, way, "yes", sure(published), published) for node, published in at]
+    told = [
+        {"attached": "yes", "capability": WAYS[way], "node": node, "readonly": False, "staged": sure(published)}
+        | {"published": [{"known": it, "target": target} for target, it in published]}
+        for node, published in at
+    ]
+    ways = 8 if place == 1 else 1
+    part = stores.known(place, name, goal[0], tries, 1, 0, [way] * ways, place, "yes", there)
+    return part, volume_line(at=told, capabilities=[WAYS[way]] * ways, goal=goal[1], id=place, name=name, required=1, tries=tries)
+
+
+def name_of(place):
+    return LONGEST if place == 1 else f"v{9999 - place}"
+
+
+def orchestrator(session, is_served, is_lost=False):
+    """Its parts, and the line of its record: before it was served and behind, and once the last node was lost then."""
+    nodes = IDS[:-1] if is_lost else IDS
+    everywhere = [(node, [(path, "maybe" if (node, path) == LAST else "yes") for path in PATHS]) for node in IDS]
+    at = {1: everywhere, VOLUMES: [(LAST[0], [(LAST[1], "yes")])] if is_served else []}
+    goal, tries = (stores.use(*LAST, MOUNT), use_of(LONGEST, MOUNT)), 1 + is_served
+    if is_lost:
+        goal, tries = (stores.stop(*LAST), {"stop": {"name": LONGEST, "node": LAST[0], "target": LAST[1]}}), 0
+    parts, told = [stores.orchestrator_head(session, nodes)], []
+    for place in range(1, VOLUMES + 1):
+        there = at.get(place, [(IDS[place % NODES], [(PATHS[place % TARGETS], "yes")])])
+        there = [(node, published if node in nodes else []) for node, published in there]
+        wants = (goal, tries) if place == 1 else ()
+        part, volume = known(place, name_of(place), BLOCK if place > 1 else MOUNT, there, *wants)
+        parts.append(part)
+        told.append(volume)
+    return parts, record_line(session, *sorted(told, key=lambda it: it["name"]), nodes=nodes)
+
+
+def sent(kind, call, frame):
+    plugin = "controller" if kind == "ControllerPublishVolume" else f"node:{LAST[0]}"
+    return {"call": call, "frame": frame.hex(), "kind": kind, "plugin": plugin, "session": 2}
+
+
+def of_orchestrator():
+    """The last volume is used at the last target of the last node, another one isn't made, and the first one's call is sent once more."""
+    name, node, target = name_of(VOLUMES), *LAST
+    goal = use_of(name, BLOCK)
+    calls = [
+        ("ControllerPublishVolume", attach((2, 1), VOLUMES, node, BLOCK)),
+        ("NodeStageVolume", stage((2, 2), VOLUMES, BLOCK, node)),
+        ("NodePublishVolume", publish((2, 3), VOLUMES, target, BLOCK, node=node)),
+    ]
+    given, outcome = line(goal), "sent"
+    for call, (kind, frame) in enumerate(calls, 1):
+        yield given, about(name, goal, outcome, sent(kind, call, frame))
+        given, outcome = line({"reply": reply(kind, (2, call), node=node).hex()}), "taken"
+    yield given, about(name, None, outcome)
+    yield line({"create": {"capabilities": [WAYS[BLOCK]], "limit": 0, "name": "w", "required": 1}}), about("w", None, "refused 15 Full")
+    again = sent("NodePublishVolume", 4, publish((2, 4), 1, target, MOUNT, node=node))
+    yield line({"timeout": LONGEST}), about(LONGEST, use_of(LONGEST, MOUNT), "sent", again)
+
+
+def of_orchestrators_store(box):
+    """A store is told, opened and served; and a node is lost, by which every row is another one."""
+    config = b'{"greatest":1000,"nodes":[%s]}' % b",".join(b'{"id":"%s","slots":1}' % it.encode() for it in IDS)
+    box.put("config", config)
+    parts, told = orchestrator(1, False)
+    wanted("the bytes of the longest row", len(parts[1][1]), 290_044)
+    wanted("the bytes of the head", len(parts[0][1]), 16_395)
+    stores.make(box.at("db"), parts)
+    box.wants(ended(0, out=told), "record", "db", told="record before")
+    given, right = (b"".join(side) for side in zip(*of_orchestrator()))
+    box.wants(ended(0, out=first(2, LONGEST) + right), "orchestrator", "db", "config", given=given, told="a session")
+    parts, told = orchestrator(2, True)
+    wanted("the parts once it was served", stores.parts_of(box.at("db")) == parts, True)
+    box.wants(ended(0, out=told), "record", "db", told="record behind")
+    lost = line({"node": LAST[0], "outcome": "lost", "session": 4})
+    box.wants(ended(0, out=first(3, LONGEST) + lost), "orchestrator", "db", "config", given=line({"lose": LAST[0]}), told="a loss")
+    wanted("the parts once a node was lost", stores.parts_of(box.at("db")) == orchestrator(4, True, True)[0], True)
+
+
 # ---- cases
 
 PLUGINS = {
@@ -128,3 +226,4 @@ def cases():
     for name in PLUGINS:
         yield from of_rows(f"full size: {name}", [(f"a store of version {version}", of_store, name, version) for version in (1, 2, 3)])
     yield Case("full size: answer", of_stream)
+    yield Case("full size: orchestrator", of_orchestrators_store)

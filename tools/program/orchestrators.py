@@ -202,7 +202,7 @@ def found(box):
 
 
 def parts_as_told(box):
-    """The parts are those of docs/FORMATS.md."""
+    """The parts are those of docs/RECORDS.md."""
     box.put("config", CONFIG)
     box.run("orchestrator", "db", "config", given=line(Talk(1).create))
     wanted("the parts", stores.parts_of(box.at("db")), [stores.orchestrator_head(1), wanted_row(1, "v")])
@@ -263,6 +263,7 @@ NO_REQUESTS = [  # a line without its newline, and its fault
     (b'{"lose":"n1","timeout":"v"}', "BadLine"),
     (b'{"reply":""}', "BadFrame"),
     (b'{"reply":1}', "BadFrame"),
+    (b'{"reply":"%s"}' % (b"7f" * 32_762), "BadFrame"),  # as long as a line may be
     (b'{"reply":"%s"}' % FRAME.hex().encode()[:-1], "BadFrame"),
     (b'{"reply":"%s"}' % FRAME.hex().encode()[:-2], "BadFrame"),
     (b'{"reply":"%s00"}' % FRAME.hex().encode(), "BadFrame"),

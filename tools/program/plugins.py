@@ -65,6 +65,20 @@ def replies(box, name):
     box.wants(ended(0, out=ENDS[name]), "record", "db")
 
 
+def worked(box):
+    """A controller is run twice on a new store, in literal bytes, and a node refuses that store."""
+    box.put("config", PLAIN)
+    given = "00000028 01 01 0000000000000001 0000000000000001 00 0176 000000000000000a 0000000000000000 01 00 01"
+    given = bytes.fromhex(given + "0000001b 01 02 0000000000000001 0000000000000002 00 0000000000000001")
+    made = "0000001d 01 81 0000000000000001 0000000000000001 00 00 0000000000000001 00"
+    stale = "00000022 01 81 0000000000000001 0000000000000001 00 0a 0000000000000000 05 7374616c65"
+    deleted = "0000001d 01 82 0000000000000001 0000000000000002 00 00 0000000000000000 00"
+    box.wants(ended(0, out=bytes.fromhex(made + deleted)), "controller", "db", "config", given=given)
+    box.wants(ended(0, out=bytes.fromhex(stale + deleted)), "controller", "db", "config", given=given)
+    box.wants(ended(1, "record fault at 0"), "node", "db", "n1", given=given)
+    box.wants(ended(0, out=bytes.fromhex(stale + deleted)), "controller", "db", "config", given=given)
+
+
 def at_once(box, name):
     """Each reply comes before the next call is sent, and what it tells is committed by then."""
     box.put("config", CONFIG)
@@ -92,7 +106,7 @@ def in_pieces(box, name):
 
 
 def layout(box):
-    """The file is as FORMATS says, to SQLite too, and the parts are those of the page's example."""
+    """The file is as RECORDS says, to SQLite too, and the parts are those of the page's example."""
     box.put("config", PLAIN)
     box.wants(ended(0, out=reply("CreateVolume", (1, 1), 0, 1)), "controller", "db", "config", given=create((1, 1), "v"))
     header = box.get("db")[:100]
@@ -397,6 +411,7 @@ def cases():
             ("a store that SQLite made", found, name, parts, line),
         ]
         yield from of_rows(name, rows)
+    yield Case("controller: the worked runs", worked)
     yield Case("controller: the layout of its file", layout)
     yield Case("both: a store of another plugin or node", of_another)
     yield Case("node: one that joins with a session", joined)

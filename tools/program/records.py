@@ -158,6 +158,20 @@ def no_store(box, making):
 
 WITHOUT_KEY = "CREATE TABLE parts (key BLOB NOT NULL, value BLOB NOT NULL)"
 PARTS = stores.TABLE
+OTHERWISE = [  # tables that are declared otherwise
+    ("other columns", "name TEXT, size INTEGER"),
+    ("no key", "key BLOB NOT NULL, value BLOB NOT NULL"),
+    ("a key that is unique alone", "key BLOB NOT NULL UNIQUE, value BLOB NOT NULL"),
+    ("the value as its key", "key BLOB NOT NULL, value BLOB NOT NULL PRIMARY KEY"),
+    ("a key that may be NULL", "key BLOB PRIMARY KEY, value BLOB NOT NULL"),
+    ("a text as its key", "key TEXT NOT NULL PRIMARY KEY, value BLOB NOT NULL"),
+    ("a number as its key", "key INTEGER PRIMARY KEY, value BLOB NOT NULL"),
+    ("another order", "key BLOB COLLATE NOCASE NOT NULL PRIMARY KEY, value BLOB NOT NULL"),
+    ("a column more", "key BLOB NOT NULL PRIMARY KEY, value BLOB NOT NULL, more BLOB"),
+    ("a value that may be NULL", "key BLOB NOT NULL PRIMARY KEY, value BLOB"),
+    ("a value that is unique", "key BLOB NOT NULL PRIMARY KEY, value BLOB NOT NULL UNIQUE"),
+    ("a default", "key BLOB NOT NULL PRIMARY KEY, value BLOB NOT NULL DEFAULT x'00'"),
+]
 NO_STORES = [
     ("one table of another name", of_another("CREATE TABLE volumes (key BLOB NOT NULL PRIMARY KEY, value BLOB NOT NULL)")),
     ("a name that begins so", of_another("CREATE TABLE parts2 (key BLOB NOT NULL PRIMARY KEY, value BLOB NOT NULL)")),
@@ -169,6 +183,7 @@ NO_STORES = [
     ("a table without a key, and an index", of_another(WITHOUT_KEY, "CREATE INDEX other ON parts (key)", parts=stores.CONTROLLER)),
     ("a table without a key, and a unique index", of_another(WITHOUT_KEY, "CREATE UNIQUE INDEX other ON parts (key)", parts=stores.CONTROLLER)),
     ("a view alone", of_another("CREATE VIEW parts AS SELECT 1 AS key, 2 AS value")),
+    *((f"a table with {name}", of_another(f"CREATE TABLE parts ({columns})")) for name, columns in OTHERWISE),
     ("the front of a header", cut(99)),
     ("another magic", edited(0, b"sqlite")),
     ("another format", edited(18, b"\3\3")),

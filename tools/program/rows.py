@@ -1,4 +1,4 @@
-"""The rows of an orchestrator's record, by the table in docs/FORMATS.md, "Records": `record` tells those that are one, and says where one isn't."""
+"""The rows of an orchestrator's record, by the table in docs/RECORDS.md, "Records": `record` tells those that are one, and says where one isn't."""
 from . import stores
 from .configs import NODE, with_nodes
 from .frames import block, mount

@@ -149,6 +149,7 @@ def stop(node, target="/a"):
 MADE = [(MAKES_V, "sent 1"), *delivered(1, 2)]
 USED = [*MADE, (use("n1"), "sent 3"), *delivered(3, 8, (4, 6))]
 AT_N1 = {"id": 1, "mode": 1, "node": "n1", "readonly": False}
+MORE = [f"m{at}" for at in range(126)]  # nodes beside n1 and n2
 CHANGED = [
     ("a list without a used node", [
         *USED, ({"restart_orchestrator": ["n2"]}, "refused 17 NodeInUse"), ({"restart_orchestrator": []}, "refused 17 NodeInUse"),
@@ -180,6 +181,11 @@ CHANGED = [
     ("a node that is there, and isn't listed", [
         ({"restart_orchestrator": ["n2"]}, "restarted"), ({"restart_node": "n1"}, "restarted"), ({"lose": "n1"}, "lost"), ({"lose": "n1"}, "no such node"),
     ], {"session": 3}),
+    ("more nodes than any list has, all of them lost", [
+        *(({"join": node}, "joined") for node in MORE), ({"join": "n2"}, "node there"), ({"restart_orchestrator": MORE[:64]}, "restarted"),
+        ({"restart_controller": config(*MORE[62:])}, "restarted"), *(({"lose": node}, "lost") for node in ["n1", "n2", *MORE]),
+        ({"lose": "n1"}, "no such node"),
+    ], {"session": 1 + 1 + 128}),
     ("a name that is free again", [
         *MADE, ({"delete": "v"}, "sent 3"), *delivered(3, 4), (MAKES_V, "refused 1 NameUsed"), ({"restart": "orchestrator"}, "restarted"),
         ({"delete": "v"}, "refused 2 NoSuchVolume"), (MAKES_V, "sent 5"), ({"deliver": 1}, "answered 6"), ({"deliver": 6}, "ignored"),

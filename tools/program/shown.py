@@ -1,4 +1,4 @@
-"""`show`: each frame's line, held against `shown.lines`, which was written by hand from docs/FORMATS.md."""
+"""`show`: each frame's line, held against `shown.lines`, which was written by hand from docs/FRAMES.md."""
 import os
 
 from .frames import (

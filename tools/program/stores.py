@@ -1,4 +1,4 @@
-"""Stores as SQLite files and records as parts, written from docs/FORMATS.md alone."""
+"""Stores as SQLite files and records as parts, written from docs/RECORDS.md alone."""
 import contextlib
 import sqlite3
 

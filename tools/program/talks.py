@@ -1,4 +1,4 @@
-"""Lines to an orchestrator and from it, written from docs/FORMATS.md alone: a talk is what is said to it in one session, and what it says."""
+"""Lines to an orchestrator and from it, written from docs/LINES.md alone: a talk is what is said to it in one session, and what it says."""
 import json
 
 from .frames import attach, create, delete, detach, publish, reply, stage, unpublish, unstage

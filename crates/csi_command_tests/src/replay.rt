@@ -1,25 +1,21 @@
 //! Tests of what `csi-replay` does with the bytes of a file and reads of a schedule. What is to come of them is written out in
-//! tables, by the formats.
+//! tables, by the formats. Each test bears the refusal of any allocation, after which it asks again.
 mod answers;
 mod configs;
+mod devices;
 mod drawing;
 mod endings;
 mod events;
-mod examples;
 mod files;
 mod flushes;
-mod full;
-mod listed;
-mod long;
 mod pictures;
 mod pieces;
 mod requests;
 mod running;
 mod runs;
 mod schedules;
-mod scripts;
-mod settled;
 mod shown;
+mod streams;
 
 use csi_endings::Ending;
 
@@ -64,3 +60,9 @@ const NO_NODE: &str =
 
 const NODE_PUBLISH: &str =
     "00000024 01 07 0000000000000001 0000000000000004 01 026e31 0000000000000001 022f61 0001 01";
+
+// A schedule without events, and its report, of 114 bytes.
+const NO_EVENT: &str = "{\"config\":{\"greatest\":1000,\"nodes\":[]},\"events\":[]}";
+
+const NO_EVENT_REPORT: &str =
+    "{\"attached\":[],\"events\":[],\"frames\":0,\"known\":[],\"published\":[],\"safe\":true,\"session\":1,\"staged\":[],\"volumes\":[]}\n";

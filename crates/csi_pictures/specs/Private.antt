@@ -1,5 +1,1 @@
-pub mod Ways
-pub mod Links
-pub mod Columns
-pub mod Begun
-pub mod Losses
+pub mod Escaping

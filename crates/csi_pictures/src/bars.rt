@@ -1,144 +1,16 @@
 //! What is attached, staged and published, as bars on the lanes of the plugins: each from the call that was carried out to the one
 //! that undid it, or to the loss of its node.
-ghost use Rattle.std.specs.Prelude.{◌≡◌, ◌+◌, ◌++◌, ◌<◌, ◌≤◌, ◌==◌, ◌&&◌, ◌||◌, ℕ, [], false, IfOk, OnOk, length, get_or, slice_get, string_bytes, suc};
-ghost use Rattle.std.specs.List.{flat_map};
-ghost use Rattle.csi_types.specs.Model.Same.{same_text};
-ghost use Rattle.csi_pictures.specs.Public.Scene.{run_shown};
-ghost use Rattle.csi_pictures.specs.Public.Bars.{undoes_call, ends as ends_by, loss_row, bar_end, is_same_thing as same_thing};
-ghost use Rattle.csi_pictures.specs.Public.Bars.{lasting_of as lasting_by, with_lasting, with_both, bars_to, bar_class, bar as bar_drawn};
-ghost use Rattle.csi_pictures.specs.Private.Begun.{asks_again as asks_again_by, IsOfChain, AreMarked, IsDelivery, IsBegunKept};
-ghost use Rattle.csi_pictures.specs.Private.Links.{AreLinks};
-ghost use Rattle.csi_pictures.specs.Private.Losses.{AreLosses};
 
-use crate::columns::{Columns, blank_columns, take_column};
-use crate::links::{link_at, links_of};
-use crate::losses::{limit_of, losses_of};
-use crate::run::Run;
-use crate::scene::{lane_of, succeeded};
-use csi_types::{Body, Call, NodeId, Target};
-use csi_world::Event;
+use crate::run::{Row, Run};
+use crate::scene::{lane_of, node_lane, succeeded};
+use crate::things::{Lasting, Thing, begun_by, is_same, undone_by};
+use csi_types::{Body, VolumeId};
+use csi_world::{Event, Outcome, World};
 use std::alloc::{AllocError, Global};
 
-fn is_same_node(a: &NodeId, b: &NodeId) -> bool
-    ensures { result ≡ same_text a.now b.now }
-{
-    a == b
-}
-
-fn is_same_target(a: &Target, b: &Target) -> bool
-    ensures { result ≡ same_text a.now b.now }
-{
-    a == b
-}
-
-// Whether a call to the same plugin undoes what the first one does.
-fn undoes(begun: &Call, call: &Call) -> bool
-    ensures { result ≡ undoes_call begun.now call.now }
-{
-    match begun {
-        Call::ControllerPublishVolume { id, node, .. } => match call {
-            Call::ControllerUnpublishVolume {
-                id: volume,
-                node: from,
-            } => *volume == *id && is_same_node(from, node),
-            _ => false,
-        },
-        Call::NodeStageVolume { id, .. } => match call {
-            Call::NodeUnstageVolume { id: volume } => *volume == *id,
-            _ => false,
-        },
-        Call::NodePublishVolume { id, target, .. } => match call {
-            Call::NodeUnpublishVolume {
-                id: volume,
-                target: at,
-            } => *volume == *id && is_same_target(at, target),
-            _ => false,
-        },
-        _ => false,
-    }
-}
-
-// Whether an event ends the bar of a call: it is a call to the same plugin that undoes what that call does, and was carried out.
-fn ends(run: &Run<'_>, lane: usize, begun: &Call, event: &Event, place: usize) -> bool
-    ensures { result ≡ ends_by (run_shown run.now) lane begun.now event.now (slice_get (run_shown run.now).outcomes place) }
-{
-    let Some(outcome) = run.world.outcomes().get(place) else {
-        return false;
-    };
-    if !succeeded(run.world, *outcome) {
-        return false;
-    }
-    let Event::Deliver(number) = event else {
-        return false;
-    };
-    let Some(frame) = run.world.frame(*number) else {
-        return false;
-    };
-    match frame.body() {
-        Body::Call(call) => lane_of(&run.nodes, frame.party()) == lane && undoes(begun, call),
-        Body::Reply(..) => false,
-    }
-}
-
-// Whether two calls to one plugin ask for the same thing.
-fn is_same_thing(begun: &Call, call: &Call) -> bool
-    ensures { result ≡ same_thing begun.now call.now }
-{
-    match begun {
-        Call::ControllerPublishVolume { id, node, .. } => match call {
-            Call::ControllerPublishVolume {
-                id: volume,
-                node: at,
-                ..
-            } => *volume == *id && is_same_node(at, node),
-            _ => false,
-        },
-        Call::NodeStageVolume { id, .. } => match call {
-            Call::NodeStageVolume { id: volume, .. } => *volume == *id,
-            _ => false,
-        },
-        Call::NodePublishVolume { id, target, .. } => match call {
-            Call::NodePublishVolume {
-                id: volume,
-                target: at,
-                ..
-            } => *volume == *id && is_same_target(at, target),
-            _ => false,
-        },
-        _ => false,
-    }
-}
-
-// Whether an event delivers a call to the plugin of a lane for the same thing as a call that went there.
-fn asks_again(run: &Run<'_>, lane: usize, begun: &Call, event: &Event) -> bool
-    ensures { result ≡ asks_again_by (run_shown run.now) lane begun.now event.now }
-{
-    let Event::Deliver(number) = event else {
-        return false;
-    };
-    let Some(frame) = run.world.frame(*number) else {
-        return false;
-    };
-    match frame.body() {
-        Body::Call(call) => {
-            lane == lane_of(&run.nodes, frame.party()) && is_same_thing(begun, call)
-        }
-        Body::Reply(..) => false,
-    }
-}
-
-/// What lasts.
+/// A bar: what lasts, from the row of one event to that of another, in a column of a lane; and the number of the call that began it.
 #[derive(Clone, Copy)]
-pub(crate) enum Lasting {
-    Attached,
-    Staged,
-    Published,
-}
-
-/// A bar: what lasts, from the row of one event to that of another, in a column of a lane; and the number of the call that began
-/// it.
-#[derive(Clone, Copy)]
-pub(crate) struct Bar {
+pub struct Bar {
     what: Lasting,
     number: u64,
     lane: usize,
@@ -147,197 +19,212 @@ pub(crate) struct Bar {
     column: usize,
 }
 
-// What a call does that lasts.
-fn lasting_of(call: &Call) -> Option<Lasting>
-    ensures { result ≡ lasting_by call.now }
-{
-    match call {
-        Call::ControllerPublishVolume { .. } => Some(Lasting::Attached),
-        Call::NodeStageVolume { .. } => Some(Lasting::Staged),
-        Call::NodePublishVolume { .. } => Some(Lasting::Published),
-        _ => None,
-    }
-}
-
-// Marks a place, unless the mark is none.
-fn mark_at(marks: &mut [bool], at: usize, mark: bool)
-    requires { at < length marks.old }
-    ensures size { length marks.new ≡ length marks.old }
-    ensures marked { (place : ℕ) → get_or marks.new place false ≡ (get_or marks.old place false || (place == at && mark)) }
-{
-    if !mark {
-        return;
-    }
-    marks[at] = true;
-}
-
-// Follows the bar that a call begins in a place down to the row where it ends, at the latest that behind a limit where its node is
-// lost or behind the last, and marks the events on its way that ask for the same thing.
-fn follow(
-    marks: &mut [bool],
-    run: &Run<'_>,
-    events: &[Event],
-    links: &[usize],
+// A bar that is open: its place, and its volume, which is compared first, as many may be open in a lane.
+#[derive(Clone, Copy)]
+struct Open {
     place: usize,
-    lane: usize,
-    begun: &Call,
-    limit: usize,
-) -> usize
-    requires links { AreLinks (run_shown run.now).frames events.now links.now }
-    requires size { length marks.old ≡ length events.now }
-    requires place { place < length events.now }
-    requires chain { IsOfChain (run_shown run.now) events.now begun.now place }
-    requires limit { loss_row (run_shown run.now) lane (place + 1) 0 events.now ≡ suc limit }
-    requires within { limit ≤ length events.now }
-    requires behind { place < limit }
-    ensures end { result ≡ bar_end (run_shown run.now) lane begun.now (place + 1) events.now }
-    ensures size { length marks.new ≡ length marks.old }
-    ensures marked { AreMarked (run_shown run.now) events.now lane begun.now place result marks.old marks.new }
-{
-    let mut at = link_at(links, place);
-    while at < limit {
-        let event = &events[at];
-        if ends(run, lane, begun, event, at) {
-            return at + 1;
-        }
-        mark_at(marks, at, asks_again(run, lane, begun, event));
-        at = link_at(links, at);
-    }
-    limit + 1
+    volume: VolumeId,
 }
 
-// What is kept while bars begin: the bars, the places of calls for what is there already, and the columns of the lanes.
+// The columns of a lane: in each the bar that is open there, if one is.
+#[derive(Drop)]
+struct Columns {
+    open: Vec<Option<Open>>,
+}
+
+// The bars that begun so far, each of which goes below the last row until it ends, and the columns of each lane.
 #[derive(Drop)]
 struct Begun {
     bars: Vec<Bar>,
-    marks: Vec<bool>,
     lanes: Vec<Columns>,
 }
 
-// Puts the bar that a call begins behind the others.
-fn add_call(
+// The columns of so many lanes, in which nothing is open.
+fn blank(alloc: Global, lanes: usize) -> Result<Vec<Columns>, AllocError> {
+    let mut columns = Vec::new(alloc);
+    for _lane in 0..lanes {
+        columns.push(Columns {
+            open: Vec::new(alloc),
+        })?;
+    }
+    Ok(columns)
+}
+
+// Whether the call of this number brings a thing about.
+fn brings(world: &World, number: u64, thing: &Thing<'_>) -> bool {
+    let Some(frame) = world.frame(number) else {
+        return false;
+    };
+    let Body::Call(call) = frame.body() else {
+        return false;
+    };
+    match begun_by(call) {
+        Some(begun) => is_same(&begun, thing),
+        None => false,
+    }
+}
+
+// Whether the bar that is open in a column is a thing's.
+fn is_of(world: &World, bars: &[Bar], open: &Option<Open>, thing: &Thing<'_>) -> bool {
+    let Some(open) = open else {
+        return false;
+    };
+    if open.volume != thing.volume {
+        return false;
+    }
+    match bars.get(open.place) {
+        Some(bar) => brings(world, bar.number, thing),
+        None => false,
+    }
+}
+
+// The column in which a thing's bar is open.
+fn column_of(world: &World, bars: &[Bar], columns: &Columns, thing: &Thing<'_>) -> Option<usize> {
+    for (column, open) in columns.open.iter().enumerate() {
+        if is_of(world, bars, open, thing) {
+            return Some(column);
+        }
+    }
+    None
+}
+
+// The first column in which no bar is open; behind the last where there is none.
+fn first_free(columns: &Columns) -> usize {
+    for (column, open) in columns.open.iter().enumerate() {
+        if open.is_none() {
+            return column;
+        }
+    }
+    columns.open.len()
+}
+
+// Has a bar open in the first column that is free, and gives the column's number.
+fn take_column(columns: &mut Columns, bar: Open) -> Result<usize, AllocError> {
+    let column = first_free(columns);
+    if column < columns.open.len() {
+        columns.open[column] = Some(bar);
+    } else {
+        columns.open.push(Some(bar))?;
+    }
+    Ok(column)
+}
+
+// Ends the bar that is open in a column, if one is.
+fn end_in(bars: &mut [Bar], columns: &mut Columns, column: usize, row: usize) {
+    let Some(open) = columns.open.get_mut(column) else {
+        return;
+    };
+    let Some(open) = open.take() else {
+        return;
+    };
+    if let Some(bar) = bars.get_mut(open.place) {
+        bar.to = row;
+    }
+}
+
+// The call of this number brought a thing about, which is there from a row on: its bar begins, unless one is open.
+fn begin(
     begun: &mut Begun,
     run: &Run<'_>,
-    events: &[Event],
-    links: &[usize],
-    losses: &[usize],
-    place: usize,
     number: u64,
+    thing: &Thing<'_>,
     lane: usize,
-    call: &Call,
-) -> Result<(), AllocError>
-    requires kept { IsBegunKept (run_shown run.now) events.now place begun.old }
-    requires links { AreLinks (run_shown run.now).frames events.now links.now }
-    requires losses { AreLosses events.now losses.now }
-    requires event { IsDelivery (run_shown run.now) events.now place number lane call.now }
-    ensures bars { OnOk result (begun.new.bars.items ≡ with_lasting (run_shown run.now) events.now begun.old.bars.items (place + 1) number lane call.now
-        (lasting_by call.now)) }
-    ensures kept { OnOk result (IsBegunKept (run_shown run.now) events.now (place + 1) begun.new) }
-{
-    let Some(what) = lasting_of(call) else {
-        return Ok(());
-    };
-    if begun.marks[place] {
+    row: usize,
+) -> Result<(), AllocError> {
+    if lane >= begun.lanes.len() {
         return Ok(());
     }
-    let row = place + 1;
-    let limit = limit_of(run, events, losses, place, lane);
-    let marks = begun.marks.as_mut_slice();
-    let to = follow(marks, run, events, links, place, lane, call, limit);
-    let column = take_column(&mut begun.lanes[lane], row, to)?;
+    if column_of(run.world, &begun.bars, &begun.lanes[lane], thing).is_some() {
+        return Ok(());
+    }
+    let place = begun.bars.len();
+    let volume = thing.volume;
+    let column = take_column(&mut begun.lanes[lane], Open { place, volume })?;
     begun.bars.push(Bar {
-        what,
+        what: thing.what,
         number,
         lane,
         from: row,
-        to,
+        to: run.rows.len() + 1,
         column,
     })?;
     Ok(())
 }
 
-// Puts the bar that the event in this place begins behind the others.
-fn add_at(
-    begun: &mut Begun,
-    run: &Run<'_>,
-    events: &[Event],
-    links: &[usize],
-    losses: &[usize],
-    place: usize,
-) -> Result<(), AllocError>
-    requires kept { IsBegunKept (run_shown run.now) events.now place begun.old }
-    requires links { AreLinks (run_shown run.now).frames events.now links.now }
-    requires losses { AreLosses events.now losses.now }
-    ensures bars { OnOk result (begun.new.bars.items ≡ with_both (run_shown run.now) events.now begun.old.bars.items (place + 1) (slice_get events.now place)
-        (slice_get (run_shown run.now).outcomes place)) }
-    ensures kept { OnOk result (IsBegunKept (run_shown run.now) events.now (place + 1) begun.new) }
-{
-    let Some(event) = events.get(place) else {
-        return Ok(());
+// It is undone.
+fn end(begun: &mut Begun, run: &Run<'_>, thing: &Thing<'_>, lane: usize, row: usize) {
+    let Some(columns) = begun.lanes.get_mut(lane) else {
+        return;
     };
-    let Some(outcome) = run.world.outcomes().get(place) else {
-        return Ok(());
-    };
-    let Event::Deliver(number) = event else {
-        return Ok(());
-    };
-    if !succeeded(run.world, *outcome) {
-        return Ok(());
+    if let Some(column) = column_of(run.world, &begun.bars, columns, thing) {
+        end_in(&mut begun.bars, columns, column, row);
     }
-    let Some(frame) = run.world.frame(*number) else {
+}
+
+// All bars of a lane end, whose node is lost.
+fn end_all(begun: &mut Begun, lane: usize, row: usize) {
+    let Some(columns) = begun.lanes.get_mut(lane) else {
+        return;
+    };
+    for column in 0..columns.open.len() {
+        end_in(&mut begun.bars, columns, column, row);
+    }
+}
+
+// What a call did that was carried out begins, or ends.
+fn carry_out(begun: &mut Begun, run: &Run<'_>, number: u64, row: usize) -> Result<(), AllocError> {
+    let Some(frame) = run.world.frame(number) else {
         return Ok(());
     };
-    match frame.body() {
-        Body::Call(call) => {
-            let lane = lane_of(&run.nodes, frame.party());
-            add_call(
-                begun, run, events, links, losses, place, *number, lane, call,
-            )
+    let Body::Call(call) = frame.body() else {
+        return Ok(());
+    };
+    let lane = lane_of(&run.nodes, frame.party());
+    if let Some(thing) = undone_by(call) {
+        end(begun, run, &thing, lane, row);
+    }
+    match begun_by(call) {
+        Some(thing) => begin(begun, run, number, &thing, lane, row),
+        None => Ok(()),
+    }
+}
+
+// What an event began, or ended.
+fn follow(begun: &mut Begun, run: &Run<'_>, row: &Row<'_>) -> Result<(), AllocError> {
+    match row.event {
+        Event::Deliver(number) => {
+            if succeeded(run.world, row.outcome) {
+                carry_out(begun, run, *number, row.number)
+            } else {
+                Ok(())
+            }
         }
-        Body::Reply(..) => Ok(()),
+        Event::Lose(node) => {
+            if matches!(row.outcome, Outcome::Lost) {
+                end_all(begun, node_lane(&run.nodes, node), row.number);
+            }
+            Ok(())
+        }
+        _ => Ok(()),
     }
 }
 
-// Nothing is begun yet.
-fn none_begun(alloc: Global, run: &Run<'_>, events: &[Event]) -> Result<Begun, AllocError>
-    ensures bars { IfOk result (λ begun. begun.bars.items ≡ []) }
-    ensures kept { IfOk result (IsBegunKept (run_shown run.now) events.now 0) }
-{
-    let marks = vec![in alloc; false; events.len()]?;
-    let lanes = blank_columns(alloc, run.nodes.len() + 4)?;
-    Ok(Begun {
+// The bars of a run, in the order in which they begin.
+fn bars_of(alloc: Global, run: &Run<'_>) -> Result<Vec<Bar>, AllocError> {
+    let lanes = blank(alloc, run.nodes.len() + 3)?;
+    let mut begun = Begun {
         bars: Vec::new(alloc),
-        marks,
         lanes,
-    })
-}
-
-/// The bars of a run, in the order in which they begin.
-pub(crate) fn bars_of(
-    alloc: Global,
-    run: &Run<'_>,
-    events: &[Event],
-) -> Result<Vec<Bar>, AllocError>
-    ensures { IfOk result (λ bars. bars.items ≡ bars_to (run_shown run.now) events.now (length events.now)) }
-{
-    let links = links_of(alloc, run.world, events)?;
-    let losses = losses_of(alloc, events)?;
-    let mut begun = none_begun(alloc, run, events)?;
-    for place in 0..events.len() {
-        add_at(&mut begun, run, events, &links, &losses, place)?;
+    };
+    for row in &run.rows {
+        follow(&mut begun, run, row)?;
     }
-    let Begun {
-        bars,
-        marks: _,
-        lanes: _,
-    } = begun;
+    let Begun { bars, lanes: _ } = begun;
     Ok(bars)
 }
 
 // How a bar is drawn.
-fn class_of(what: Lasting) -> &'static str
-    ensures { result.now ≡ bar_class what }
-{
+fn class_of(what: Lasting) -> &'static str {
     match what {
         Lasting::Attached => "attached",
         Lasting::Staged => "staged",
@@ -346,9 +233,7 @@ fn class_of(what: Lasting) -> &'static str
 }
 
 // Appends a bar.
-fn put_bar(out: &mut String, bar: Bar) -> Result<(), AllocError>
-    ensures { OnOk result (string_bytes out.new ≡ string_bytes out.old ++ bar_drawn bar) }
-{
+fn put_bar(out: &mut String, bar: Bar) -> Result<(), AllocError> {
     let Bar {
         what,
         lane,
@@ -364,11 +249,10 @@ fn put_bar(out: &mut String, bar: Bar) -> Result<(), AllocError>
     )
 }
 
-/// Appends the bars.
-pub(crate) fn put_bars(out: &mut String, bars: &[Bar]) -> Result<(), AllocError>
-    ensures { OnOk result (string_bytes out.new ≡ string_bytes out.old ++ flat_map bar_drawn bars.now) }
-{
-    for bar in bars {
+/// Appends the bars of a run.
+pub fn put_bars(alloc: Global, out: &mut String, run: &Run<'_>) -> Result<(), AllocError> {
+    let bars = bars_of(alloc, run)?;
+    for bar in &bars {
         put_bar(out, *bar)?;
     }
     Ok(())

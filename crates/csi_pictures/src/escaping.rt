@@ -1,7 +1,7 @@
 //! Texts within an element of XML.
 ghost use Rattle.std.specs.Prelude.{Some};
 ghost use Rattle.std.specs.Fmt.{WritesOnOk};
-ghost use Rattle.csi_pictures.specs.Public.Escaping.{escaped_byte, escaped};
+ghost use Rattle.csi_pictures.specs.Private.Escaping.{escaped_byte, escaped};
 
 use std::fmt;
 

@@ -3,17 +3,14 @@
 #![tactic(auto)]
 
 mod bars;
-mod columns;
-mod elements;
 mod escaping;
 mod front;
 mod lanes;
-mod links;
-mod losses;
 mod picture;
 mod rows;
 mod run;
 mod scene;
+mod things;
 mod ways;
 
 pub use picture::draw;

@@ -1,47 +1,54 @@
-//! A run to its picture: the world to which events led, and the nodes that have lanes.
-ghost use Rattle.std.specs.Prelude.{◌≡◌, IfOk, OnOk, length, map, slice_get};
-ghost use Rattle.std.specs.List.{list_any};
-ghost use Rattle.csi_types.specs.Model.Same.{same_text};
-ghost use Rattle.csi_pictures.specs.Public.Scene.{with_id, has_joined as joined_by, with_joining, with_joined, nodes_to, run_parts, run_shown};
+//! A run to its picture: its events, the world to which they led, and the nodes that have lanes.
 
 use csi_types::{Config, NodeId, NodeSlots};
 use csi_world::{Event, Outcome, World};
 use std::alloc::{AllocError, Global};
 
-/// A run: the world to which its events led, and the ids of the nodes that were ever there, in the order in which they came, of which so
-/// many were there at first.
+/// An event, what came of it, and the number of its row, from 1.
+#[derive(Clone, Copy)]
+pub struct Row<'a> {
+    pub number: usize,
+    pub event: &'a Event,
+    pub outcome: Outcome,
+}
+
+/// A run: its events, the world to which they led, and the ids of the nodes that were ever there, in the order in which they came, of
+/// which so many were there at first.
 #[derive(Drop)]
 pub struct Run<'a> {
     pub world: &'a World,
+    pub rows: Vec<Row<'a>>,
     pub nodes: Vec<NodeId>,
     pub first: usize,
 }
 
-fn is_same_node(a: &NodeId, b: &NodeId) -> bool
-    ensures { result ≡ same_text a.now b.now }
-{
-    a == b
+// The rows of events, of which this came.
+fn rows_of<'a>(
+    alloc: Global,
+    events: &'a [Event],
+    outcomes: &[Outcome],
+) -> Result<Vec<Row<'a>>, AllocError> {
+    let mut rows = Vec::new(alloc);
+    for (place, event) in events.iter().enumerate() {
+        if let Some(outcome) = outcomes.get(place) {
+            let number = place + 1;
+            let outcome = *outcome;
+            rows.push(Row {
+                number,
+                event,
+                outcome,
+            })?;
+        }
+    }
+    Ok(rows)
 }
 
-/// Whether what came of an event is that a node joined.
-pub fn has_joined(outcome: Outcome) -> bool
-    ensures { result ≡ joined_by outcome }
-{
-    matches!(outcome, Outcome::Joined)
-}
-
-// Whether an id is among others.
-fn has_id(ids: &[NodeId], id: &NodeId) -> bool
-    ensures { result ≡ list_any (same_text id.now) ids.now }
-{
-    ids.iter().any(|other| is_same_node(id, other))
-}
-
-// Appends an id, unless it is among the others.
-fn add_id(ids: &mut Vec<NodeId>, id: &NodeId) -> Result<(), AllocError>
-    ensures { OnOk result (ids.new.items ≡ with_id id.now ids.old.items) }
-{
-    if has_id(ids, id) {
+// Appends the id of a node that joins, unless it is among the others.
+fn add_joined(ids: &mut Vec<NodeId>, row: &Row<'_>) -> Result<(), AllocError> {
+    let (Event::Join(id), Outcome::Joined) = (row.event, row.outcome) else {
+        return Ok(());
+    };
+    if ids.contains(id) {
         return Ok(());
     }
     let id = id.clone()?;
@@ -49,62 +56,12 @@ fn add_id(ids: &mut Vec<NodeId>, id: &NodeId) -> Result<(), AllocError>
     Ok(())
 }
 
-// Appends the id of the node that an event has join, unless it is among the others.
-fn add_joining(ids: &mut Vec<NodeId>, event: &Event) -> Result<(), AllocError>
-    ensures { OnOk result (ids.new.items ≡ with_joining event.now ids.old.items) }
-{
-    match event {
-        Event::Join(id) => add_id(ids, id),
-        _ => Ok(()),
-    }
-}
-
-// Appends the id of the node that joined by the event in this place, if one did.
-fn add_joined(
-    ids: &mut Vec<NodeId>,
-    events: &[Event],
-    outcomes: &[Outcome],
-    place: usize,
-) -> Result<(), AllocError>
-    ensures { OnOk result (ids.new.items ≡ with_joined (slice_get events.now place) (slice_get outcomes.now place) ids.old.items) }
-{
-    let Some(event) = events.get(place) else {
-        return Ok(());
-    };
-    let Some(outcome) = outcomes.get(place) else {
-        return Ok(());
-    };
-    if has_joined(*outcome) {
-        add_joining(ids, event)
-    } else {
-        Ok(())
-    }
-}
-
 // The ids of the nodes of a configuration.
-fn ids_of(alloc: Global, nodes: &[NodeSlots]) -> Result<Vec<NodeId>, AllocError>
-    ensures { IfOk result (λ ids. ids.items ≡ map (λ node. node.id) nodes.now) }
-{
+fn ids_of(alloc: Global, nodes: &[NodeSlots]) -> Result<Vec<NodeId>, AllocError> {
     let mut ids = Vec::new(alloc);
     for node in nodes {
         let id = node.id.clone()?;
         ids.push(id)?;
-    }
-    Ok(ids)
-}
-
-// The nodes that were ever there.
-fn nodes_of(
-    alloc: Global,
-    config: &Config,
-    events: &[Event],
-    outcomes: &[Outcome],
-) -> Result<Vec<NodeId>, AllocError>
-    ensures { IfOk result (λ ids. ids.items ≡ nodes_to config.now events.now outcomes.now (length events.now)) }
-{
-    let mut ids = ids_of(alloc, config.nodes())?;
-    for place in 0..events.len() {
-        add_joined(&mut ids, events, outcomes, place)?;
     }
     Ok(ids)
 }
@@ -114,14 +71,17 @@ pub fn run_of<'a>(
     alloc: Global,
     config: &Config,
     world: &'a World,
-    events: &[Event],
-) -> Result<Run<'a>, AllocError>
-    ensures { IfOk result (λ run. run_shown run ≡ run_parts config.now world.now events.now) }
-{
-    let nodes = nodes_of(alloc, config, events, world.outcomes())?;
+    events: &'a [Event],
+) -> Result<Run<'a>, AllocError> {
+    let rows = rows_of(alloc, events, world.outcomes())?;
+    let mut nodes = ids_of(alloc, config.nodes())?;
+    for row in &rows {
+        add_joined(&mut nodes, row)?;
+    }
     let first = config.nodes().len();
     Ok(Run {
         world,
+        rows,
         nodes,
         first,
     })

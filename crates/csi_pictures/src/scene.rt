@@ -1,36 +1,20 @@
-//! Where things of a run stand in its picture: the lanes of parties, and the rows of events, from 1.
-ghost use Rattle.std.specs.Prelude.{◌≡◌};
-ghost use Rattle.csi_types.specs.Model.Same.{same_text};
-ghost use Rattle.csi_pictures.specs.Public.Scene.{node_lane as node_lane_by, lane_of as lane_by, sender as sender_by, receiver as receiver_by};
-ghost use Rattle.csi_pictures.specs.Public.Scene.{sent_number as number_sent, came as has_come, is_ok as is_status_ok, was_answered_ok, way_of as way_by};
+//! Where things of a run stand in its picture, by lanes; and how a delivery is drawn.
 
 use csi_types::{Body, Frame, NodeId, Party, Status};
-use csi_world::{Event, Outcome, World};
-
-fn is_node(node: &NodeId, id: &NodeId) -> bool
-    ensures { result ≡ same_text node.now id.now }
-{
-    node == id
-}
+use csi_world::{Outcome, World};
 
 /// The lane of the node of this id; behind the last where there is none.
-pub fn node_lane(nodes: &[NodeId], id: &NodeId) -> usize
-    ensures { result ≡ node_lane_by id.now nodes.now }
-{
-    let mut lane = 3;
-    for node in nodes {
-        if is_node(node, id) {
-            return lane;
+pub fn node_lane(nodes: &[NodeId], id: &NodeId) -> usize {
+    for (place, node) in nodes.iter().enumerate() {
+        if node == id {
+            return place + 3;
         }
-        lane += 1;
     }
-    lane
+    nodes.len() + 3
 }
 
 /// The lane of a plugin: 1 is the orchestrator's, 2 the controller's, and from 3 on are the nodes'.
-pub fn lane_of(nodes: &[NodeId], party: &Party) -> usize
-    ensures { result ≡ lane_by nodes.now party.now }
-{
+pub fn lane_of(nodes: &[NodeId], party: &Party) -> usize {
     match party {
         Party::Controller => 2,
         Party::Node(id) => node_lane(nodes, id),
@@ -38,9 +22,7 @@ pub fn lane_of(nodes: &[NodeId], party: &Party) -> usize
 }
 
 /// The lane that a frame is sent from.
-pub fn sender(nodes: &[NodeId], frame: &Frame) -> usize
-    ensures { result ≡ sender_by nodes.now frame.now }
-{
+pub fn sender(nodes: &[NodeId], frame: &Frame) -> usize {
     match frame.body() {
         Body::Call(_) => 1,
         Body::Reply(..) => lane_of(nodes, frame.party()),
@@ -48,9 +30,7 @@ pub fn sender(nodes: &[NodeId], frame: &Frame) -> usize
 }
 
 /// The lane that it is for.
-pub fn receiver(nodes: &[NodeId], frame: &Frame) -> usize
-    ensures { result ≡ receiver_by nodes.now frame.now }
-{
+pub fn receiver(nodes: &[NodeId], frame: &Frame) -> usize {
     match frame.body() {
         Body::Call(_) => lane_of(nodes, frame.party()),
         Body::Reply(..) => 1,
@@ -58,9 +38,7 @@ pub fn receiver(nodes: &[NodeId], frame: &Frame) -> usize
 }
 
 /// The number of the frame that an event sent, if it sent one.
-pub fn sent_number(outcome: Outcome) -> Option<u64>
-    ensures { result ≡ number_sent outcome }
-{
+pub fn sent_number(outcome: Outcome) -> Option<u64> {
     match outcome {
         Outcome::Sent(number) | Outcome::Answered(number) | Outcome::Taken(Some(number)) => {
             Some(number)
@@ -69,27 +47,8 @@ pub fn sent_number(outcome: Outcome) -> Option<u64>
     }
 }
 
-/// Whether a delivery that came to this was of a frame that was sent before.
-pub fn came(outcome: Outcome) -> bool
-    ensures { result ≡ has_come outcome }
-{
-    match outcome {
-        Outcome::NoSuchFrame => false,
-        _ => true,
-    }
-}
-
-/// Whether a status is OK.
-pub fn is_ok(status: Status) -> bool
-    ensures { result ≡ is_status_ok status }
-{
-    matches!(status, Status::Ok)
-}
-
 /// Whether an event was a call that its plugin answered with OK.
-pub fn succeeded(world: &World, outcome: Outcome) -> bool
-    ensures { result ≡ was_answered_ok world.now.frames outcome }
-{
+pub fn succeeded(world: &World, outcome: Outcome) -> bool {
     let Outcome::Answered(number) = outcome else {
         return false;
     };
@@ -98,14 +57,12 @@ pub fn succeeded(world: &World, outcome: Outcome) -> bool
     };
     match frame.body() {
         Body::Call(_) => false,
-        Body::Reply(_, reply) => is_ok(reply.status),
+        Body::Reply(_, reply) => matches!(reply.status, Status::Ok),
     }
 }
 
 /// How a delivery is drawn: what was refused or found no node, a reply that was ignored, and what was carried out or taken.
-pub fn way_of(world: &World, outcome: Outcome) -> &'static str
-    ensures { result.now ≡ way_by world.now.frames outcome }
-{
+pub fn way_of(world: &World, outcome: Outcome) -> &'static str {
     match outcome {
         Outcome::Ignored => "ignored",
         Outcome::Refused(_) | Outcome::NoSuchNode => "refused",

@@ -1,17 +1,14 @@
-//! The tests of values, frames and both plugins, which see of them what any user sees. There is nothing else here: a crate
-//! that has no test of its own is proved once less.
+//! The tests of both plugins, which see of them what any user sees. There is nothing else here: a crate that has no test of its own is
+//! proved once less.
 #![tactic(auto)]
 
 #[cfg(test)]
 mod controller;
 #[cfg(test)]
-mod frames;
+mod damage;
 #[cfg(test)]
 mod node;
 #[cfg(test)]
-mod replies;
-mod shelf;
-#[cfg(test)]
-mod types;
+mod playing;
 #[cfg(test)]
 mod values;

@@ -1,18 +1,14 @@
 //! The node plugin. What it is to answer comes from the table of the lifecycle, written out.
 mod full;
 mod growths;
-mod joined;
-mod largest;
 mod lent;
-mod readers;
-mod rows;
 mod sessions;
 mod table;
 
-use crate::replies::is_reply;
-use crate::values::{block, call_frame, mount, node_id, number, target, volume_id};
-use csi_node::Node;
-use csi_types::{Call, Capability, Frame, Kind, Mode, Number, Party, Status};
+use crate::playing::{Ask, Plugin, frame_of};
+use crate::values::{Told, device, node_id, reply, room, target, volume_id};
+use csi_node::{CoreFault, Node, NodeRecord, NodeRow, NodeTarget, Published, Staged};
+use csi_types::{Frame, Kind, Mode, Number, Status, VolumeId};
 use std::alloc::Global;
 use std::process::Abort;
 
@@ -27,103 +23,161 @@ const ONE_WRITER: Mode = Mode::SingleNodeSingleWriter;
 
 const TWO_WRITERS: Mode = Mode::SingleNodeMultiWriter;
 
-// A call, as a test writes it.
-#[derive(Clone, Copy)]
-enum Ask {
-    Stage(u64, Mode),
-    Unstage(u64),
-    Publish(u64, &'static str, Mode, bool),
-    Unpublish(u64, &'static str),
-}
+// A volume as a test writes it: its id, the mode in which it is staged, if it is, where it is published and whether for reading alone, the
+// session and the number of its last call, which was answered OK, and that call's kind.
+type Volume = (
+    u64,
+    Option<Mode>,
+    &'static [(&'static str, bool)],
+    (u64, u64),
+    Kind,
+);
 
-// A call under this number of session 1, and the status and the detail that it is answered.
-type Step = (u64, Ask, Status, &'static str);
-
-// A block device in a mode for one node, and an `ext4` file system in a mode for several.
-fn capability(rt: &(impl Abort + AllocGlobal), mode: Mode) -> Capability {
-    if mode == MANY {
-        mount(rt, "ext4", mode)
-    } else {
-        block(mode)
+// The volume's row.
+fn row_of(rt: &(impl Abort + AllocGlobal), (id, staged, published, last, kind): Volume) -> NodeRow {
+    let mut targets = room(rt, published.len());
+    for (text, readonly) in published {
+        let target = target(rt, text);
+        let readonly = *readonly;
+        targets
+            .push(NodeTarget { target, readonly })
+            .expect(rt, "room");
+    }
+    NodeRow {
+        id: volume_id(rt, id),
+        staged: match staged {
+            Some(mode) => Some(device(rt, mode)),
+            None => None,
+        },
+        targets,
+        last: Number {
+            session: last.0,
+            call: last.1,
+        },
+        kind,
+        reply: reply(rt, (Status::Ok, None, "")),
     }
 }
 
-// A node `n1` that has answered nothing.
-fn new_node(rt: &(impl Abort + AllocGlobal)) -> Node {
-    Node::new(rt.alloc(), node_id(rt, "n1"), 0)
+// The rows of these volumes.
+fn rows_of(rt: &(impl Abort + AllocGlobal), all: &[Volume]) -> Vec<NodeRow> {
+    let mut rows = room(rt, all.len());
+    for one in all {
+        rows.push(row_of(rt, *one)).expect(rt, "room");
+    }
+    rows
 }
 
-fn kind_of(ask: Ask) -> Kind {
-    match ask {
-        Ask::Stage(..) => Kind::NodeStageVolume,
-        Ask::Unstage(_) => Kind::NodeUnstageVolume,
-        Ask::Publish(..) => Kind::NodePublishVolume,
-        Ask::Unpublish(..) => Kind::NodeUnpublishVolume,
+/// A node `n1` that has answered nothing, and joined with this session.
+pub(crate) fn new_node(rt: &(impl Abort + AllocGlobal), session: u64) -> Node {
+    Node::new(rt.alloc(), node_id(rt, "n1"), session)
+}
+
+// The node's record, asked for once more where memory was refused.
+fn record_of(rt: &impl Abort, node: &Node) -> NodeRecord {
+    match node.record() {
+        Ok(record) => record,
+        Err(CoreFault::NoMemory) => node.record().expect(rt, "memory"),
     }
 }
 
-fn call_of(rt: &(impl Abort + AllocGlobal), ask: Ask) -> Call {
-    match ask {
-        Ask::Stage(id, mode) => Call::NodeStageVolume {
-            id: volume_id(rt, id),
-            capability: capability(rt, mode),
-        },
-        Ask::Unstage(id) => Call::NodeUnstageVolume {
-            id: volume_id(rt, id),
-        },
-        Ask::Publish(id, text, mode, readonly) => Call::NodePublishVolume {
-            id: volume_id(rt, id),
-            target: target(rt, text),
-            capability: capability(rt, mode),
-            readonly,
-        },
-        Ask::Unpublish(id, text) => Call::NodeUnpublishVolume {
-            id: volume_id(rt, id),
-            target: target(rt, text),
-        },
+fn is_same_record(a: &NodeRecord, b: &NodeRecord) -> bool {
+    a.id() == b.id() && a.session() == b.session() && a.rows() == b.rows()
+}
+
+impl Plugin for Node {
+    fn answer_in_the_end<R: Abort + AllocGlobal>(
+        &mut self,
+        rt: &R,
+        frame: &Frame,
+    ) -> Option<Frame> {
+        let before = record_of(rt, self);
+        let first = self.step(frame);
+        if first.is_err() {
+            let after = record_of(rt, self);
+            assert!(rt; is_same_record(&after, &before));
+            drop(after);
+        }
+        drop(before);
+        match first {
+            Ok(answer) => answer,
+            Err(CoreFault::NoMemory) => self.step(frame).expect(rt, "memory"),
+        }
+    }
+
+    fn left_in_the_end<R: Abort>(&self, rt: &R) -> (u64, usize, Vec<VolumeId>) {
+        let empty = match self.forgettable() {
+            Ok(ids) => ids,
+            Err(CoreFault::NoMemory) => self.forgettable().expect(rt, "memory"),
+        };
+        (self.session(), self.row_count(), empty)
     }
 }
 
-// The call to the node of this id, as a frame.
-fn frame_for(rt: &(impl Abort + AllocGlobal), id: &str, number: Number, ask: Ask) -> Frame {
-    let party = Party::Node(node_id(rt, id));
-    call_frame(rt, party, number, call_of(rt, ask))
-}
-
-// What the node answers to a call, with memory to spare.
-fn reply_to(rt: &(impl Abort + AllocGlobal), node: &mut Node, number: Number, ask: Ask) -> Frame {
-    let frame = frame_for(rt, "n1", number, ask);
-    let answer = node.step(&frame).expect(rt, "memory");
-    drop(frame);
-    answer.expect(rt, "a reply")
-}
-
-// The node answers the call so, with memory to spare.
-fn answers(rt: &(impl Abort + AllocGlobal), node: &mut Node, step: Step) {
-    let (call, ask, status, detail) = step;
-    let reply = reply_to(rt, node, number(call), ask);
-    let told = (status, None, detail);
-    assert!(rt;
-        is_reply(reply, Some("n1"), number(call), kind_of(ask), told),
-        "call {call}"
-    );
-}
-
-// The node answers these calls so, one after another.
-fn answers_all(rt: &(impl Abort + AllocGlobal), node: &mut Node, steps: &[Step]) {
-    for step in steps {
-        answers(rt, node, *step);
+// Whether these rows' volumes are what is staged, in their order.
+fn are_staged(all: &[Staged], rows: &[NodeRow]) -> bool {
+    let mut place = 0usize;
+    for row in rows {
+        if let Some(staged) = &row.staged {
+            match all.get(place) {
+                Some(found) if found.id == row.id && found.capability == *staged => {}
+                _ => return false,
+            }
+            place = place.saturating_add(1);
+        }
     }
+    all.len() == place
 }
 
-// A new node `n1` answers these calls so, one after another; and then it is dropped.
-fn plays(rt: &(impl Abort + AllocGlobal), steps: &[Step]) {
-    drop(new_answers(rt, steps));
+// Whether the target is one of this row.
+fn is_published(found: &Published, row: &NodeRow, target: &NodeTarget) -> bool {
+    let is_staged = match &row.staged {
+        Some(staged) => found.capability == *staged,
+        None => false,
+    };
+    let is_target = found.target == target.target && found.readonly == target.readonly;
+    is_staged && found.id == row.id && is_target
 }
 
-// A new node `n1` answers these calls so, one after another.
-fn new_answers(rt: &(impl Abort + AllocGlobal), steps: &[Step]) -> Node {
-    let mut node = new_node(rt);
-    answers_all(rt, &mut node, steps);
-    node
+// Whether these rows' targets are what is published, in their order.
+fn are_published(all: &[Published], rows: &[NodeRow]) -> bool {
+    let mut place = 0usize;
+    for row in rows {
+        for target in row.targets.iter() {
+            match all.get(place) {
+                Some(found) if is_published(found, row, target) => {}
+                _ => return false,
+            }
+            place = place.saturating_add(1);
+        }
+    }
+    all.len() == place
+}
+
+// Whether these rows are all that the node's lists and its record tell, in the end.
+fn tells_rows(rt: &impl Abort, node: &Node, rows: &[NodeRow]) -> bool {
+    let staged = match node.staged() {
+        Ok(staged) => staged,
+        Err(CoreFault::NoMemory) => node.staged().expect(rt, "memory"),
+    };
+    let is_staged = are_staged(&staged, rows);
+    drop(staged);
+    let published = match node.published() {
+        Ok(published) => published,
+        Err(CoreFault::NoMemory) => node.published().expect(rt, "memory"),
+    };
+    let is_published = are_published(&published, rows);
+    drop(published);
+    let record = record_of(rt, node);
+    let is_kept = record.id().as_str() == "n1" && record.rows() == rows;
+    drop(record);
+    is_staged && is_published && is_kept
+}
+
+// The copy of the row of this id, in the end.
+fn row_in_the_end(rt: &impl Abort, node: &Node, id: u64) -> Option<NodeRow> {
+    match node.row(volume_id(rt, id)) {
+        Ok(row) => row,
+        Err(CoreFault::NoMemory) => node.row(volume_id(rt, id)).expect(rt, "memory"),
+    }
 }

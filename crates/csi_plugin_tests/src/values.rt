@@ -1,14 +1,23 @@
-//! Makers of values, for the tests of values, frames and plugins.
+//! Makers of values.
 //!
 //! What a maker is given is within the limits, so it fails for want of memory alone, and then tries once more: a run
 //! refuses one allocation at most (`tools/refusals`). So what a test is made of is there in every run,
 //! and the call under test is the one that sees the refusal, or none does.
 use csi_types::{
-    Access, Call, Capability, CapabilityList, Config, Detail, Frame, FsType, Mode, Name, NodeId,
-    NodeSlots, Number, Party, Target, VolumeId,
+    Access, Capability, CapabilityList, Config, Detail, FsType, Mode, Name, NodeId, NodeSlots,
+    Number, Reply, Status, Target, VolumeId,
 };
 use std::alloc::Global;
 use std::process::Abort;
+
+/// What a reply says: its status, the number of its id, and its detail.
+pub(crate) type Told = (Status, Option<u64>, &'static str);
+
+/// What is answered where all is well and no volume was made.
+pub(crate) const DONE: Told = (Status::Ok, None, "");
+
+/// What is answered to a call that is over.
+pub(crate) const STALE: Told = (Status::Aborted, None, "stale");
 
 pub(crate) fn name(rt: &(impl Abort + AllocGlobal), text: &str) -> Name {
     match Name::try_new(rt.alloc(), text) {
@@ -31,14 +40,14 @@ pub(crate) fn target(rt: &(impl Abort + AllocGlobal), text: &str) -> Target {
     }
 }
 
-pub(crate) fn fs_type(rt: &(impl Abort + AllocGlobal), text: &str) -> FsType {
+fn fs_type(rt: &(impl Abort + AllocGlobal), text: &str) -> FsType {
     match FsType::try_new(rt.alloc(), text) {
         Ok(fs_type) => fs_type,
         Err(_) => FsType::try_new(rt.alloc(), text).expect(rt, "an fs type"),
     }
 }
 
-pub(crate) fn detail(rt: &(impl Abort + AllocGlobal), text: &str) -> Detail {
+fn detail(rt: &(impl Abort + AllocGlobal), text: &str) -> Detail {
     match Detail::try_new(rt.alloc(), text) {
         Ok(detail) => detail,
         Err(_) => Detail::try_new(rt.alloc(), text).expect(rt, "a detail"),
@@ -55,6 +64,17 @@ pub(crate) fn number(call: u64) -> Number {
     Number { session: 1, call }
 }
 
+pub(crate) fn reply(rt: &(impl Abort + AllocGlobal), (status, id, text): Told) -> Reply {
+    Reply {
+        status,
+        id: match id {
+            Some(id) => VolumeId::try_new(id),
+            None => None,
+        },
+        detail: detail(rt, text),
+    }
+}
+
 /// A raw device in this mode.
 pub(crate) fn block(mode: Mode) -> Capability {
     Capability {
@@ -63,11 +83,15 @@ pub(crate) fn block(mode: Mode) -> Capability {
     }
 }
 
-/// A file system of this type, mounted in this mode.
-pub(crate) fn mount(rt: &(impl Abort + AllocGlobal), text: &str, mode: Mode) -> Capability {
-    Capability {
-        access: Access::Mount(fs_type(rt, text)),
-        mode,
+/// A raw device in a mode for one node, and an `ext4` file system in a mode for several.
+pub(crate) fn device(rt: &(impl Abort + AllocGlobal), mode: Mode) -> Capability {
+    if mode == Mode::MultiNodeMultiWriter {
+        Capability {
+            access: Access::Mount(fs_type(rt, "ext4")),
+            mode,
+        }
+    } else {
+        block(mode)
     }
 }
 
@@ -97,9 +121,4 @@ pub(crate) fn config(rt: &(impl Abort + AllocGlobal), nodes: &[(&str, u64)]) -> 
             .expect(rt, "room");
     }
     Config::try_new(rt.alloc(), 1000, list).expect(rt, "a configuration")
-}
-
-/// A call under this number, to the party that such a call is for.
-pub(crate) fn call_frame(rt: &impl Abort, party: Party, number: Number, call: Call) -> Frame {
-    Frame::call(number, party, call).expect(rt, "a call for that plugin")
 }

@@ -1,20 +1,8 @@
 //! `Counted` passes each call on as it is, once, and hands its answer back. No contract of a `Read` or `Write` says which call is
-//! made of the reader or writer under it, so devices note what they are asked, over every length from 0 to 600.
-use Asked::{Flush, Nothing, ReadExact, ReadSome, WriteAll, WriteSome};
+//! made of the reader or writer under it, so a device notes what it is asked.
 use csi_service::Counted;
 use std::io;
 use std::io::{ErrorKind, Read, Write};
-
-// A call, with the length of what it was given.
-#[derive(Clone, Copy, PartialEq, Eq)]
-enum Asked {
-    Nothing,
-    ReadSome(usize),
-    ReadExact(usize),
-    WriteSome(usize),
-    WriteAll(usize),
-    Flush,
-}
 
 // What a device answers to every call: so many bytes, or as many as it was given where these are fewer; or an error.
 type Answer = Result<usize, ErrorKind>;
@@ -22,40 +10,42 @@ type Answer = Result<usize, ErrorKind>;
 const ANSWERS: &[Answer] = &[
     Ok(0),
     Ok(1),
-    Ok(300),
     Ok(600),
     Err(ErrorKind::Other),
     Err(ErrorKind::Interrupted),
     Err(ErrorKind::WouldBlock),
-    Err(ErrorKind::BrokenPipe),
     Err(ErrorKind::UnexpectedEof),
     Err(ErrorKind::WriteZero),
     Err(ErrorKind::OutOfMemory),
 ];
 
+// The calls, as a device notes them, with the length of what it was given.
+const READ: u8 = 1;
+
+const READ_EXACT: u8 = 2;
+
+const WRITE: u8 = 3;
+
+const WRITE_ALL: u8 = 4;
+
+const FLUSH: u8 = 5;
+
 // A reader and a writer that answers all calls alike, and notes the last one and how many there were.
 #[derive(Drop)]
 struct Device {
     answer: Answer,
-    asked: Asked,
+    asked: (u8, usize),
     calls: u64,
 }
 
 impl Device {
-    fn new(answer: Answer) -> Device {
-        Device {
-            answer,
-            asked: Nothing,
-            calls: 0,
-        }
-    }
-
-    fn note(&mut self, asked: Asked) {
-        self.asked = asked;
+    fn note(&mut self, call: u8, length: usize) {
+        self.asked = (call, length);
         self.calls = self.calls.saturating_add(1);
     }
 
-    fn done(&self) -> io::Result<()> {
+    fn done(&mut self, call: u8, length: usize) -> io::Result<()> {
+        self.note(call, length);
         match self.answer {
             Ok(_) => Ok(()),
             Err(kind) => Err(io::Error::from(kind)),
@@ -65,7 +55,7 @@ impl Device {
 
 impl Read for Device {
     fn read(&mut self, buf: &mut [u8]) -> io::Result<usize> {
-        self.note(ReadSome(buf.len()));
+        self.note(READ, buf.len());
         match self.answer {
             Ok(most) => Ok(most.min(buf.len())),
             Err(kind) => Err(io::Error::from(kind)),
@@ -73,14 +63,13 @@ impl Read for Device {
     }
 
     fn read_exact(&mut self, buf: &mut [u8]) -> io::Result<()> {
-        self.note(ReadExact(buf.len()));
-        self.done()
+        self.done(READ_EXACT, buf.len())
     }
 }
 
 impl Write for Device {
     fn write(&mut self, buf: &[u8]) -> io::Result<usize> {
-        self.note(WriteSome(buf.len()));
+        self.note(WRITE, buf.len());
         match self.answer {
             Ok(most) => Ok(most.min(buf.len())),
             Err(kind) => Err(io::Error::from(kind)),
@@ -88,82 +77,66 @@ impl Write for Device {
     }
 
     fn flush(&mut self) -> io::Result<()> {
-        self.note(Flush);
-        self.done()
+        self.done(FLUSH, 0)
     }
 
     fn write_all(&mut self, buf: &[u8]) -> io::Result<()> {
-        self.note(WriteAll(buf.len()));
-        self.done()
+        self.done(WRITE_ALL, buf.len())
     }
 }
 
-// Whether a device was asked this alone.
-fn was_asked(counted: Counted<Device>, asked: Asked) -> bool {
-    let device = counted.into_inner();
-    device.calls == 1 && device.asked == asked
-}
-
-fn is_count(came: io::Result<usize>, answer: Answer, length: usize) -> bool {
-    match (came, answer) {
-        (Ok(count), Ok(most)) => count == most.min(length),
-        (Err(error), Err(kind)) => error.kind() == kind,
-        _ => false,
-    }
-}
-
-fn is_done(came: io::Result<()>, answer: Answer) -> bool {
-    match (came, answer) {
-        (Ok(()), Ok(_)) => true,
-        (Err(error), Err(kind)) => error.kind() == kind,
-        _ => false,
-    }
-}
-
-fn is_read(answer: Answer, room: &mut [u8]) -> bool {
-    let mut some = Counted::new(Device::new(answer));
-    let mut whole = Counted::new(Device::new(answer));
-    let length = room.len();
-    is_count(some.read(room), answer, length)
-        && is_done(whole.read_exact(room), answer)
-        && was_asked(some, ReadSome(length))
-        && was_asked(whole, ReadExact(length))
-}
-
-fn is_written(answer: Answer, bytes: &[u8]) -> bool {
-    let mut some = Counted::new(Device::new(answer));
-    let mut whole = Counted::new(Device::new(answer));
-    let mut flushed = Counted::new(Device::new(answer));
-    let length = bytes.len();
-    is_count(some.write(bytes), answer, length)
-        && is_done(whole.write_all(bytes), answer)
-        && is_done(flushed.flush(), answer)
-        && was_asked(some, WriteSome(length))
-        && was_asked(whole, WriteAll(length))
-        && was_asked(flushed, Flush)
-}
-
-// Whether calls with so many bytes, 600 at most, are passed on as they are, with this answer.
-fn is_passed_on(answer: Answer, length: usize) -> bool {
+// A call of the device through `Counted`: what came of it, as a count, and what the device was asked.
+fn called(answer: Answer, call: u8, length: usize) -> (io::Result<usize>, Device) {
     let mut room = [0; 600];
-    let bytes = [7; 600];
-    let end = if length < 600 { length } else { 600 };
-    is_read(answer, &mut room[..end]) && is_written(answer, &bytes[..end])
+    let end = length.min(600);
+    let mut counted = Counted::new(Device {
+        answer,
+        asked: (0, 0),
+        calls: 0,
+    });
+    let came = match call {
+        READ => counted.read(&mut room[..end]),
+        WRITE => counted.write(&room[..end]),
+        _ => {
+            let done = match call {
+                READ_EXACT => counted.read_exact(&mut room[..end]),
+                WRITE_ALL => counted.write_all(&room[..end]),
+                _ => counted.flush(),
+            };
+            match done {
+                Ok(()) => Ok(end),
+                Err(error) => Err(error),
+            }
+        }
+    };
+    (came, counted.into_inner())
 }
 
-// The same, whatever is answered.
-fn are_passed_on(length: usize) -> bool {
-    for answer in ANSWERS {
-        if !is_passed_on(*answer, length) {
-            return false;
+// Whether the call is passed on as it is, with this answer.
+fn is_passed_on(answer: Answer, call: u8, length: usize) -> bool {
+    let (came, device) = called(answer, call, length);
+    let is_answer = match (came, answer) {
+        (Ok(count), Ok(most)) => {
+            let is_short = call == READ || call == WRITE;
+            count == if is_short { most.min(length) } else { length }
         }
-    }
-    true
+        (Err(error), Err(kind)) => error.kind() == kind,
+        _ => false,
+    };
+    let given = if call == FLUSH { 0 } else { length };
+    is_answer && device.calls == 1 && device.asked == (call, given)
 }
 
 #[test]
 fn each_call_is_passed_on_as_it_is(rt: HostRuntime) {
-    for length in 0..601 {
-        assert!(&rt; are_passed_on(length), "at {length}");
+    for answer in ANSWERS {
+        for call in READ..=FLUSH {
+            for length in [0usize, 1, 31, 600] {
+                assert!(&rt;
+                    is_passed_on(*answer, call, length),
+                    "call {call} with {length} bytes"
+                );
+            }
+        }
     }
 }

@@ -1,9 +1,8 @@
 //! The replies to a stream, whole, and before that in want of memory.
-use super::running::bytes;
+use super::running::{Written, bytes_of};
 use super::{CONTROLLER_PUBLISH, CREATE, CREATED, NO_NODE};
 use csi_commands::{AnswerFault, answer};
 use std::alloc::Global;
-use std::process::Abort;
 
 // DeleteVolume of id 1 under (1, 3), and its reply.
 const DELETE: &str = "0000001b 01 02 0000000000000001 0000000000000003 00 0000000000000001";
@@ -33,17 +32,19 @@ fn is_answered(alloc: Global, calls: &[u8], replies: &[u8], frames: u64) -> bool
     has_front && answer(alloc, calls, &mut out) == Ok(frames) && out.as_slice() == replies
 }
 
+// A reply is a frame that gets nothing.
+const ANSWERED: &[(&[&str], &[&str], u64)] = &[
+    (CALLS, REPLIES, 3),
+    (&[super::DELETED], &[], 1),
+    (&[], &[], 0),
+];
+
 #[test]
 fn answer_gives_all_replies_or_the_first(rt: HostRuntime) {
-    let calls = bytes(&rt, CALLS);
-    let replies = bytes(&rt, REPLIES);
-    assert!(&rt; is_answered(rt.alloc(), &calls, &replies, 3));
-}
-
-// A reply is a frame that gets nothing.
-#[test]
-fn a_reply_is_counted_and_gets_nothing(rt: HostRuntime) {
-    let reply = bytes(&rt, &[super::DELETED]);
-    assert!(&rt; is_answered(rt.alloc(), &reply, &[], 1));
-    assert!(&rt; is_answered(rt.alloc(), &[], &[], 0));
+    for (index, (calls, replies, frames)) in ANSWERED.iter().enumerate() {
+        let calls = bytes_of(&rt, Written::Hexadecimal(calls));
+        let replies = bytes_of(&rt, Written::Hexadecimal(replies));
+        let is_answered = is_answered(rt.alloc(), &calls, &replies, *frames);
+        assert!(&rt; is_answered, "stream {index}");
+    }
 }

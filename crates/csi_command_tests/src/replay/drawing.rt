@@ -1,5 +1,5 @@
 //! How runs are drawn: as the program draws them.
-ghost use Rattle.csi_pictures.specs.Public.Picture.{IsPicture};
+ghost use Rattle.std.specs.Prelude.{⊤};
 
 use csi_commands::Draws;
 use csi_pictures::draw;
@@ -11,7 +11,7 @@ use std::alloc::Global;
 pub(super) struct Pictures;
 
 impl Draws for Pictures {
-    ghost draws = { IsPicture };
+    ghost draws = { λ config world events picture. ⊤ };
 
     fn draw(
         alloc: Global,

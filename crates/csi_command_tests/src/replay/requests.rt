@@ -1,17 +1,17 @@
 //! Lines that are read as an orchestrator's requests, or have a fault.
+use super::events::{is_create, is_use};
 use csi_json::{Request, RequestFault, read_request};
-use csi_types::{Event, Mode};
+use csi_world::Event;
 use std::alloc::Global;
 
-// What a line is to be read as: the command of the volume `v` that stands in the table, the loss of `n1`, the bytes of a frame, or a fault.
+// What a line is to be read as: the creation or the use that a schedule is read with too, the deletion of `v`, another command, the bytes of a frame,
+// or a fault.
 #[derive(Clone, Copy)]
 enum Read {
     Create,
     Use,
-    Stop,
     Delete,
-    Timeout,
-    Lose,
+    Other,
     Bytes(&'static [u8]),
     Fault(RequestFault),
 }
@@ -23,38 +23,15 @@ const BAD_FRAME: Read = Read::Fault(RequestFault::BadFrame);
 const NO_JSON: Read = Read::Fault(RequestFault::NotJson);
 
 fn is_command(event: &Event, read: Read) -> bool {
-    match event {
-        Event::Create {
-            name,
-            required,
-            limit,
-            capabilities,
-        } => {
-            let is_create = matches!(read, Read::Create);
-            let is_whole = *required == 10 && *limit == 20 && capabilities.as_slice().len() == 1;
-            is_create && is_whole && name.as_str() == "v"
-        }
-        Event::Use {
-            name,
-            node,
-            target,
-            capability,
-            readonly,
-        } => {
-            let is_use = matches!(read, Read::Use);
-            let is_there = node.as_str() == "n1" && target.as_str() == "/a" && *readonly;
-            let is_so = matches!(capability.mode, Mode::MultiNodeMultiWriter);
-            is_use && is_there && is_so && name.as_str() == "v"
-        }
-        Event::Stop { name, node, target } => {
-            let is_stop = matches!(read, Read::Stop);
-            let is_there = node.as_str() == "n1" && target.as_str() == "/a";
-            is_stop && is_there && name.as_str() == "v"
-        }
-        Event::Delete(name) => matches!(read, Read::Delete) && name.as_str() == "v",
-        Event::Timeout(name) => matches!(read, Read::Timeout) && name.as_str() == "v",
-        Event::Lose(node) => matches!(read, Read::Lose) && node.as_str() == "n1",
-        _ => false,
+    match read {
+        Read::Create => is_create(event),
+        Read::Use => is_use(event),
+        Read::Delete => match event {
+            Event::Delete(name) => name.as_str() == "v",
+            _ => false,
+        },
+        Read::Other => true,
+        Read::Bytes(_) | Read::Fault(_) => false,
     }
 }
 
@@ -79,7 +56,7 @@ fn is_read(alloc: Global, line: &[u8], read: Read) -> bool {
 
 const LINES: &[(&str, Read)] = &[
     (
-        "{\"create\":{\"capabilities\":[{\"access\":\"block\",\"mode\":1}],\"limit\":20,\"name\":\"v\",\"required\":10}}",
+        "{\"create\":{\"capabilities\":[{\"access\":\"block\",\"mode\":1},{\"access\":\"mount\",\"fs\":\"ext4\",\"mode\":5}],\"limit\":9,\"name\":\"v\",\"required\":7}}",
         Read::Create,
     ),
     (
@@ -88,11 +65,11 @@ const LINES: &[(&str, Read)] = &[
     ),
     (
         " {\"stop\" : {\"target\":\"/a\", \"node\":\"n1\", \"name\":\"v\"}}\r",
-        Read::Stop,
+        Read::Other,
     ),
     ("{\"delete\":\"v\"}", Read::Delete),
-    ("{\"timeout\":\"v\"}", Read::Timeout),
-    ("{\"lose\":\"n1\"}", Read::Lose),
+    ("{\"timeout\":\"v\"}", Read::Other),
+    ("{\"lose\":\"n1\"}", Read::Other),
     ("{\"delete\":\"w\",\"delete\":\"v\"}", Read::Delete),
     ("{\"reply\":\"\"}", Read::Bytes(&[])),
     ("{\"reply\":\"00\"}", Read::Bytes(&[0])),
@@ -137,19 +114,15 @@ const LINES: &[(&str, Read)] = &[
     ("{\"Delete\":\"v\"}", BAD_LINE),
 ];
 
-#[test]
-fn a_line_is_one_request(rt: HostRuntime) {
-    for (index, (line, read)) in LINES.iter().enumerate() {
-        assert!(&rt; is_read(rt.alloc(), line.as_bytes(), *read), "line {index}");
-    }
-}
-
 // A byte that is no text, where a name would be.
 const NO_TEXT: &[u8] = &[
     123, 34, 100, 101, 108, 101, 116, 101, 34, 58, 34, 255, 34, 125,
 ];
 
 #[test]
-fn a_line_that_is_no_text_is_no_json(rt: HostRuntime) {
-    assert!(&rt; is_read(rt.alloc(), NO_TEXT, NO_JSON));
+fn a_line_is_one_request(rt: HostRuntime) {
+    for (index, (line, read)) in LINES.iter().enumerate() {
+        assert!(&rt; is_read(rt.alloc(), line.as_bytes(), *read), "line {index}");
+    }
+    assert!(&rt; is_read(rt.alloc(), NO_TEXT, NO_JSON), "no text");
 }

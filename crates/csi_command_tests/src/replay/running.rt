@@ -7,6 +7,70 @@ use csi_endings::{Ending, FileCommand, ScheduleCommand};
 use std::alloc::{AllocError, Global};
 use std::process::Abort;
 
+/// Bytes, as texts in hexadecimal, where blanks are for the reader, or as one text that they are.
+#[derive(Clone, Copy)]
+pub(super) enum Written {
+    Hexadecimal(&'static [&'static str]),
+    Text(&'static str),
+}
+
+/// A command, the file that it is given, what it is to give, and how it is to end.
+#[derive(Clone, Copy)]
+pub(super) struct Asked {
+    pub command: FileCommand,
+    pub input: Written,
+    pub output: Written,
+    pub ending: Ending,
+}
+
+/// What a case asks.
+pub(super) fn asked_in(case: Case) -> Asked {
+    let (command, input, output, ending) = match case {
+        Case::Answers(input, replies, ending) => (
+            FileCommand::Answer,
+            Written::Hexadecimal(input),
+            Written::Hexadecimal(replies),
+            ending,
+        ),
+        Case::Shows(input, lines, ending) => (
+            FileCommand::Show,
+            Written::Hexadecimal(input),
+            Written::Text(lines),
+            ending,
+        ),
+        Case::Runs(schedule, report, ending) => (
+            FileCommand::Schedule(ScheduleCommand::Run),
+            Written::Text(schedule),
+            Written::Text(report),
+            ending,
+        ),
+        Case::RunsBytes(input, ending) => (
+            FileCommand::Schedule(ScheduleCommand::Run),
+            Written::Hexadecimal(input),
+            Written::Text(""),
+            ending,
+        ),
+        Case::Sends(schedule, frames, ending) => (
+            FileCommand::Schedule(ScheduleCommand::Frames),
+            Written::Text(schedule),
+            Written::Hexadecimal(frames),
+            ending,
+        ),
+        Case::Draws(schedule, picture, ending) => (
+            FileCommand::Schedule(ScheduleCommand::Draw),
+            Written::Text(schedule),
+            Written::Text(picture),
+            ending,
+        ),
+    };
+    Asked {
+        command,
+        input,
+        output,
+        ending,
+    }
+}
+
 fn digit(code: u8) -> u8 {
     match code {
         b'0'..=b'9' => code - b'0',
@@ -15,8 +79,8 @@ fn digit(code: u8) -> u8 {
     }
 }
 
-// Appends the bytes that a text in hexadecimal means; blanks in it are for the reader.
-fn append_bytes(out: &mut Vec<u8>, text: &str) -> Result<(), AllocError> {
+// Appends the bytes that a text in hexadecimal means.
+fn append_hexadecimal(out: &mut Vec<u8>, text: &str) -> Result<(), AllocError> {
     let mut high = None;
     for code in text.bytes() {
         if code == b' ' {
@@ -33,133 +97,69 @@ fn append_bytes(out: &mut Vec<u8>, text: &str) -> Result<(), AllocError> {
     Ok(())
 }
 
-fn try_bytes(alloc: Global, texts: &[&str]) -> Result<Vec<u8>, AllocError> {
+// These bytes behind that text.
+fn try_behind(alloc: Global, front: &str, bytes: Written) -> Result<Vec<u8>, AllocError> {
     let mut out = Vec::new(alloc);
-    for text in texts {
-        append_bytes(&mut out, text)?;
+    out.extend_from_slice(front.as_bytes())?;
+    match bytes {
+        Written::Hexadecimal(texts) => {
+            for text in texts {
+                append_hexadecimal(&mut out, text)?;
+            }
+        }
+        Written::Text(text) => out.extend_from_slice(text.as_bytes())?,
     }
     Ok(out)
 }
 
-// The bytes that these texts mean.
-pub(super) fn bytes(rt: &(impl Abort + AllocGlobal), texts: &[&str]) -> Vec<u8> {
-    match try_bytes(rt.alloc(), texts) {
+// The same, the second time where memory is refused.
+fn behind(rt: &(impl Abort + AllocGlobal), front: &str, bytes: Written) -> Vec<u8> {
+    match try_behind(rt.alloc(), front, bytes) {
         Ok(bytes) => bytes,
-        Err(_) => try_bytes(rt.alloc(), texts).expect(rt, "memory"),
+        Err(_) => try_behind(rt.alloc(), front, bytes).expect(rt, "memory"),
     }
 }
 
-fn try_joined(alloc: Global, first: &[u8], then: &[u8]) -> Result<Vec<u8>, AllocError> {
-    let mut out = Vec::new(alloc);
-    out.extend_from_slice(first)?;
-    out.extend_from_slice(then)?;
-    Ok(out)
+/// The bytes that these texts mean, or that this text is.
+pub(super) fn bytes_of(rt: &(impl Abort + AllocGlobal), bytes: Written) -> Vec<u8> {
+    behind(rt, "", bytes)
 }
 
-// These bytes, and then those.
-fn joined(rt: &(impl Abort + AllocGlobal), first: &[u8], then: &[u8]) -> Vec<u8> {
-    match try_joined(rt.alloc(), first, then) {
-        Ok(bytes) => bytes,
-        Err(_) => try_joined(rt.alloc(), first, then).expect(rt, "memory"),
-    }
-}
-
-// How the command ends, and what it leaves behind what was there.
-fn run(
+// How the command ends, where it leaves these bytes or a front of them behind what was there.
+fn once(
     rt: &(impl Abort + AllocGlobal),
     command: FileCommand,
     input: &[u8],
-    there: &[u8],
-) -> (Ending, Vec<u8>) {
-    let mut out = joined(rt, there, b"");
-    let ending = file::<Pictures>(rt.alloc(), command, input, &mut out);
-    (ending, out)
-}
-
-// Whether it ends so, and leaves this.
-fn is_given(
-    rt: &(impl Abort + AllocGlobal),
-    (command, input): (FileCommand, &[u8]),
-    there: &[u8],
     wanted: &[u8],
-    ending: Ending,
-) -> bool {
-    let (ended, out) = run(rt, command, input, there);
-    let is_given = ended == ending && out.as_slice() == wanted;
-    let is_front = ended == Ending::Memory && wanted.starts_with(out.as_slice());
-    drop(out);
-    if !is_front {
-        return is_given;
-    }
-    let (ended, out) = run(rt, command, input, there);
-    let is_given = ended == ending && out.as_slice() == wanted;
-    drop(out);
-    is_given
+) -> (Ending, bool, bool) {
+    let mut out = behind(rt, "there", Written::Text(""));
+    let ending = file::<Pictures>(rt.alloc(), command, input, &mut out);
+    let is_front = wanted.starts_with(out.as_slice());
+    (ending, is_front, is_front && out.len() == wanted.len())
 }
 
-// It gives this output, behind what was there.
+/// Whether the command ends so on this file, and gives this output.
 pub(super) fn gives(
     rt: &(impl Abort + AllocGlobal),
-    asked: (FileCommand, &[u8]),
-    output: &[u8],
+    command: FileCommand,
+    input: &[u8],
+    output: Written,
     ending: Ending,
-    index: usize,
-) {
-    let wanted = joined(rt, b"there", output);
-    assert!(rt; is_given(rt, asked, b"", output, ending), "case {index}");
-    let behind = is_given(rt, asked, b"there", wanted.as_slice(), ending);
-    assert!(rt; behind, "case {index}, behind what was there");
+) -> bool {
+    let wanted = behind(rt, "there", output);
+    let came = match once(rt, command, input, &wanted) {
+        (Ending::Memory, true, _) => once(rt, command, input, &wanted),
+        came => came,
+    };
+    came == (ending, true, true)
 }
 
-fn run_case(rt: &(impl Abort + AllocGlobal), case: Case, index: usize) {
-    match case {
-        Case::Answers(input, replies, ending) => {
-            let input = bytes(rt, input);
-            let replies = bytes(rt, replies);
-            let asked = (FileCommand::Answer, input.as_slice());
-            gives(rt, asked, replies.as_slice(), ending, index)
-        }
-        Case::Shows(input, lines, ending) => {
-            let input = bytes(rt, input);
-            let asked = (FileCommand::Show, input.as_slice());
-            gives(rt, asked, lines.as_bytes(), ending, index)
-        }
-        Case::Runs(schedule, report, ending) => {
-            let asked = (
-                FileCommand::Schedule(ScheduleCommand::Run),
-                schedule.as_bytes(),
-            );
-            gives(rt, asked, report.as_bytes(), ending, index)
-        }
-        Case::RunsBytes(input, ending) => {
-            let input = bytes(rt, input);
-            let asked = (
-                FileCommand::Schedule(ScheduleCommand::Run),
-                input.as_slice(),
-            );
-            gives(rt, asked, b"", ending, index)
-        }
-        Case::Draws(schedule, picture, ending) => {
-            let asked = (
-                FileCommand::Schedule(ScheduleCommand::Draw),
-                schedule.as_bytes(),
-            );
-            gives(rt, asked, picture.as_bytes(), ending, index)
-        }
-        Case::Sends(schedule, frames, ending) => {
-            let frames = bytes(rt, frames);
-            let asked = (
-                FileCommand::Schedule(ScheduleCommand::Frames),
-                schedule.as_bytes(),
-            );
-            gives(rt, asked, frames.as_slice(), ending, index)
-        }
-    }
-}
-
-// Each of these gives what it is to give.
+/// Each of these gives what it is to give.
 pub(super) fn run_all(rt: &(impl Abort + AllocGlobal), cases: &[Case]) {
     for (index, case) in cases.iter().enumerate() {
-        run_case(rt, *case, index);
+        let asked = asked_in(*case);
+        let input = bytes_of(rt, asked.input);
+        let is_given = gives(rt, asked.command, &input, asked.output, asked.ending);
+        assert!(rt; is_given, "case {index}");
     }
 }

@@ -1,5 +1,5 @@
 //! Texts that are read as schedules, or have a fault.
-use csi_json::{MAX_EVENTS, ScheduleFault, read_schedule};
+use csi_json::{ScheduleFault, read_schedule};
 use std::alloc::{AllocError, Global};
 use std::process::Abort;
 
@@ -65,14 +65,26 @@ fn fault_of_text(rt: &(impl Abort + AllocGlobal), text: Text) -> Fault {
     }
 }
 
-// Each of these texts has this fault.
-fn all_judged(rt: &(impl Abort + AllocGlobal), texts: &[(Text, Fault)]) {
-    for (index, (text, fault)) in texts.iter().enumerate() {
-        assert_eq!(rt; fault_of_text(rt, *text), *fault, "text {index}");
+// A list of so many empty objects, if there is memory for it.
+fn try_objects(alloc: Global, count: usize) -> Result<String, AllocError> {
+    let mut text = String::from_str(alloc, "[{}")?;
+    for _ in 1..count {
+        text.push_str(",{}")?;
     }
+    text.push_str("]")?;
+    Ok(text)
 }
 
-const WHOLE: &[(Text, Fault)] = &[
+// A schedule with so many empty objects for events.
+pub(super) fn with_objects(rt: &(impl Abort + AllocGlobal), count: usize) -> String {
+    let objects = match try_objects(rt.alloc(), count) {
+        Ok(objects) => objects,
+        Err(_) => try_objects(rt.alloc(), count).expect(rt, "memory"),
+    };
+    with_events(rt, &objects)
+}
+
+const TEXTS: &[(Text, Fault)] = &[
     (Text::Whole(""), NO_JSON),
     (Text::Whole("{"), NO_JSON),
     (Text::Whole("[]"), NO_SCHEDULE),
@@ -107,15 +119,7 @@ const WHOLE: &[(Text, Fault)] = &[
         Text::Whole("{\"config\":{\"greatest\":1,\"nodes\":[]},\"events\":[]}"),
         NONE,
     ),
-];
-
-#[test]
-fn what_is_no_schedule_is_refused(rt: HostRuntime) {
-    all_judged(&rt, WHOLE);
-}
-
-// Of repeated keys the last stands.
-const CONFIGS: &[(Text, Fault)] = &[
+    // configurations; of repeated keys the last stands
     (
         Text::Config("{\"greatest\":1,\"nodes\":[{\"id\":\"n1\",\"slots\":4}]}"),
         NONE,
@@ -150,14 +154,6 @@ const CONFIGS: &[(Text, Fault)] = &[
         Text::Config("{\"greatest\":1,\"greatest\":0,\"nodes\":[]}"),
         NO_SCHEDULE,
     ),
-];
-
-#[test]
-fn a_configuration_is_judged(rt: HostRuntime) {
-    all_judged(&rt, CONFIGS);
-}
-
-const EVENTS: &[(Text, Fault)] = &[
     (Text::Events("[{\"deliver\":18446744073709551615}]"), NONE),
     (Text::Events("[{\"deliver\":18446744073709551616}]"), (2, 1)),
     (Text::Events("[{\"deliver\":1.0}]"), (2, 1)),
@@ -169,15 +165,7 @@ const EVENTS: &[(Text, Fault)] = &[
     (Text::Events("[{\"delete\":\"\"},{}]"), (2, 1)),
     (Text::Events("[{\"restart\":\"node\"}]"), (2, 1)),
     (Text::Events("[{\"restart_node\":\"\"}]"), (2, 1)),
-];
-
-#[test]
-fn the_first_bad_event_has_a_place(rt: HostRuntime) {
-    all_judged(&rt, EVENTS);
-}
-
-// Events of nodes that come and go. A list of ids may have any length, and an id may stand there twice; a configuration is judged as the first one.
-const NODES: &[(Text, Fault)] = &[
+    // events of nodes that come and go: a list of ids may have any length, and an id may stand there twice; a configuration is judged as the first one
     (
         Text::Events(
             "[{\"join\":\"n1\"},{\"lose\":\"n1\"},{\"restart_orchestrator\":[\"n1\",\"n1\"]},{\"restart_controller\":{\"nodes\":[],\"greatest\":1}}]",
@@ -230,38 +218,6 @@ const NODES: &[(Text, Fault)] = &[
         ),
         (2, 1),
     ),
-];
-
-#[test]
-fn events_of_nodes_are_judged(rt: HostRuntime) {
-    all_judged(&rt, NODES);
-}
-
-// A list of so many empty objects, if there is memory for it.
-fn try_objects(alloc: Global, count: usize) -> Result<String, AllocError> {
-    let mut text = String::from_str(alloc, "[{}")?;
-    for _ in 1..count {
-        text.push_str(",{}")?;
-    }
-    text.push_str("]")?;
-    Ok(text)
-}
-
-// A schedule with so many empty objects for events.
-pub(super) fn with_objects(rt: &(impl Abort + AllocGlobal), count: usize) -> String {
-    let objects = match try_objects(rt.alloc(), count) {
-        Ok(objects) => objects,
-        Err(_) => try_objects(rt.alloc(), count).expect(rt, "memory"),
-    };
-    with_events(rt, &objects)
-}
-
-// The fault of such a schedule: an empty object is no event.
-fn fault_of_objects(rt: &(impl Abort + AllocGlobal), count: usize) -> Fault {
-    fault_in(rt.alloc(), &with_objects(rt, count))
-}
-
-const MODES: &[(Text, Fault)] = &[
     (
         Text::Events(
             "[{\"create\":{\"capabilities\":[{\"access\":\"block\",\"mode\":5},{\"access\":\"block\",\"mode\":6}],\"limit\":0,\"name\":\"v\",\"required\":10}}]",
@@ -298,14 +254,6 @@ const MODES: &[(Text, Fault)] = &[
         ),
         (2, 2),
     ),
-];
-
-#[test]
-fn modes_are_1_to_7(rt: HostRuntime) {
-    all_judged(&rt, MODES);
-}
-
-const CAPABILITIES: &[(Text, Fault)] = &[
     (
         Text::Events(
             "[{\"create\":{\"capabilities\":[{\"access\":\"block\",\"mode\":1},{\"access\":\"block\",\"mode\":1},{\"access\":\"block\",\"mode\":1},{\"access\":\"block\",\"mode\":1},{\"access\":\"block\",\"mode\":1},{\"access\":\"block\",\"mode\":1},{\"access\":\"block\",\"mode\":1},{\"access\":\"block\",\"mode\":1}],\"limit\":0,\"name\":\"v\",\"required\":10}}]",
@@ -321,14 +269,10 @@ const CAPABILITIES: &[(Text, Fault)] = &[
 ];
 
 #[test]
-fn a_volume_is_made_with_eight_capabilities_at_most(rt: HostRuntime) {
-    all_judged(&rt, CAPABILITIES);
-}
-
-#[test]
-fn too_many_events_are_refused_before_bad_ones(rt: HostRuntime) {
-    assert_eq!(&rt; fault_of_objects(&rt, MAX_EVENTS), (2, 1));
-    assert_eq!(&rt; fault_of_objects(&rt, MAX_EVENTS + 1), (3, 0));
+fn texts_that_are_no_schedule_are_refused(rt: HostRuntime) {
+    for (index, (text, fault)) in TEXTS.iter().enumerate() {
+        assert_eq!(&rt; fault_of_text(&rt, *text), *fault, "text {index}");
+    }
 }
 
 const FAULTS: &[(ScheduleFault, Fault)] = &[

@@ -31,15 +31,7 @@ const SHOWN: &[Case] = &[
         "0 1.2 controller ControllerPublishVolume 1 \"n1\" block/1 rw\n37 1.4 node:\"n1\" NodePublishVolume 1 \"/a\" block/1 ro\n",
         DONE,
     ),
-];
-
-#[test]
-fn frames_are_shown(rt: HostRuntime) {
-    run_all(&rt, SHOWN);
-}
-
-// The fault is that of number 13, as `endings` shows.
-const FIRST_FAULTS: &[Case] = &[
+    // The fault is that of number 13, as `endings` shows.
     Case::Shows(
         &[DAMAGED],
         "",
@@ -50,15 +42,7 @@ const FIRST_FAULTS: &[Case] = &[
         "0 1.2 controller DeleteVolume 1\n",
         Ending::FrameFault(FaultKind::LengthDiffers, 62),
     ),
-];
-
-#[test]
-fn the_first_fault_ends_the_lines(rt: HostRuntime) {
-    run_all(&rt, FIRST_FAULTS);
-}
-
-// A NodePublishVolume for the controller, and one whose flag is 2.
-const NODE_FAULTS: &[Case] = &[
+    // A NodePublishVolume for the controller, and one whose flag is 2.
     Case::Shows(
         &[
             "00000024 01 07 0000000000000001 0000000000000004 00 026e31 0000000000000001 022f61 0001 01",
@@ -73,25 +57,11 @@ const NODE_FAULTS: &[Case] = &[
         "",
         Ending::FrameFault(FaultKind::BadFlag, 39),
     ),
-];
-
-#[test]
-fn faults_of_a_node_frame_are_found(rt: HostRuntime) {
-    run_all(&rt, NODE_FAULTS);
-}
-
-const ESCAPED: &[Case] = &[Case::Shows(
-    &["0000001f 01 04 0000000000000001 0000000000000002 00 0000000000000001 03c3a922"],
-    "0 1.2 controller ControllerUnpublishVolume 1 \"\\xc3\\xa9\\x22\"\n",
-    DONE,
-)];
-
-#[test]
-fn bytes_that_are_no_plain_text_are_escaped(rt: HostRuntime) {
-    run_all(&rt, ESCAPED);
-}
-
-const OTHERS: &[Case] = &[
+    Case::Shows(
+        &["0000001f 01 04 0000000000000001 0000000000000002 00 0000000000000001 03c3a922"],
+        "0 1.2 controller ControllerUnpublishVolume 1 \"\\xc3\\xa9\\x22\"\n",
+        DONE,
+    ),
     Case::Shows(
         &[
             "00000025 01 05 0000000000000001 0000000000000003 01 026e31 0000000000000001 01 0465787434 05",
@@ -119,6 +89,6 @@ const OTHERS: &[Case] = &[
 ];
 
 #[test]
-fn the_other_lines_are_shown(rt: HostRuntime) {
-    run_all(&rt, OTHERS);
+fn frames_are_shown(rt: HostRuntime) {
+    run_all(&rt, SHOWN);
 }

@@ -1,6 +1,6 @@
 //! Calls that are drawn by a linear congruence, the same ones in every run.
-use super::plain::{Plain, PlainRow};
-use super::{Ask, B1, B3, B4, B6, B7};
+use super::plain::Plain;
+use super::{Ask, B1, B3, B4, B6, B7, Volume};
 use csi_types::{Mode, Number};
 
 const B2: Mode = Mode::SingleNodeReaderOnly;
@@ -52,15 +52,10 @@ const CAPACITIES: &[(u64, u64)] = &[
 /// Where the congruence stands.
 #[derive(Drop)]
 pub(super) struct Draws {
-    state: u64,
+    pub state: u64,
 }
 
 impl Draws {
-    /// It begins at 20,240,607.
-    pub(super) fn new() -> Draws {
-        Draws { state: 20_240_607 }
-    }
-
     // A number below this one.
     fn below(&mut self, count: u64) -> u64 {
         self.state = self
@@ -70,18 +65,16 @@ impl Draws {
         (self.state >> 33).checked_rem(count).unwrap_or(0)
     }
 
-    fn place(&mut self, count: usize) -> usize {
-        self.below(count as u64) as usize
-    }
-
-    fn text(&mut self, texts: &[&'static str]) -> &'static str {
-        let place = self.place(texts.len());
-        texts.get(place).copied().unwrap_or("")
+    // One of these, of which there are some.
+    fn one_of<T: Copy + Drop>(&mut self, all: &[T], other: T) -> T {
+        let place = self.below(all.len() as u64) as usize;
+        all.get(place).copied().unwrap_or(other)
     }
 
     // The id of a row, or now and then any that was given or is given next.
     fn id(&mut self, plain: &Plain) -> u64 {
-        let place = self.place(plain.rows.len().saturating_add(2));
+        let count = plain.rows.len().saturating_add(2);
+        let place = self.below(count as u64) as usize;
         match plain.rows.get(place) {
             Some(row) => row.id,
             None => self.below(plain.next_id).saturating_add(1),
@@ -93,41 +86,21 @@ impl Draws {
         if self.below(32) == 0 {
             "n9"
         } else {
-            self.text(NODE_IDS)
+            self.one_of(NODE_IDS, "")
         }
     }
 
-    fn mode(&mut self) -> Mode {
-        let place = self.place(MODES.len());
-        MODES.get(place).copied().unwrap_or(B1)
-    }
-
-    fn modes(&mut self) -> &'static [Mode] {
-        let place = self.place(LISTS.len());
-        LISTS.get(place).copied().unwrap_or(&[])
-    }
-
-    fn capacity(&mut self) -> (u64, u64) {
-        let place = self.place(CAPACITIES.len());
-        CAPACITIES.get(place).copied().unwrap_or((0, 0))
-    }
-
     fn create(&mut self) -> Ask {
-        let name = self.text(NAMES);
-        let (required, limit) = self.capacity();
-        Ask::Create(name, required, limit, self.modes())
+        let name = self.one_of(NAMES, "");
+        let (required, limit) = self.one_of(CAPACITIES, (0, 0));
+        Ask::Create(name, required, limit, self.one_of(LISTS, &[]))
     }
 
-    fn publish(&mut self, plain: &Plain) -> Ask {
+    fn attach(&mut self, plain: &Plain) -> Ask {
         let id = self.id(plain);
         let node = self.node();
-        let mode = self.mode();
-        Ask::Publish(id, node, mode, self.below(2) == 1)
-    }
-
-    fn unpublish(&mut self, plain: &Plain) -> Ask {
-        let id = self.id(plain);
-        Ask::Unpublish(id, self.node())
+        let mode = self.one_of(MODES, B1);
+        Ask::Attach(id, node, mode, self.below(2) == 1)
     }
 
     /// A call. Most volumes live long, and some 150 are deleted.
@@ -135,32 +108,31 @@ impl Draws {
         match self.below(64) {
             0..=3 => Ask::Delete(self.id(plain)),
             4..=12 => self.create(),
-            13..=47 => self.publish(plain),
-            _ => self.unpublish(plain),
+            13..=47 => self.attach(plain),
+            _ => {
+                let id = self.id(plain);
+                Ask::Detach(id, self.node())
+            }
         }
     }
 
-    /// The number of a call: a new one, or the last one of its volume's row, one before that, or one of an earlier session.
-    pub(super) fn number(&mut self, new: Number, row: Option<&PlainRow>) -> Number {
-        let way = self.below(16);
-        match row {
-            Some(row) => chosen(way, new, row.last),
-            None => chosen(way, new, new),
+    /// The number of a call: a new one, or the last one of its volume, one before that, or one of an earlier session.
+    pub(super) fn number(&mut self, new: Number, row: Option<&Volume<'static>>) -> Number {
+        let last = match row {
+            Some(row) => row.last,
+            None => new,
+        };
+        match self.below(16) {
+            0 | 1 => last,
+            2 => Number {
+                session: last.session,
+                call: last.call.saturating_sub(1),
+            },
+            3 => Number {
+                session: last.session.saturating_sub(1),
+                call: last.call.saturating_add(1),
+            },
+            _ => new,
         }
-    }
-}
-
-fn chosen(way: u64, new: Number, last: Number) -> Number {
-    match way {
-        0 | 1 => last,
-        2 => Number {
-            session: last.session,
-            call: last.call.saturating_sub(1),
-        },
-        3 => Number {
-            session: last.session.saturating_sub(1),
-            call: last.call.saturating_add(1),
-        },
-        _ => new,
     }
 }

@@ -1,23 +1,13 @@
 //! Sessions: which calls begin one, what is forgotten then, and what is over. Each call may see a growth refused
 //! (`tools/refusals`), which leaves the controller as it was, and is then answered.
-use super::growths::{answer_in_the_end, empty_of};
 use super::*;
-use crate::replies::{are_ids, is_none};
-use crate::values::detail;
-use csi_types::Reply;
-
-// What there is after a call: the greatest session that came, how many rows, and the ids of those that are empty.
-type Left = (u64, usize, &'static [u64]);
-
-// A call under this number of this session, what it is answered, and what there is then.
-pub(super) type Line = ((u64, u64), Ask, Told, Left);
+use crate::playing::{Line, all_come, has_left};
+use crate::values::{DONE, STALE};
 
 const NODES: &[(&str, u64)] = &[("n1", 4), ("n2", 4)];
 
 // CreateVolume of `w` with 10 bytes in a mode for one node.
 const MAKE_W: Ask = Ask::Create("w", 10, 0, &[B1]);
-
-const SECOND: Told = (Status::Ok, Some(2), "");
 
 const THIRD: Told = (Status::Ok, Some(3), "");
 
@@ -25,44 +15,7 @@ const FOURTH: Told = (Status::Ok, Some(4), "");
 
 const FIFTH: Told = (Status::Ok, Some(5), "");
 
-const STALE: Told = (Status::Aborted, None, "stale");
-
-const TAKEN: Told = (Status::AlreadyExists, None, "name");
-
 const NO_VOLUME: Told = (Status::NotFound, None, "volume");
-
-const AT_N1: Told = (Status::FailedPrecondition, None, "n1");
-
-// Whether this is there.
-fn has_left(rt: &impl Abort, controller: &Controller, left: Left) -> bool {
-    let empty = empty_of(rt, controller);
-    let are_empty = are_ids(empty.as_slice(), left.2);
-    drop(empty);
-    are_empty && controller.session() == left.0 && controller.row_count() == left.1
-}
-
-// Whether the controller answers the call so, and this is there then.
-fn comes(rt: &(impl Abort + AllocGlobal), controller: &mut Controller, line: Line) -> bool {
-    let ((session, call), ask, told, left) = line;
-    let number = Number { session, call };
-    let frame = frame_of(rt, number, call_of(rt, ask));
-    let answer = answer_in_the_end(rt, controller, &frame);
-    drop(frame);
-    let reply = answer.expect(rt, "a reply");
-    is_reply(reply, None, number, kind_of(ask), told) && has_left(rt, controller, left)
-}
-
-// The controller answers these calls so, one after another.
-pub(super) fn all_come(
-    rt: &(impl Abort + AllocGlobal),
-    controller: &mut Controller,
-    lines: &[Line],
-) {
-    for line in lines {
-        let (session, call) = line.0;
-        assert!(rt; comes(rt, controller, *line), "call {session}.{call}");
-    }
-}
 
 // A volume is made and deleted in session 1.
 const DELETED: &[Line] = &[
@@ -77,10 +30,10 @@ const FORGOTTEN: &[Line] = &[
     ((1, 2), Ask::Delete(1), STALE, (2, 1, &[])),
     ((2, 2), MAKE, THIRD, (2, 2, &[])),
     ((2, 3), Ask::Delete(1), DONE, (2, 2, &[])),
-    ((2, 4), Ask::Unpublish(1, "n1"), DONE, (2, 2, &[])),
+    ((2, 4), Ask::Detach(1, "n1"), DONE, (2, 2, &[])),
     (
         (2, 5),
-        Ask::Publish(1, "n1", B1, false),
+        Ask::Attach(1, "n1", B1, false),
         NO_VOLUME,
         (2, 2, &[]),
     ),
@@ -102,12 +55,12 @@ const BY_ITS_OWN_CALL: &[Line] = &[
     ((3, 2), Ask::Delete(2), DONE, (3, 1, &[2])),
     ((4, 1), MAKE, THIRD, (4, 1, &[])),
     ((4, 2), Ask::Delete(3), DONE, (4, 1, &[3])),
-    ((5, 1), Ask::Unpublish(3, "n1"), DONE, (5, 0, &[])),
+    ((5, 1), Ask::Detach(3, "n1"), DONE, (5, 0, &[])),
     ((6, 1), MAKE, FOURTH, (6, 1, &[])),
     ((6, 2), Ask::Delete(4), DONE, (6, 1, &[4])),
     (
         (7, 1),
-        Ask::Publish(4, "n1", B1, false),
+        Ask::Attach(4, "n1", B1, false),
         NO_VOLUME,
         (7, 0, &[]),
     ),
@@ -126,17 +79,17 @@ const BY_ITS_OWN_CALL: &[Line] = &[
 // before is over, also for a volume that has that very number.
 const LIVING: &[Line] = &[
     ((1, 1), MAKE, FIRST, (1, 1, &[])),
-    ((1, 2), Ask::Publish(1, "n1", B1, false), DONE, (1, 1, &[])),
+    ((1, 2), Ask::Attach(1, "n1", B1, false), DONE, (1, 1, &[])),
     ((1, 3), MAKE_W, SECOND, (1, 2, &[])),
     ((2, 1), Ask::Delete(1), AT_N1, (2, 2, &[])),
     ((2, 1), Ask::Delete(1), AT_N1, (2, 2, &[])),
     ((1, 3), MAKE_W, STALE, (2, 2, &[])),
-    ((2, 2), Ask::Publish(1, "n2", B1, false), AT_N1, (2, 2, &[])),
-    ((2, 3), Ask::Unpublish(1, "n1"), DONE, (2, 2, &[])),
+    ((2, 2), Ask::Attach(1, "n2", B1, false), AT_N1, (2, 2, &[])),
+    ((2, 3), Ask::Detach(1, "n1"), DONE, (2, 2, &[])),
     ((2, 4), Ask::Delete(1), DONE, (2, 2, &[1])),
     ((2, 5), MAKE_W, SECOND, (2, 2, &[1])),
     ((2, 4), Ask::Delete(1), DONE, (2, 2, &[1])),
-    ((7, 1), Ask::Unpublish(9, "n1"), DONE, (7, 1, &[])),
+    ((7, 1), Ask::Detach(9, "n1"), DONE, (7, 1, &[])),
     ((6, 9), MAKE_W, STALE, (7, 1, &[])),
     ((7, 1), MAKE_W, SECOND, (7, 1, &[])),
     ((u64::MAX, 0), Ask::Delete(2), DONE, (u64::MAX, 1, &[2])),
@@ -149,10 +102,10 @@ const IN_SESSION_0: &[Line] = &[
     ((0, 0), Ask::Delete(1), DONE, (0, 0, &[])),
     ((0, 0), MAKE, FIRST, (0, 1, &[])),
     ((0, 0), MAKE, FIRST, (0, 1, &[])),
-    ((0, 1), Ask::Publish(1, "n1", B1, false), DONE, (0, 1, &[])),
+    ((0, 1), Ask::Attach(1, "n1", B1, false), DONE, (0, 1, &[])),
     ((0, 0), MAKE, STALE, (0, 1, &[])),
     ((0, 2), Ask::Delete(1), AT_N1, (0, 1, &[])),
-    ((0, 3), Ask::Unpublish(1, "n1"), DONE, (0, 1, &[])),
+    ((0, 3), Ask::Detach(1, "n1"), DONE, (0, 1, &[])),
     ((0, 4), Ask::Delete(1), DONE, (0, 1, &[1])),
     ((0, 5), MAKE, TAKEN, (0, 1, &[1])),
     ((1, 0), MAKE, SECOND, (1, 1, &[])),
@@ -177,35 +130,4 @@ fn deleted_volumes_are_forgotten_where_a_session_begins(rt: HostRuntime) {
         }
         drop(controller);
     }
-}
-
-// Whether the frame gets no answer and begins no session, which takes no memory.
-fn is_passed_over(rt: &impl Abort, controller: &mut Controller, frame: Frame) -> bool {
-    let answer = controller.step(&frame).expect(rt, "it takes no memory");
-    drop(frame);
-    is_none(answer) && has_left(rt, controller, (1, 1, &[1]))
-}
-
-// A reply of session 2, and a call of session 2 to a node.
-#[test]
-fn what_is_no_call_to_a_controller_begins_no_session(rt: HostRuntime) {
-    let mut controller = new_controller(&rt, NODES);
-    all_come(&rt, &mut controller, DELETED);
-    let number = Number {
-        session: 2,
-        call: 1,
-    };
-    let told = Reply {
-        status: Status::Ok,
-        id: None,
-        detail: detail(&rt, ""),
-    };
-    let reply = Frame::reply(number, Party::Controller, Kind::DeleteVolume, told);
-    let reply = reply.expect(&rt, "a reply");
-    assert!(rt; is_passed_over(&rt, &mut controller, reply));
-    let party = Party::Node(node_id(&rt, "n1"));
-    let id = volume_id(&rt, 1);
-    let call = call_frame(&rt, party, number, Call::NodeUnstageVolume { id });
-    assert!(rt; is_passed_over(&rt, &mut controller, call));
-    drop(controller);
 }

@@ -1,131 +1,97 @@
-//! A node with as many rows as it can have.
-use super::sessions::{Line, all_come};
+//! A node of as many volumes as there can be, of which one is at 16 targets: its record, its lists, and a session that forgets all. What it
+//! takes to get there is in `tools/library/full.c`.
 use super::*;
+use crate::playing::{Line, all_come};
+use crate::values::{DONE, STALE};
 
-const OK: Status = Status::Ok;
+const SEVENTH: u64 = 7;
 
-const NO_ROOM: Status = Status::ResourceExhausted;
+const SIXTEEN: &[(&str, bool)] = &[
+    ("/a", false),
+    ("/b", true),
+    ("/c", false),
+    ("/d", false),
+    ("/e", false),
+    ("/f", false),
+    ("/g", false),
+    ("/h", false),
+    ("/i", false),
+    ("/j", false),
+    ("/k", false),
+    ("/l", false),
+    ("/m", false),
+    ("/n", false),
+    ("/o", false),
+    ("/p", false),
+];
 
-// Volumes 1 to 4,096, each staged or unstaged by call 1 of session 1.
-fn full(rt: &(impl Abort + AllocGlobal), are_staged: bool) -> Node {
-    let mut node = new_node(rt);
-    for id in 1..4097u64 {
-        let ask = if are_staged {
-            Ask::Stage(id, ONE)
+// Volumes 1 to 4,096, staged or unstaged by call 1 of session 1; where they are staged one is published.
+fn rows(rt: &(impl Abort + AllocGlobal), staged: Option<Mode>) -> Vec<NodeRow> {
+    let mut rows = room(rt, 4096);
+    for id in 1..=4096u64 {
+        let targets = if id == SEVENTH && staged.is_some() {
+            SIXTEEN
         } else {
-            Ask::Unstage(id)
+            &[]
         };
-        answers(rt, &mut node, (1, ask, OK, ""));
+        let row = row_of(rt, (id, staged, targets, (1, 1), Kind::NodeStageVolume));
+        rows.push(row).expect(rt, "room");
     }
-    node
+    rows
+}
+
+// A node of them.
+fn full(rt: &(impl Abort + AllocGlobal), staged: Option<Mode>) -> Node {
+    let record = NodeRecord::try_new(node_id(rt, "n1"), rows(rt, staged), 1);
+    Node::from_record(rt.alloc(), record.expect(rt, "memory")).expect(rt, "memory")
+}
+
+const NO_ROWS: Told = (Status::ResourceExhausted, None, "rows");
+
+const NO_TARGETS: Told = (Status::ResourceExhausted, None, "targets");
+
+// A seventeenth target is refused. So is a volume more, which isn't kept, and begins a session. Where one of them was unstaged, the next
+// session has room.
+const STAGED: &[Line] = &[
+    (
+        (1, 2),
+        Ask::Publish(SEVENTH, "/q", MANY, false),
+        NO_TARGETS,
+        (1, 4096, &[]),
+    ),
+    ((1, 2), Ask::Unstage(5000), NO_ROWS, (1, 4096, &[])),
+    ((1, 2), Ask::Unstage(5000), NO_ROWS, (1, 4096, &[])),
+    ((2, 1), Ask::Unstage(5000), NO_ROWS, (2, 4096, &[])),
+    ((1, 9), Ask::Stage(1, MANY), STALE, (2, 4096, &[])),
+    ((2, 2), Ask::Unstage(8), DONE, (2, 4096, &[8])),
+    ((2, 3), Ask::Stage(5000, ONE), NO_ROWS, (2, 4096, &[8])),
+    ((3, 1), Ask::Stage(5000, ONE), DONE, (3, 4096, &[])),
+];
+
+#[test]
+fn a_full_node_is_told_and_takes_no_other_volume(rt: HostRuntime) {
+    let mut node = full(&rt, Some(MANY));
+    let rows = rows(&rt, Some(MANY));
+    assert!(rt; tells_rows(&rt, &node, &rows));
+    let row = row_in_the_end(&rt, &node, SEVENTH);
+    assert!(rt; row.as_ref() == rows.get(6));
+    drop((row, rows));
+    all_come(&rt, &mut node, STAGED);
+    drop(node);
 }
 
 // None is staged: in a later session there is room for all others.
 const UNSTAGED: &[Line] = &[
-    ((2, 1), Ask::Unstage(5000), OK, "", (2, 1, &[5000])),
-    (
-        (1, 1),
-        Ask::Stage(1, ONE),
-        Status::Aborted,
-        "stale",
-        (2, 1, &[5000]),
-    ),
-];
-
-// All are: a call that finds no room begins a session. Where one of them was unstaged, the next session has room.
-const STAGED: &[Line] = &[
-    ((2, 1), Ask::Unstage(5000), NO_ROOM, "rows", (2, 4096, &[])),
-    (
-        (1, 1),
-        Ask::Stage(1, ONE),
-        Status::Aborted,
-        "stale",
-        (2, 4096, &[]),
-    ),
-    ((2, 2), Ask::Unstage(7), OK, "", (2, 4096, &[7])),
-    (
-        (2, 3),
-        Ask::Stage(5000, ONE),
-        NO_ROOM,
-        "rows",
-        (2, 4096, &[7]),
-    ),
-    ((3, 1), Ask::Stage(5000, ONE), OK, "", (3, 4096, &[])),
-    ((3, 2), Ask::Unstage(7), NO_ROOM, "rows", (3, 4096, &[])),
+    ((2, 1), Ask::Unstage(5000), DONE, (2, 1, &[5000])),
+    ((1, 1), Ask::Stage(1, ONE), STALE, (2, 1, &[5000])),
 ];
 
 #[test]
-fn a_full_node_is_left_by_what_is_forgotten(rt: HostRuntime) {
-    for (are_staged, lines) in [(false, UNSTAGED), (true, STAGED)] {
-        let mut node = full(&rt, are_staged);
-        all_come(&rt, &mut node, lines);
-        drop(node);
-    }
-}
-
-// How many volumes are staged, and how many were unstaged in this session.
-type Counts = (usize, usize);
-
-// Whether there are so many rows, of which these are empty.
-fn has_counts(rt: &impl Abort, node: &Node, session: u64, counts: Counts) -> bool {
-    let empty = node.forgettable().expect(rt, "memory");
-    let is_gone = empty.len() == counts.1;
+fn a_session_forgets_as_many_volumes_as_there_can_be(rt: HostRuntime) {
+    let mut node = full(&rt, None);
+    let empty = node.forgettable().expect(&rt, "memory");
+    assert!(rt; empty.len() == 4096);
     drop(empty);
-    let is_all = node.row_count() == counts.0.saturating_add(counts.1);
-    is_gone && is_all && node.session() == session
-}
-
-// The node answers the call with an OK.
-fn answers_in(rt: &(impl Abort + AllocGlobal), node: &mut Node, number: Number, ask: Ask) {
-    let reply = reply_to(rt, node, number, ask);
-    let is_told = is_reply(reply, Some("n1"), number, kind_of(ask), (OK, None, ""));
-    assert!(rt; is_told, "{number:?}");
-}
-
-// A volume is staged by a call of this session, and unstaged by the next, but for each hundredth. What there is then.
-fn comes_and_goes(
-    rt: &(impl Abort + AllocGlobal),
-    node: &mut Node,
-    session: u64,
-    volume: u64,
-    (staged, gone): Counts,
-) -> Counts {
-    let call = volume.saturating_mul(2);
-    let number = Number { session, call };
-    answers_in(rt, node, number, Ask::Stage(volume, ONE));
-    if volume % 100 == 0 {
-        return (staged.saturating_add(1), gone);
-    }
-    let next = Number {
-        session,
-        call: call.saturating_add(1),
-    };
-    answers_in(rt, node, next, Ask::Unstage(volume));
-    (staged, gone.saturating_add(1))
-}
-
-// The first volume of each of three sessions, and the one after the last.
-const FIRSTS: &[(u64, u64)] = &[(1, 3334), (3334, 6667), (6667, 10_001)];
-
-// More than twice as many as there is room for, with a row for each that is staged or was unstaged in this session.
-#[test]
-fn ten_thousand_volumes_are_staged_in_three_sessions(rt: HostRuntime) {
-    let mut node = new_node(&rt);
-    let mut staged = 0;
-    for (begun, (first, behind)) in FIRSTS.iter().enumerate() {
-        let session = (begun as u64).saturating_add(1);
-        let mut counts = (staged, 0);
-        for volume in *first..*behind {
-            counts = comes_and_goes(&rt, &mut node, session, volume, counts);
-            let most = counts.0.saturating_add(counts.1);
-            assert!(rt; node.row_count() == most, "{volume} volumes");
-        }
-        assert!(rt;
-            has_counts(&rt, &node, session, counts),
-            "session {session}"
-        );
-        staged = counts.0;
-    }
-    assert!(rt; staged == 100);
+    all_come(&rt, &mut node, UNSTAGED);
     drop(node);
 }

@@ -1,15 +1,12 @@
 //! The lines of the table: what is told of a call. What is told as OK is carried out, and else nothing changes.
-use super::{Held, NODES, Plain, PlainRow};
-use crate::controller::{Ask, Told};
+use super::super::{Ask, B4, Held, TAKEN, Volume};
+use super::{NODES, Plain};
+use crate::values::{DONE, Told};
 use csi_types::{Mode, Status};
 
 const GREATEST: u64 = 1000;
 
 const MOST: u64 = (1 << 63) - 1;
-
-const DONE: Told = (Status::Ok, None, "");
-
-const NAME: Told = (Status::AlreadyExists, None, "name");
 
 const RANGE: Told = (Status::OutOfRange, None, "range");
 
@@ -22,40 +19,11 @@ fn has_mode(modes: &[Mode], wanted: Mode) -> bool {
     false
 }
 
-fn has_modes(modes: &[Mode], wanted: &[Mode]) -> bool {
-    for mode in wanted {
-        if !has_mode(modes, *mode) {
-            return false;
-        }
-    }
-    true
-}
-
 /// How the volume is held at the node.
 pub(super) fn held_at(all: &[Held], node: &str) -> Option<Held> {
     for held in all {
-        if held.node == node {
+        if held.0 == node {
             return Some(*held);
-        }
-    }
-    None
-}
-
-// How many volumes the node holds.
-fn count_at(rows: &[PlainRow], node: &str) -> u64 {
-    let mut count = 0u64;
-    for row in rows {
-        if held_at(&row.held, node).is_some() {
-            count = count.saturating_add(1);
-        }
-    }
-    count
-}
-
-fn slots_of(node: &str) -> Option<u64> {
-    for (id, slots) in NODES {
-        if *id == node {
-            return Some(*slots);
         }
     }
     None
@@ -63,15 +31,11 @@ fn slots_of(node: &str) -> Option<u64> {
 
 // ---- CreateVolume
 
-fn is_capacity(required: u64, limit: u64) -> bool {
-    (required != 0 || limit != 0) && required <= MOST && limit <= MOST
-}
-
 // What is refused whatever rows there are.
 fn refusal(required: u64, limit: u64, modes: &[Mode]) -> Option<Told> {
     if modes.is_empty() {
         Some((Status::InvalidArgument, None, "capabilities"))
-    } else if !is_capacity(required, limit) {
+    } else if required == 0 && limit == 0 || required > MOST || limit > MOST {
         Some((Status::InvalidArgument, None, "capacity"))
     } else if limit != 0 && limit < required {
         Some(RANGE)
@@ -90,22 +54,21 @@ pub(super) fn granted(required: u64, limit: u64) -> u64 {
 }
 
 // Whether the row is of a volume as it is asked for.
-fn is_met(row: &PlainRow, required: u64, limit: u64, modes: &[Mode]) -> bool {
-    let is_in_range = row.capacity >= required && (limit == 0 || limit >= row.capacity);
-    row.live && is_in_range && has_modes(row.modes, modes)
+fn is_met(row: &Volume<'static>, required: u64, limit: u64, modes: &[Mode]) -> bool {
+    for mode in modes {
+        if !has_mode(row.modes, *mode) {
+            return false;
+        }
+    }
+    row.live && row.capacity >= required && (limit == 0 || limit >= row.capacity)
 }
 
 // What is told where the name has a row.
-fn found(row: &PlainRow, required: u64, limit: u64, modes: &[Mode]) -> Told {
+fn found(row: &Volume<'static>, required: u64, limit: u64, modes: &[Mode]) -> Told {
     match refusal(required, limit, modes) {
         Some(told) => told,
-        None => {
-            if is_met(row, required, limit, modes) {
-                (Status::Ok, Some(row.id), "")
-            } else {
-                NAME
-            }
-        }
+        None if is_met(row, required, limit, modes) => (Status::Ok, Some(row.id), ""),
+        None => TAKEN,
     }
 }
 
@@ -113,24 +76,9 @@ fn found(row: &PlainRow, required: u64, limit: u64, modes: &[Mode]) -> Told {
 fn made(plain: &Plain, required: u64, limit: u64, modes: &[Mode]) -> Told {
     match refusal(required, limit, modes) {
         Some(told) => told,
-        None => {
-            if granted(required, limit) > GREATEST {
-                RANGE
-            } else if plain.rows.len() >= 4096 {
-                (Status::ResourceExhausted, None, "volumes")
-            } else {
-                (Status::Ok, Some(plain.next_id), "")
-            }
-        }
-    }
-}
-
-// ---- DeleteVolume
-
-fn deleted(row: &PlainRow) -> Told {
-    match row.held.first() {
-        Some(held) => (Status::FailedPrecondition, None, held.node),
-        None => DONE,
+        None if granted(required, limit) > GREATEST => RANGE,
+        None if plain.rows.len() >= 4096 => (Status::ResourceExhausted, None, "volumes"),
+        None => (Status::Ok, Some(plain.next_id), ""),
     }
 }
 
@@ -145,90 +93,76 @@ const OF_ONE_NODE: &[Mode] = &[
 
 const READERS: &[Mode] = &[Mode::SingleNodeReaderOnly, Mode::MultiNodeReaderOnly];
 
-fn is_single(mode: Mode) -> bool {
-    has_mode(OF_ONE_NODE, mode)
-}
-
-fn writes(held: Held) -> bool {
-    !held.readonly && !has_mode(READERS, held.mode)
+fn writes((_, mode, readonly): Held) -> bool {
+    !readonly && !has_mode(READERS, mode)
 }
 
 // Whether a volume can be held so at two nodes.
 fn can_be_both(first: Held, second: Held) -> bool {
-    let has_one_writer = first.mode == Mode::MultiNodeSingleWriter
-        || second.mode == Mode::MultiNodeSingleWriter;
+    let has_one_writer = first.1 == B4 || second.1 == B4;
     let are_two_writers = writes(first) && writes(second);
-    !is_single(first.mode) && !is_single(second.mode) && !(are_two_writers && has_one_writer)
+    !has_mode(OF_ONE_NODE, first.1)
+        && !has_mode(OF_ONE_NODE, second.1)
+        && !(are_two_writers && has_one_writer)
 }
 
 // The node of the first holding that this one can't be beside.
 fn refusing_node(all: &[Held], wanted: Held) -> Option<&'static str> {
     for held in all {
         if !can_be_both(*held, wanted) {
-            return Some(held.node);
+            return Some(held.0);
         }
     }
     None
 }
 
-// What is told where the volume isn't held at the node, which has so many slots.
-fn attached(rows: &[PlainRow], row: &PlainRow, wanted: Held, slots: u64) -> Told {
-    match refusing_node(&row.held, wanted) {
-        Some(node) => (Status::FailedPrecondition, None, node),
-        None => {
-            if count_at(rows, wanted.node) >= slots || row.held.len() >= 64 {
-                (Status::ResourceExhausted, None, "slots")
-            } else {
-                DONE
+// How many slots of the node are free; `None` where it isn't configured.
+fn free_slots(rows: &[Volume<'static>], node: &str) -> Option<u64> {
+    for (id, slots) in NODES {
+        if *id == node {
+            let mut left = *slots;
+            for row in rows {
+                if held_at(&row.held, node).is_some() {
+                    left = left.saturating_sub(1);
+                }
             }
+            return Some(left);
         }
     }
+    None
 }
 
-// What is told where the volume is held at the node.
-fn attached_again(held: Held, wanted: Held) -> Told {
-    if held.mode == wanted.mode && held.readonly == wanted.readonly {
-        DONE
-    } else {
-        (Status::AlreadyExists, None, "held otherwise")
-    }
-}
-
-// What is told where the volume is there, and the node has so many slots.
-fn placed(rows: &[PlainRow], row: &PlainRow, wanted: Held, slots: u64) -> Told {
-    if !has_mode(row.modes, wanted.mode) {
+// What is told where the volume is there, and so many slots of the node are free.
+fn attached(row: &Volume<'static>, wanted: Held, free: u64) -> Told {
+    if !has_mode(row.modes, wanted.1) {
         return (Status::InvalidArgument, None, "capability");
     }
-    match held_at(&row.held, wanted.node) {
-        Some(held) => attached_again(held, wanted),
-        None => attached(rows, row, wanted, slots),
+    match held_at(&row.held, wanted.0) {
+        Some(held) if held == wanted => return DONE,
+        Some(_) => return (Status::AlreadyExists, None, "held otherwise"),
+        None => {}
     }
-}
-
-fn published(rows: &[PlainRow], row: &PlainRow, wanted: Held) -> Told {
-    if !row.live {
-        return (Status::NotFound, None, "volume");
-    }
-    match slots_of(wanted.node) {
-        Some(slots) => placed(rows, row, wanted, slots),
-        None => (Status::NotFound, None, "node"),
+    match refusing_node(&row.held, wanted) {
+        Some(node) => (Status::FailedPrecondition, None, node),
+        None if free == 0 || row.held.len() >= 64 => (Status::ResourceExhausted, None, "slots"),
+        None => DONE,
     }
 }
 
 /// What the table tells where the call's volume has this row.
-pub(super) fn told_of(rows: &[PlainRow], row: &PlainRow, ask: Ask) -> Told {
+pub(super) fn told_of(rows: &[Volume<'static>], row: &Volume<'static>, ask: Ask) -> Told {
     match ask {
         Ask::Create(_, required, limit, modes) => found(row, required, limit, modes),
-        Ask::Delete(_) => deleted(row),
-        Ask::Publish(_, node, mode, readonly) => {
-            let wanted = Held {
-                node,
-                mode,
-                readonly,
-            };
-            published(rows, row, wanted)
-        }
-        Ask::Unpublish(..) => DONE,
+        Ask::Delete(_) => match row.held.first() {
+            Some(held) => (Status::FailedPrecondition, None, held.0),
+            None => DONE,
+        },
+        Ask::Attach(..) if !row.live => (Status::NotFound, None, "volume"),
+        Ask::Attach(_, node, mode, readonly) => match free_slots(rows, node) {
+            Some(free) => attached(row, (node, mode, readonly), free),
+            None => (Status::NotFound, None, "node"),
+        },
+        _ => DONE,
     }
 }
 
@@ -236,7 +170,7 @@ pub(super) fn told_of(rows: &[PlainRow], row: &PlainRow, ask: Ask) -> Told {
 pub(super) fn told_of_none(plain: &Plain, ask: Ask) -> Told {
     match ask {
         Ask::Create(_, required, limit, modes) => made(plain, required, limit, modes),
-        Ask::Publish(..) => (Status::NotFound, None, "volume"),
-        Ask::Delete(_) | Ask::Unpublish(..) => DONE,
+        Ask::Attach(..) => (Status::NotFound, None, "volume"),
+        _ => DONE,
     }
 }

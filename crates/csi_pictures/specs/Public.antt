@@ -1,9 +1,0 @@
-pub mod Pieces
-pub mod Escaping
-pub mod Elements
-pub mod Scene
-pub mod Rows
-pub mod Front
-pub mod Lanes
-pub mod Picture
-pub mod Bars

@@ -1,0 +1,136 @@
+//! The orchestrator's program over a store, a reader and a writer of which one fails at one call, at each in turn: how it ends, what is written and
+//! kept, and that the life goes on from there.
+use super::script::{Side, WHOLE, lines};
+use super::{answers, count, goes_on, has_after, lives, puts};
+use crate::devices::{Devices, SOUND, new_store};
+use csi_endings::Ending;
+use csi_stores::Left;
+use std::alloc::Global;
+use std::process::Abort;
+
+// What fails as it is opened in session 6, and the session that the store is in then. Its record is the first commit.
+const OPENINGS: &[(Devices, u8)] = &[
+    (
+        Devices {
+            load: Some(0),
+            ..SOUND
+        },
+        5,
+    ),
+    (
+        Devices {
+            commit: Some(1),
+            ..SOUND
+        },
+        5,
+    ),
+    (
+        Devices {
+            commit: Some(1),
+            left: Left::New,
+            ..SOUND
+        },
+        6,
+    ),
+];
+
+#[test]
+fn an_opening_that_fails_leaves_one_session_or_the_next(rt: HostRuntime) {
+    for (devices, session) in OPENINGS {
+        let mut keep = new_store(rt.alloc(), 1000, *devices);
+        puts(&rt, &mut keep, 5, 4);
+        let (written, ending) = answers(&rt, &mut keep, b"", SOUND);
+        assert!(&rt; ending == Ending::Device && written.is_empty());
+        drop(written);
+        assert!(&rt; has_after(&rt, &mut keep, *session, (4, 0)));
+        assert!(&rt; lives(&rt, &mut keep, (session.saturating_add(1), 4)));
+        drop(keep);
+    }
+}
+
+// How many lines a run over such devices writes whole, and whether one failed. The step of the line that isn't written is kept, or isn't; and the life
+// goes on.
+fn run(rt: &(impl Abort + AllocGlobal), devices: Devices, is_ahead: bool) -> (usize, bool) {
+    let mut keep = new_store(rt.alloc(), 1000, devices);
+    let given = lines(rt, Side::Given, 1, (0, WHOLE));
+    let (written, ending) = answers(rt, &mut keep, &given, devices);
+    drop(given);
+    let said = count(&written);
+    let (session, steps) = match said {
+        _ if is_ahead => (1, said.min(WHOLE)),
+        0 => (0, 0),
+        _ => (1, said.saturating_sub(1)),
+    };
+    assert!(rt; has_after(rt, &mut keep, session, (steps, 0)));
+    assert!(rt; goes_on(rt, &mut keep, (1, 0), &written));
+    drop((keep, written));
+    assert!(rt; ending == Ending::Device || ending == Ending::Done);
+    (said, ending == Ending::Device)
+}
+
+#[test]
+fn each_commit_that_fails_leaves_one_step_or_the_next(rt: HostRuntime) {
+    for commit in 0..=WHOLE {
+        let old = Devices {
+            commit: Some(commit as u64),
+            ..SOUND
+        };
+        let new = Devices {
+            left: Left::New,
+            ..old
+        };
+        assert!(&rt; run(&rt, old, false) == (commit, true), "{commit}");
+        assert!(&rt; run(&rt, new, true) == (commit, true), "{commit}");
+    }
+}
+
+// Whether the life comes to its end, one call after another of the reader or the writer failing, and no line is left out.
+fn ends(rt: &(impl Abort + AllocGlobal), most: usize, is_read: bool) -> bool {
+    let mut far = 0usize;
+    for call in 0..10_000u64 {
+        let (read, write) = if is_read {
+            (Some(call), None)
+        } else {
+            (None, Some(call))
+        };
+        let devices = Devices {
+            most,
+            read,
+            write,
+            ..SOUND
+        };
+        let (said, has_failed) = run(rt, devices, !is_read);
+        assert!(rt; said == far || said == far.saturating_add(1), "at {call}");
+        far = said;
+        if !has_failed {
+            return true;
+        }
+    }
+    false
+}
+
+// A line has 15 bytes at least.
+#[test]
+fn each_read_that_fails_ends_it(rt: HostRuntime) {
+    assert!(&rt; ends(&rt, 1, true) && ends(&rt, 15, true));
+}
+
+#[test]
+fn each_write_that_fails_ends_it(rt: HostRuntime) {
+    assert!(&rt; ends(&rt, 20, false) && ends(&rt, 4096, false));
+}
+
+// The line that isn't flushed is written.
+#[test]
+fn each_flush_that_fails_ends_it(rt: HostRuntime) {
+    for flush in 0..=WHOLE {
+        let devices = Devices {
+            flush: Some(flush as u64),
+            ..SOUND
+        };
+        assert!(&rt;
+            run(&rt, devices, false) == (flush.saturating_add(1), true),
+            "{flush}"
+        );
+    }
+}

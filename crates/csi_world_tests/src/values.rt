@@ -1,0 +1,74 @@
+//! Makers of values.
+//!
+//! What a maker is given is within the limits, so it fails for want of memory alone, and then tries once more: a run
+//! refuses one allocation at most (`tools/refusals`). So what a test is made of is there in every run,
+//! and the call under test is the one that sees the refusal, or none does.
+use csi_types::{
+    Access, Capability, CapabilityList, Config, Mode, Name, NodeId, NodeSlots, Target,
+};
+use std::alloc::Global;
+use std::process::Abort;
+
+pub(crate) fn name(rt: &(impl Abort + AllocGlobal), text: &str) -> Name {
+    match Name::try_new(rt.alloc(), text) {
+        Ok(name) => name,
+        Err(_) => Name::try_new(rt.alloc(), text).expect(rt, "a name"),
+    }
+}
+
+pub(crate) fn node_id(rt: &(impl Abort + AllocGlobal), text: &str) -> NodeId {
+    match NodeId::try_new(rt.alloc(), text) {
+        Ok(id) => id,
+        Err(_) => NodeId::try_new(rt.alloc(), text).expect(rt, "a node id"),
+    }
+}
+
+pub(crate) fn target(rt: &(impl Abort + AllocGlobal), text: &str) -> Target {
+    match Target::try_new(rt.alloc(), text) {
+        Ok(target) => target,
+        Err(_) => Target::try_new(rt.alloc(), text).expect(rt, "a target"),
+    }
+}
+
+/// A raw device in this mode.
+pub(crate) fn block(mode: Mode) -> Capability {
+    Capability {
+        access: Access::Block,
+        mode,
+    }
+}
+
+/// Room for so many values, which are then pushed without memory.
+pub(crate) fn room<T: Drop>(rt: &(impl Abort + AllocGlobal), count: usize) -> Vec<T> {
+    match Vec::with_capacity(rt.alloc(), count) {
+        Ok(list) => list,
+        Err(_) => Vec::with_capacity(rt.alloc(), count).expect(rt, "memory"),
+    }
+}
+
+/// Nodes with these ids.
+pub(crate) fn node_ids(rt: &(impl Abort + AllocGlobal), texts: &[&str]) -> Vec<NodeId> {
+    let mut nodes = room(rt, texts.len());
+    for text in texts {
+        nodes.push(node_id(rt, text)).expect(rt, "room");
+    }
+    nodes
+}
+
+/// A raw device in this mode alone.
+pub(crate) fn only_block(rt: &(impl Abort + AllocGlobal), mode: Mode) -> CapabilityList {
+    let mut list = room(rt, 1);
+    list.push(block(mode)).expect(rt, "room");
+    CapabilityList::try_new(list).expect(rt, "capabilities")
+}
+
+/// A configuration with greatest 1,000 and these nodes, each with its slots.
+pub(crate) fn config(rt: &(impl Abort + AllocGlobal), nodes: &[(&str, u64)]) -> Config {
+    let mut list = room(rt, nodes.len());
+    for (id, slots) in nodes {
+        let id = node_id(rt, id);
+        list.push(NodeSlots { id, slots: *slots })
+            .expect(rt, "room");
+    }
+    Config::try_new(rt.alloc(), 1000, list).expect(rt, "a configuration")
+}
