@@ -22,7 +22,7 @@ CAPABILITIES = [
 
 
 def spelled(capability):
-    """Its bytes, as in a frame: docs/FORMATS.md, "Frames"."""
+    """Its bytes, as in a frame: docs/FRAMES.md, "Frames"."""
     fs = capability.get("fs")
     access = b"\0" if fs is None else bytes([1, len(fs)]) + fs.encode()
     return access + bytes([capability["mode"]])

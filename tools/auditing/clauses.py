@@ -2,7 +2,7 @@
 import itertools
 import json
 
-# docs/FORMATS.md, "What a mode allows": those for one node, those that never write, and those of which one node writes.
+# docs/FRAMES.md, "What a mode allows": those for one node, those that never write, and those of which one node writes.
 FOR_ONE_NODE = {1, 2, 6, 7}
 READERS_ONLY = {2, 3}
 ONE_WRITER = {4}

@@ -1,4 +1,4 @@
-"""Lines of `csi-replay record` as values, read by docs/FORMATS.md: each object has exactly its keys, each value is within its limits. The rules
+"""Lines of `csi-replay record` as values, read by docs/LINES.md: each object has exactly its keys, each value is within its limits. The rules
 that join the rows of a record aren't asked for; what the clauses of an audit look up stands there once."""
 import json
 from dataclasses import dataclass, field

@@ -1,4 +1,4 @@
-"""Records of a system that were written by hand from docs/FORMATS.md, as lines of `csi-replay record`: `ALL` has nothing that is to be found, and nor has
+"""Records of a system that were written by hand from docs/LINES.md, as lines of `csi-replay record`: `ALL` has nothing that is to be found, and nor has
 `LOST`, where a node was lost."""
 
 # Volume v is at two nodes; w on its way to n1, where it is attached and may be staged; x is deleted; y is at n1, and another node reads it;

@@ -28,7 +28,7 @@ def capability(drawn, mode=None):
 
 
 def nonsense(drawn):
-    """A line that is no request, and its fault (docs/FORMATS.md): nothing like one, or a command with a mode, a name or a target out of its range."""
+    """A line that is no request, and its fault (docs/LINES.md): nothing like one, or a command with a mode, a name or a target out of its range."""
     if drawn.random() < 0.4:
         return drawn.choice(NONSENSE)
     name, mode = drawn.choice(LONG_NAMES), {"access": "block", "mode": drawn.choice((0, 8))}

@@ -1,4 +1,4 @@
-"""What a plugin replies to a call by its number alone (docs/FORMATS.md, "What a reply says"): the same bytes to the volume's last call, `stale` to a lower
+"""What a plugin replies to a call by its number alone (docs/FRAMES.md, "What a reply says"): the same bytes to the volume's last call, `stale` to a lower
 number, and to a higher one anything but that."""
 from program.frames import reply
 

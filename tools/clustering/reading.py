@@ -1,4 +1,4 @@
-"""Frames as values, read by docs/FORMATS.md alone: as much of each as a network, and who watches it, has to know."""
+"""Frames as values, read by docs/FRAMES.md alone: as much of each as a network, and who watches it, has to know."""
 from dataclasses import dataclass
 
 from program.frames import KINDS

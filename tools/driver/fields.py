@@ -1,4 +1,4 @@
-"""What becomes of each field of each request, and the responses: by the tables of docs/FORMATS.md, "From CSI to a frame"."""
+"""What becomes of each field of each request, and the responses: by the tables of docs/DRIVER.md, "From CSI to a frame"."""
 import os
 import stat
 

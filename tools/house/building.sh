@@ -19,3 +19,14 @@ build_over() {
     words+=(-L "dependency=$kit/rlibs" --antt-project "$kit/rattle/logic/antt-project.json" --logic-built "$kit/logic_built" --jobs 2)
     (cd "$top/crates/$crate" && "$kit/bin/rattle" build "${words[@]}" --backend llvm --toolchain "${toolchain:-$kit/toolchain}" -o "$out")
 }
+
+# Leaves the static library in crates/csi_embedded/out, over what rt ci left there. Who asks for it second waits for the first, and finds it.
+built_library() {
+    local library="$top/crates/csi_embedded/out/libcsi_embedded.a"
+    [ -d "$top/crates/csi_service/out/rlib" ] || { echo "there is no crates/csi_service/out/rlib: rt ci leaves it"; return 1; }
+    (
+        flock 8
+        [ -f "$library" ] && [ -z "$(find "$top"/crates/*/out/rlib -maxdepth 0 -newer "$library" -print -quit)" ] ||
+            build_over csi_embedded out/libcsi_embedded.a "$top"/crates/*/out/rlib
+    ) 8> "$top/crates/csi_embedded/out/library.lock"
+}
