@@ -83,7 +83,7 @@ extern "C" {
 #define TUFAYON_RENEWED 9    /* done, and the record was one of an earlier version */
 #define TUFAYON_TAKE_OUT 10  /* done: what is under the key is taken out of the store */
 #define TUFAYON_NO_MORE 11   /* there are not so many changes, or volumes */
-#define TUFAYON_REFUSED 12   /* the orchestrator refuses, for a reason that has a number of its own: docs/FORMATS.md, "Reports" */
+#define TUFAYON_REFUSED 12   /* the orchestrator refuses, for a reason that has a number of its own: docs/LINES.md, "Reports" */
 #define TUFAYON_OTHER_KIND 13 /* the call is a plugin's and the handle an orchestrator's, or the other way round */
 #define TUFAYON_MET 14       /* done: what is asked is so already, and nothing is sent */
 #define TUFAYON_IGNORED 15   /* done: the frame is no reply to an open call, and nothing changed */

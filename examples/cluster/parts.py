@@ -17,7 +17,7 @@ STATUSES = {
 
 
 def told(frame):
-    """What a reply's frame says: its status, and its detail (docs/FORMATS.md, "Frames")."""
+    """What a reply's frame says: its status, and its detail (docs/FRAMES.md, "Frames")."""
     at = 23 if frame[22] == 0 else 24 + frame[23]
     status, detail = frame[at], frame[at + 10 : at + 10 + frame[at + 9]].decode()
     return status, f"{STATUSES.get(status, status)} {detail}".rstrip()

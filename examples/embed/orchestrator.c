@@ -1,5 +1,5 @@
 /* An orchestrator in C: the file of `csi-replay orchestrator DB CONFIG`, the frames that it sends, and what it knows. It is asked by lines of words, and
- * answers each by a line; capabilities and frames are in hexadecimal, as in docs/FORMATS.md.
+ * answers each by a line; capabilities and frames are in hexadecimal, as in docs/FRAMES.md.
  *     orchestrator DB CONFIG < REQUESTS > ANSWERS
  *     create NAME REQUIRED LIMIT CAPABILITIES       use NAME NODE TARGET CAPABILITY ro|rw       stop NAME NODE TARGET
  *     delete NAME        timeout NAME        reply FRAME        lose NODE

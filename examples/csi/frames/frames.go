@@ -1,4 +1,4 @@
-// Package frames writes and reads the frames of Tufayon's plugins, by docs/FORMATS.md, "Frames": calls and replies as bytes.
+// Package frames writes and reads the frames of Tufayon's plugins, by docs/FRAMES.md, "Frames": calls and replies as bytes.
 package frames
 
 // A Number is a call's: the session, and the count of calls in it. A plugin carries out a volume's calls by rising numbers only.

@@ -19,7 +19,7 @@ func bytesOf(t *testing.T, text string) []byte {
 
 var block = Capability{Mode: 1}
 
-// The frames that docs/FORMATS.md spells out, and one of each other kind, by its table.
+// The frames that docs/FRAMES.md spells out, and one of each other kind, by its table.
 var calls = []struct {
 	call  Call
 	frame string

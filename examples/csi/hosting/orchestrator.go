@@ -14,7 +14,7 @@ import (
 // ErrOrchestrator says that the program of an orchestrator ended, or wrote what no orchestrator writes.
 var ErrOrchestrator = errors.New("the orchestrator")
 
-// An Orchestrator answers lines by lines, as docs/FORMATS.md, "The lines of `csi-replay orchestrator`", has them: the library's (Open), or a program
+// An Orchestrator answers lines by lines, as docs/LINES.md, "The lines of `csi-replay orchestrator`", has them: the library's (Open), or a program
 // that runs beside this one (Run). What an answer says is committed. One thread asks, that which made it.
 type Orchestrator interface {
 	// Answer gives the answer to a line. Where it fails, nothing more is to be asked.

@@ -13,7 +13,7 @@ import (
 
 const deletion = "0000001b010200000000000000010000000000000002000000000000000001"
 
-// The lines that docs/FORMATS.md spells out, and answers of each other form, by its tables.
+// The lines that docs/LINES.md spells out, and answers of each other form, by its tables.
 func TestAnswers(t *testing.T) {
 	frame, _ := hex.DecodeString(deletion)
 	block, mount := frames.Capability{Mode: 1}, frames.Capability{Mount: true, FsType: "\"\\\n\u00e9", Mode: 7}

@@ -1,4 +1,4 @@
-// Package lines reads and writes the lines of csi-replay orchestrator: docs/FORMATS.md, "The lines of `csi-replay orchestrator`".
+// Package lines reads and writes the lines of csi-replay orchestrator: docs/LINES.md, "The lines of `csi-replay orchestrator`".
 package lines
 
 import (

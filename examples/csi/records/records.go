@@ -1,4 +1,4 @@
-// Package records reads what a driver wants to know of a plugin's record, and a host of an orchestrator's, by docs/FORMATS.md, "Records".
+// Package records reads what a driver wants to know of a plugin's record, and a host of an orchestrator's, by docs/RECORDS.md, "Records".
 package records
 
 import (

@@ -21,7 +21,7 @@ func bytesOf(t *testing.T, text string) []byte {
 
 var block = frames.Capability{Mode: 1}
 
-// The values that docs/FORMATS.md, "Records", spells out, and rows of other goals, by its table.
+// The values that docs/RECORDS.md, "Records", spells out, and rows of other goals, by its table.
 func TestValues(t *testing.T) {
 	session, err := Session(bytesOf(t, "03 00 0000000000000002 0000000000000001"))
 	if session != 1 || err != nil {

@@ -1,4 +1,4 @@
-// Package staging keeps where each volume is staged, which isn't in a plugin's record: a file with a line for each, docs/FORMATS.md, "Staging paths".
+// Package staging keeps where each volume is staged, which isn't in a plugin's record: a file with a line for each, docs/DRIVER.md, "Staging paths".
 package staging
 
 import (

@@ -1,4 +1,4 @@
-// Package translate makes a plugin's calls of CSI's requests, and CSI's requests of a plugin's calls, by docs/FORMATS.md, "From CSI to a frame":
+// Package translate makes a plugin's calls of CSI's requests, and CSI's requests of a plugin's calls, by docs/DRIVER.md, "From CSI to a frame":
 // that table has a row for each field, and these functions judge the fields in its order, once Known has judged the request.
 package translate
 

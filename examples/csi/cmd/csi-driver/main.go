@@ -1,4 +1,4 @@
-// csi-driver is a CSI driver over the proved plugins: docs/FORMATS.md, "The driver", says what its words are and how it ends.
+// csi-driver is a CSI driver over the proved plugins: docs/DRIVER.md, "The driver", says what its words are and how it ends.
 package main
 
 import (

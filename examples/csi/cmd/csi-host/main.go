@@ -1,4 +1,4 @@
-// csi-host has an orchestrator decide, and carries its calls to CSI drivers: docs/FORMATS.md, "The orchestrator's host".
+// csi-host has an orchestrator decide, and carries its calls to CSI drivers: docs/DRIVER.md, "The orchestrator's host".
 package main
 
 import (

@@ -1,4 +1,4 @@
-// csi-orchestrator answers the lines of csi-replay orchestrator, over the library: docs/FORMATS.md, "The orchestrator's host".
+// csi-orchestrator answers the lines of csi-replay orchestrator, over the library: docs/DRIVER.md, "The orchestrator's host".
 package main
 
 import (
