@@ -1,4 +1,4 @@
-"""Tests of the CSI driver of examples/csi: the programs' folder, csi-replay, how many calls are drawn, a seed, and words that the cases' names have."""
+"""Tests of the CSI driver of service: the programs' folder, csi-replay, how many calls are drawn, a seed, and words that the cases' names have."""
 import sys
 import tempfile
 import time

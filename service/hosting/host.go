@@ -1,0 +1,214 @@
+package hosting
+
+import (
+	"context"
+	"encoding/hex"
+	"encoding/json"
+	"fmt"
+	"io"
+	"sort"
+	"time"
+
+	"tufayon/service/lines"
+)
+
+// A host asks an orchestrator, one line after another, and has the calls that it sends made meanwhile.
+type host struct {
+	config       Config
+	orchestrator Orchestrator
+	carrier      *carrier
+	output       io.Writer
+	came         chan event
+	wanted       map[string]bool // the volumes of which something is wanted
+	waiting      map[string]int  // how many calls and timeouts are under way, of each volume of which there is one
+	losses       int             // how often a node was lost: each began a session
+	calls        context.Context // of the calls that are under way, until a node is lost
+	giveUp       context.CancelFunc
+}
+
+// An event is what came of a call, or that it is time to try again: a line for the orchestrator.
+type event struct {
+	name      string
+	line      []byte
+	err       error
+	isTimeout bool
+	losses    int // how often a node had been lost when the call was made
+}
+
+// Serve has each line of the input, a command, answered by an orchestrator that has just been made, whose first line this is, and prints its answers
+// to replies and timeouts too. It ends once the input has, and nothing is wanted that can still be done, and closes the orchestrator.
+func Serve(ctx context.Context, config Config, orchestrator Orchestrator, first Answer, input io.Reader, output io.Writer) error {
+	ctx, cancel := context.WithCancel(ctx)
+	defer cancel()
+	carrier, err := connect(config)
+	if err == nil {
+		defer carrier.close()
+		host := &host{config: config, orchestrator: orchestrator, carrier: carrier, output: output, came: make(chan event),
+			wanted: map[string]bool{}, waiting: map[string]int{}}
+		host.calls, host.giveUp = context.WithCancel(ctx)
+		defer func() { host.giveUp() }()
+		err = host.serve(ctx, first, read(ctx, input))
+	}
+	if closed := orchestrator.Close(); err == nil {
+		err = closed
+	}
+	return err
+}
+
+func (host *host) serve(ctx context.Context, first Answer, input *reading) error {
+	if _, err := host.output.Write(first.Line); err != nil {
+		return err
+	}
+	for _, name := range first.Wanted {
+		host.wanted[name] = true
+	}
+	if err := host.tellAll(ctx); err != nil {
+		return err
+	}
+	for lines := input.lines; lines != nil || len(host.waiting) > 0; {
+		select {
+		case line, more := <-lines:
+			if !more {
+				if input.err != nil {
+					return input.err
+				}
+				lines = nil
+				continue
+			}
+			if err := host.ask(ctx, line); err != nil {
+				return err
+			}
+		case event := <-host.came:
+			if err := host.hear(ctx, event); err != nil {
+				return err
+			}
+		case <-ctx.Done():
+			return nil
+		}
+	}
+	return nil
+}
+
+// tellAll tells the timeout of each volume of which something is wanted: no call is open then.
+func (host *host) tellAll(ctx context.Context) error {
+	names := make([]string, 0, len(host.wanted))
+	for name := range host.wanted {
+		names = append(names, name)
+	}
+	sort.Strings(names)
+	for _, name := range names {
+		if err := host.ask(ctx, timeoutOf(name)); err != nil {
+			return err
+		}
+	}
+	return nil
+}
+
+// hear tells the orchestrator what came. A call that was given up at a loss has timed out already.
+func (host *host) hear(ctx context.Context, came event) error {
+	if host.waiting[came.name]--; host.waiting[came.name] == 0 {
+		delete(host.waiting, came.name)
+	}
+	if came.err != nil {
+		return came.err
+	}
+	if !came.isTimeout || came.losses == host.losses {
+		if err := host.ask(ctx, came.line); err != nil {
+			return err
+		}
+	}
+	host.goOn(ctx, came.name)
+	return nil
+}
+
+// ask asks the orchestrator, prints its answer, and has done what it says: a call made; or a timeout told after a while where something is
+// wanted and no call is under way; or, where a node was lost, the timeouts of all of which something is wanted.
+func (host *host) ask(ctx context.Context, line []byte) error {
+	answer, err := host.orchestrator.Answer(line)
+	if err != nil {
+		return err
+	}
+	if _, err := host.output.Write(answer.Line); err != nil {
+		return err
+	}
+	if answer.IsLoss() {
+		host.losses++
+		host.giveUp()
+		host.calls, host.giveUp = context.WithCancel(ctx)
+		return host.tellAll(ctx)
+	}
+	if answer.Name == "" {
+		return nil
+	}
+	delete(host.wanted, answer.Name)
+	if answer.HasGoal() {
+		host.wanted[answer.Name] = true
+	}
+	if answer.Send != nil {
+		host.waiting[answer.Name]++
+		go host.call(ctx, host.calls, event{name: answer.Name, losses: host.losses}, *answer.Send)
+	}
+	host.goOn(ctx, answer.Name)
+	return nil
+}
+
+// goOn has a timeout of the volume told after a while, where something is wanted of it and nothing is under way.
+func (host *host) goOn(ctx context.Context, name string) {
+	if !host.wanted[name] || host.waiting[name] > 0 {
+		return
+	}
+	host.waiting[name]++
+	again := event{name: name, line: timeoutOf(name), isTimeout: true, losses: host.losses}
+	time.AfterFunc(seconds(host.config.RetrySeconds), func() { host.tell(ctx, again) })
+}
+
+// call makes a call, and tells what came of it: the reply, or that none did.
+func (host *host) call(ctx, calls context.Context, came event, send Sending) {
+	reply, err := host.carrier.carry(calls, send)
+	if err != nil {
+		came.err = fmt.Errorf("a call of %s: %w", came.name, err)
+	}
+	came.line, came.isTimeout = timeoutOf(came.name), true
+	if reply != nil {
+		came.line, came.isTimeout = lineOf("reply", hex.EncodeToString(reply)), false
+	}
+	host.tell(ctx, came)
+}
+
+func (host *host) tell(ctx context.Context, came event) {
+	select {
+	case host.came <- came:
+	case <-ctx.Done():
+	}
+}
+
+func timeoutOf(name string) []byte { return lineOf("timeout", name) }
+
+func lineOf(key, value string) []byte {
+	line, _ := json.Marshal(map[string]string{key: value}) // texts always can be
+	return line
+}
+
+// A reading is the lines of an input, and why they ended, once they did.
+type reading struct {
+	lines chan []byte
+	err   error
+}
+
+// read reads the lines of the input, until it ends.
+func read(ctx context.Context, input io.Reader) *reading {
+	reading := &reading{lines: make(chan []byte)}
+	go func() {
+		defer close(reading.lines)
+		scanner := lines.NewScanner(input)
+		for scanner.Scan() {
+			select {
+			case reading.lines <- append([]byte(nil), scanner.Line()...):
+			case <-ctx.Done():
+				return
+			}
+		}
+		reading.err = scanner.Err()
+	}()
+	return reading
+}

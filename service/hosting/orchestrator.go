@@ -1,0 +1,68 @@
+// Package hosting carries what an orchestrator decides: its calls as CSI's gRPC calls to the drivers' sockets, and what comes of them back to it.
+package hosting
+
+import (
+	"encoding/json"
+	"errors"
+	"fmt"
+
+	"tufayon/service/lines"
+	"tufayon/service/numbers"
+	"tufayon/service/plugin"
+)
+
+// ErrOrchestrator says that the program of an orchestrator ended, or wrote what no orchestrator writes.
+var ErrOrchestrator = errors.New("the orchestrator")
+
+// An Orchestrator answers lines by lines, as docs/LINES.md, "The lines of `csi-replay orchestrator`", has them: the library's (Open), or a program
+// that runs beside this one (Run). What an answer says is committed. One thread asks, that which made it.
+type Orchestrator interface {
+	// Answer gives the answer to a line. Where it fails, nothing more is to be asked.
+	Answer(line []byte) (Answer, error)
+	// Close ends it.
+	Close() error
+}
+
+// An Answer is a line of an orchestrator's, and what it says.
+type Answer struct {
+	Line    []byte          `json:"-"`
+	Goal    json.RawMessage `json:"goal"`
+	Name    string          `json:"name"`
+	Outcome string          `json:"outcome"`
+	Send    *Sending        `json:"send"`
+	Wanted  []string        `json:"wanted"` // of the first line
+	Node    string          `json:"node"`   // of an answer about a loss
+}
+
+// A Sending is a call to be sent.
+type Sending struct {
+	Frame  string `json:"frame"` // in hexadecimal
+	Plugin string `json:"plugin"`
+}
+
+// HasGoal says whether something is wanted of the volume now.
+func (answer Answer) HasGoal() bool { return len(answer.Goal) > 0 && string(answer.Goal) != "null" }
+
+// IsLoss says whether a node was lost: a session began, and every call under way was given up.
+func (answer Answer) IsLoss() bool { return answer.Node != "" && answer.Outcome == lines.HasLost }
+
+// answerOf reads what a line says, which ends with its newline.
+func answerOf(line []byte) (Answer, error) {
+	answer := Answer{Line: line}
+	if err := json.Unmarshal(line, &answer); err != nil {
+		return Answer{}, fmt.Errorf("%w: %v", ErrOrchestrator, err)
+	}
+	return answer, nil
+}
+
+// StatusOf is the exit status of an end, as csi-replay's.
+func StatusOf(err error) int {
+	switch {
+	case err == nil:
+		return 0
+	case errors.Is(err, plugin.BadName), errors.Is(err, plugin.BadRecord), errors.Is(err, plugin.NodeInUse), errors.Is(err, numbers.ErrSpent),
+		errors.Is(err, lines.ErrLong):
+		return 1
+	}
+	return 3
+}

@@ -1,0 +1,71 @@
+package records
+
+import (
+	"encoding/hex"
+	"errors"
+	"reflect"
+	"strings"
+	"testing"
+
+	"tufayon/service/frames"
+)
+
+func bytesOf(t *testing.T, text string) []byte {
+	t.Helper()
+	value, err := hex.DecodeString(strings.ReplaceAll(text, " ", ""))
+	if err != nil {
+		t.Fatal(err)
+	}
+	return value
+}
+
+var block = frames.Capability{Mode: 1}
+
+// The values that docs/RECORDS.md, "Records", spells out, and rows of other goals, by its table.
+func TestValues(t *testing.T) {
+	session, err := Session(bytesOf(t, "03 00 0000000000000002 0000000000000001"))
+	if session != 1 || err != nil {
+		t.Errorf("a controller's head: %d, %v", session, err)
+	}
+	volume, err := ReadVolume(bytesOf(t, "03 01 0176 000000000000000a 01 00 01 00 0000000000000001 0000000000000001 81 00 0000000000000001 00"))
+	if err != nil || !reflect.DeepEqual(volume, Volume{true, 10, []frames.Capability{block}}) {
+		t.Errorf("a controller's row: %+v, %v", volume, err)
+	}
+	session, err = OrchestratorSession(bytesOf(t, "03 02 0000000000000003 02 026e31 026e32"))
+	if session != 3 || err != nil {
+		t.Errorf("an orchestrator's head: %d, %v", session, err)
+	}
+	made := Wanted{Name: "v", Required: 10, Capabilities: []frames.Capability{block}}
+	use, stop, remove, create := made, made, made, made
+	use.Goal, use.Node, use.Target, use.Capability, use.Readonly = ToUse, "n1", "/a", block, true
+	stop.Goal, stop.Node, stop.Target = ToStop, "n1", "/a"
+	remove.Goal, create.Goal = ToDelete, ToCreate
+	create.Limit, create.Capabilities = 20, []frames.Capability{{Mount: true, FsType: "ext4", Mode: 7}, block}
+	for value, want := range map[string]Wanted{
+		"03 0176 000000000000000a 0000000000000000 01 00 01 01 0000000000000001 01 00 00 00":                        made,
+		"03 0176 000000000000000a 0000000000000000 01 00 01 01 0000000000000001 01 02 026e31 022f61 00 01 01 01 00": use,
+		"03 0176 000000000000000a 0000000000000000 01 00 01 01 0000000000000001 01 03 026e31 022f61 01 00":          stop,
+		"03 0176 000000000000000a 0000000000000000 01 00 01 01 0000000000000001 02 04 01 00":                        remove,
+		"03 0176 000000000000000a 0000000000000014 02 01 0465787434 07 00 01 00 02 01 01 00":                        create,
+	} {
+		if wanted, err := ReadWanted(bytesOf(t, value)); err != nil || !reflect.DeepEqual(wanted, want) {
+			t.Errorf("%s: %+v, %v, not %+v", value, wanted, err, want)
+		}
+	}
+}
+
+// What is cut off, or of another version, is no value.
+func TestNoValues(t *testing.T) {
+	row := bytesOf(t, "03 0176 000000000000000a 0000000000000000 01 00 01 01 0000000000000001 01 02 026e31 022f61 00 01 01")
+	for cut := range row {
+		if _, err := ReadWanted(row[:cut]); err == nil {
+			t.Errorf("the first %d bytes of %x", cut, row)
+		}
+	}
+	if _, err := ReadWanted(append([]byte{2}, row[1:]...)); !errors.Is(err, ErrValue) {
+		t.Errorf("a row of version 2: %v", err)
+	}
+	if _, err := OrchestratorSession(bytesOf(t, "03 00 0000000000000002 0000000000000001")); !errors.Is(err, ErrValue) {
+		t.Errorf("a controller's head as an orchestrator's: %v", err)
+	}
+}

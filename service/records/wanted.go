@@ -1,0 +1,61 @@
+package records
+
+import "tufayon/service/frames"
+
+// A Goal says what is wanted of a volume.
+type Goal uint8
+
+// The goals.
+const (
+	None Goal = iota
+	ToCreate
+	ToUse
+	ToStop
+	ToDelete
+)
+
+// A Wanted is what an orchestrator's row says of a volume's name, and of what is wanted of it. The fields after Goal are a use's; a stop has the
+// first two.
+type Wanted struct {
+	Name            string
+	Required, Limit uint64 // as in the command that created it
+	Capabilities    []frames.Capability
+	Goal            Goal
+	Node, Target    string
+	Capability      frames.Capability
+	Readonly        bool
+}
+
+// ReadWanted reads the value of an orchestrator's row, as far as its goal.
+func ReadWanted(value []byte) (Wanted, error) {
+	from := &fields{rest: value}
+	if from.byte() != version {
+		from.err = ErrValue
+	}
+	wanted := Wanted{Name: from.text(), Required: from.number(), Limit: from.number(), Capabilities: from.capabilities()}
+	if from.flag() {
+		from.number() // its id
+	}
+	from.byte() // whether it is there
+	wanted.Goal = Goal(from.byte())
+	switch wanted.Goal {
+	case None, ToCreate, ToDelete:
+	case ToUse:
+		wanted.Node, wanted.Target, wanted.Capability, wanted.Readonly = from.text(), from.text(), from.capability(), from.flag()
+	case ToStop:
+		wanted.Node, wanted.Target = from.text(), from.text()
+	default:
+		from.err = ErrValue
+	}
+	return wanted, from.err
+}
+
+// OrchestratorSession is the session that an orchestrator's head says.
+func OrchestratorSession(head []byte) (uint64, error) {
+	from := &fields{rest: head}
+	if from.byte() != version || from.byte() != orchestrator {
+		return 0, ErrValue
+	}
+	session := from.number()
+	return session, from.err
+}
