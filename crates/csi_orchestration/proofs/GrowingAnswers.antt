@@ -15,6 +15,14 @@ answers-push answers responder [] (g ∷ gs) now line answer next runs answered 
 answers-push answers responder (l ∷ ls) [] now line answer next runs answered = absurd runs
 answers-push answers responder (l ∷ ls) (g ∷ gs) now line answer next runs answered = (runs.0, runs.1, answers-push answers runs.0 ls gs now line answer next runs.2 answered)
 
+-- lines that were answered one after another, and then others, were answered so
+pub answers-append : {C : Type 0} (answers : C → List ℕ → List ℕ → C → Type 0) (responder : C) (lines given : List (List ℕ)) (mid : C) (others more : List (List ℕ)) (now : C)
+    → AnswersEach answers responder lines given mid → AnswersEach answers mid others more now → AnswersEach answers responder (lines ++ others) (given ++ more) now
+answers-append answers responder [] [] mid others more now runs then = subst (λ c. AnswersEach answers c others more now) runs then
+answers-append answers responder [] (g ∷ gs) mid others more now runs then = absurd runs
+answers-append answers responder (l ∷ ls) [] mid others more now runs then = absurd runs
+answers-append answers responder (l ∷ ls) (g ∷ gs) mid others more now runs then = (runs.0, runs.1, answers-append answers runs.0 ls gs mid others more now runs.2 then)
+
 -- the items up to one that is there, and that one
 pub take-next : {X : Type 0} (items : List X) (k : ℕ) (item : X) → slice_get items k ≡ Some item → take (suc k) items ≡ take k items ++ item ∷ []
 take-next [] zero item there = absurd (cc)

@@ -1,4 +1,5 @@
 pub mod GrowingAnswers
+pub mod LinesStops
 pub mod LinesProgress
 pub mod LinesServed
 pub mod JoinedLines

@@ -1,5 +1,4 @@
-pub mod LinesAnswering
+pub mod LinesWaiting
 pub mod LinesHandling
-pub mod LinesFailing
 pub mod OrchestratorResponding
 pub mod Running

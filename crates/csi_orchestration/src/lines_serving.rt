@@ -8,9 +8,9 @@ ghost use Rattle.csi_orchestration.specs.Public.LinesAnswering.{AnswersInRecord}
 ghost use Rattle.csi_orchestration.specs.Public.LinesFailing.{ReaderStaysAt, WriterStaysAt};
 ghost use Rattle.csi_orchestration.specs.Public.LinesServing.{ServesLines};
 
-mod answering;
 mod fault;
 mod handling;
+mod waiting;
 
 use crate::responder::Responder;
 use csi_driver::Lines;
@@ -19,6 +19,7 @@ pub use fault::{LinesServeFault, LinesServeFaultKind, ServedLines};
 use handling::{Answering, stopped};
 use std::alloc::Global;
 use std::io::{Read, Write};
+use waiting::Waiting;
 
 /// The most bytes that are read at once.
 const PIECE: usize = 4096;
@@ -69,14 +70,16 @@ pub fn serve_lines<C: Responder, K: Keep, R: Read, W: Write>(
     ensures writer { Stays WriterStaysAt writer.old.faults writer.new.faults result }
     ensures follows { FollowsStore (K.store keep.old) (K.store keep.new) }
 {
-    let out = Vec::new(alloc);
-    let handler = Answering { responder, out };
+    let handler = Answering {
+        responder,
+        waiting: Waiting::new(alloc),
+    };
     let mut lines = Lines::new(alloc, handler);
     let mut piece = [0; PIECE];
     match lines.read(keep, writer, reader, &mut piece) {
         Ok(()) => Ok(ServedLines {
-            lines: lines.count(),
+            lines: lines.handler().waiting.committed,
         }),
-        Err(stop) => Err(stopped(stop, lines.count())),
+        Err(stop) => Err(stopped(stop, lines.handler().waiting.committed)),
     }
 }

@@ -13,6 +13,14 @@ answers-push answers core [] (r ∷ rs) now frame reply next runs answered = abs
 answers-push answers core (f ∷ fs) [] now frame reply next runs answered = absurd runs
 answers-push answers core (f ∷ fs) (r ∷ rs) now frame reply next runs answered = (runs.0, runs.1, answers-push answers runs.0 fs rs now frame reply next runs.2 answered)
 
+-- frames that were answered one after another, and then others, were answered so
+pub answers-append : {C : Type 0} (answers : C → Frame → Option Frame → C → Type 0) (core : C) (frames : List Frame) (replies : List (Option Frame)) (mid : C) (others : List Frame) (more : List (Option Frame)) (now : C)
+    → AnswersEach answers core frames replies mid → AnswersEach answers mid others more now → AnswersEach answers core (frames ++ others) (replies ++ more) now
+answers-append answers core [] [] mid others more now runs then = subst (λ c. AnswersEach answers c others more now) runs then
+answers-append answers core [] (r ∷ rs) mid others more now runs then = absurd runs
+answers-append answers core (f ∷ fs) [] mid others more now runs then = absurd runs
+answers-append answers core (f ∷ fs) (r ∷ rs) mid others more now runs then = (runs.0, runs.1, answers-append answers runs.0 fs rs mid others more now runs.2 then)
+
 -- a reply or none for each frame
 pub answers-length : {C : Type 0} (answers : C → Frame → Option Frame → C → Type 0) (core : C) (frames : List Frame) (replies : List (Option Frame)) (now : C) → AnswersEach answers core frames replies now → length replies ≡ length frames
 answers-length answers core [] [] now runs = refl

@@ -1,5 +1,6 @@
 pub mod StoreCalls
 pub mod GrowingAnswers
+pub mod WaitingStops
 pub mod Progress
 pub mod ServingEnds
 pub mod SoFar

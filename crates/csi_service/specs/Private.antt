@@ -1,6 +1,5 @@
-pub mod Answering
+pub mod Waiting
 pub mod Handling
-pub mod Failing
 pub mod Opening
 pub mod Calls
 pub mod Plugins
