@@ -1,5 +1,4 @@
 pub mod GrowingAnswers
-pub mod LinesStops
 pub mod LinesProgress
 pub mod LinesServed
 pub mod JoinedLines

@@ -1,10 +1,9 @@
 -- What serving lines has come to where it ends.
-use Rattle.std.proofs.Common.{◌≡◌, ◌∙◌, inl, inr, sym, ap, subst, refl, ℕ, ◌+◌, ◌-◌, ◌<◌, ◌≤◌, ◌^◌, min, zero, suc, List, [], ◌∷◌, ◌++◌, length, take, drop, arith, length-append, append_assoc}
+use Rattle.std.proofs.Common.{◌≡◌, ◌∙◌, inl, inr, sym, ap, subst, refl, ℕ, ◌+◌, ◌-◌, ◌<◌, ◌≤◌, ◌^◌, min, List, [], ◌∷◌, ◌++◌, length, take, drop, arith, length-append, append_assoc}
 use Rattle.std.proofs.lemmas.List.{length-take, append-nil}
-use Rattle.std.specs.Prelude.{◌≢◌, Option, Result, Ok, Err}
+use Rattle.std.specs.Prelude.{Option, Result, Ok, Err}
 use Rattle.std.specs.List.{AllByRecursion}
-use Rattle.std.specs.Io.KnownBytes.{Appends, IsAtEnd}
-use Rattle.std.proofs.KnownBytes.{Appends-trans}
+use Rattle.std.specs.Io.KnownBytes.{IsAtEnd}
 use Rattle.csi_stores.specs.Public.Counting.{HasRisen}
 use Rattle.csi_driver.specs.declared.driver.Stop.{Stop}
 use Rattle.csi_driver.specs.declared.driver.Stop.TheVariants as stop
@@ -12,43 +11,27 @@ use Rattle.csi_driver.specs.declared.lines.LinesFault.{LinesFault}
 use Rattle.csi_driver.specs.declared.lines.LinesFault.TheVariants as lines_faults
 use Rattle.csi_driver.specs.Public.Driving.{TellsReader}
 use Rattle.csi_driver.specs.Public.Lines.{HaltsAtLine, IsLongAt, ReadsLines}
-use Rattle.csi_driver.specs.Public.LinesOf.{and_last, IsShort}
+use Rattle.csi_driver.specs.Public.LinesOf.{with_newline, and_last, IsShort}
 use Rattle.csi_driver.specs.Public.Lining.{RunsLines}
-use Rattle.csi_driver.proofs.Items.{front-taken}
+use Rattle.csi_driver.specs.declared.waiting.AnswerFault.{AnswerFault}
+use Rattle.csi_driver.specs.declared.waiting.AnswerFault.TheVariants as why
+use Rattle.csi_driver.specs.Public.Waiting.{Settling, EndsWaiting}
+use Rattle.csi_driver.proofs.StoreCalls.{follows-more}
+use Rattle.csi_driver.proofs.GrowingAnswers.{answers-some}
+use Rattle.csi_driver.proofs.Items.{in-two, something, front-taken}
+use Rattle.csi_driver.proofs.Groups.{IsFresh, came-settles, came-stops, finished, refused-left, refused-cause, refused-written, unwritten-kept, unwritten-runs, unwritten-written}
 use Rattle.csi_stores.specs.Public.Part.{StoredPart}
-use Rattle.csi_stores.specs.Public.Stores.{Store, FollowsStore, LeavesOnly, LeavesEither, IsContentRefusal}
+use Rattle.csi_stores.specs.Public.Stores.{Store, FollowsStore}
 use Rattle.csi_stores.specs.declared.counted.Counted.{Counted}
 use Rattle.csi_orchestration.specs.declared.lines_serving.handling.Answering.{Answering}
-use Rattle.csi_orchestration.specs.Private.LinesWaiting.{Settling}
 use Rattle.csi_service.specs.Public.Failing.{Stays}
-use Rattle.csi_service.proofs.StoreCalls.{follows-more, only-more, left-more, refusal-more}
 use Rattle.csi_orchestration.specs.declared.lines_serving.fault.ServedLines.{ServedLines}
 use Rattle.csi_orchestration.specs.declared.lines_serving.fault.LinesServeFault.{LinesServeFault}
-use Rattle.csi_orchestration.specs.declared.lines_serving.waiting.LineStop.{LineStop}
-use Rattle.csi_orchestration.specs.declared.lines_serving.waiting.LineStop.TheVariants as why
 use Rattle.csi_orchestration.specs.Public.LinesFailing.{ReaderStaysAt, WriterStaysAt}
-use Rattle.csi_orchestration.specs.Private.LinesHandling.{Serving, settling, EndsWaiting, stopped_by}
-use Rattle.csi_orchestration.specs.Public.LinesServing.{Setting, AnswersEach, output_of, AreThere, lines_counted, EndsBy, ServesLines}
-use Rattle.csi_orchestration.proofs.GrowingAnswers.{answers-append, there-few}
-use Rattle.csi_orchestration.proofs.LinesProgress.{IsFresh, handles, flushes, stops, Came, came-settles, came-same, came_by, Finished, finished}
-
--- a list is its first items, and the others
-in-two : {X : Type 0} (xs : List X) (n : ℕ) → xs ≡ take n xs ++ drop n xs
-in-two [] zero = refl
-in-two [] (suc n) = refl
-in-two (x ∷ xs) zero = refl
-in-two {X} (x ∷ xs) (suc n) = ap (λ (ys : List X). x ∷ ys) (in-two xs n)
-
--- of more than nothing something is there
-something : {X : Type 0} (xs : List X) → 0 < min (length xs) (2 ^ 64 - 1) → xs ≢ []
-something [] some is = absurd (omega (arith, some))
-something (x ∷ xs) some is = absurd cc
-
--- an answer for each line, so there is one where there is a line
-answers-some : {C : Type 0} (answers : C → List ℕ → List ℕ → C → Type 0) (responder : C) (lines given : List (List ℕ)) (now : C) → AnswersEach answers responder lines given now → lines ≢ [] → given ≢ []
-answers-some answers responder [] given now runs some is = absurd (some refl)
-answers-some answers responder (l ∷ ls) [] now runs some is = absurd runs
-answers-some answers responder (l ∷ ls) (g ∷ gs) now runs some is = absurd cc
+use Rattle.csi_orchestration.specs.Private.LinesHandling.{Serving, settling, always, stopped_by}
+use Rattle.csi_orchestration.specs.Public.LinesServing.{Setting, AnswersEach, AreThere, lines_counted, EndsBy, ServesLines}
+use Rattle.csi_orchestration.proofs.GrowingAnswers.{there-few}
+use Rattle.csi_orchestration.proofs.LinesProgress.{handles, flushes, stops, CameTo, Done, came_by, short_by}
 
 -- what holds of each of two lists in turn holds of each of the first, and of the second
 each-first : (xs ys : List (List ℕ)) → AllByRecursion IsShort (xs ++ ys) → AllByRecursion IsShort xs
@@ -62,13 +45,13 @@ each-second (x ∷ xs) ys each = each-second xs ys each.1
 -- ---- counts of failures
 
 -- the reader failed at Input
-pub reader_failed : (before after : ℕ) (s : Stop (LinesFault LineStop)) → TellsReader {A = Unit {0}} before after (Err s) → s ≡ stop.Input → HasRisen before after
+pub reader_failed : (before after : ℕ) (s : Stop (LinesFault AnswerFault)) → TellsReader {A = Unit {0}} before after (Err s) → s ≡ stop.Input → HasRisen before after
 reader_failed before after stop.Input told is = told
 reader_failed before after stop.Endless told is = absurd cc
 reader_failed before after (stop.Consumer fault) told is = absurd cc
 
 -- and at no other end
-pub reader_stays : (before after lines : ℕ) (s : Stop (LinesFault LineStop)) → TellsReader {A = Unit {0}} before after (Err s) → Stays {A = ServedLines} ReaderStaysAt before after (Err (record { kind = stopped_by s; lines = lines }))
+pub reader_stays : (before after lines : ℕ) (s : Stop (LinesFault AnswerFault)) → TellsReader {A = Unit {0}} before after (Err s) → Stays {A = ServedLines} ReaderStaysAt before after (Err (record { kind = stopped_by s; lines = lines }))
 reader_stays before after lines stop.Input told = tt
 reader_stays before after lines stop.Endless told = told
 reader_stays before after lines (stop.Consumer (lines_faults.Long number)) told = told
@@ -77,13 +60,13 @@ reader_stays before after lines (stop.Consumer (lines_faults.Handler why.NoMemor
 reader_stays before after lines (stop.Consumer (lines_faults.Handler (why.Keep fault))) told = told
 reader_stays before after lines (stop.Consumer (lines_faults.Handler why.Output)) told = told
 
-module _ {C K W : Type 0} (answers : C → List ℕ → List ℕ → C → Type 0) (parts_of : C → List StoredPart) (store : K → Store) (contents : W → Option (List ℕ)) (first now : Serving C K W) (count : ℕ) (left left' : Option (List ℕ)) (fresh : IsFresh first.own) where
+module _ {C K W : Type 0} (answers : C → List ℕ → List ℕ → C → Type 0) (parts_of : C → List StoredPart) (store : K → Store) (contents : W → Option (List ℕ)) (first now : Serving C K W) (count : ℕ) (left left' : Option (List ℕ)) (fresh : IsFresh first.own.waiting) where
   -- the lines of a reader, handled to its end
-  abbrev pub Read : Result (Unit {0}) (Stop (LinesFault LineStop)) → Type 0
-  Read = ReadsLines (handles answers parts_of store contents) (flushes answers parts_of store contents) (λ (answering : Answering C). answering.waiting.lines ≡ 0) (stops answers parts_of store contents) first now count left left'
+  abbrev pub Read : Result (Unit {0}) (Stop (LinesFault AnswerFault)) → Type 0
+  Read = ReadsLines (handles answers parts_of store contents) (flushes answers parts_of store contents) (λ (answering : Answering C). answering.waiting.items ≡ 0) (stops answers parts_of store contents) first now count left left'
 
   -- where it stops at a line, or behind some
-  abbrev Halts : List (List ℕ) → ℕ → LineStop → Type 0
+  abbrev Halts : List (List ℕ) → ℕ → AnswerFault → Type 0
   Halts = HaltsAtLine (handles answers parts_of store contents) (flushes answers parts_of store contents) (stops answers parts_of store contents) first now
 
   -- how many lines were committed
@@ -106,19 +89,20 @@ module _ {C K W : Type 0} (answers : C → List ℕ → List ℕ → C → Type 
     endless = endless;
   }
 
-  abbrev Done : List (List ℕ) → C → Settling K W → Type 0
-  Done = Finished answers parts_of store contents first
-
-  -- lines that were handled, where nothing waits
-  done_by : (lines : List (List ℕ)) → RunsLines (handles answers parts_of store contents) (flushes answers parts_of store contents) first lines now → now.own.waiting.lines ≡ 0 → Done lines now.own.responder (settling now)
-  done_by lines runs none = finished answers parts_of store contents first lines now.own.responder (settling now) (came_by answers parts_of store contents first now lines fresh runs) none
+  -- lines that were handled are done, where nothing waits
+  done_by : (lines : List (List ℕ)) → RunsLines (handles answers parts_of store contents) (flushes answers parts_of store contents) first lines now → now.own.waiting.items ≡ 0
+      → Done answers parts_of store contents first lines now.own.responder (settling now) × AllByRecursion IsShort lines
+  done_by lines runs none = (
+    finished answers parts_of with_newline always store contents first.own.responder (settling first) lines now.own.responder (settling now) (came_by answers parts_of store contents first now lines fresh runs) none,
+    short_by answers parts_of store contents first now lines runs,
+  )
 
   module _ (P Q E : Type 0) where
     -- how it served, what calls never change of the store, and the writer's count
     abbrev pub Ended : List ℕ → Result ServedLines LinesServeFault → Type 0
     Ended bytes result = ServesLines (Full P Q E) bytes result × FollowsStore (store first.store) (store now.store) × Stays WriterStaysAt first.out.faults now.out.faults result
 
-    module _ {end : Result (Unit {0}) (Stop (LinesFault LineStop))} (r : Read end) (there : List (List ℕ)) (are : AreThere P r.lines r.rest there) where
+    module _ {end : Result (Unit {0}) (Stop (LinesFault AnswerFault))} (r : Read end) (there : List (List ℕ)) (are : AreThere P r.lines r.rest there) where
       few : length there < 2 ^ 64
       few = omega (arith, there-few P r.read r.lines r.rest there r.stream are, r.few)
 
@@ -143,22 +127,22 @@ module _ {C K W : Type 0} (answers : C → List ℕ → List ℕ → C → Type 
           }
 
       -- of the first ones all is done
-      serves_first : (n : ℕ) (p : Done (take n there) now.own.responder (settling now)) (result : Result ServedLines LinesServeFault) → lines_counted result ≡ k
+      serves_first : (n : ℕ) (p : Done answers parts_of store contents first (take n there) now.own.responder (settling now)) → AllByRecursion IsShort (take n there) → (result : Result ServedLines LinesServeFault) → lines_counted result ≡ k
           → EndsBy (Full P Q E) r.lines r.rest there p.given now.own.responder [] result → ServesLines (Full P Q E) r.read result
-      serves_first n p result told ends =
-          serves (take n there) (drop n there) (in-two there n) (omega (arith, p.committed, few, length-take n there)) p.short p.given now.own.responder p.runs [] result told ends
+      serves_first n p short result told ends =
+          serves (take n there) (drop n there) (in-two there n) (omega (arith, p.committed, few, length-take n there)) short p.given now.own.responder p.runs [] result told ends
 
       -- of all of them
-      all : (p : Done there now.own.responder (settling now)) → k ≡ length there
+      all : (p : Done answers parts_of store contents first there now.own.responder (settling now)) → k ≡ length there
       all p = omega (arith, p.committed, few)
 
-      serves_all : (p : Done there now.own.responder (settling now)) (result : Result ServedLines LinesServeFault) → lines_counted result ≡ k
+      serves_all : (p : Done answers parts_of store contents first there now.own.responder (settling now)) → AllByRecursion IsShort there → (result : Result ServedLines LinesServeFault) → lines_counted result ≡ k
           → EndsBy (Full P Q E) r.lines r.rest there p.given now.own.responder [] result → ServesLines (Full P Q E) r.read result
-      serves_all p result told ends = serves there [] (sym (append-nil there)) (all p) p.short p.given now.own.responder p.runs [] result told ends
+      serves_all p short result told ends = serves there [] (sym (append-nil there)) (all p) short p.given now.own.responder p.runs [] result told ends
 
       -- it stopped at one of them, or behind some
-      halted_at : (fault : LineStop) → Halts there count fault → Ended r.read (Err (record { kind = stopped_by (stop.Consumer (lines_faults.Handler fault)); lines = k }))
-      halted_at fault e = by fault e.stopped.6
+      halted_at : (fault : AnswerFault) → Halts there count fault → Ended r.read (Err (record { kind = stopped_by (stop.Consumer (lines_faults.Handler fault)); lines = k }))
+      halted_at fault e = by fault came.2
         where
           before : Serving C K W
           before = e.before
@@ -170,12 +154,19 @@ module _ {C K W : Type 0} (answers : C → List ℕ → List ℕ → C → Type 
           behind : List (List ℕ)
           behind = drop count there
 
-          two : Settling K W
-          two = e.stopped.1
+          came : (two : Settling K W) × CameTo answers parts_of store contents first front before.own.responder two × EndsWaiting store contents two (settling now) fault
+          came =
+              came-stops answers parts_of with_newline always store contents first.own.responder (settling first) front before.own.responder (settling before) (settling now) fault
+              (came_by answers parts_of store contents first before front fresh e.runs) e.stopped
 
-          p : Came answers parts_of store contents first front before.own.responder two
-          p = came-same answers parts_of store contents first front before.own.responder e.stopped.0 two
-              (came-settles answers parts_of store contents first front before.own.responder (settling before) e.stopped.0 (came_by answers parts_of store contents first before front fresh e.runs) e.stopped.2) e.stopped.3 e.stopped.4 e.stopped.5
+          two : Settling K W
+          two = came.0
+
+          p : CameTo answers parts_of store contents first front before.own.responder two
+          p = came.1
+
+          short : AllByRecursion IsShort front
+          short = short_by answers parts_of store contents first before front e.runs
 
           -- the lines: those that were committed, those that waited, and others
           in-three : there ≡ p.earlier ++ p.group ++ behind
@@ -188,41 +179,36 @@ module _ {C K W : Type 0} (answers : C → List ℕ → List ℕ → C → Type 
           within = omega (arith, ap length p.are, length-append p.earlier p.group, length-take count there)
 
           each : AllByRecursion IsShort (p.earlier ++ p.group)
-          each = subst (AllByRecursion IsShort) p.are p.short
+          each = subst (AllByRecursion IsShort) p.are short
 
-          by : (fault : LineStop) → EndsWaiting store contents two (settling now) fault → Ended r.read (Err (record { kind = stopped_by (stop.Consumer (lines_faults.Handler fault)); lines = k }))
+          by : (fault : AnswerFault) → EndsWaiting store contents two (settling now) fault → Ended r.read (Err (record { kind = stopped_by (stop.Consumer (lines_faults.Handler fault)); lines = k }))
           by why.NoMemory w =
-              let q = finished answers parts_of store contents first front before.own.responder (settling now) (came-settles answers parts_of store contents first front before.own.responder two (settling now) p w.0) w.1 in
+              let q = finished answers parts_of with_newline always store contents first.own.responder (settling first) front before.own.responder (settling now)
+                      (came-settles answers parts_of with_newline always store contents first.own.responder (settling first) front before.own.responder two (settling now) p w.0) w.1 in
               let counts : k ≡ length front = omega (arith, q.committed, few, length-take count there) in
               (
-                serves front behind (in-two there count) counts q.short q.given before.own.responder q.runs [] (Err (record { kind = stopped_by (stop.Consumer (lines_faults.Handler why.NoMemory)); lines = k })) refl
+                serves front behind (in-two there count) counts short q.given before.own.responder q.runs [] (Err (record { kind = stopped_by (stop.Consumer (lines_faults.Handler why.NoMemory)); lines = k })) refl
                     (refl, record { kept = q.kept; written = q.written }),
                 q.follows,
                 q.quiet,
               )
           by (why.Keep fault) w =
               let counts : k ≡ length p.earlier = omega (arith, w.committed, p.committed, few, within) in
-              let front_is : take k there ≡ p.earlier = front-taken there p.earlier (p.group ++ behind) k in-parts counts in
-              let same : contents now.out.inner ≡ contents two.out.inner = ap (λ (o : Counted W). contents o.inner) w.unwritten in
               (
                 serves p.earlier (p.group ++ behind) in-parts counts (each-first p.earlier p.group each) p.given p.mid p.runs p.group (Err (record { kind = stopped_by (stop.Consumer (lines_faults.Handler (why.Keep fault))); lines = k })) refl (
                   record {
                     some = something p.group (omega (arith, w.some, p.waiting));
                     short = each-second p.earlier p.group each;
                     behind = behind;
-                    here = in-three ∙ ap (λ (ls : List (List ℕ)). ls ++ p.group ++ behind) (sym front_is);
+                    here = in-three ∙ ap (λ (ls : List (List ℕ)). ls ++ p.group ++ behind) (sym (front-taken there p.earlier (p.group ++ behind) k in-parts counts));
                   },
                   record {
                     told = p.more;
                     next = before.own.responder;
                     answered = p.waits;
-                    left =
-                        left-more (store first.store) (store two.store) (store now.store) (parts_of first.own.responder) (parts_of p.mid) (parts_of p.mid) (parts_of before.own.responder) w.follows p.kept
-                        (subst (LeavesEither (store two.store) (store now.store) (parts_of p.mid) (parts_of p.mid)) (sym p.changed) (w.left (parts_of p.mid)));
-                    cause =
-                        refusal-more (store first.store) (store two.store) (store now.store) (parts_of first.own.responder) (parts_of p.mid) (parts_of before.own.responder) fault p.follows w.follows p.kept
-                        (subst (λ (content : List StoredPart). IsContentRefusal (store two.store) (store now.store) (parts_of p.mid) content fault) (sym p.changed) (w.cause (parts_of p.mid)));
-                    written = subst (λ (o : Option (List ℕ)). Appends (contents first.out.inner) o (output_of p.given)) (sym same) p.written;
+                    left = refused-left answers parts_of with_newline always store contents first.own.responder (settling first) front before.own.responder two (settling now) fault p w;
+                    cause = refused-cause answers parts_of with_newline always store contents first.own.responder (settling first) front before.own.responder two (settling now) fault p w;
+                    written = refused-written answers parts_of with_newline always store contents first.own.responder (settling first) front before.own.responder two (settling now) fault p w;
                   },
                 ),
                 follows-more (store first.store) (store two.store) (store now.store) p.follows w.follows,
@@ -231,15 +217,13 @@ module _ {C K W : Type 0} (answers : C → List ℕ → List ℕ → C → Type 
           by why.Output w =
               let counts : k ≡ length front = omega (arith, w.committed, p.committed, p.waiting, few, within, ap length p.are, length-append p.earlier p.group) in
               (
-                serves front behind (in-two there count) counts p.short (p.given ++ p.more) before.own.responder
-                    (subst (λ (ls : List (List ℕ)). AnswersEach answers first.own.responder ls (p.given ++ p.more) before.own.responder) (sym p.are) (answers-append answers first.own.responder p.earlier p.given p.mid p.group p.more before.own.responder p.runs p.waits))
-                    [] (Err (record { kind = stopped_by (stop.Consumer (lines_faults.Handler why.Output)); lines = k })) refl (
+                serves front behind (in-two there count) counts short (p.given ++ p.more) before.own.responder
+                    (unwritten-runs answers parts_of with_newline always store contents first.own.responder (settling first) front before.own.responder two p) []
+                    (Err (record { kind = stopped_by (stop.Consumer (lines_faults.Handler why.Output)); lines = k })) refl (
                   refl,
                   subst (λ (faults : ℕ). HasRisen faults now.out.faults) p.quiet w.risen,
                   record {
-                    kept =
-                        only-more (store first.store) (store two.store) (store now.store) (parts_of first.own.responder) (parts_of p.mid) (parts_of before.own.responder) w.follows p.kept
-                        (subst (LeavesOnly (store two.store) (store now.store) (parts_of p.mid)) (sym p.changed) (w.kept (parts_of p.mid)));
+                    kept = unwritten-kept answers parts_of with_newline always store contents first.own.responder (settling first) front before.own.responder two (settling now) p w;
                     earlier = p.given;
                     group = p.more;
                     some = answers-some answers p.mid p.group p.more before.own.responder p.waits (something p.group (omega (arith, w.some, p.waiting)));
@@ -247,7 +231,7 @@ module _ {C K W : Type 0} (answers : C → List ℕ → List ℕ → C → Type 
                     front = w.written.front;
                     more = w.written.more;
                     parts = sym p.out ∙ w.written.parts;
-                    written = Appends-trans (contents first.out.inner) (contents two.out.inner) (contents now.out.inner) (output_of p.given) w.written.front p.written w.written.appended;
+                    written = unwritten-written answers parts_of with_newline always store contents first.own.responder (settling first) front before.own.responder two (settling now) p w;
                   },
                 ),
                 follows-more (store first.store) (store two.store) (store now.store) p.follows w.follows,
@@ -260,28 +244,28 @@ module _ {C K W : Type 0} (answers : C → List ℕ → List ℕ → C → Type 
         let there : List (List ℕ) = and_last r.lines r.rest in
         let are : AreThere P r.lines r.rest there = inr (at_end r.ends.0, refl) in
         let p = done_by there r.ends.1.runs r.ends.1.flushed in
-        (serves_all r there are p (Ok (record { lines = k })) refl (refl, all r there are p, refl, at_end r.ends.0, record { kept = p.kept; written = p.written }), p.follows, p.quiet)
+        (serves_all r there are p.0 p.1 (Ok (record { lines = k })) refl (refl, all r there are p.0, refl, at_end r.ends.0, record { kept = p.0.kept; written = p.0.written }), p.0.follows, p.0.quiet)
 
     -- it stopped before
-    pub halted : (s : Stop (LinesFault LineStop)) (r : Read (Err s)) → (IsAtEnd left' → P) → (s ≡ stop.Input → Q) → (2 ^ 63 ≤ length r.read → E) → Ended r.read (Err (record { kind = stopped_by s; lines = k }))
+    pub halted : (s : Stop (LinesFault AnswerFault)) (r : Read (Err s)) → (IsAtEnd left' → P) → (s ≡ stop.Input → Q) → (2 ^ 63 ≤ length r.read → E) → Ended r.read (Err (record { kind = stopped_by s; lines = k }))
     halted stop.Input r at_end failed endless =
         let p = done_by r.lines r.ends.1.runs r.ends.1.flushed in
-        (serves_all r r.lines (inl refl) p (Err (record { kind = stopped_by stop.Input; lines = k })) refl (refl, all r r.lines (inl refl) p, failed refl, r.ends.0, record { kept = p.kept; written = p.written }), p.follows, p.quiet)
+        (serves_all r r.lines (inl refl) p.0 p.1 (Err (record { kind = stopped_by stop.Input; lines = k })) refl (refl, all r r.lines (inl refl) p.0, failed refl, r.ends.0, record { kept = p.0.kept; written = p.0.written }), p.0.follows, p.0.quiet)
     halted stop.Endless r at_end failed endless =
         let p = done_by r.lines r.ends.2.runs r.ends.2.flushed in
-        (serves_all r r.lines (inl refl) p (Err (record { kind = stopped_by stop.Endless; lines = k })) refl (refl, all r r.lines (inl refl) p, endless r.ends.0, r.ends.1, record { kept = p.kept; written = p.written }), p.follows, p.quiet)
+        (serves_all r r.lines (inl refl) p.0 p.1 (Err (record { kind = stopped_by stop.Endless; lines = k })) refl (refl, all r r.lines (inl refl) p.0, endless r.ends.0, r.ends.1, record { kept = p.0.kept; written = p.0.written }), p.0.follows, p.0.quiet)
     halted (stop.Consumer (lines_faults.Long number)) r at_end failed endless =
         let p = done_by (take count r.lines) r.ends.1.runs r.ends.1.flushed in
-        let counts : count ≡ k = omega (arith, p.committed, few r r.lines (inl refl), length-take count r.lines, r.ends.1.within) in
+        let counts : count ≡ k = omega (arith, p.0.committed, few r r.lines (inl refl), length-take count r.lines, r.ends.1.within) in
         (
-          serves_first r r.lines (inl refl) count p (Err (record { kind = stopped_by (stop.Consumer (lines_faults.Long number)); lines = k })) refl
-              (refl, subst (λ (n : ℕ). IsLongAt r.lines r.rest n number) counts r.ends.0, record { kept = p.kept; written = p.written }),
-          p.follows,
-          p.quiet,
+          serves_first r r.lines (inl refl) count p.0 p.1 (Err (record { kind = stopped_by (stop.Consumer (lines_faults.Long number)); lines = k })) refl
+              (refl, subst (λ (n : ℕ). IsLongAt r.lines r.rest n number) counts r.ends.0, record { kept = p.0.kept; written = p.0.written }),
+          p.0.follows,
+          p.0.quiet,
         )
     halted (stop.Consumer lines_faults.NoMemory) r at_end failed endless =
         let p = done_by (take count r.lines) r.ends.runs r.ends.flushed in
-        (serves_first r r.lines (inl refl) count p (Err (record { kind = stopped_by (stop.Consumer lines_faults.NoMemory); lines = k })) refl (refl, record { kept = p.kept; written = p.written }), p.follows, p.quiet)
+        (serves_first r r.lines (inl refl) count p.0 p.1 (Err (record { kind = stopped_by (stop.Consumer lines_faults.NoMemory); lines = k })) refl (refl, record { kept = p.0.kept; written = p.0.written }), p.0.follows, p.0.quiet)
     halted (stop.Consumer (lines_faults.Handler fault)) r at_end failed endless = elim (r.ends) [
       | inl e ↦ halted_at r r.lines (inl refl) fault e
       | inr e ↦ halted_at r (and_last r.lines r.rest) (inr (at_end e.0, refl)) fault e.1

@@ -1,4 +1,3 @@
-pub mod LinesWaiting
 pub mod LinesHandling
 pub mod OrchestratorResponding
 pub mod Running

@@ -10,16 +10,14 @@ ghost use Rattle.csi_orchestration.specs.Public.LinesServing.{ServesLines};
 
 mod fault;
 mod handling;
-mod waiting;
 
 use crate::responder::Responder;
-use csi_driver::Lines;
+use csi_driver::{Lines, Waiting};
 use csi_stores::{Counted, Keep};
 pub use fault::{LinesServeFault, LinesServeFaultKind, ServedLines};
 use handling::{Answering, stopped};
 use std::alloc::Global;
 use std::io::{Read, Write};
-use waiting::Waiting;
 
 /// The most bytes that are read at once.
 const PIECE: usize = 16384;

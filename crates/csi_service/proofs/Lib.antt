@@ -1,6 +1,4 @@
-pub mod StoreCalls
 pub mod GrowingAnswers
-pub mod WaitingStops
 pub mod Progress
 pub mod ServingEnds
 pub mod SoFar

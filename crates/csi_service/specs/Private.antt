@@ -1,4 +1,3 @@
-pub mod Waiting
 pub mod Handling
 pub mod Opening
 pub mod Calls

@@ -9,16 +9,14 @@ ghost use Rattle.csi_service.specs.Public.Serving.{Serves};
 
 mod fault;
 mod handling;
-mod waiting;
 
 use crate::plugin_core::Core;
-use csi_driver::Frames;
+use csi_driver::{Frames, Waiting};
 use csi_stores::{Counted, Keep};
 pub use fault::{ServeFault, ServeFaultKind, Served};
 use handling::{Answering, stopped};
 use std::alloc::Global;
 use std::io::{Read, Write};
-use waiting::Waiting;
 
 /// The most bytes that are read at once.
 const PIECE: usize = 4096;
@@ -71,14 +69,13 @@ pub fn serve<C: Core, K: Keep, R: Read, W: Write>(
     let handler = Answering {
         core,
         waiting: Waiting::new(alloc),
-        replies: 0,
     };
     let mut frames = Frames::new(alloc, handler);
     let mut piece = [0; PIECE];
     match frames.read(keep, writer, reader, &mut piece) {
         Ok(()) => Ok(Served {
             frames: frames.handler().waiting.committed,
-            replies: frames.handler().replies,
+            replies: frames.handler().waiting.answers,
         }),
         Err(stop) => Err(stopped(stop, frames.handler().waiting.committed)),
     }

@@ -4,6 +4,7 @@ use Rattle.std.specs.List.{flat_map, AllByRecursion}
 use Rattle.std.specs.Io.KnownBytes.{Appends}
 use Rattle.csi_driver.specs.Public.LinesOf.{LinesOf, with_newline, and_last, IsShort}
 use Rattle.csi_driver.specs.Public.Lines.{IsLongAt}
+pub use Rattle.csi_driver.specs.Public.Answering.{AnswersEach}
 use Rattle.csi_orchestration.specs.declared.lines_serving.fault.ServedLines.{ServedLines}
 use Rattle.csi_orchestration.specs.declared.lines_serving.fault.LinesServeFault.{LinesServeFault}
 use Rattle.csi_orchestration.specs.declared.lines_serving.fault.LinesServeFaultKind.{LinesServeFaultKind}
@@ -11,13 +12,6 @@ use Rattle.csi_orchestration.specs.declared.lines_serving.fault.LinesServeFaultK
 use Rattle.csi_stores.specs.declared.keep.KeepFault.{KeepFault}
 use Rattle.csi_stores.specs.Public.Part.{StoredPart}
 use Rattle.csi_stores.specs.Public.Stores.{Store, LeavesOnly, LeavesEither, IsContentRefusal}
-
--- from one state of a responder to another, line after line: each line was given this answer
-abbrev pub AnswersEach : {C : Type 0} → (C → List ℕ → List ℕ → C → Type 0) → C → List (List ℕ) → List (List ℕ) → C → Type 0
-AnswersEach answers responder [] [] now = now ≡ responder
-AnswersEach answers responder [] (answer ∷ given) now = ⊥
-AnswersEach answers responder (line ∷ lines) [] now = ⊥
-AnswersEach {C} answers responder (line ∷ lines) (answer ∷ given) now = (next : C) × answers responder line answer next × AnswersEach answers next lines given now
 
 -- answers, as they are written one after another, a newline behind each
 abbrev pub output_of : List (List ℕ) → List ℕ

@@ -1,14 +1,15 @@
 //! A responder over a store, which answers the lines of a stream; those that are there together are committed together.
 ghost use Rattle.std.specs.Prelude.{◌≡◌, ◌++◌, map, OnOk, OnErr};
 ghost use Rattle.csi_stores.specs.Public.Part.{part_change};
+ghost use Rattle.csi_driver.specs.Public.Answering.{Adds};
+ghost use Rattle.csi_driver.specs.Public.LinesOf.{with_newline};
+ghost use Rattle.csi_driver.specs.Public.Waiting.{WaitsSame, StopsAt};
 ghost use Rattle.csi_orchestration.specs.Public.LinesAnswering.{AnswersInRecord};
-ghost use Rattle.csi_orchestration.specs.Private.LinesWaiting.{WaitsSame};
-ghost use Rattle.csi_orchestration.specs.Private.LinesHandling.{Adds, settling, IsHandled, Flushes, StopsAt, stopped_by};
+ghost use Rattle.csi_orchestration.specs.Private.LinesHandling.{always, settling, IsHandled, Flushes, stopped_by};
 
 use crate::lines_serving::fault::{LinesServeFault, LinesServeFaultKind};
-use crate::lines_serving::waiting::{LineStop, Waiting};
 use crate::responder::Responder;
-use csi_driver::{LineHandler, LinesFault, Stop};
+use csi_driver::{AnswerFault, LineHandler, LinesFault, Stop, Waiting};
 use csi_stores::{Counted, Keep, Part};
 use csi_types::NoMemory;
 use std::io::Write;
@@ -34,7 +35,8 @@ fn push_changed<C: Responder>(responder: &C, parts: &mut Vec<Part>) -> Result<()
 impl<C: Responder> Answering<C> {
     // Answers a line, whose answer and changed parts wait then. An `Err` leaves what waits, and nothing is known of the responder then.
     fn add(&mut self, line: &[u8]) -> Result<(), NoMemory>
-        ensures ok { OnOk result (Adds (AnswersInRecord C.is_fit C.spells C.parts_of C.answers) C.parts_of self.old line.now self.new) }
+        ensures ok { OnOk result (Adds (AnswersInRecord C.is_fit C.spells C.parts_of C.answers) C.parts_of with_newline always
+            self.old.responder self.old.waiting line.now self.new.responder self.new.waiting) }
         ensures err { OnErr result (WaitsSame self.old.waiting self.new.waiting) }
     {
         let len = self.waiting.out.len();
@@ -42,7 +44,8 @@ impl<C: Responder> Answering<C> {
         self.responder.record_law();
         match push_changed(&self.responder, &mut self.waiting.parts) {
             Ok(()) => {
-                self.waiting.lines = self.waiting.lines.saturating_add(1);
+                self.waiting.items = self.waiting.items.saturating_add(1);
+                self.waiting.answers = self.waiting.answers.saturating_add(1);
                 Ok(())
             }
             Err(NoMemory) => {
@@ -54,13 +57,13 @@ impl<C: Responder> Answering<C> {
 }
 
 impl<C: Responder, K: Keep, W: Write> LineHandler<K, Counted<W>> for Answering<C> {
-    type Fault = LineStop;
+    type Fault = AnswerFault;
 
     ghost handles = { λ old number line new. IsHandled (AnswersInRecord C.is_fit C.spells C.parts_of C.answers) C.parts_of K.store W.contents old line new };
 
     ghost flushes = { Flushes K.store W.contents };
 
-    ghost is_flushed = { λ answering. answering.waiting.lines ≡ 0 };
+    ghost is_flushed = { λ answering. answering.waiting.items ≡ 0 };
 
     ghost stops = { λ old line new. StopsAt K.store W.contents (settling old) (settling new) };
 
@@ -70,7 +73,7 @@ impl<C: Responder, K: Keep, W: Write> LineHandler<K, Counted<W>> for Answering<C
         writer: &mut Counted<W>,
         _number: u64,
         line: &[u8],
-    ) -> Result<(), LineStop> {
+    ) -> Result<(), AnswerFault> {
         match self.waiting.settle_many(keep, writer) {
             Ok(()) => {}
             Err(stop) => return Err(stop),
@@ -78,13 +81,13 @@ impl<C: Responder, K: Keep, W: Write> LineHandler<K, Counted<W>> for Answering<C
         match self.add(line) {
             Ok(()) => Ok(()),
             Err(NoMemory) => match self.waiting.settle(keep, writer) {
-                Ok(()) => Err(LineStop::NoMemory),
+                Ok(()) => Err(AnswerFault::NoMemory),
                 Err(stop) => Err(stop),
             },
         }
     }
 
-    fn flush(&mut self, keep: &mut K, writer: &mut Counted<W>) -> Result<(), LineStop> {
+    fn flush(&mut self, keep: &mut K, writer: &mut Counted<W>) -> Result<(), AnswerFault> {
         match self.waiting.settle(keep, writer) {
             Ok(()) => Ok(()),
             Err(stop) => Err(stop),
@@ -93,7 +96,7 @@ impl<C: Responder, K: Keep, W: Write> LineHandler<K, Counted<W>> for Answering<C
 }
 
 /// Why serving stopped, after so many lines that were committed.
-pub(crate) fn stopped(stop: Stop<LinesFault<LineStop>>, lines: u64) -> LinesServeFault
+pub(crate) fn stopped(stop: Stop<LinesFault<AnswerFault>>, lines: u64) -> LinesServeFault
     ensures { result ≡ record { kind = stopped_by stop; lines = lines } }
 {
     let kind = match stop {
@@ -101,9 +104,9 @@ pub(crate) fn stopped(stop: Stop<LinesFault<LineStop>>, lines: u64) -> LinesServ
         Stop::Endless => LinesServeFaultKind::Endless,
         Stop::Consumer(LinesFault::Long(number)) => LinesServeFaultKind::Long(number),
         Stop::Consumer(LinesFault::NoMemory) => LinesServeFaultKind::NoMemory,
-        Stop::Consumer(LinesFault::Handler(LineStop::NoMemory)) => LinesServeFaultKind::NoMemory,
-        Stop::Consumer(LinesFault::Handler(LineStop::Keep(fault))) => LinesServeFaultKind::Keep(fault),
-        Stop::Consumer(LinesFault::Handler(LineStop::Output)) => LinesServeFaultKind::Output,
+        Stop::Consumer(LinesFault::Handler(AnswerFault::NoMemory)) => LinesServeFaultKind::NoMemory,
+        Stop::Consumer(LinesFault::Handler(AnswerFault::Keep(fault))) => LinesServeFaultKind::Keep(fault),
+        Stop::Consumer(LinesFault::Handler(AnswerFault::Output)) => LinesServeFaultKind::Output,
     };
     LinesServeFault { kind, lines }
 }

@@ -8,6 +8,7 @@ use Rattle.csi_frames.specs.Public.Spelling.{spelling}
 use Rattle.csi_frames.specs.Public.Fault.{IsFaulty}
 use Rattle.csi_frames.specs.Public.Stream.{FramesOf}
 use Rattle.csi_driver.specs.Public.Frames.{IsFaultOf}
+pub use Rattle.csi_driver.specs.Public.Answering.{AnswersEach}
 use Rattle.csi_service.specs.declared.serving.fault.Served.{Served}
 use Rattle.csi_service.specs.declared.serving.fault.ServeFault.{ServeFault}
 use Rattle.csi_service.specs.declared.serving.fault.ServeFaultKind.{ServeFaultKind}
@@ -15,13 +16,6 @@ use Rattle.csi_service.specs.declared.serving.fault.ServeFaultKind.TheVariants a
 use Rattle.csi_stores.specs.declared.keep.KeepFault.{KeepFault}
 use Rattle.csi_stores.specs.Public.Part.{StoredPart}
 use Rattle.csi_stores.specs.Public.Stores.{Store, LeavesOnly, LeavesEither, IsContentRefusal}
-
--- from one core to another, frame after frame: each frame got this reply
-abbrev pub AnswersEach : {C : Type 0} → (C → Frame → Option Frame → C → Type 0) → C → List Frame → List (Option Frame) → C → Type 0
-AnswersEach answers core [] [] now = now ≡ core
-AnswersEach answers core [] (reply ∷ replies) now = ⊥
-AnswersEach answers core (frame ∷ frames) [] now = ⊥
-AnswersEach {C} answers core (frame ∷ frames) (reply ∷ replies) now = (next : C) × answers core frame reply next × AnswersEach answers next frames replies now
 
 -- a reply, as it is written
 abbrev pub reply_bytes : Option Frame → List ℕ

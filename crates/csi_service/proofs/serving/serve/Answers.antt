@@ -9,31 +9,31 @@ use Rattle.csi_service.proofs.serving.serve.Goals as goal
 
 pub returns-in-Ok-clause-serves : goal.returns-in-Ok-clause-serves
 returns-in-Ok-clause-serves g c =
-    let read = rw c.new-frames.ensures.handler at (c.in-Ok.ensures.reads c.new-frames.ensures.splitter c.new-frames.ensures.count (ap (λ (h : Answering _). h.waiting.frames) c.new-frames.ensures.handler ∙ c.new.ensures.frames) (omega arith)) in
+    let read = rw c.new-frames.ensures.handler at (c.in-Ok.ensures.reads c.new-frames.ensures.splitter c.new-frames.ensures.count (ap (λ (h : Answering _). h.waiting.items) c.new-frames.ensures.handler ∙ c.new.ensures.items) (omega arith)) in
     rw (c.handler.ensures, c.handler-in-Ok.ensures) (
       read.read,
       read.consumed,
-      (served (AnswersInRecord g.C.Core.is_fit g.C.Core.spells g.C.Core.parts_of g.C.Core.answers) g.C.Core.parts_of g.K.Keep.store g.W.Write.contents _ _ _ _ _ (record { out = c.new.ensures.out; parts = c.new.ensures.parts; frames = c.new.ensures.frames; committed = c.new.ensures.committed; replies = refl })
+      (served (AnswersInRecord g.C.Core.is_fit g.C.Core.spells g.C.Core.parts_of g.C.Core.answers) g.C.Core.parts_of g.K.Keep.store g.W.Write.contents _ _ _ _ _ (record { out = c.new.ensures.out; parts = c.new.ensures.parts; items = c.new.ensures.items; committed = c.new.ensures.committed; answers = c.new.ensures.answers })
           (IsAtEnd (g.R.Read.remaining c.read.new.reader.inner)) (HasRisen c.args.reader.now.faults c.read.new.reader.faults) (2 ^ 63 ≤ length read.read) tt read (λ at_end. at_end)).0,
     )
 
 pub returns-in-Ok-clause-writer : goal.returns-in-Ok-clause-writer
 returns-in-Ok-clause-writer g c =
-    let read = rw c.new-frames.ensures.handler at (c.in-Ok.ensures.reads c.new-frames.ensures.splitter c.new-frames.ensures.count (ap (λ (h : Answering _). h.waiting.frames) c.new-frames.ensures.handler ∙ c.new.ensures.frames) (omega arith)) in
-    (served (AnswersInRecord g.C.Core.is_fit g.C.Core.spells g.C.Core.parts_of g.C.Core.answers) g.C.Core.parts_of g.K.Keep.store g.W.Write.contents _ _ _ _ _ (record { out = c.new.ensures.out; parts = c.new.ensures.parts; frames = c.new.ensures.frames; committed = c.new.ensures.committed; replies = refl }) (Unit {0}) (Unit {0}) (Unit {0}) tt read (λ at_end. tt)).2
+    let read = rw c.new-frames.ensures.handler at (c.in-Ok.ensures.reads c.new-frames.ensures.splitter c.new-frames.ensures.count (ap (λ (h : Answering _). h.waiting.items) c.new-frames.ensures.handler ∙ c.new.ensures.items) (omega arith)) in
+    (served (AnswersInRecord g.C.Core.is_fit g.C.Core.spells g.C.Core.parts_of g.C.Core.answers) g.C.Core.parts_of g.K.Keep.store g.W.Write.contents _ _ _ _ _ (record { out = c.new.ensures.out; parts = c.new.ensures.parts; items = c.new.ensures.items; committed = c.new.ensures.committed; answers = c.new.ensures.answers }) (Unit {0}) (Unit {0}) (Unit {0}) tt read (λ at_end. tt)).2
 
 pub returns-in-Ok-clause-follows : goal.returns-in-Ok-clause-follows
 returns-in-Ok-clause-follows g c =
-    let read = rw c.new-frames.ensures.handler at (c.in-Ok.ensures.reads c.new-frames.ensures.splitter c.new-frames.ensures.count (ap (λ (h : Answering _). h.waiting.frames) c.new-frames.ensures.handler ∙ c.new.ensures.frames) (omega arith)) in
-    (served (AnswersInRecord g.C.Core.is_fit g.C.Core.spells g.C.Core.parts_of g.C.Core.answers) g.C.Core.parts_of g.K.Keep.store g.W.Write.contents _ _ _ _ _ (record { out = c.new.ensures.out; parts = c.new.ensures.parts; frames = c.new.ensures.frames; committed = c.new.ensures.committed; replies = refl }) (Unit {0}) (Unit {0}) (Unit {0}) tt read (λ at_end. tt)).1
+    let read = rw c.new-frames.ensures.handler at (c.in-Ok.ensures.reads c.new-frames.ensures.splitter c.new-frames.ensures.count (ap (λ (h : Answering _). h.waiting.items) c.new-frames.ensures.handler ∙ c.new.ensures.items) (omega arith)) in
+    (served (AnswersInRecord g.C.Core.is_fit g.C.Core.spells g.C.Core.parts_of g.C.Core.answers) g.C.Core.parts_of g.K.Keep.store g.W.Write.contents _ _ _ _ _ (record { out = c.new.ensures.out; parts = c.new.ensures.parts; items = c.new.ensures.items; committed = c.new.ensures.committed; answers = c.new.ensures.answers }) (Unit {0}) (Unit {0}) (Unit {0}) tt read (λ at_end. tt)).1
 
 pub returns-clause-serves : goal.returns-clause-serves
 returns-clause-serves g c =
-    let read = rw c.new-frames.ensures.handler at (c.in-Err.ensures.reads c.new-frames.ensures.splitter c.new-frames.ensures.count (ap (λ (h : Answering _). h.waiting.frames) c.new-frames.ensures.handler ∙ c.new.ensures.frames) (omega arith)) in
+    let read = rw c.new-frames.ensures.handler at (c.in-Err.ensures.reads c.new-frames.ensures.splitter c.new-frames.ensures.count (ap (λ (h : Answering _). h.waiting.items) c.new-frames.ensures.handler ∙ c.new.ensures.items) (omega arith)) in
     rw (c.stopped.ensures, c.handler-in-Err.ensures) (
       read.read,
       read.consumed,
-      (halted (AnswersInRecord g.C.Core.is_fit g.C.Core.spells g.C.Core.parts_of g.C.Core.answers) g.C.Core.parts_of g.K.Keep.store g.W.Write.contents _ _ _ _ _ (record { out = c.new.ensures.out; parts = c.new.ensures.parts; frames = c.new.ensures.frames; committed = c.new.ensures.committed; replies = refl })
+      (halted (AnswersInRecord g.C.Core.is_fit g.C.Core.spells g.C.Core.parts_of g.C.Core.answers) g.C.Core.parts_of g.K.Keep.store g.W.Write.contents _ _ _ _ _ (record { out = c.new.ensures.out; parts = c.new.ensures.parts; items = c.new.ensures.items; committed = c.new.ensures.committed; answers = c.new.ensures.answers })
           (IsAtEnd (g.R.Read.remaining c.read.new.reader.inner)) (HasRisen c.args.reader.now.faults c.read.new.reader.faults) (2 ^ 63 ≤ length read.read) c.in-Err.stop read (λ at_end. at_end)
           (reader_failed c.args.reader.now.faults c.read.new.reader.faults c.in-Err.stop c.in-Err.ensures.reader) (λ many. many)).0,
     )
@@ -43,11 +43,11 @@ returns-clause-reader g c = rw c.stopped.ensures (reader_stays c.args.reader.now
 
 pub returns-clause-writer : goal.returns-clause-writer
 returns-clause-writer g c =
-    let read = rw c.new-frames.ensures.handler at (c.in-Err.ensures.reads c.new-frames.ensures.splitter c.new-frames.ensures.count (ap (λ (h : Answering _). h.waiting.frames) c.new-frames.ensures.handler ∙ c.new.ensures.frames) (omega arith)) in
+    let read = rw c.new-frames.ensures.handler at (c.in-Err.ensures.reads c.new-frames.ensures.splitter c.new-frames.ensures.count (ap (λ (h : Answering _). h.waiting.items) c.new-frames.ensures.handler ∙ c.new.ensures.items) (omega arith)) in
     rw c.stopped.ensures
-    (halted (AnswersInRecord g.C.Core.is_fit g.C.Core.spells g.C.Core.parts_of g.C.Core.answers) g.C.Core.parts_of g.K.Keep.store g.W.Write.contents _ _ _ _ _ (record { out = c.new.ensures.out; parts = c.new.ensures.parts; frames = c.new.ensures.frames; committed = c.new.ensures.committed; replies = refl }) (Unit {0}) (Unit {0}) (Unit {0}) c.in-Err.stop read (λ e. tt) (λ e. tt) (λ e. tt)).2
+    (halted (AnswersInRecord g.C.Core.is_fit g.C.Core.spells g.C.Core.parts_of g.C.Core.answers) g.C.Core.parts_of g.K.Keep.store g.W.Write.contents _ _ _ _ _ (record { out = c.new.ensures.out; parts = c.new.ensures.parts; items = c.new.ensures.items; committed = c.new.ensures.committed; answers = c.new.ensures.answers }) (Unit {0}) (Unit {0}) (Unit {0}) c.in-Err.stop read (λ e. tt) (λ e. tt) (λ e. tt)).2
 
 pub returns-clause-follows : goal.returns-clause-follows
 returns-clause-follows g c =
-    let read = rw c.new-frames.ensures.handler at (c.in-Err.ensures.reads c.new-frames.ensures.splitter c.new-frames.ensures.count (ap (λ (h : Answering _). h.waiting.frames) c.new-frames.ensures.handler ∙ c.new.ensures.frames) (omega arith)) in
-    (halted (AnswersInRecord g.C.Core.is_fit g.C.Core.spells g.C.Core.parts_of g.C.Core.answers) g.C.Core.parts_of g.K.Keep.store g.W.Write.contents _ _ _ _ _ (record { out = c.new.ensures.out; parts = c.new.ensures.parts; frames = c.new.ensures.frames; committed = c.new.ensures.committed; replies = refl }) (Unit {0}) (Unit {0}) (Unit {0}) c.in-Err.stop read (λ e. tt) (λ e. tt) (λ e. tt)).1
+    let read = rw c.new-frames.ensures.handler at (c.in-Err.ensures.reads c.new-frames.ensures.splitter c.new-frames.ensures.count (ap (λ (h : Answering _). h.waiting.items) c.new-frames.ensures.handler ∙ c.new.ensures.items) (omega arith)) in
+    (halted (AnswersInRecord g.C.Core.is_fit g.C.Core.spells g.C.Core.parts_of g.C.Core.answers) g.C.Core.parts_of g.K.Keep.store g.W.Write.contents _ _ _ _ _ (record { out = c.new.ensures.out; parts = c.new.ensures.parts; items = c.new.ensures.items; committed = c.new.ensures.committed; answers = c.new.ensures.answers }) (Unit {0}) (Unit {0}) (Unit {0}) c.in-Err.stop read (λ e. tt) (λ e. tt) (λ e. tt)).1

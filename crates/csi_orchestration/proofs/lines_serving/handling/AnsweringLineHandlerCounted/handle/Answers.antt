@@ -1,6 +1,6 @@
 -- A refusal is one of what waits, or of a line, and then what waits is settled.
 use Rattle.std.proofs.Common.{refl}
-use Rattle.csi_orchestration.proofs.LinesStops.{stops-at-once, ends-so}
+use Rattle.csi_driver.proofs.WaitingStops.{stops-at-once, ends-so}
 use Rattle.csi_orchestration.proofs.lines_serving.handling.AnsweringLineHandlerCounted.handle.Goals as goal
 
 pub returns-in-Err-clause-err : goal.returns-in-Err-clause-err
