@@ -11,6 +11,7 @@ mod laws;
 mod line_buffer;
 mod line_handler;
 mod lines;
+mod source;
 mod waiting;
 
 pub use consumer::Consumer;
@@ -21,4 +22,5 @@ pub use laws::lines_law;
 pub use line_buffer::LINE_ROOM;
 pub use line_handler::LineHandler;
 pub use lines::{Lines, LinesFault};
+pub use source::Source;
 pub use waiting::{AnswerFault, Waiting};

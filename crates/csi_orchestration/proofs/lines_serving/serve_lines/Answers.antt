@@ -7,9 +7,15 @@ use Rattle.csi_orchestration.specs.declared.lines_serving.handling.Answering.{An
 use Rattle.csi_orchestration.proofs.LinesServed.{reader_stays, reader_failed, served, halted}
 use Rattle.csi_orchestration.proofs.lines_serving.serve_lines.Goals as goal
 
+pub read-requires-clause-flushed : goal.read-requires-clause-flushed
+read-requires-clause-flushed g c = ap (λ (h : Answering _). h.waiting.items) c.new-lines.ensures.handler ∙ c.new.ensures.items
+
+pub read-requires-clause-asks : goal.read-requires-clause-asks
+read-requires-clause-asks g c = λ gone read now consumed rests. tt
+
 pub returns-in-Ok-clause-serves : goal.returns-in-Ok-clause-serves
 returns-in-Ok-clause-serves g c =
-    let read = rw c.new-lines.ensures.handler at (c.in-Ok.ensures.reads c.new-lines.ensures.buffer c.new-lines.ensures.count (ap (λ (h : Answering _). h.waiting.items) c.new-lines.ensures.handler ∙ c.new.ensures.items) (omega arith)) in
+    let read = rw c.new-lines.ensures.handler at c.in-Ok.ensures.reads in
     rw c.handler.ensures (
       read.read,
       read.consumed,
@@ -19,17 +25,17 @@ returns-in-Ok-clause-serves g c =
 
 pub returns-in-Ok-clause-writer : goal.returns-in-Ok-clause-writer
 returns-in-Ok-clause-writer g c =
-    let read = rw c.new-lines.ensures.handler at (c.in-Ok.ensures.reads c.new-lines.ensures.buffer c.new-lines.ensures.count (ap (λ (h : Answering _). h.waiting.items) c.new-lines.ensures.handler ∙ c.new.ensures.items) (omega arith)) in
+    let read = rw c.new-lines.ensures.handler at c.in-Ok.ensures.reads in
     (served (AnswersInRecord g.C.Responder.is_fit g.C.Responder.spells g.C.Responder.parts_of g.C.Responder.answers) g.C.Responder.parts_of g.K.Keep.store g.W.Write.contents _ _ _ _ _ (record { out = c.new.ensures.out; parts = c.new.ensures.parts; items = c.new.ensures.items; committed = c.new.ensures.committed; answers = c.new.ensures.answers }) (Unit {0}) (Unit {0}) (Unit {0}) tt read (λ at_end. tt)).2
 
 pub returns-in-Ok-clause-follows : goal.returns-in-Ok-clause-follows
 returns-in-Ok-clause-follows g c =
-    let read = rw c.new-lines.ensures.handler at (c.in-Ok.ensures.reads c.new-lines.ensures.buffer c.new-lines.ensures.count (ap (λ (h : Answering _). h.waiting.items) c.new-lines.ensures.handler ∙ c.new.ensures.items) (omega arith)) in
+    let read = rw c.new-lines.ensures.handler at c.in-Ok.ensures.reads in
     (served (AnswersInRecord g.C.Responder.is_fit g.C.Responder.spells g.C.Responder.parts_of g.C.Responder.answers) g.C.Responder.parts_of g.K.Keep.store g.W.Write.contents _ _ _ _ _ (record { out = c.new.ensures.out; parts = c.new.ensures.parts; items = c.new.ensures.items; committed = c.new.ensures.committed; answers = c.new.ensures.answers }) (Unit {0}) (Unit {0}) (Unit {0}) tt read (λ at_end. tt)).1
 
 pub returns-clause-serves : goal.returns-clause-serves
 returns-clause-serves g c =
-    let read = rw c.new-lines.ensures.handler at (c.in-Err.ensures.reads c.new-lines.ensures.buffer c.new-lines.ensures.count (ap (λ (h : Answering _). h.waiting.items) c.new-lines.ensures.handler ∙ c.new.ensures.items) (omega arith)) in
+    let read = rw c.new-lines.ensures.handler at c.in-Err.ensures.reads in
     rw (c.stopped.ensures, c.handler-in-Err.ensures) (
       read.read,
       read.consumed,
@@ -43,11 +49,11 @@ returns-clause-reader g c = rw c.stopped.ensures (reader_stays c.args.reader.now
 
 pub returns-clause-writer : goal.returns-clause-writer
 returns-clause-writer g c =
-    let read = rw c.new-lines.ensures.handler at (c.in-Err.ensures.reads c.new-lines.ensures.buffer c.new-lines.ensures.count (ap (λ (h : Answering _). h.waiting.items) c.new-lines.ensures.handler ∙ c.new.ensures.items) (omega arith)) in
+    let read = rw c.new-lines.ensures.handler at c.in-Err.ensures.reads in
     rw c.stopped.ensures
     (halted (AnswersInRecord g.C.Responder.is_fit g.C.Responder.spells g.C.Responder.parts_of g.C.Responder.answers) g.C.Responder.parts_of g.K.Keep.store g.W.Write.contents _ _ _ _ _ (record { out = c.new.ensures.out; parts = c.new.ensures.parts; items = c.new.ensures.items; committed = c.new.ensures.committed; answers = c.new.ensures.answers }) (Unit {0}) (Unit {0}) (Unit {0}) c.in-Err.stop read (λ e. tt) (λ e. tt) (λ e. tt)).2
 
 pub returns-clause-follows : goal.returns-clause-follows
 returns-clause-follows g c =
-    let read = rw c.new-lines.ensures.handler at (c.in-Err.ensures.reads c.new-lines.ensures.buffer c.new-lines.ensures.count (ap (λ (h : Answering _). h.waiting.items) c.new-lines.ensures.handler ∙ c.new.ensures.items) (omega arith)) in
+    let read = rw c.new-lines.ensures.handler at c.in-Err.ensures.reads in
     (halted (AnswersInRecord g.C.Responder.is_fit g.C.Responder.spells g.C.Responder.parts_of g.C.Responder.answers) g.C.Responder.parts_of g.K.Keep.store g.W.Write.contents _ _ _ _ _ (record { out = c.new.ensures.out; parts = c.new.ensures.parts; items = c.new.ensures.items; committed = c.new.ensures.committed; answers = c.new.ensures.answers }) (Unit {0}) (Unit {0}) (Unit {0}) c.in-Err.stop read (λ e. tt) (λ e. tt) (λ e. tt)).1
