@@ -10,7 +10,7 @@ use Rattle.csi_driver.specs.declared.driver.Stop.TheVariants as stop
 use Rattle.csi_driver.specs.declared.lines.LinesFault.{LinesFault}
 use Rattle.csi_driver.specs.declared.lines.LinesFault.TheVariants as lines_faults
 use Rattle.csi_driver.specs.Public.Driving.{TellsReader}
-use Rattle.csi_driver.specs.Public.Lines.{HaltsAtLine, IsLongAt, ReadsLines}
+use Rattle.csi_driver.specs.Public.Lines.{HaltsAtLine, IsLongAt, ReadsLines, RestsAtLines}
 use Rattle.csi_driver.specs.Public.LinesOf.{with_newline, and_last, IsShort}
 use Rattle.csi_driver.specs.Public.Lining.{RunsLines}
 use Rattle.csi_driver.specs.declared.waiting.AnswerFault.{AnswerFault}
@@ -29,7 +29,7 @@ use Rattle.csi_orchestration.specs.declared.lines_serving.fault.ServedLines.{Ser
 use Rattle.csi_orchestration.specs.declared.lines_serving.fault.LinesServeFault.{LinesServeFault}
 use Rattle.csi_orchestration.specs.Public.LinesFailing.{ReaderStaysAt, WriterStaysAt}
 use Rattle.csi_orchestration.specs.Private.LinesHandling.{Serving, settling, always, stopped_by}
-use Rattle.csi_orchestration.specs.Public.LinesServing.{Setting, AnswersEach, AreThere, lines_counted, EndsBy, ServesLines}
+use Rattle.csi_orchestration.specs.Public.LinesServing.{Setting, AnswersEach, AreThere, lines_counted, EndsBy, ServesLines, IsAllAnswered}
 use Rattle.csi_orchestration.proofs.GrowingAnswers.{there-few}
 use Rattle.csi_orchestration.proofs.LinesProgress.{handles, flushes, stops, CameTo, Done, came_by, short_by}
 
@@ -59,6 +59,14 @@ reader_stays before after lines (stop.Consumer lines_faults.NoMemory) told = tol
 reader_stays before after lines (stop.Consumer (lines_faults.Handler why.NoMemory)) told = told
 reader_stays before after lines (stop.Consumer (lines_faults.Handler (why.Keep fault))) told = told
 reader_stays before after lines (stop.Consumer (lines_faults.Handler why.Output)) told = told
+
+-- where nothing waits all that was read is answered
+pub all_answered : {C K W : Type 0} (answers : C → List ℕ → List ℕ → C → Type 0) (parts_of : C → List StoredPart) (store : K → Store) (contents : W → Option (List ℕ)) (first now : Serving C K W) (read : List ℕ) → IsFresh first.own.waiting
+    → RestsAtLines (handles answers parts_of store contents) (flushes answers parts_of store contents) (λ (answering : Answering C). answering.waiting.items ≡ 0) first read now
+    → IsAllAnswered answers parts_of first.own.responder (store first.store) (store now.store) (contents first.out.inner) (contents now.out.inner) read
+all_answered answers parts_of store contents first now read fresh rests =
+    let p = finished answers parts_of with_newline always store contents first.own.responder (settling first) rests.0 now.own.responder (settling now) (came_by answers parts_of store contents first now rests.0 fresh rests.3) rests.4 in
+    record { lines = rests.0; rest = rests.1; stream = rests.2; given = p.given; now = now.own.responder; runs = p.runs; kept = p.kept; written = p.written }
 
 module _ {C K W : Type 0} (answers : C → List ℕ → List ℕ → C → Type 0) (parts_of : C → List StoredPart) (store : K → Store) (contents : W → Option (List ℕ)) (first now : Serving C K W) (count : ℕ) (left left' : Option (List ℕ)) (fresh : IsFresh first.own.waiting) where
   -- the lines of a reader, handled to its end

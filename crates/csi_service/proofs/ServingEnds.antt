@@ -23,7 +23,7 @@ use Rattle.csi_driver.specs.declared.frames.FramesFault.{FramesFault}
 use Rattle.csi_driver.specs.declared.frames.FramesFault.TheVariants as frames_faults
 use Rattle.csi_driver.specs.Public.Driving.{TellsReader}
 use Rattle.csi_driver.specs.Public.Framing.{Runs}
-use Rattle.csi_driver.specs.Public.Frames.{Halts, ReadsFrames, Waits as RestWaits}
+use Rattle.csi_driver.specs.Public.Frames.{Halts, ReadsFrames, RestsAtFrames, Waits as RestWaits}
 use Rattle.csi_driver.proofs.Streams.{frames_few}
 use Rattle.csi_stores.specs.Public.Part.{StoredPart}
 use Rattle.csi_stores.specs.Public.Stores.{Store, FollowsStore}
@@ -32,7 +32,7 @@ use Rattle.csi_service.specs.declared.serving.fault.ServeFault.{ServeFault}
 use Rattle.csi_service.specs.declared.serving.handling.Answering.{Answering}
 use Rattle.csi_service.specs.Public.Failing.{Stays, ReaderStaysAt, WriterStaysAt}
 use Rattle.csi_service.specs.Private.Handling.{Serving, settling, stopped_by}
-use Rattle.csi_service.specs.Public.Serving.{Setting, AnswersEach, reply_bytes, reply_count, AllDone, Waits, frames_counted, EndsBy, Serves}
+use Rattle.csi_service.specs.Public.Serving.{Setting, AnswersEach, reply_bytes, reply_count, AllDone, Waits, frames_counted, EndsBy, Serves, IsAllAnswered}
 use Rattle.csi_service.proofs.Progress.{handles, flushes, stops, CameTo, Done, came_by}
 
 -- a rest that waits may be the beginning of a frame
@@ -56,6 +56,14 @@ reader_stays before after frames (stop.Consumer frames_faults.NoMemory) told = t
 reader_stays before after frames (stop.Consumer (frames_faults.Handler why.NoMemory)) told = told
 reader_stays before after frames (stop.Consumer (frames_faults.Handler (why.Keep fault))) told = told
 reader_stays before after frames (stop.Consumer (frames_faults.Handler why.Output)) told = told
+
+-- where nothing waits all that was read is answered
+pub all_answered : {C K W : Type 0} (answers : C → Frame → Option Frame → C → Type 0) (parts_of : C → List StoredPart) (store : K → Store) (contents : W → Option (List ℕ)) (first now : Serving C K W) (read : List ℕ) → IsFresh first.own.waiting
+    → RestsAtFrames (handles answers parts_of store contents) (flushes answers parts_of store contents) (λ (answering : Answering C). answering.waiting.items ≡ 0) first read now
+    → IsAllAnswered answers parts_of first.own.core (store first.store) (store now.store) (contents first.out.inner) (contents now.out.inner) read
+all_answered answers parts_of store contents first now read fresh rests =
+    let p = finished answers parts_of reply_bytes is_some store contents first.own.core (settling first) rests.0 now.own.core (settling now) (came_by answers parts_of store contents first now rests.0 fresh rests.3) rests.4 in
+    record { frames = rests.0; rest = rests.1; stream = rests.2; replies = p.given; now = now.own.core; runs = p.runs; kept = p.kept; written = p.written }
 
 module _ {C K W : Type 0} (answers : C → Frame → Option Frame → C → Type 0) (parts_of : C → List StoredPart) (store : K → Store) (contents : W → Option (List ℕ)) (first now : Serving C K W) (count : ℕ) (left left' : Option (List ℕ)) (fresh : IsFresh first.own.waiting) where
   -- the frames of a reader, handled to its end

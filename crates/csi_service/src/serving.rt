@@ -5,18 +5,18 @@ ghost use Rattle.csi_stores.specs.Public.Counting.{HasRisen};
 ghost use Rattle.csi_service.specs.Public.Answering.{AnswersInRecord};
 ghost use Rattle.csi_service.specs.Public.Failing.{Stays, ReaderStaysAt, WriterStaysAt};
 ghost use Rattle.csi_stores.specs.Public.Stores.{FollowsStore};
-ghost use Rattle.csi_service.specs.Public.Serving.{Serves};
+ghost use Rattle.csi_service.specs.Public.Serving.{Serves, IsAllAnswered};
 
 mod fault;
 mod handling;
 
 use crate::plugin_core::Core;
-use csi_driver::{Frames, Waiting};
+use csi_driver::{Frames, Source, Waiting};
 use csi_stores::{Counted, Keep};
 pub use fault::{ServeFault, ServeFaultKind, Served};
 use handling::{Answering, stopped};
 use std::alloc::Global;
-use std::io::{Read, Write};
+use std::io::Write;
 
 /// The most bytes that are read at once.
 const PIECE: usize = 4096;
@@ -40,15 +40,19 @@ const PIECE: usize = 4096;
 ///   replies aren't written, and nothing else; the device failed in this call, or those parts don't fit;
 /// - at `NoMemory` what is counted is committed and written, and nothing of the next frame.
 ///
-/// The reader failed at no end but `Input`, the writer at none but `Output`. A store that is honest after the call was before.
-pub fn serve<C: Core, K: Keep, R: Read, W: Write>(
+/// The reader failed at no end but `Input`, the writer at none but `Output`. A store that is honest after the call was before. The reader is
+/// asked for more only where all that it gave is answered, committed and written: it may have a peer that waits for a reply.
+pub fn serve<C: Core, K: Keep, R: Source<K, Counted<W>>, W: Write>(
     alloc: Global,
     core: C,
     keep: &mut K,
-    reader: &mut Counted<R>,
+    reader: &mut R,
     writer: &mut Counted<W>,
 ) -> Result<Served, ServeFault>
-    ensures serves { (bytes : List ℕ) × Consumes (R.remaining reader.old.inner) (R.remaining reader.new.inner) bytes
+    requires asks { (gone : R) (read : List ℕ) (kept : K) (written : Counted W) → Consumes (R.remaining reader.old) (R.remaining gone) read →
+        IsAllAnswered (AnswersInRecord C.is_fit C.spells C.parts_of C.answers) C.parts_of core (K.store keep.old) (K.store kept)
+        (W.contents writer.old.inner) (W.contents written.inner) read → R.may_read gone kept written }
+    ensures serves { (bytes : List ℕ) × Consumes (R.remaining reader.old) (R.remaining reader.new) bytes
         × Serves (record {
           answers = AnswersInRecord C.is_fit C.spells C.parts_of C.answers;
           parts_of = C.parts_of;
@@ -57,12 +61,12 @@ pub fn serve<C: Core, K: Keep, R: Read, W: Write>(
           after = K.store keep.new;
           written_before = W.contents writer.old.inner;
           written_after = W.contents writer.new.inner;
-          at_end = IsAtEnd (R.remaining reader.new.inner);
-          reader_failed = HasRisen reader.old.faults reader.new.faults;
+          at_end = IsAtEnd (R.remaining reader.new);
+          reader_failed = HasRisen (R.faults reader.old) (R.faults reader.new);
           writer_failed = HasRisen writer.old.faults writer.new.faults;
           endless = 2 ^ 63 ≤ length bytes;
         }) bytes result }
-    ensures reader { Stays ReaderStaysAt reader.old.faults reader.new.faults result }
+    ensures reader { Stays ReaderStaysAt (R.faults reader.old) (R.faults reader.new) result }
     ensures writer { Stays WriterStaysAt writer.old.faults writer.new.faults result }
     ensures follows { FollowsStore (K.store keep.old) (K.store keep.new) }
 {

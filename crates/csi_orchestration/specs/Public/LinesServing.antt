@@ -104,3 +104,14 @@ pub record ServesLines {C : Type 0} (setting : Setting C) (bytes : List ℕ) (re
   pub runs : AnswersEach setting.answers setting.responder (take (lines_counted result) there) given now
   pub group : List (List ℕ)
   pub ends : EndsBy setting lines rest there given now group result
+
+-- All that was read is answered: its lines one after another, the store has the responder's parts then, and all answers are written.
+pub record IsAllAnswered {C : Type 0} (answers : C → List ℕ → List ℕ → C → Type 0) (parts_of : C → List StoredPart) (responder : C) (before after : Store) (written_before written_after : Option (List ℕ)) (read : List ℕ) : Type 0 where
+  pub lines : List (List ℕ)
+  pub rest : List ℕ
+  pub stream : LinesOf read lines rest
+  pub given : List (List ℕ)
+  pub now : C
+  pub runs : AnswersEach answers responder lines given now
+  pub kept : LeavesOnly before after (parts_of responder) (parts_of now)
+  pub written : Appends written_before written_after (output_of given)

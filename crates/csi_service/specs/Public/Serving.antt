@@ -113,3 +113,14 @@ pub record Serves {C : Type 0} (setting : Setting C) (bytes : List ℕ) (result 
   pub runs : AnswersEach setting.answers setting.core (take (frames_counted result) frames) replies now
   pub group : List Frame
   pub ends : EndsBy setting frames rest replies now group result
+
+-- All that was read is answered: its frames one after another, the store has the core's parts then, and all replies are written.
+pub record IsAllAnswered {C : Type 0} (answers : C → Frame → Option Frame → C → Type 0) (parts_of : C → List StoredPart) (core : C) (before after : Store) (written_before written_after : Option (List ℕ)) (read : List ℕ) : Type 0 where
+  pub frames : List Frame
+  pub rest : List ℕ
+  pub stream : FramesOf read frames rest
+  pub replies : List (Option Frame)
+  pub now : C
+  pub runs : AnswersEach answers core frames replies now
+  pub kept : LeavesOnly before after (parts_of core) (parts_of now)
+  pub written : Appends written_before written_after (output_of replies)

@@ -4,14 +4,17 @@ use Rattle.std.specs.Io.KnownBytes.{IsAtEnd}
 use Rattle.csi_stores.specs.Public.Counting.{HasRisen}
 use Rattle.csi_service.specs.Public.Answering.{AnswersInRecord}
 use Rattle.csi_service.specs.declared.serving.handling.Answering.{Answering}
-use Rattle.csi_service.proofs.ServingEnds.{reader_stays, reader_failed, served, halted}
+use Rattle.csi_service.proofs.ServingEnds.{reader_stays, reader_failed, served, halted, all_answered}
 use Rattle.csi_service.proofs.serving.serve.Goals as goal
 
 pub read-requires-clause-flushed : goal.read-requires-clause-flushed
 read-requires-clause-flushed g c = ap (λ (h : Answering _). h.waiting.items) c.new-frames.ensures.handler ∙ c.new.ensures.items
 
 pub read-requires-clause-asks : goal.read-requires-clause-asks
-read-requires-clause-asks g c = λ gone read now consumed rests. tt
+read-requires-clause-asks g c = λ gone read now consumed rests.
+    c.requires.asks gone read now.store now.out consumed
+    (all_answered (AnswersInRecord g.C.Core.is_fit g.C.Core.spells g.C.Core.parts_of g.C.Core.answers) g.C.Core.parts_of g.K.Keep.store g.W.Write.contents _ now read
+     (record { out = c.new.ensures.out; parts = c.new.ensures.parts; items = c.new.ensures.items; committed = c.new.ensures.committed; answers = c.new.ensures.answers }) (rw c.new-frames.ensures.handler at rests))
 
 pub returns-in-Ok-clause-serves : goal.returns-in-Ok-clause-serves
 returns-in-Ok-clause-serves g c =
@@ -20,7 +23,7 @@ returns-in-Ok-clause-serves g c =
       read.read,
       read.consumed,
       (served (AnswersInRecord g.C.Core.is_fit g.C.Core.spells g.C.Core.parts_of g.C.Core.answers) g.C.Core.parts_of g.K.Keep.store g.W.Write.contents _ _ _ _ _ (record { out = c.new.ensures.out; parts = c.new.ensures.parts; items = c.new.ensures.items; committed = c.new.ensures.committed; answers = c.new.ensures.answers })
-          (IsAtEnd (g.R.Read.remaining c.read.new.reader.inner)) (HasRisen c.args.reader.now.faults c.read.new.reader.faults) (2 ^ 63 ≤ length read.read) tt read (λ at_end. at_end)).0,
+          (IsAtEnd (g.R.Source.remaining c.read.new.reader)) (HasRisen (g.R.Source.faults c.args.reader.now) (g.R.Source.faults c.read.new.reader)) (2 ^ 63 ≤ length read.read) tt read (λ at_end. at_end)).0,
     )
 
 pub returns-in-Ok-clause-writer : goal.returns-in-Ok-clause-writer
@@ -40,12 +43,12 @@ returns-clause-serves g c =
       read.read,
       read.consumed,
       (halted (AnswersInRecord g.C.Core.is_fit g.C.Core.spells g.C.Core.parts_of g.C.Core.answers) g.C.Core.parts_of g.K.Keep.store g.W.Write.contents _ _ _ _ _ (record { out = c.new.ensures.out; parts = c.new.ensures.parts; items = c.new.ensures.items; committed = c.new.ensures.committed; answers = c.new.ensures.answers })
-          (IsAtEnd (g.R.Read.remaining c.read.new.reader.inner)) (HasRisen c.args.reader.now.faults c.read.new.reader.faults) (2 ^ 63 ≤ length read.read) c.in-Err.stop read (λ at_end. at_end)
-          (reader_failed c.args.reader.now.faults c.read.new.reader.faults c.in-Err.stop c.in-Err.ensures.reader) (λ many. many)).0,
+          (IsAtEnd (g.R.Source.remaining c.read.new.reader)) (HasRisen (g.R.Source.faults c.args.reader.now) (g.R.Source.faults c.read.new.reader)) (2 ^ 63 ≤ length read.read) c.in-Err.stop read (λ at_end. at_end)
+          (reader_failed (g.R.Source.faults c.args.reader.now) (g.R.Source.faults c.read.new.reader) c.in-Err.stop c.in-Err.ensures.reader) (λ many. many)).0,
     )
 
 pub returns-clause-reader : goal.returns-clause-reader
-returns-clause-reader g c = rw c.stopped.ensures (reader_stays c.args.reader.now.faults c.read.new.reader.faults c.handler-in-Err.result.now.waiting.committed c.in-Err.stop c.in-Err.ensures.reader)
+returns-clause-reader g c = rw c.stopped.ensures (reader_stays (g.R.Source.faults c.args.reader.now) (g.R.Source.faults c.read.new.reader) c.handler-in-Err.result.now.waiting.committed c.in-Err.stop c.in-Err.ensures.reader)
 
 pub returns-clause-writer : goal.returns-clause-writer
 returns-clause-writer g c =
