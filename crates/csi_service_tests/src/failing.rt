@@ -242,7 +242,12 @@ fn each_write(rt: &(impl Abort + AllocGlobal), (most, together, reads): Cut, tak
             ..SOUND
         };
         let Some(next) = reads.get(group) else {
-            return comes_to(rt, SCRIPT, devices, (End::Served(6), 200, 7, read.saturating_add(1)));
+            return comes_to(
+                rt,
+                SCRIPT,
+                devices,
+                (End::Served(6), 200, 7, read.saturating_add(1)),
+            );
         };
         read = *next;
         let frames = group.saturating_add(1).saturating_mul(together);

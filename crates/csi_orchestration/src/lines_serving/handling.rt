@@ -102,7 +102,9 @@ pub(crate) fn stopped(stop: Stop<LinesFault<LineStop>>, lines: u64) -> LinesServ
         Stop::Consumer(LinesFault::Long(number)) => LinesServeFaultKind::Long(number),
         Stop::Consumer(LinesFault::NoMemory) => LinesServeFaultKind::NoMemory,
         Stop::Consumer(LinesFault::Handler(LineStop::NoMemory)) => LinesServeFaultKind::NoMemory,
-        Stop::Consumer(LinesFault::Handler(LineStop::Keep(fault))) => LinesServeFaultKind::Keep(fault),
+        Stop::Consumer(LinesFault::Handler(LineStop::Keep(fault))) => LinesServeFaultKind::Keep(
+            fault,
+        ),
         Stop::Consumer(LinesFault::Handler(LineStop::Output)) => LinesServeFaultKind::Output,
     };
     LinesServeFault { kind, lines }
