@@ -242,7 +242,12 @@ fn each_write(rt: &(impl Abort + AllocGlobal), (most, together, reads): Cut, tak
             ..SOUND
         };
         let Some(next) = reads.get(group) else {
-            return comes_to(rt, SCRIPT, devices, (End::Served(6), 200, 7, read.saturating_add(1)));
+            return comes_to(
+                rt,
+                SCRIPT,
+                devices,
+                (End::Served(6), 200, 7, read.saturating_add(1)),
+            );
         };
         read = *next;
         let frames = group.saturating_add(1).saturating_mul(together);
@@ -299,6 +304,27 @@ fn nothing_is_read_once_a_reply_is_not_written(rt: HostRuntime) {
         ..SOUND
     };
     comes_to(&rt, DELETES, devices, (End::Ended(1, OUTPUT), 0, 2, 1));
+}
+
+// 140 deletions, of which 132 are in the first piece of 4,096 bytes.
+const MANY: &Turn = &Turn {
+    plugin: Plugin::Controller,
+    steps: &[(DELETE, DELETED); 140],
+    contents: &[NOTHING, NEW, BEGUN],
+};
+
+#[test]
+fn the_frames_of_4096_bytes_are_committed_at_once(rt: HostRuntime) {
+    let sound = Devices {
+        read: (100_000, None),
+        ..SOUND
+    };
+    comes_to(&rt, MANY, sound, (End::Served(140), 4620, 2, 3));
+    let failing = Devices {
+        commit: Some(2),
+        ..sound
+    };
+    comes_to(&rt, MANY, failing, (End::Ended(132, COMMIT), 4356, 2, 2));
 }
 
 const CREATE: &[u8] = &[

@@ -119,11 +119,7 @@ pub(crate) type Cut = (usize, usize, &'static [u64]);
 pub(crate) const AT_ONCE: Cut = (4096, 6, &[1]);
 
 /// That, by two frames, and frame by frame.
-pub(crate) const CUTS: &[Cut] = &[
-    AT_ONCE,
-    (81, 2, &[1, 2, 3]),
-    (31, 1, &[2, 3, 4, 5, 6, 8]),
-];
+pub(crate) const CUTS: &[Cut] = &[AT_ONCE, (81, 2, &[1, 2, 3]), (31, 1, &[2, 3, 4, 5, 6, 8])];
 
 /// Where the script's frames end, and the replies to them.
 const FRAMES: &[usize] = &[44, 81, 118, 152, 183, 227];

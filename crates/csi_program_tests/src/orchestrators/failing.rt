@@ -2,7 +2,7 @@
 //! kept, and that the life goes on from there.
 use super::script::{Side, WHOLE, lines};
 use super::{answers, count, goes_on, group_of, has_after, lives, puts};
-use crate::devices::{Devices, SOUND, new_store};
+use crate::devices::{Devices, SOUND, new_store, room};
 use csi_endings::Ending;
 use csi_stores::Left;
 use std::alloc::Global;
@@ -92,6 +92,24 @@ fn each_commit_that_fails_leaves_all_of_its_steps_or_none(rt: HostRuntime) {
             said = commit.saturating_mul(*together).saturating_add(1);
         }
     }
+}
+
+// 20,000 empty lines, of which 16,384 are in the first piece; the second piece's commit fails.
+#[test]
+fn the_lines_of_16384_bytes_are_committed_at_once(rt: HostRuntime) {
+    let mut given = room(&rt, 20_000);
+    for _ in 0..20_000 {
+        given.push(b'\n').expect(&rt, "room");
+    }
+    let devices = Devices {
+        commit: Some(2),
+        most: 100_000,
+        ..SOUND
+    };
+    let mut keep = new_store(rt.alloc(), 1000, devices);
+    let (written, ending) = answers(&rt, &mut keep, &given, devices);
+    assert!(&rt; ending == Ending::Device && count(&written) == 16_385);
+    drop((keep, given, written));
 }
 
 // Whether the life comes to its end, one call after another of the reader or the writer failing, and no line is taken back.
