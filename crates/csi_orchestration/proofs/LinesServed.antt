@@ -192,17 +192,15 @@ module _ {C K W : Type 0} (answers : C → List ℕ → List ℕ → C → Type 
           by : (fault : AnswerFault) → EndsWaiting store contents two (settling now) fault → Ended r.read (Err (record { kind = stopped_by (stop.Consumer (lines_faults.Handler fault)); lines = k }))
           by why.NoMemory w =
               let q = finished answers parts_of with_newline always store contents first.own.responder (settling first) front before.own.responder (settling now)
-                      (came-settles answers parts_of with_newline always store contents first.own.responder (settling first) front before.own.responder two (settling now) p w.0) w.1 in
-              let counts : k ≡ length front = omega (arith, q.committed, few, length-take count there) in
-              (
+              (came-settles answers parts_of with_newline always store contents first.own.responder (settling first) front before.own.responder two (settling now) p w.0) w.1 in
+              let counts : k ≡ length front = omega (arith, q.committed, few, length-take count there) in (
                 serves front behind (in-two there count) counts short q.given before.own.responder q.runs [] (Err (record { kind = stopped_by (stop.Consumer (lines_faults.Handler why.NoMemory)); lines = k })) refl
                     (refl, record { kept = q.kept; written = q.written }),
                 q.follows,
                 q.quiet,
               )
           by (why.Keep fault) w =
-              let counts : k ≡ length p.earlier = omega (arith, w.committed, p.committed, few, within) in
-              (
+              let counts : k ≡ length p.earlier = omega (arith, w.committed, p.committed, few, within) in (
                 serves p.earlier (p.group ++ behind) in-parts counts (each-first p.earlier p.group each) p.given p.mid p.runs p.group (Err (record { kind = stopped_by (stop.Consumer (lines_faults.Handler (why.Keep fault))); lines = k })) refl (
                   record {
                     some = something p.group (omega (arith, w.some, p.waiting));
@@ -223,25 +221,24 @@ module _ {C K W : Type 0} (answers : C → List ℕ → List ℕ → C → Type 
                 ap (λ (o : Counted W). o.faults) w.unwritten ∙ p.quiet,
               )
           by why.Output w =
-              let counts : k ≡ length front = omega (arith, w.committed, p.committed, p.waiting, few, within, ap length p.are, length-append p.earlier p.group) in
-              (
+              let counts : k ≡ length front = omega (arith, w.committed, p.committed, p.waiting, few, within, ap length p.are, length-append p.earlier p.group) in (
                 serves front behind (in-two there count) counts short (p.given ++ p.more) before.own.responder
                     (unwritten-runs answers parts_of with_newline always store contents first.own.responder (settling first) front before.own.responder two p) []
                     (Err (record { kind = stopped_by (stop.Consumer (lines_faults.Handler why.Output)); lines = k })) refl (
-                  refl,
-                  subst (λ (faults : ℕ). HasRisen faults now.out.faults) p.quiet w.risen,
-                  record {
-                    kept = unwritten-kept answers parts_of with_newline always store contents first.own.responder (settling first) front before.own.responder two (settling now) p w;
-                    earlier = p.given;
-                    group = p.more;
-                    some = answers-some answers p.mid p.group p.more before.own.responder p.waits (something p.group (omega (arith, w.some, p.waiting)));
-                    are = refl;
-                    front = w.written.front;
-                    more = w.written.more;
-                    parts = sym p.out ∙ w.written.parts;
-                    written = unwritten-written answers parts_of with_newline always store contents first.own.responder (settling first) front before.own.responder two (settling now) p w;
-                  },
-                ),
+                      refl,
+                      subst (λ (faults : ℕ). HasRisen faults now.out.faults) p.quiet w.risen,
+                      record {
+                        kept = unwritten-kept answers parts_of with_newline always store contents first.own.responder (settling first) front before.own.responder two (settling now) p w;
+                        earlier = p.given;
+                        group = p.more;
+                        some = answers-some answers p.mid p.group p.more before.own.responder p.waits (something p.group (omega (arith, w.some, p.waiting)));
+                        are = refl;
+                        front = w.written.front;
+                        more = w.written.more;
+                        parts = sym p.out ∙ w.written.parts;
+                        written = unwritten-written answers parts_of with_newline always store contents first.own.responder (settling first) front before.own.responder two (settling now) p w;
+                      },
+                    ),
                 follows-more (store first.store) (store two.store) (store now.store) p.follows w.follows,
                 tt,
               )
@@ -264,8 +261,7 @@ module _ {C K W : Type 0} (answers : C → List ℕ → List ℕ → C → Type 
         (serves_all r r.lines (inl refl) p.0 p.1 (Err (record { kind = stopped_by stop.Endless; lines = k })) refl (refl, all r r.lines (inl refl) p.0, endless r.ends.0, r.ends.1, record { kept = p.0.kept; written = p.0.written }), p.0.follows, p.0.quiet)
     halted (stop.Consumer (lines_faults.Long number)) r at_end failed endless =
         let p = done_by (take count r.lines) r.ends.1.runs r.ends.1.flushed in
-        let counts : count ≡ k = omega (arith, p.0.committed, few r r.lines (inl refl), length-take count r.lines, r.ends.1.within) in
-        (
+        let counts : count ≡ k = omega (arith, p.0.committed, few r r.lines (inl refl), length-take count r.lines, r.ends.1.within) in (
           serves_first r r.lines (inl refl) count p.0 p.1 (Err (record { kind = stopped_by (stop.Consumer (lines_faults.Long number)); lines = k })) refl
               (refl, subst (λ (n : ℕ). IsLongAt r.lines r.rest n number) counts r.ends.0, record { kept = p.0.kept; written = p.0.written }),
           p.0.follows,

@@ -136,7 +136,7 @@ module _ {C K W : Type 0} (answers : C → Frame → Option Frame → C → Type
     served _ r at_end =
         let p = done_by r.frames r.ends.2.runs r.ends.2.flushed in
         let told : now.own.waiting.answers ≡ reply_count p.given =
-            omega (arith, p.counted, count_by-le-length is_some p.given, answers-length answers first.own.core r.frames p.given now.own.core p.runs, few r.read r.frames r.rest r.stream r.few) in
+        omega (arith, p.counted, count_by-le-length is_some p.given, answers-length answers first.own.core r.frames p.given now.own.core p.runs, few r.read r.frames r.rest r.stream r.few) in
         (serves_all r p (Ok (record { frames = k; replies = now.own.waiting.answers })) refl (refl, all r p, r.ends.1, told, at_end r.ends.0, all_done p), p.follows, p.quiet)
 
     -- it stopped before
@@ -152,8 +152,7 @@ module _ {C K W : Type 0} (answers : C → Frame → Option Frame → C → Type
         (serves_all r p (Err (record { kind = stopped_by (stop.Consumer (frames_faults.Frame kind place)); frames = k })) refl (refl, all r p, r.ends.1, λ short. at_end (r.ends.0 short), all_done p), p.follows, p.quiet)
     halted (stop.Consumer frames_faults.NoMemory) r at_end failed endless =
         let p = done_by (take count r.frames) r.ends.runs r.ends.flushed in
-        let counts : k ≡ length (take count r.frames) = omega (arith, p.committed, few r.read r.frames r.rest r.stream r.few, length-take count r.frames) in
-        (
+        let counts : k ≡ length (take count r.frames) = omega (arith, p.committed, few r.read r.frames r.rest r.stream r.few, length-take count r.frames) in (
           serves r.read r.frames r.rest r.stream (take count r.frames) (drop count r.frames) (in-two r.frames count) counts p.given now.own.core p.runs []
               (Err (record { kind = stopped_by (stop.Consumer frames_faults.NoMemory); frames = k })) refl (refl, all_done p),
           p.follows,
@@ -204,17 +203,15 @@ module _ {C K W : Type 0} (answers : C → Frame → Option Frame → C → Type
         by : (fault : AnswerFault) → EndsWaiting store contents two (settling now) fault → Ended r.read (Err (record { kind = stopped_by (stop.Consumer (frames_faults.Handler fault)); frames = k }))
         by why.NoMemory w =
             let q = finished answers parts_of reply_bytes is_some store contents first.own.core (settling first) front before.own.core (settling now)
-                    (came-settles answers parts_of reply_bytes is_some store contents first.own.core (settling first) front before.own.core two (settling now) p w.0) w.1 in
-            let counts : k ≡ length front = omega (arith, q.committed, small, length-take count r.frames) in
-            (
+            (came-settles answers parts_of reply_bytes is_some store contents first.own.core (settling first) front before.own.core two (settling now) p w.0) w.1 in
+            let counts : k ≡ length front = omega (arith, q.committed, small, length-take count r.frames) in (
               serves r.read r.frames r.rest r.stream front behind (in-two r.frames count) counts q.given before.own.core q.runs [] (Err (record { kind = stopped_by (stop.Consumer (frames_faults.Handler why.NoMemory)); frames = k })) refl
                   (refl, record { kept = q.kept; written = q.written }),
               q.follows,
               q.quiet,
             )
         by (why.Keep fault) w =
-            let counts : k ≡ length p.earlier = omega (arith, w.committed, p.committed, small, within) in
-            (
+            let counts : k ≡ length p.earlier = omega (arith, w.committed, p.committed, small, within) in (
               serves r.read r.frames r.rest r.stream p.earlier (p.group ++ behind) in-parts counts p.given p.mid p.runs p.group (Err (record { kind = stopped_by (stop.Consumer (frames_faults.Handler (why.Keep fault))); frames = k })) refl (
                 record {
                   some = something p.group (omega (arith, w.some, p.waiting));
@@ -234,25 +231,24 @@ module _ {C K W : Type 0} (answers : C → Frame → Option Frame → C → Type
               ap (λ (o : Counted W). o.faults) w.unwritten ∙ p.quiet,
             )
         by why.Output w =
-            let counts : k ≡ length front = omega (arith, w.committed, p.committed, p.waiting, small, within, ap length p.are, length-append p.earlier p.group) in
-            (
+            let counts : k ≡ length front = omega (arith, w.committed, p.committed, p.waiting, small, within, ap length p.are, length-append p.earlier p.group) in (
               serves r.read r.frames r.rest r.stream front behind (in-two r.frames count) counts (p.given ++ p.more) before.own.core
                   (unwritten-runs answers parts_of reply_bytes is_some store contents first.own.core (settling first) front before.own.core two p) []
                   (Err (record { kind = stopped_by (stop.Consumer (frames_faults.Handler why.Output)); frames = k })) refl (
-                refl,
-                subst (λ (faults : ℕ). HasRisen faults now.out.faults) p.quiet w.risen,
-                record {
-                  kept = unwritten-kept answers parts_of reply_bytes is_some store contents first.own.core (settling first) front before.own.core two (settling now) p w;
-                  earlier = p.given;
-                  group = p.more;
-                  some = answers-some answers p.mid p.group p.more before.own.core p.waits (something p.group (omega (arith, w.some, p.waiting)));
-                  are = refl;
-                  front = w.written.front;
-                  more = w.written.more;
-                  parts = sym p.out ∙ w.written.parts;
-                  written = unwritten-written answers parts_of reply_bytes is_some store contents first.own.core (settling first) front before.own.core two (settling now) p w;
-                },
-              ),
+                    refl,
+                    subst (λ (faults : ℕ). HasRisen faults now.out.faults) p.quiet w.risen,
+                    record {
+                      kept = unwritten-kept answers parts_of reply_bytes is_some store contents first.own.core (settling first) front before.own.core two (settling now) p w;
+                      earlier = p.given;
+                      group = p.more;
+                      some = answers-some answers p.mid p.group p.more before.own.core p.waits (something p.group (omega (arith, w.some, p.waiting)));
+                      are = refl;
+                      front = w.written.front;
+                      more = w.written.more;
+                      parts = sym p.out ∙ w.written.parts;
+                      written = unwritten-written answers parts_of reply_bytes is_some store contents first.own.core (settling first) front before.own.core two (settling now) p w;
+                    },
+                  ),
               follows-more (store first.store) (store two.store) (store now.store) p.follows w.follows,
               tt,
             )

@@ -105,7 +105,9 @@ pub(crate) fn stopped(stop: Stop<LinesFault<AnswerFault>>, lines: u64) -> LinesS
         Stop::Consumer(LinesFault::Long(number)) => LinesServeFaultKind::Long(number),
         Stop::Consumer(LinesFault::NoMemory) => LinesServeFaultKind::NoMemory,
         Stop::Consumer(LinesFault::Handler(AnswerFault::NoMemory)) => LinesServeFaultKind::NoMemory,
-        Stop::Consumer(LinesFault::Handler(AnswerFault::Keep(fault))) => LinesServeFaultKind::Keep(fault),
+        Stop::Consumer(LinesFault::Handler(AnswerFault::Keep(fault))) => LinesServeFaultKind::Keep(
+            fault,
+        ),
         Stop::Consumer(LinesFault::Handler(AnswerFault::Output)) => LinesServeFaultKind::Output,
     };
     LinesServeFault { kind, lines }

@@ -108,7 +108,9 @@ pub(crate) fn stopped(stop: Stop<FramesFault<AnswerFault>>, frames: u64) -> Serv
         Stop::Consumer(FramesFault::Frame(kind, place)) => ServeFaultKind::Frame(kind, place),
         Stop::Consumer(FramesFault::NoMemory) => ServeFaultKind::NoMemory,
         Stop::Consumer(FramesFault::Handler(AnswerFault::NoMemory)) => ServeFaultKind::NoMemory,
-        Stop::Consumer(FramesFault::Handler(AnswerFault::Keep(fault))) => ServeFaultKind::Keep(fault),
+        Stop::Consumer(FramesFault::Handler(AnswerFault::Keep(fault))) => ServeFaultKind::Keep(
+            fault,
+        ),
         Stop::Consumer(FramesFault::Handler(AnswerFault::Output)) => ServeFaultKind::Output,
     };
     ServeFault { kind, frames }
