@@ -10,7 +10,7 @@ use Rattle.csi_driver.proofs.Groups.{IsFresh, Came, came-begun, came-settles, ca
 use Rattle.csi_driver.proofs.Items.{each-push}
 use Rattle.csi_stores.specs.Public.Part.{StoredPart}
 use Rattle.csi_stores.specs.Public.Stores.{Store}
-use Rattle.csi_orchestration.specs.Private.LinesHandling.{Serving, settling, always, IsHandled, Flushes}
+use Rattle.csi_orchestration.specs.Private.LinesHandling.{Serving, waiting_of, always, IsHandled, Flushes}
 
 module _ {C K W : Type 0} (answers : C → List ℕ → List ℕ → C → Type 0) (parts_of : C → List StoredPart) (store : K → Store) (contents : W → Option (List ℕ)) where
   -- this and the next two: a line was answered; what waits was settled; or it stops
@@ -21,25 +21,25 @@ module _ {C K W : Type 0} (answers : C → List ℕ → List ℕ → C → Type 
   flushes = Flushes store contents
 
   abbrev pub stops : Serving C K W → Option (List ℕ) → Serving C K W → AnswerFault → Type 0
-  stops old line new = StopsAt store contents (settling old) (settling new)
+  stops old line new = StopsAt store contents (waiting_of old) (waiting_of new)
 
   module _ (first : Serving C K W) where
     -- how far it came, from a first responder
     abbrev pub CameTo : List (List ℕ) → C → Settling K W → Type 0
-    CameTo = Came answers parts_of with_newline always store contents first.own.responder (settling first)
+    CameTo = Came answers parts_of with_newline always store contents first.own.responder (waiting_of first)
 
     -- and where nothing waits
     abbrev pub Done : List (List ℕ) → C → Settling K W → Type 0
-    Done = Finished answers parts_of with_newline always store contents first.own.responder (settling first)
+    Done = Finished answers parts_of with_newline always store contents first.own.responder (waiting_of first)
 
     -- lines that were handled were answered
-    pub came_by : (now : Serving C K W) (lines : List (List ℕ)) → IsFresh first.own.waiting → RunsLines handles flushes first lines now → CameTo lines now.own.responder (settling now)
-    came_by now lines fresh no_line = came-begun answers parts_of with_newline always store contents first.own.responder (settling first) fresh
+    pub came_by : (now : Serving C K W) (lines : List (List ℕ)) → IsFresh first.own.waiting → RunsLines handles flushes first lines now → CameTo lines now.own.responder (waiting_of now)
+    came_by now lines fresh no_line = came-begun answers parts_of with_newline always store contents first.own.responder (waiting_of first) fresh
     came_by now lines fresh (line_handled ls before line _ run fits did) =
-        came-answered answers parts_of with_newline always store contents first.own.responder (settling first) ls before.own.responder (settling before) line now.own.responder (settling now) (came_by before ls fresh run) did
+        came-answered answers parts_of with_newline always store contents first.own.responder (waiting_of first) ls before.own.responder (waiting_of before) line now.own.responder (waiting_of now) (came_by before ls fresh run) did
     came_by now lines fresh (lines_flushed _ before _ run did) =
-        subst (λ (c : C). CameTo lines c (settling now)) (sym did.1)
-        (came-settles answers parts_of with_newline always store contents first.own.responder (settling first) lines before.own.responder (settling before) (settling now) (came_by before lines fresh run) did.0)
+        subst (λ (c : C). CameTo lines c (waiting_of now)) (sym did.1)
+        (came-settles answers parts_of with_newline always store contents first.own.responder (waiting_of first) lines before.own.responder (waiting_of before) (waiting_of now) (came_by before lines fresh run) did.0)
 
     -- none of them was too long
     pub short_by : (now : Serving C K W) (lines : List (List ℕ)) → RunsLines handles flushes first lines now → AllByRecursion IsShort lines

@@ -28,7 +28,7 @@ use Rattle.csi_service.specs.Public.Failing.{Stays}
 use Rattle.csi_orchestration.specs.declared.lines_serving.fault.ServedLines.{ServedLines}
 use Rattle.csi_orchestration.specs.declared.lines_serving.fault.LinesServeFault.{LinesServeFault}
 use Rattle.csi_orchestration.specs.Public.LinesFailing.{ReaderStaysAt, WriterStaysAt}
-use Rattle.csi_orchestration.specs.Private.LinesHandling.{Serving, settling, always, stopped_by}
+use Rattle.csi_orchestration.specs.Private.LinesHandling.{Serving, waiting_of, always, stopped_by}
 use Rattle.csi_orchestration.specs.Public.LinesServing.{Setting, AnswersEach, AreThere, lines_counted, EndsBy, ServesLines, IsAllAnswered}
 use Rattle.csi_orchestration.proofs.GrowingAnswers.{there-few}
 use Rattle.csi_orchestration.proofs.LinesProgress.{handles, flushes, stops, CameTo, Done, came_by, short_by}
@@ -65,7 +65,7 @@ pub all_answered : {C K W : Type 0} (answers : C → List ℕ → List ℕ → C
     → RestsAtLines (handles answers parts_of store contents) (flushes answers parts_of store contents) (λ (answering : Answering C). answering.waiting.items ≡ 0) first read now
     → IsAllAnswered answers parts_of first.own.responder (store first.store) (store now.store) (contents first.out.inner) (contents now.out.inner) read
 all_answered answers parts_of store contents first now read fresh rests =
-    let p = finished answers parts_of with_newline always store contents first.own.responder (settling first) rests.0 now.own.responder (settling now) (came_by answers parts_of store contents first now rests.0 fresh rests.3) rests.4 in
+    let p = finished answers parts_of with_newline always store contents first.own.responder (waiting_of first) rests.0 now.own.responder (waiting_of now) (came_by answers parts_of store contents first now rests.0 fresh rests.3) rests.4 in
     record { lines = rests.0; rest = rests.1; stream = rests.2; given = p.given; now = now.own.responder; runs = p.runs; kept = p.kept; written = p.written }
 
 module _ {C K W : Type 0} (answers : C → List ℕ → List ℕ → C → Type 0) (parts_of : C → List StoredPart) (store : K → Store) (contents : W → Option (List ℕ)) (first now : Serving C K W) (count : ℕ) (left left' : Option (List ℕ)) (fresh : IsFresh first.own.waiting) where
@@ -99,9 +99,9 @@ module _ {C K W : Type 0} (answers : C → List ℕ → List ℕ → C → Type 
 
   -- lines that were handled are done, where nothing waits
   done_by : (lines : List (List ℕ)) → RunsLines (handles answers parts_of store contents) (flushes answers parts_of store contents) first lines now → now.own.waiting.items ≡ 0
-      → Done answers parts_of store contents first lines now.own.responder (settling now) × AllByRecursion IsShort lines
+      → Done answers parts_of store contents first lines now.own.responder (waiting_of now) × AllByRecursion IsShort lines
   done_by lines runs none = (
-    finished answers parts_of with_newline always store contents first.own.responder (settling first) lines now.own.responder (settling now) (came_by answers parts_of store contents first now lines fresh runs) none,
+    finished answers parts_of with_newline always store contents first.own.responder (waiting_of first) lines now.own.responder (waiting_of now) (came_by answers parts_of store contents first now lines fresh runs) none,
     short_by answers parts_of store contents first now lines runs,
   )
 
@@ -135,16 +135,16 @@ module _ {C K W : Type 0} (answers : C → List ℕ → List ℕ → C → Type 
           }
 
       -- of the first ones all is done
-      serves_first : (n : ℕ) (p : Done answers parts_of store contents first (take n there) now.own.responder (settling now)) → AllByRecursion IsShort (take n there) → (result : Result ServedLines LinesServeFault) → lines_counted result ≡ k
+      serves_first : (n : ℕ) (p : Done answers parts_of store contents first (take n there) now.own.responder (waiting_of now)) → AllByRecursion IsShort (take n there) → (result : Result ServedLines LinesServeFault) → lines_counted result ≡ k
           → EndsBy (Full P Q E) r.lines r.rest there p.given now.own.responder [] result → ServesLines (Full P Q E) r.read result
       serves_first n p short result told ends =
           serves (take n there) (drop n there) (in-two there n) (omega (arith, p.committed, few, length-take n there)) short p.given now.own.responder p.runs [] result told ends
 
       -- of all of them
-      all : (p : Done answers parts_of store contents first there now.own.responder (settling now)) → k ≡ length there
+      all : (p : Done answers parts_of store contents first there now.own.responder (waiting_of now)) → k ≡ length there
       all p = omega (arith, p.committed, few)
 
-      serves_all : (p : Done answers parts_of store contents first there now.own.responder (settling now)) → AllByRecursion IsShort there → (result : Result ServedLines LinesServeFault) → lines_counted result ≡ k
+      serves_all : (p : Done answers parts_of store contents first there now.own.responder (waiting_of now)) → AllByRecursion IsShort there → (result : Result ServedLines LinesServeFault) → lines_counted result ≡ k
           → EndsBy (Full P Q E) r.lines r.rest there p.given now.own.responder [] result → ServesLines (Full P Q E) r.read result
       serves_all p short result told ends = serves there [] (sym (append-nil there)) (all p) short p.given now.own.responder p.runs [] result told ends
 
@@ -162,9 +162,9 @@ module _ {C K W : Type 0} (answers : C → List ℕ → List ℕ → C → Type 
           behind : List (List ℕ)
           behind = drop count there
 
-          came : (two : Settling K W) × CameTo answers parts_of store contents first front before.own.responder two × EndsWaiting store contents two (settling now) fault
+          came : (two : Settling K W) × CameTo answers parts_of store contents first front before.own.responder two × EndsWaiting store contents two (waiting_of now) fault
           came =
-              came-stops answers parts_of with_newline always store contents first.own.responder (settling first) front before.own.responder (settling before) (settling now) fault
+              came-stops answers parts_of with_newline always store contents first.own.responder (waiting_of first) front before.own.responder (waiting_of before) (waiting_of now) fault
               (came_by answers parts_of store contents first before front fresh e.runs) e.stopped
 
           two : Settling K W
@@ -189,10 +189,10 @@ module _ {C K W : Type 0} (answers : C → List ℕ → List ℕ → C → Type 
           each : AllByRecursion IsShort (p.earlier ++ p.group)
           each = subst (AllByRecursion IsShort) p.are short
 
-          by : (fault : AnswerFault) → EndsWaiting store contents two (settling now) fault → Ended r.read (Err (record { kind = stopped_by (stop.Consumer (lines_faults.Handler fault)); lines = k }))
+          by : (fault : AnswerFault) → EndsWaiting store contents two (waiting_of now) fault → Ended r.read (Err (record { kind = stopped_by (stop.Consumer (lines_faults.Handler fault)); lines = k }))
           by why.NoMemory w =
-              let q = finished answers parts_of with_newline always store contents first.own.responder (settling first) front before.own.responder (settling now)
-              (came-settles answers parts_of with_newline always store contents first.own.responder (settling first) front before.own.responder two (settling now) p w.0) w.1 in
+              let q = finished answers parts_of with_newline always store contents first.own.responder (waiting_of first) front before.own.responder (waiting_of now)
+              (came-settles answers parts_of with_newline always store contents first.own.responder (waiting_of first) front before.own.responder two (waiting_of now) p w.0) w.1 in
               let counts : k ≡ length front = omega (arith, q.committed, few, length-take count there) in (
                 serves front behind (in-two there count) counts short q.given before.own.responder q.runs [] (Err (record { kind = stopped_by (stop.Consumer (lines_faults.Handler why.NoMemory)); lines = k })) refl
                     (refl, record { kept = q.kept; written = q.written }),
@@ -212,9 +212,9 @@ module _ {C K W : Type 0} (answers : C → List ℕ → List ℕ → C → Type 
                     told = p.more;
                     next = before.own.responder;
                     answered = p.waits;
-                    left = refused-left answers parts_of with_newline always store contents first.own.responder (settling first) front before.own.responder two (settling now) fault p w;
-                    cause = refused-cause answers parts_of with_newline always store contents first.own.responder (settling first) front before.own.responder two (settling now) fault p w;
-                    written = refused-written answers parts_of with_newline always store contents first.own.responder (settling first) front before.own.responder two (settling now) fault p w;
+                    left = refused-left answers parts_of with_newline always store contents first.own.responder (waiting_of first) front before.own.responder two (waiting_of now) fault p w;
+                    cause = refused-cause answers parts_of with_newline always store contents first.own.responder (waiting_of first) front before.own.responder two (waiting_of now) fault p w;
+                    written = refused-written answers parts_of with_newline always store contents first.own.responder (waiting_of first) front before.own.responder two (waiting_of now) fault p w;
                   },
                 ),
                 follows-more (store first.store) (store two.store) (store now.store) p.follows w.follows,
@@ -223,12 +223,12 @@ module _ {C K W : Type 0} (answers : C → List ℕ → List ℕ → C → Type 
           by why.Output w =
               let counts : k ≡ length front = omega (arith, w.committed, p.committed, p.waiting, few, within, ap length p.are, length-append p.earlier p.group) in (
                 serves front behind (in-two there count) counts short (p.given ++ p.more) before.own.responder
-                    (unwritten-runs answers parts_of with_newline always store contents first.own.responder (settling first) front before.own.responder two p) []
+                    (unwritten-runs answers parts_of with_newline always store contents first.own.responder (waiting_of first) front before.own.responder two p) []
                     (Err (record { kind = stopped_by (stop.Consumer (lines_faults.Handler why.Output)); lines = k })) refl (
                       refl,
                       subst (λ (faults : ℕ). HasRisen faults now.out.faults) p.quiet w.risen,
                       record {
-                        kept = unwritten-kept answers parts_of with_newline always store contents first.own.responder (settling first) front before.own.responder two (settling now) p w;
+                        kept = unwritten-kept answers parts_of with_newline always store contents first.own.responder (waiting_of first) front before.own.responder two (waiting_of now) p w;
                         earlier = p.given;
                         group = p.more;
                         some = answers-some answers p.mid p.group p.more before.own.responder p.waits (something p.group (omega (arith, w.some, p.waiting)));
@@ -236,7 +236,7 @@ module _ {C K W : Type 0} (answers : C → List ℕ → List ℕ → C → Type 
                         front = w.written.front;
                         more = w.written.more;
                         parts = sym p.out ∙ w.written.parts;
-                        written = unwritten-written answers parts_of with_newline always store contents first.own.responder (settling first) front before.own.responder two (settling now) p w;
+                        written = unwritten-written answers parts_of with_newline always store contents first.own.responder (waiting_of first) front before.own.responder two (waiting_of now) p w;
                       },
                     ),
                 follows-more (store first.store) (store two.store) (store now.store) p.follows w.follows,

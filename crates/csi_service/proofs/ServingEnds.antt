@@ -31,7 +31,7 @@ use Rattle.csi_service.specs.declared.serving.fault.Served.{Served}
 use Rattle.csi_service.specs.declared.serving.fault.ServeFault.{ServeFault}
 use Rattle.csi_service.specs.declared.serving.handling.Answering.{Answering}
 use Rattle.csi_service.specs.Public.Failing.{Stays, ReaderStaysAt, WriterStaysAt}
-use Rattle.csi_service.specs.Private.Handling.{Serving, settling, stopped_by}
+use Rattle.csi_service.specs.Private.Handling.{Serving, waiting_of, stopped_by}
 use Rattle.csi_service.specs.Public.Serving.{Setting, AnswersEach, reply_bytes, reply_count, AllDone, Waits, frames_counted, EndsBy, Serves, IsAllAnswered}
 use Rattle.csi_service.proofs.Progress.{handles, flushes, stops, CameTo, Done, came_by}
 
@@ -62,7 +62,7 @@ pub all_answered : {C K W : Type 0} (answers : C → Frame → Option Frame → 
     → RestsAtFrames (handles answers parts_of store contents) (flushes answers parts_of store contents) (λ (answering : Answering C). answering.waiting.items ≡ 0) first read now
     → IsAllAnswered answers parts_of first.own.core (store first.store) (store now.store) (contents first.out.inner) (contents now.out.inner) read
 all_answered answers parts_of store contents first now read fresh rests =
-    let p = finished answers parts_of reply_bytes is_some store contents first.own.core (settling first) rests.0 now.own.core (settling now) (came_by answers parts_of store contents first now rests.0 fresh rests.3) rests.4 in
+    let p = finished answers parts_of reply_bytes is_some store contents first.own.core (waiting_of first) rests.0 now.own.core (waiting_of now) (came_by answers parts_of store contents first now rests.0 fresh rests.3) rests.4 in
     record { frames = rests.0; rest = rests.1; stream = rests.2; replies = p.given; now = now.own.core; runs = p.runs; kept = p.kept; written = p.written }
 
 module _ {C K W : Type 0} (answers : C → Frame → Option Frame → C → Type 0) (parts_of : C → List StoredPart) (store : K → Store) (contents : W → Option (List ℕ)) (first now : Serving C K W) (count : ℕ) (left left' : Option (List ℕ)) (fresh : IsFresh first.own.waiting) where
@@ -91,9 +91,9 @@ module _ {C K W : Type 0} (answers : C → Frame → Option Frame → C → Type
   }
 
   -- frames that were handled are done, where nothing waits
-  done_by : (frames : List Frame) → Runs (handles answers parts_of store contents) (flushes answers parts_of store contents) first frames now → now.own.waiting.items ≡ 0 → Done answers parts_of store contents first frames now.own.core (settling now)
+  done_by : (frames : List Frame) → Runs (handles answers parts_of store contents) (flushes answers parts_of store contents) first frames now → now.own.waiting.items ≡ 0 → Done answers parts_of store contents first frames now.own.core (waiting_of now)
   done_by frames runs none =
-      finished answers parts_of reply_bytes is_some store contents first.own.core (settling first) frames now.own.core (settling now) (came_by answers parts_of store contents first now frames fresh runs) none
+      finished answers parts_of reply_bytes is_some store contents first.own.core (waiting_of first) frames now.own.core (waiting_of now) (came_by answers parts_of store contents first now frames fresh runs) none
 
   module _ (P Q E : Type 0) where
     -- how it served, what calls never change of the store, and the writer's count
@@ -105,7 +105,7 @@ module _ {C K W : Type 0} (answers : C → Frame → Option Frame → C → Type
     few bytes frames rest of small = omega (arith, frames_few frames, small, ap length of.whole, length-append (flat_map spelling frames) rest)
 
     -- all that was handled is done
-    all_done : {frames : List Frame} {core : C} (p : Done answers parts_of store contents first frames core (settling now)) → AllDone (Full P Q E) p.given core
+    all_done : {frames : List Frame} {core : C} (p : Done answers parts_of store contents first frames core (waiting_of now)) → AllDone (Full P Q E) p.given core
     all_done p = record { kept = p.kept; written = p.written }
 
     -- some frames were committed, as many as are counted, and then it ended so
@@ -124,10 +124,10 @@ module _ {C K W : Type 0} (answers : C → Frame → Option Frame → C → Type
     }
 
     -- all frames were
-    all : {end : Result (Unit {0}) (Stop (FramesFault AnswerFault))} (r : Read end) (p : Done answers parts_of store contents first r.frames now.own.core (settling now)) → k ≡ length r.frames
+    all : {end : Result (Unit {0}) (Stop (FramesFault AnswerFault))} (r : Read end) (p : Done answers parts_of store contents first r.frames now.own.core (waiting_of now)) → k ≡ length r.frames
     all r p = omega (arith, p.committed, few r.read r.frames r.rest r.stream r.few)
 
-    serves_all : {end : Result (Unit {0}) (Stop (FramesFault AnswerFault))} (r : Read end) (p : Done answers parts_of store contents first r.frames now.own.core (settling now)) (result : Result Served ServeFault) → frames_counted result ≡ k
+    serves_all : {end : Result (Unit {0}) (Stop (FramesFault AnswerFault))} (r : Read end) (p : Done answers parts_of store contents first r.frames now.own.core (waiting_of now)) (result : Result Served ServeFault) → frames_counted result ≡ k
         → EndsBy (Full P Q E) r.frames r.rest p.given now.own.core [] result → Serves (Full P Q E) r.read result
     serves_all r p result told ends = serves r.read r.frames r.rest r.stream r.frames [] (sym (append-nil r.frames)) (all r p) p.given now.own.core p.runs [] result told ends
 
@@ -176,9 +176,9 @@ module _ {C K W : Type 0} (answers : C → Frame → Option Frame → C → Type
         small : length r.frames < 2 ^ 64
         small = few r.read r.frames r.rest r.stream r.few
 
-        came : (two : Settling K W) × CameTo answers parts_of store contents first front before.own.core two × EndsWaiting store contents two (settling now) fault
+        came : (two : Settling K W) × CameTo answers parts_of store contents first front before.own.core two × EndsWaiting store contents two (waiting_of now) fault
         came =
-            came-stops answers parts_of reply_bytes is_some store contents first.own.core (settling first) front before.own.core (settling before) (settling now) fault
+            came-stops answers parts_of reply_bytes is_some store contents first.own.core (waiting_of first) front before.own.core (waiting_of before) (waiting_of now) fault
             (came_by answers parts_of store contents first before front fresh e.runs) e.stopped
 
         two : Settling K W
@@ -187,7 +187,7 @@ module _ {C K W : Type 0} (answers : C → Frame → Option Frame → C → Type
         p : CameTo answers parts_of store contents first front before.own.core two
         p = came.1
 
-        ends : EndsWaiting store contents two (settling now) fault
+        ends : EndsWaiting store contents two (waiting_of now) fault
         ends = came.2
 
         -- the frames of the stream: those that were committed, those that waited, and others
@@ -200,10 +200,10 @@ module _ {C K W : Type 0} (answers : C → Frame → Option Frame → C → Type
         within : length p.earlier + length p.group ≤ length r.frames
         within = omega (arith, ap length p.are, length-append p.earlier p.group, length-take count r.frames)
 
-        by : (fault : AnswerFault) → EndsWaiting store contents two (settling now) fault → Ended r.read (Err (record { kind = stopped_by (stop.Consumer (frames_faults.Handler fault)); frames = k }))
+        by : (fault : AnswerFault) → EndsWaiting store contents two (waiting_of now) fault → Ended r.read (Err (record { kind = stopped_by (stop.Consumer (frames_faults.Handler fault)); frames = k }))
         by why.NoMemory w =
-            let q = finished answers parts_of reply_bytes is_some store contents first.own.core (settling first) front before.own.core (settling now)
-            (came-settles answers parts_of reply_bytes is_some store contents first.own.core (settling first) front before.own.core two (settling now) p w.0) w.1 in
+            let q = finished answers parts_of reply_bytes is_some store contents first.own.core (waiting_of first) front before.own.core (waiting_of now)
+            (came-settles answers parts_of reply_bytes is_some store contents first.own.core (waiting_of first) front before.own.core two (waiting_of now) p w.0) w.1 in
             let counts : k ≡ length front = omega (arith, q.committed, small, length-take count r.frames) in (
               serves r.read r.frames r.rest r.stream front behind (in-two r.frames count) counts q.given before.own.core q.runs [] (Err (record { kind = stopped_by (stop.Consumer (frames_faults.Handler why.NoMemory)); frames = k })) refl
                   (refl, record { kept = q.kept; written = q.written }),
@@ -222,9 +222,9 @@ module _ {C K W : Type 0} (answers : C → Frame → Option Frame → C → Type
                   given = p.more;
                   next = before.own.core;
                   answered = p.waits;
-                  left = refused-left answers parts_of reply_bytes is_some store contents first.own.core (settling first) front before.own.core two (settling now) fault p w;
-                  cause = refused-cause answers parts_of reply_bytes is_some store contents first.own.core (settling first) front before.own.core two (settling now) fault p w;
-                  written = refused-written answers parts_of reply_bytes is_some store contents first.own.core (settling first) front before.own.core two (settling now) fault p w;
+                  left = refused-left answers parts_of reply_bytes is_some store contents first.own.core (waiting_of first) front before.own.core two (waiting_of now) fault p w;
+                  cause = refused-cause answers parts_of reply_bytes is_some store contents first.own.core (waiting_of first) front before.own.core two (waiting_of now) fault p w;
+                  written = refused-written answers parts_of reply_bytes is_some store contents first.own.core (waiting_of first) front before.own.core two (waiting_of now) fault p w;
                 },
               ),
               follows-more (store first.store) (store two.store) (store now.store) p.follows w.follows,
@@ -233,12 +233,12 @@ module _ {C K W : Type 0} (answers : C → Frame → Option Frame → C → Type
         by why.Output w =
             let counts : k ≡ length front = omega (arith, w.committed, p.committed, p.waiting, small, within, ap length p.are, length-append p.earlier p.group) in (
               serves r.read r.frames r.rest r.stream front behind (in-two r.frames count) counts (p.given ++ p.more) before.own.core
-                  (unwritten-runs answers parts_of reply_bytes is_some store contents first.own.core (settling first) front before.own.core two p) []
+                  (unwritten-runs answers parts_of reply_bytes is_some store contents first.own.core (waiting_of first) front before.own.core two p) []
                   (Err (record { kind = stopped_by (stop.Consumer (frames_faults.Handler why.Output)); frames = k })) refl (
                     refl,
                     subst (λ (faults : ℕ). HasRisen faults now.out.faults) p.quiet w.risen,
                     record {
-                      kept = unwritten-kept answers parts_of reply_bytes is_some store contents first.own.core (settling first) front before.own.core two (settling now) p w;
+                      kept = unwritten-kept answers parts_of reply_bytes is_some store contents first.own.core (waiting_of first) front before.own.core two (waiting_of now) p w;
                       earlier = p.given;
                       group = p.more;
                       some = answers-some answers p.mid p.group p.more before.own.core p.waits (something p.group (omega (arith, w.some, p.waiting)));
@@ -246,7 +246,7 @@ module _ {C K W : Type 0} (answers : C → Frame → Option Frame → C → Type
                       front = w.written.front;
                       more = w.written.more;
                       parts = sym p.out ∙ w.written.parts;
-                      written = unwritten-written answers parts_of reply_bytes is_some store contents first.own.core (settling first) front before.own.core two (settling now) p w;
+                      written = unwritten-written answers parts_of reply_bytes is_some store contents first.own.core (waiting_of first) front before.own.core two (waiting_of now) p w;
                     },
                   ),
               follows-more (store first.store) (store two.store) (store now.store) p.follows w.follows,

@@ -22,8 +22,8 @@ abbrev pub Serving : Type 0 → Type 0 → Type 0 → Type 0
 Serving C K W = State (Answering C) K (Counted W)
 
 -- what waits of it
-abbrev pub settling : {C K W : Type 0} → Serving C K W → Settling K W
-settling state = record { own = state.own.waiting; store = state.store; out = state.out }
+abbrev pub waiting_of : {C K W : Type 0} → Serving C K W → Settling K W
+waiting_of state = record { own = state.own.waiting; store = state.store; out = state.out }
 
 -- each line has an answer
 abbrev pub always : List ℕ → Bool
@@ -31,11 +31,11 @@ always answer = true
 
 -- the line was answered; before that what waited may have been committed and written
 abbrev pub IsHandled : {C K W : Type 0} → (C → List ℕ → List ℕ → C → Type 0) → (C → List StoredPart) → (K → Store) → (W → Option (List ℕ)) → Serving C K W → List ℕ → Serving C K W → Type 0
-IsHandled answers parts_of store contents old line new = IsAnswered answers parts_of with_newline always store contents old.own.responder (settling old) line new.own.responder (settling new)
+IsHandled answers parts_of store contents old line new = IsAnswered answers parts_of with_newline always store contents old.own.responder (waiting_of old) line new.own.responder (waiting_of new)
 
 -- what waited was committed and written
 abbrev pub Flushes : {C K W : Type 0} → (K → Store) → (W → Option (List ℕ)) → Serving C K W → Serving C K W → Type 0
-Flushes store contents old new = Settles store contents (settling old) (settling new) × (new.own.responder ≡ old.own.responder)
+Flushes store contents old new = Settles store contents (waiting_of old) (waiting_of new) × (new.own.responder ≡ old.own.responder)
 
 -- why serving stops
 abbrev pub stopped_by : Stop (LinesFault AnswerFault) → LinesServeFaultKind

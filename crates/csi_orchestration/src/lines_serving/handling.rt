@@ -5,7 +5,7 @@ ghost use Rattle.csi_driver.specs.Public.Answering.{Adds};
 ghost use Rattle.csi_driver.specs.Public.LinesOf.{with_newline};
 ghost use Rattle.csi_driver.specs.Public.Waiting.{WaitsSame, StopsAt};
 ghost use Rattle.csi_orchestration.specs.Public.LinesAnswering.{AnswersInRecord};
-ghost use Rattle.csi_orchestration.specs.Private.LinesHandling.{always, settling, IsHandled, Flushes, stopped_by};
+ghost use Rattle.csi_orchestration.specs.Private.LinesHandling.{always, waiting_of, IsHandled, Flushes, stopped_by};
 
 use crate::lines_serving::fault::{LinesServeFault, LinesServeFaultKind};
 use crate::responder::Responder;
@@ -65,7 +65,7 @@ impl<C: Responder, K: Keep, W: Write> LineHandler<K, Counted<W>> for Answering<C
 
     ghost is_flushed = { λ answering. answering.waiting.items ≡ 0 };
 
-    ghost stops = { λ old line new. StopsAt K.store W.contents (settling old) (settling new) };
+    ghost stops = { λ old line new. StopsAt K.store W.contents (waiting_of old) (waiting_of new) };
 
     fn handle(
         &mut self,

@@ -23,16 +23,16 @@ abbrev pub Serving : Type 0 → Type 0 → Type 0 → Type 0
 Serving C K W = State (Answering C) K (Counted W)
 
 -- what waits of it
-abbrev pub settling : {C K W : Type 0} → Serving C K W → Settling K W
-settling state = record { own = state.own.waiting; store = state.store; out = state.out }
+abbrev pub waiting_of : {C K W : Type 0} → Serving C K W → Settling K W
+waiting_of state = record { own = state.own.waiting; store = state.store; out = state.out }
 
 -- the frame was answered; before that what waited may have been committed and written
 abbrev pub IsHandled : {C K W : Type 0} → (C → Frame → Option Frame → C → Type 0) → (C → List StoredPart) → (K → Store) → (W → Option (List ℕ)) → Serving C K W → Frame → Serving C K W → Type 0
-IsHandled answers parts_of store contents old frame new = IsAnswered answers parts_of reply_bytes is_some store contents old.own.core (settling old) frame new.own.core (settling new)
+IsHandled answers parts_of store contents old frame new = IsAnswered answers parts_of reply_bytes is_some store contents old.own.core (waiting_of old) frame new.own.core (waiting_of new)
 
 -- what waited was committed and written
 abbrev pub Flushes : {C K W : Type 0} → (K → Store) → (W → Option (List ℕ)) → Serving C K W → Serving C K W → Type 0
-Flushes store contents old new = Settles store contents (settling old) (settling new) × (new.own.core ≡ old.own.core)
+Flushes store contents old new = Settles store contents (waiting_of old) (waiting_of new) × (new.own.core ≡ old.own.core)
 
 -- why serving stops
 abbrev pub stopped_by : Stop (FramesFault AnswerFault) → ServeFaultKind

@@ -6,7 +6,7 @@ ghost use Rattle.csi_driver.specs.Public.Answering.{Adds};
 ghost use Rattle.csi_driver.specs.Public.Waiting.{WaitsSame, StopsAt};
 ghost use Rattle.csi_service.specs.Public.Answering.{AnswersInRecord};
 ghost use Rattle.csi_service.specs.Public.Serving.{reply_bytes};
-ghost use Rattle.csi_service.specs.Private.Handling.{settling, IsHandled, Flushes, stopped_by};
+ghost use Rattle.csi_service.specs.Private.Handling.{waiting_of, IsHandled, Flushes, stopped_by};
 
 use crate::plugin_core::Core;
 use crate::serving::fault::{ServeFault, ServeFaultKind};
@@ -68,7 +68,7 @@ impl<C: Core, K: Keep, W: Write> FrameHandler<K, Counted<W>> for Answering<C> {
 
     ghost is_flushed = { λ answering. answering.waiting.items ≡ 0 };
 
-    ghost stops = { λ old frame new. StopsAt K.store W.contents (settling old) (settling new) };
+    ghost stops = { λ old frame new. StopsAt K.store W.contents (waiting_of old) (waiting_of new) };
 
     fn handle(
         &mut self,
