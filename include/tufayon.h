@@ -64,7 +64,7 @@
 extern "C" {
 #endif
 
-/* The version. */
+/* The version: this header's here, and the library's by tufayon_version. */
 #define TUFAYON_VERSION "1.0.0"
 
 /* The most bytes of a reply, of a frame, of a volume's name, and of what is wanted of a volume. */
@@ -256,6 +256,12 @@ uint32_t tufayon_record(tufayon_plugin *plugin, uint8_t *record, size_t record_r
 
 /* Frees what the handle has, and leaves it empty. */
 void tufayon_free(tufayon_plugin *plugin);
+
+/*
+ * The library's version, MAJOR.MINOR.PATCH in ASCII, without a byte 0 at its end. It takes no memory.
+ * Fails with TUFAYON_NO_ROOM: then `written` says how many bytes it has.
+ */
+uint32_t tufayon_version(uint8_t *text, size_t text_room, size_t *written);
 
 #ifdef __cplusplus
 }
