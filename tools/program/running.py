@@ -58,12 +58,57 @@ def ended(status, line=None, out=b""):
     return Ran(status, out, b"" if line is None else f"csi-replay: {line}\n".encode())
 
 
+PIECE = 4096  # the most bytes that a read of a pipe of pieces brings
+
+
+class Pipe:
+    """A pipe to a program, which has its end to read from."""
+
+    def __init__(self, flags=0):
+        self.reading, self.writing = os.pipe2(os.O_CLOEXEC | flags)
+
+    def write(self, content):
+        try:
+            while content:
+                content = content[os.write(self.writing, content) :]
+        except BrokenPipeError:
+            pass  # the program ended, as is seen by what came of it
+
+    def end(self):
+        os.close(self.writing)
+
+    def feed(self, pieces):
+        """Writes all of these, beside what else is done, and ends."""
+
+        def write_all():
+            for piece in pieces:
+                self.write(piece)
+            self.end()
+
+        threading.Thread(target=write_all, daemon=True).start()
+
+
+class Pieces(Pipe):
+    """One of which each read brings what one write put in (pipe(7), O_DIRECT): so a test says what is there together."""
+
+    def __init__(self):
+        super().__init__(os.O_DIRECT)
+
+    def write(self, content):
+        if len(content) > PIECE:
+            raise ValueError(f"a piece of {len(content)} bytes")
+        super().write(content)
+
+
 class Running:
     """A program that runs, and is asked. It is killed where it doesn't end in time, and then nothing more comes from it."""
 
-    def __init__(self, words, folder):
-        pipes = {"stdin": subprocess.PIPE, "stdout": subprocess.PIPE, "stderr": subprocess.PIPE}
+    def __init__(self, words, folder, pipe=None):
+        """`pipe`: the one that it reads; else it has one of its own, and is sent something."""
+        pipes = {"stdin": pipe.reading if pipe else subprocess.PIPE, "stdout": subprocess.PIPE, "stderr": subprocess.PIPE}
         self.process = subprocess.Popen(words, cwd=folder, env={}, bufsize=0, **pipes)
+        if pipe:
+            os.close(pipe.reading)
         self.limit = threading.Timer(LIMIT, self.process.kill)
         self.limit.start()
 
@@ -133,19 +178,26 @@ class Box:
         return found
 
     def run(self, *words, given=b"", before=(), env=None, **how):
-        """Runs the program with these words, behind the words `before` of another."""
-        how = {"stdout": subprocess.PIPE, "stderr": subprocess.PIPE, "input": given, **how}
-        if "stdin" in how:
-            del how["input"]
+        """Runs the program with these words, behind the words `before` of another. Of a list that is given each read brings one."""
+        how = {"stdout": subprocess.PIPE, "stderr": subprocess.PIPE, **how}
+        pieces = Pieces() if isinstance(given, list) else None
+        if pieces:
+            how["stdin"] = pieces.reading
+            pieces.feed(given)
+        elif "stdin" not in how:
+            how["input"] = given
         try:
             ran = subprocess.run([*before, self.program, *words], cwd=self.folder, env=env or {}, timeout=LIMIT, **how)
         except subprocess.TimeoutExpired:
             raise Wrong(f"{words} didn't end in {LIMIT} seconds") from None
+        finally:
+            if pieces:
+                os.close(pieces.reading)
         return Ran(ran.returncode, ran.stdout or b"", ran.stderr or b"")
 
-    def start(self, *words):
+    def start(self, *words, pipe=None):
         """Starts the program with pipes for its streams, and asks it."""
-        return Running([self.program, *words], self.folder)
+        return Running([self.program, *words], self.folder, pipe)
 
     def wants(self, right, *words, told=None, **how):
         """Fails unless a run with these words ends so."""
