@@ -58,6 +58,8 @@ def output(box, how):
     for words in with_output():
         given = {} if words[0] not in PLUGINS or words[1] == "--help" else {"given": given_of(PLUGINS[words[0]][1])}
         box.wants(DEVICE, *words, **given, **how())
+        if len(words) > 2:
+            box.is_closed(words[1], DEVICE)
     for name, (word, pairs) in PLUGINS.items():
         box.wants(ended(0, out=replies_of(pairs)), name, f"{name[0]}.db", word, given=given_of(pairs))
 
@@ -92,9 +94,11 @@ def input_fails(box):
     for name, (word, _) in PLUGINS.items():
         for at, how in enumerate(({"stdin": folder}, {"stdin": writing}, {"stdin": None, "preexec_fn": lambda: os.close(0)})):
             box.wants(DEVICE, name, f"{name}{at}.db", word, **how)
+            box.is_closed(f"{name}{at}.db", DEVICE)
             told = box.run("record", f"{name}{at}.db")
             wanted("the store", (told.status, b'"session":0' in told.out), (0, True))
     box.wants(ended(3, "device", first(1)), "orchestrator", "o.db", "config", stdin=folder)
+    box.is_closed("o.db", DEVICE)
     wanted("the orchestrator's store", b'"session":1' in box.run("record", "o.db").out, True)
     os.close(folder)
     os.close(writing)
@@ -121,6 +125,7 @@ def all_closed(box):
 
     ran = box.run("controller", "c.db", "config", stdin=None, stdout=None, stderr=None, preexec_fn=close)
     wanted("the status", ran.status, 3)
+    box.is_closed("c.db", ran)
     box.wants(ended(0, out=stores.NEW_CONTROLLER_LINE), "record", "c.db")
 
 

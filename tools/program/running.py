@@ -6,6 +6,7 @@ import threading
 from dataclasses import dataclass
 
 LIMIT = 60  # seconds that a run may take
+SERVING = ("controller", "node", "orchestrator")  # what opens a store, and has a log while it is open
 
 
 class Wrong(Exception):
@@ -193,7 +194,15 @@ class Box:
         finally:
             if pieces:
                 os.close(pieces.reading)
-        return Ran(ran.returncode, ran.stdout or b"", ran.stderr or b"")
+        ran = Ran(ran.returncode, ran.stdout or b"", ran.stderr or b"")
+        if words[:1] and words[0] in SERVING and len(words) > 2 and ran.status in (0, 1):
+            self.is_closed(words[1], ran)
+        return ran
+
+    def is_closed(self, path, ran):
+        """A store that was opened is closed, however the run ended: then no log is left beside it."""
+        left = [end for end in ("-wal", "-shm") if os.path.exists(self.at(path) + end)]
+        wanted(f"what is left beside {path!r} after {ran}", left, [])
 
     def start(self, *words, pipe=None):
         """Starts the program with pipes for its streams, and asks it."""
