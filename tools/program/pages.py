@@ -1,4 +1,4 @@
-"""README and the pages of docs/ that show commands: each command in them, and the output that the page gives."""
+"""README and the pages of docs/ that show commands: each command in them but those that prove, build or install, and the output that the page gives."""
 import os
 import re
 import shutil
@@ -8,7 +8,7 @@ from .running import LIMIT, Case, need, wanted
 
 TOP = os.path.dirname(os.path.dirname(os.path.dirname(os.path.realpath(__file__))))
 PAGES = ("README.md", "docs/OPERATING.md", "docs/PROGRAMS.md", "docs/INTEGRATING.md")
-# What proves or builds, by a word of the line.
+# A line with one of these is left out: it proves, builds or installs.
 LEFT_OUT = ("rt ci", "rt try", "rt lib", ".ci/run", "tools/install", "tools/csi")
 MARK = "-- the next block"
 BLOCK = re.compile(r"^```(\w*)\n(.*?)^```$", re.MULTILINE | re.DOTALL)
