@@ -78,13 +78,14 @@ class Pipe:
     def end(self):
         os.close(self.writing)
 
-    def feed(self, pieces):
-        """Writes all of these, beside what else is done, and ends."""
+    def feed(self, pieces, ends=True):
+        """Writes all of these, beside what else is done, and ends, or stays open."""
 
         def write_all():
             for piece in pieces:
                 self.write(piece)
-            self.end()
+            if ends:
+                self.end()
 
         threading.Thread(target=write_all, daemon=True).start()
 

@@ -33,17 +33,17 @@ def stream(box, words, pieces, line_out=b""):
     pipe = Pipe()
     running = box.start(*words, pipe=pipe)
     resource.prlimit(running.process.pid, resource.RLIMIT_AS, (ROOM, ROOM))
-    pipe.feed(given for given, _ in pieces)
+    pipe.feed((given for given, _ in pieces), ends=False)
     wanted("the first line", running.take(len(line_out)), line_out)
-    before = None
+    before = []
     for at, (_, right) in enumerate(pieces):
         came = running.take(len(right))
         if came != right:
             wanted(f"what comes of piece {at}", came, right)
         if at == len(pieces) // 10:
             before = memory_of(running)
-        if at == len(pieces) - 2:  # it may have ended behind the last one
-            after = memory_of(running)
+    after = memory_of(running)
+    pipe.end()
     wanted("the end", running.end(), ended(0))
     grown = [now - was for now, was in zip(after, before)]
     wanted(f"of {before} kilobytes it came to {after}, so to more than {GROWTH} more", max(grown) <= GROWTH, True)
