@@ -71,7 +71,8 @@ pub fn commit(store: &mut Store) {
     store.is_begun = false;
 }
 
-// Takes out all that the store has.
+// Takes out all that the store has, as only a plugin wants it.
+#[allow(dead_code)]
 pub fn clear(store: &mut Store) {
     begin(store);
     run(store.db, "DELETE FROM parts");
