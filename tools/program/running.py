@@ -201,9 +201,10 @@ class Box:
         return ran
 
     def is_closed(self, path, ran):
-        """A store that was opened is closed, however the run ended: then no log is left beside it."""
-        left = [end for end in ("-wal", "-shm") if os.path.exists(self.at(path) + end)]
-        wanted(f"what is left beside {path!r} after {ran}", left, [])
+        """A store that was opened is closed, however the run ended: then what its log had is in the file, and the log has no page any more."""
+        log = self.at(path) + "-wal"
+        size = os.path.getsize(log) if os.path.exists(log) else 0
+        wanted(f"whether the log of {path!r} has pages, which has {size} bytes, after {ran}", size >= 32 + 24 + 4096, False)
 
     def start(self, *words, pipe=None):
         """Starts the program with pipes for its streams, and asks it."""
