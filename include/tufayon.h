@@ -87,6 +87,9 @@
 extern "C" {
 #endif
 
+/* The version. */
+#define TUFAYON_VERSION "1.0.0"
+
 /* The most bytes of a reply, of a frame, of a volume's name, and of what is wanted of a volume. */
 #define TUFAYON_REPLY_ROOM 544
 #define TUFAYON_FRAME_ROOM 1284
@@ -192,7 +195,8 @@ uint32_t tufayon_orchestrator_from_record(const uint8_t *config, size_t config_s
  * `capabilities` are at most eight, one after another. `required` and `limit` are bytes, and a limit of 0 is none.
  *
  * TUFAYON_DONE: the frame's `written` bytes are to be sent, once the changes are committed. TUFAYON_MET: nothing is to be sent, and `written` is 0.
- * TUFAYON_REFUSED: `fault` is the refusal's number. The room for the frame is at least TUFAYON_FRAME_ROOM, which is asked for before anything is done.
+ * TUFAYON_REFUSED: `fault` is the refusal's number. TUFAYON_FRAME_ROOM bytes are always room enough for the frame; with less, TUFAYON_NO_ROOM may come,
+ * and nothing is done.
  * The plugin that a frame goes to stands at byte 22 of it: 0 for the controller, or 1, and a length byte and the node's id.
  * Fails also with TUFAYON_NO_MEMORY, TUFAYON_EMPTY, TUFAYON_OTHER_KIND, TUFAYON_NO_ROOM, or TUFAYON_BAD_NAME.
  */
