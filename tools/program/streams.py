@@ -9,8 +9,8 @@ from .running import Pipe, ended, of_rows, wanted
 from .talks import Talk, about, first, line
 
 MB = 2**20
-ROOM = 48 * MB  # of addresses that a process may have over a small store
-FULL_ROOM = 96 * MB  # and over a full one
+ROOM = 24 * MB  # of addresses that a process may have over a small store, where it has 14
+FULL_ROOM = 32 * MB  # and over a full one, where it has 18, or 24 where it tells it
 GROWTH = 512  # kilobytes, between a tenth of a stream and its end
 AT_ONCE = 4096  # frames or lines that are written at once
 MILLION = 1_000_000 // AT_ONCE + 1
