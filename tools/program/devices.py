@@ -160,10 +160,10 @@ def limited(size):
     return set_limit
 
 
-def by_limit(box, plugin, over, sizes):
+def by_limit(box, plugin, over):
     """A limit on the size of files, at each size at which a write fails first."""
     whole = whole_of(box, plugin, over)
-    groups, ends = whole.ends(sizes), set()
+    groups, ends = whole.ends(TOGETHER), set()
     for size in sorted({0, 31, 4096, *range(4095, whole.largest, 4120 * 2), whole.largest - 1}):
         whole.fresh("db")
         ran = box.run(plugin, "db", whole.word, given=whole.pieces(groups), preexec_fn=limited(size))
@@ -256,7 +256,6 @@ def cases():
     for plugin in WHOLES:
         yield from of_rows(f"full disk: {plugin}", [("a small file system", by_disk, plugin)])
         for over, ways in WAYS.items():
-            rows = [("a limit", by_limit, plugin, over, APART)]
+            rows = [("a limit", by_limit, plugin, over)]
             rows += [(f"at each call, {how}", at_each, plugin, over, sizes) for how, sizes in ways.items()]
             yield from of_rows(f"full disk: {plugin} over a store that is {over}", rows)
-        yield Case(f"full disk: {plugin}: a limit in a group", lambda box, plugin=plugin: by_limit(box, plugin, "used", [6]))
