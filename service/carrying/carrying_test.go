@@ -142,7 +142,9 @@ func TestLimits(t *testing.T) {
 	if most != 2 {
 		t.Errorf("%d calls at once", most)
 	}
-	late := &carryingtest.Plugin{Node: "n3", Judge: func(ctx context.Context, _ string) (error, bool) { <-ctx.Done(); return nil, true }}
+	answers := make(chan struct{})
+	defer close(answers)
+	late := &carryingtest.Plugin{Node: "n3", Judge: func(context.Context, string) (error, bool) { <-answers; return nil, true }}
 	late.Serve(t, socket(t, "n3"), nil)
 	if err := carrier.Set(map[string]string{"node:n3": late.Address}); err != nil {
 		t.Fatal(err)
@@ -227,8 +229,11 @@ func TestExchanged(t *testing.T) {
 	}
 	right.Stop()
 	later := (&carryingtest.Plugin{Node: "n4"}).Serve(t, right.Address, nil)
-	if _, err := carrier.Carry(ctx, stage("n3"), time.Now().Add(500*time.Millisecond)); !errors.Is(err, carrying.ErrOther) || len(later.Calls()) != 0 {
-		t.Errorf("another node came to the address: %v, %v", err, later.Calls())
+	for _, want := range []error{nil, carrying.ErrOther} { // the first may still find the connection that ends
+		_, err := carrier.Carry(ctx, stage("n3"), time.Now().Add(500*time.Millisecond))
+		if err == nil || want != nil && !errors.Is(err, want) || len(later.Calls()) != 0 {
+			t.Errorf("another node came to the address: %v, %v", err, later.Calls())
+		}
 	}
 }
 
