@@ -44,6 +44,7 @@ var (
 	ErrNotReached = errors.New("it isn't reached")
 	ErrOther      = errors.New("another plugin is there")
 	ErrNoReply    = errors.New("no reply")
+	ErrRefused    = errors.New("its driver refuses")
 	ErrMoved      = errors.New("it has another address now")
 )
 
@@ -150,6 +151,8 @@ func (carrier *Carrier) carry(ctx context.Context, plugin *plugin, call frames.C
 	switch {
 	case err != nil && over.refused():
 		return frames.Reply{}, false, nil
+	case err != nil && !isReply(trailer, call.Number) && isDrivers(status.Code(err)):
+		return frames.Reply{}, true, fmt.Errorf("%w: %s", ErrRefused, said(err))
 	case err != nil && !isReply(trailer, call.Number):
 		return frames.Reply{}, true, fmt.Errorf("%w: %s", ErrNoReply, said(err))
 	}
@@ -161,6 +164,16 @@ func (carrier *Carrier) carry(ctx context.Context, plugin *plugin, call frames.C
 func isReply(trailer metadata.MD, number frames.Number) bool {
 	values := trailer.Get(ReplyKey)
 	return len(values) == 1 && values[0] == numbers.Text(number)
+}
+
+// isDrivers says whether a status that isn't the plugin's reply is its driver's: gRPC makes none of these by itself. It is no reply either, since the plugin
+// wasn't asked, but the driver is there, and another try will hardly fare better.
+func isDrivers(code codes.Code) bool {
+	switch code {
+	case codes.InvalidArgument, codes.NotFound, codes.AlreadyExists, codes.FailedPrecondition, codes.Aborted, codes.OutOfRange:
+		return true
+	}
+	return false
 }
 
 func replyOf(call frames.Call, method translate.Method, err error) (frames.Reply, error) {

@@ -93,6 +93,10 @@ func TestReplies(t *testing.T) {
 				if err != nil || reply.Status != 0 {
 					t.Errorf("%v, its own %v: %+v, %v", code, isReply, reply, err)
 				}
+			case !isReply && (code == 3 || code == 5 || code == 6 || code >= 9 && code <= 11):
+				if !errors.Is(err, carrying.ErrRefused) {
+					t.Errorf("%v, its driver's: %+v, %v", code, reply, err)
+				}
 			case !isReply, code == codes.Canceled, code == codes.Unknown, code == codes.DeadlineExceeded, code == codes.Unavailable:
 				if !errors.Is(err, carrying.ErrNoReply) {
 					t.Errorf("%v, its own %v: %+v, %v", code, isReply, reply, err)

@@ -98,6 +98,7 @@ func (host *Host) deliver(volume *volume, it *heard, work *work) error {
 func (host *Host) failed(volume *volume, why error, work *work) {
 	volume.isOpen = false
 	volume.failures++
+	volume.isQuick = errors.Is(why, carrying.ErrRefused)
 	volume.trouble = carrying.PluginOf(volume.open) + ": " + why.Error()
 	work.changed[volume.row.Name] = volume
 	host.wakeLater(volume)

@@ -11,6 +11,7 @@ import (
 
 	"go.uber.org/zap"
 
+	"tufayon/service/carrying"
 	"tufayon/service/frames"
 	"tufayon/service/host"
 	"tufayon/service/host/hosttest"
@@ -235,6 +236,22 @@ func TestPatience(t *testing.T) {
 	atomic.StoreInt32(&down, 0)
 	if answer := <-undone; answer.Reached || answer.Volume.Goal != records.None || len(answer.Volume.At) != 0 || answer.Volume.Trouble != "controller: nobody is there" {
 		t.Errorf("undone: %+v", answer)
+	}
+}
+
+// What a plugin's driver refuses is tried three times, without patience.
+func TestDriverRefuses(t *testing.T) {
+	carrier := &hosttest.Carrier{Answer: func(_ context.Context, call frames.Call, _ time.Time) (frames.Reply, error, bool) {
+		return frames.Reply{}, fmt.Errorf("%w: no device", carrying.ErrRefused), call.Kind() == frames.NodeStageVolumeKind
+	}}
+	made := open(t, hosttest.NewStore(), carrier, quick, "n1")
+	does(t, made, create("v"))
+	answer, err := made.Do(ctx, use("v", "n1", "/a"))
+	if err != nil || answer.Reached || answer.Volume.Trouble != "node:n1: its driver refuses: no device" {
+		t.Errorf("%+v, %v", answer, err)
+	}
+	if count := len(carrier.Calls()); count < 5 || count > 7 { // create, attach, stage three times, and what undoes them
+		t.Errorf("%d calls", count)
 	}
 }
 

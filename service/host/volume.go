@@ -30,6 +30,7 @@ type volume struct {
 	first    time.Time   // when it was tried first
 	failures int         // how many tries of it got no reply
 	wantRoom bool        // one of them was refused since the plugin had no room
+	isQuick  bool        // the last one was refused by the plugin's driver: patience wouldn't help
 	wakes    uint64      // counts the times at which a timeout is to be told: only the last one counts
 }
 
@@ -49,7 +50,7 @@ func (volume *volume) sends(call frames.Call, now time.Time) {
 	if volume.kind != call.Kind() {
 		volume.kind, volume.first, volume.failures, volume.wantRoom = call.Kind(), now, 0, false
 	}
-	volume.isOpen, volume.open = true, call
+	volume.isOpen, volume.open, volume.isQuick = true, call, false
 	volume.wakes++
 }
 
@@ -116,6 +117,10 @@ func isGivenUp(before, after *records.Row) bool {
 func (host *Host) wakeLater(it *volume) {
 	it.wakes++
 	woken := &woken{name: it.row.Name, epoch: host.epoch, wakes: it.wakes}
-	delay := host.times.delay(it.row.Goal, it.row.Tries, it.failures, time.Since(it.first))
+	goal := it.row.Goal
+	if it.isQuick {
+		goal = records.None
+	}
+	delay := host.times.delay(goal, it.row.Tries, it.failures, time.Since(it.first))
 	time.AfterFunc(delay, func() { host.tell(woken) })
 }
