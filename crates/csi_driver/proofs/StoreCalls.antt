@@ -1,8 +1,9 @@
 -- Stores, one call after another.
-use Rattle.std.proofs.Common.{inl, inr, ℕ, ◌≤◌, List, arith}
+use Rattle.std.proofs.Common.{◌≡◌, inl, inr, refl, ℕ, ◌≤◌, List, [], ◌∷◌, ◌++◌, arith}
 use Rattle.csi_stores.specs.declared.keep.KeepFault.{KeepFault}
 use Rattle.csi_stores.specs.declared.keep.KeepFault.TheVariants.{Device, NoMemory, BadRecord, Full}
-use Rattle.csi_stores.specs.Public.Part.{StoredPart}
+use Rattle.csi_stores.specs.Public.Content.{all_changed}
+use Rattle.csi_stores.specs.Public.Part.{StoredPart, StoredChange}
 use Rattle.csi_stores.specs.Public.Counting.{HasRisen}
 use Rattle.csi_stores.specs.Public.Stores.{Store, FollowsStore, LeavesOnly, LeavesEither, IsContentRefusal}
 
@@ -42,3 +43,8 @@ refusal-more a b c x y next Device before after first cause = risen-more a.fault
 refusal-more a b c x y next NoMemory before after first cause = tt
 refusal-more a b c x y next (BadRecord place) before after first cause = cause
 refusal-more a b c x y next Full before after first cause = λ honest only fits. cause honest (first (after.honest honest) only) (before.room next fits)
+
+-- changes one after another, and then others, are all of them one after another
+pub all-append : (first second : List StoredChange) (parts : List StoredPart) → all_changed (first ++ second) parts ≡ all_changed second (all_changed first parts)
+all-append [] second parts = refl
+all-append (change ∷ changes) second parts = all-append changes second _
