@@ -7,12 +7,8 @@ import (
 	"github.com/golang/protobuf/ptypes/wrappers"
 	"google.golang.org/grpc"
 
-	"tufayon/service/version"
 	"tufayon/service/wire"
 )
-
-// Version is the driver's, as GetPluginInfo tells it.
-const Version = version.Number
 
 // identity is CSI's Identity service of a plugin.
 type identity struct {
