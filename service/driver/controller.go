@@ -4,10 +4,13 @@ import (
 	"context"
 	"errors"
 
+	"google.golang.org/grpc"
 	"google.golang.org/grpc/codes"
 	"google.golang.org/grpc/status"
 
 	"tufayon/service/frames"
+	"tufayon/service/hooks"
+	"tufayon/service/numbers"
 	"tufayon/service/records"
 	"tufayon/service/serving"
 	"tufayon/service/translate"
@@ -17,76 +20,145 @@ import (
 // errNotFound is what a call gets that names an id which no volume can have, and undoes nothing.
 var errNotFound = status.Error(codes.NotFound, translate.ErrNoVolume.Error())
 
-// Controller is CSI's Controller service over a controller plugin.
-type Controller struct {
-	Core *serving.Core
+// controller is CSI's Controller service over a controller plugin.
+type controller struct {
+	backend *Backend
+	does    hooks.Hooks // nil where the ledger alone is kept
 }
 
-// carry carries a call that was made of a request, unless that failed, and gives the refusal where there is one.
-func (controller *Controller) carry(ctx context.Context, body frames.Body, err error) (serving.Answer, error) {
-	if err != nil {
-		return serving.Answer{}, err
-	}
-	answer, err := controller.Core.Carry(ctx, serving.Request{Body: body})
-	if err == nil {
-		err = translate.Refusal(answer.Reply)
-	}
-	return answer, err
+// RegisterController adds CSI's Controller to a server. What does what calls ask for is nil where nothing is to be done.
+func RegisterController(server *grpc.Server, backend *Backend, does hooks.Hooks) {
+	wire.RegisterControllerServer(server, &controller{backend: backend, does: does})
 }
 
 // CreateVolume has a volume made.
-func (controller *Controller) CreateVolume(ctx context.Context, request *wire.CreateVolumeRequest) (*wire.CreateVolumeResponse, error) {
+func (controller *controller) CreateVolume(ctx context.Context, request *wire.CreateVolumeRequest) (*wire.CreateVolumeResponse, error) {
 	body, err := translate.CreateVolume(request)
-	answer, err := controller.carry(ctx, body, err)
 	if err != nil {
 		return nil, err
 	}
-	return translate.Created(answer.Reply, answer.Row)
+	deed := hooks.Deed{
+		Call: "CreateVolume", Name: body.Name, Required: body.Required, Limit: body.Limit, Capabilities: body.Capabilities,
+		Private: translate.PrivateOfCreate(request),
+	}
+	answer, err := controller.backend.carry(ctx, asking(controller.does, body, deed, always))
+	if err != nil {
+		return nil, err
+	}
+	acted, err := readActed(answer.Acted)
+	if err != nil {
+		return nil, err
+	}
+	return translate.Created(answer.Reply, answer.Row, acted.VolumeContext)
 }
 
 // DeleteVolume has a volume deleted.
-func (controller *Controller) DeleteVolume(ctx context.Context, request *wire.DeleteVolumeRequest) (*wire.DeleteVolumeResponse, error) {
+func (controller *controller) DeleteVolume(ctx context.Context, request *wire.DeleteVolumeRequest) (*wire.DeleteVolumeResponse, error) {
 	body, err := translate.DeleteVolume(request)
-	_, err = controller.carry(ctx, body, err)
+	if err == nil {
+		deed := hooks.Deed{Call: "DeleteVolume", Private: translate.Secrets(request)}
+		_, err = controller.backend.carry(ctx, asking(controller.does, body, deed, isLive))
+	}
 	return &wire.DeleteVolumeResponse{}, undone(err)
 }
 
 // ControllerPublishVolume has a volume attached to a node.
-func (controller *Controller) ControllerPublishVolume(
+func (controller *controller) ControllerPublishVolume(
 	ctx context.Context, request *wire.ControllerPublishVolumeRequest,
 ) (*wire.ControllerPublishVolumeResponse, error) {
 	body, err := translate.ControllerPublishVolume(request)
-	_, err = controller.carry(ctx, body, err)
-	return &wire.ControllerPublishVolumeResponse{}, found(err)
+	if err != nil {
+		return nil, found(err)
+	}
+	deed := hooks.Deed{
+		Call: "ControllerPublishVolume", Node: body.Node, Capability: &body.Capability, Readonly: body.Readonly,
+		Private: translate.PrivateOfAttach(request),
+	}
+	answer, err := controller.backend.carry(ctx, asking(controller.does, body, deed, always))
+	if err != nil {
+		return nil, err
+	}
+	acted, err := readActed(answer.Acted)
+	return &wire.ControllerPublishVolumeResponse{PublishContext: acted.PublishContext}, err
 }
 
-// ControllerUnpublishVolume has a volume detached from a node.
-func (controller *Controller) ControllerUnpublishVolume(
+// ControllerUnpublishVolume has a volume detached from a node. Where no node is named, that is from all of them: a call for each, which one number of
+// the caller's can't be.
+func (controller *controller) ControllerUnpublishVolume(
 	ctx context.Context, request *wire.ControllerUnpublishVolumeRequest,
 ) (*wire.ControllerUnpublishVolumeResponse, error) {
-	body, err := translate.ControllerUnpublishVolume(request)
-	_, err = controller.carry(ctx, body, err)
+	body, err := translate.ControllerUnpublishVolume(request, !numbers.IsIn(ctx))
+	if err == nil {
+		err = controller.detach(ctx, body, translate.Secrets(request))
+	}
 	return &wire.ControllerUnpublishVolumeResponse{}, undone(err)
 }
 
+func (controller *controller) detach(ctx context.Context, body frames.ControllerUnpublishVolume, private hooks.Private) error {
+	nodes := []string{body.Node}
+	if body.Node == "" {
+		volume, err := controller.volume(ctx, body.ID)
+		if err != nil {
+			return err
+		}
+		nodes = volume.Nodes
+	}
+	for _, node := range nodes {
+		body.Node = node
+		deed := hooks.Deed{Call: "ControllerUnpublishVolume", Node: node, Private: private}
+		if _, err := controller.backend.carry(ctx, asking(controller.does, body, deed, isAt(node))); err != nil {
+			return err
+		}
+	}
+	return nil
+}
+
+// volume is what the record has of a volume: nothing where it has no row.
+func (controller *controller) volume(ctx context.Context, id uint64) (records.Volume, error) {
+	core, err := controller.backend.core()
+	if err != nil {
+		return records.Volume{}, err
+	}
+	known, err := core.Known(ctx, id)
+	if err != nil {
+		return records.Volume{}, err
+	}
+	return volumeOf(known)
+}
+
+func volumeOf(known serving.Known) (records.Volume, error) {
+	volume, err := records.ReadVolume(known.Row)
+	if err != nil {
+		return records.Volume{}, status.Error(codes.Internal, err.Error())
+	}
+	return volume, nil
+}
+
+// isLive says of a deletion whether there is a volume to delete.
+func isLive(known serving.Known) (bool, error) {
+	volume, err := volumeOf(known)
+	return volume.Live, err
+}
+
+// isAt says of a detachment whether the volume is attached to the node.
+func isAt(node string) had {
+	return func(known serving.Known) (bool, error) {
+		volume, err := volumeOf(known)
+		return volume.IsAt(node), err
+	}
+}
+
 // ValidateVolumeCapabilities tells, by the record, whether a volume has capabilities.
-func (controller *Controller) ValidateVolumeCapabilities(
+func (controller *controller) ValidateVolumeCapabilities(
 	ctx context.Context, request *wire.ValidateVolumeCapabilitiesRequest,
 ) (*wire.ValidateVolumeCapabilitiesResponse, error) {
 	asked, err := translate.ValidateVolumeCapabilities(request)
 	if err != nil {
 		return nil, found(err)
 	}
-	row, err := controller.Core.Row(ctx, asked.Volume)
+	volume, err := controller.volume(ctx, asked.Volume)
 	if err != nil {
 		return nil, err
-	}
-	if row == nil {
-		return nil, errNotFound
-	}
-	volume, err := records.ReadVolume(row)
-	if err != nil {
-		return nil, status.Error(codes.Internal, err.Error())
 	}
 	if !volume.Live {
 		return nil, errNotFound
@@ -95,7 +167,7 @@ func (controller *Controller) ValidateVolumeCapabilities(
 }
 
 // ControllerGetCapabilities tells which calls are served.
-func (controller *Controller) ControllerGetCapabilities(
+func (controller *controller) ControllerGetCapabilities(
 	context.Context, *wire.ControllerGetCapabilitiesRequest,
 ) (*wire.ControllerGetCapabilitiesResponse, error) {
 	response := &wire.ControllerGetCapabilitiesResponse{}

@@ -5,40 +5,40 @@ import (
 	"context"
 
 	"github.com/golang/protobuf/ptypes/wrappers"
+	"google.golang.org/grpc"
 
-	"tufayon/service/serving"
 	"tufayon/service/wire"
 )
 
 // Version is the driver's, as GetPluginInfo tells it.
 const Version = "1.0.0"
 
-// Identity is CSI's Identity service of a plugin.
-type Identity struct {
-	Name string // of the plugin, as a domain name
-	Core *serving.Core
+// identity is CSI's Identity service of a plugin.
+type identity struct {
+	name, version string
+	backend       *Backend
+}
+
+// RegisterIdentity adds CSI's Identity to a server: of a plugin of this name, a domain name, and version.
+func RegisterIdentity(server *grpc.Server, backend *Backend, name, version string) {
+	wire.RegisterIdentityServer(server, &identity{name: name, version: version, backend: backend})
 }
 
 // GetPluginInfo tells the plugin's name and version.
-func (identity *Identity) GetPluginInfo(context.Context, *wire.GetPluginInfoRequest) (*wire.GetPluginInfoResponse, error) {
-	return &wire.GetPluginInfoResponse{Name: identity.Name, VendorVersion: Version}, nil
+func (identity *identity) GetPluginInfo(context.Context, *wire.GetPluginInfoRequest) (*wire.GetPluginInfoResponse, error) {
+	return &wire.GetPluginInfoResponse{Name: identity.name, VendorVersion: identity.version}, nil
 }
 
 // GetPluginCapabilities tells that there is a controller, which each instance of a plugin tells alike.
-func (identity *Identity) GetPluginCapabilities(context.Context, *wire.GetPluginCapabilitiesRequest) (*wire.GetPluginCapabilitiesResponse, error) {
+func (identity *identity) GetPluginCapabilities(context.Context, *wire.GetPluginCapabilitiesRequest) (*wire.GetPluginCapabilitiesResponse, error) {
 	service := &wire.PluginCapability_Service{Type: wire.PluginCapability_Service_CONTROLLER_SERVICE}
 	return &wire.GetPluginCapabilitiesResponse{
 		Capabilities: []*wire.PluginCapability{{Type: &wire.PluginCapability_Service_{Service: service}}},
 	}, nil
 }
 
-// Probe tells whether the plugin serves.
-func (identity *Identity) Probe(context.Context, *wire.ProbeRequest) (*wire.ProbeResponse, error) {
-	ready := true
-	select {
-	case <-identity.Core.Done():
-		ready = false
-	default:
-	}
-	return &wire.ProbeResponse{Ready: &wrappers.BoolValue{Value: ready}}, nil
+// Probe tells whether the plugin serves, or waits for its store still.
+func (identity *identity) Probe(context.Context, *wire.ProbeRequest) (*wire.ProbeResponse, error) {
+	_, err := identity.backend.core()
+	return &wire.ProbeResponse{Ready: &wrappers.BoolValue{Value: err == nil}}, nil
 }

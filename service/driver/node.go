@@ -3,6 +3,7 @@ package driver
 import (
 	"context"
 
+	"google.golang.org/grpc"
 	"google.golang.org/grpc/codes"
 	"google.golang.org/grpc/status"
 
@@ -10,7 +11,6 @@ import (
 	"tufayon/service/hooks"
 	"tufayon/service/records"
 	"tufayon/service/serving"
-	"tufayon/service/staging"
 	"tufayon/service/translate"
 	"tufayon/service/wire"
 )
@@ -18,124 +18,105 @@ import (
 // errStaged refuses a staging path other than the one that is kept of the volume.
 var errStaged = status.Error(codes.FailedPrecondition, "staged otherwise")
 
-// Node is CSI's Node service over a node plugin.
-type Node struct {
+// NodeOptions are those of a node's service.
+type NodeOptions struct {
 	ID         string
-	MaxVolumes int64 // as NodeGetInfo tells it: 0 for not known
-	Core       *serving.Core
-	Paths      *staging.Paths
-	Hooks      hooks.Hooks
+	MaxVolumes int64       // as NodeGetInfo tells it: 0 for not known
+	Hooks      hooks.Hooks // nil where the ledger alone is kept
 }
 
-// Mend takes out the lines of volumes that were unstaged when an earlier process ended, before it took them out itself.
-func (node *Node) Mend(ctx context.Context) error {
-	for _, volume := range node.Paths.Volumes() {
-		row, err := node.Core.Row(ctx, volume)
-		if err != nil {
-			return err
+// node is CSI's Node service over a node plugin.
+type node struct {
+	backend *Backend
+	options NodeOptions
+}
+
+// RegisterNode adds CSI's Node to a server.
+func RegisterNode(server *grpc.Server, backend *Backend, options NodeOptions) {
+	wire.RegisterNodeServer(server, &node{backend: backend, options: options})
+}
+
+// carry carries a call at a staging path, which none is of a call that doesn't name one.
+func (node *node) carry(ctx context.Context, body frames.Body, deed hooks.Deed, had had) error {
+	request := asking(node.options.Hooks, body, deed, had)
+	request.Node, request.Staging = node.options.ID, deed.Staging
+	judge := request.Judge
+	request.Judge = func(known serving.Known) error {
+		row, err := rowOf(known)
+		if err != nil || isStale(row, known) {
+			return err // the plugin refuses it
 		}
-		if number, unstaged := records.UnstagedBy(row); unstaged {
-			if err := node.takeOut(volume, number); err != nil {
-				return err
-			}
-		}
-	}
-	return nil
-}
-
-// takeOut takes out the line of a volume that the call of this number unstaged, unless it is of a later call, which failed.
-func (node *Node) takeOut(volume uint64, number frames.Number) error {
-	if line, there := node.Paths.Of(volume); !there || !line.Number.IsBefore(number) {
-		return nil
-	}
-	return node.Paths.Take(volume)
-}
-
-// at refuses a staging path other than the volume's.
-func (node *Node) at(volume uint64, path string) func() error {
-	return func() error {
-		if line, there := node.Paths.Of(volume); there && line.Path != path {
+		if deed.Staging != "" && known.Staging != "" && known.Staging != deed.Staging {
 			return errStaged
 		}
-		return nil
+		return judge(known)
 	}
+	_, err := node.backend.carry(ctx, request)
+	return err
 }
 
-func (node *Node) carry(ctx context.Context, request serving.Request, err error) error {
+func rowOf(known serving.Known) (records.Staged, error) {
+	row, err := records.ReadStaged(known.Row)
 	if err != nil {
-		return err
+		return records.Staged{}, status.Error(codes.Internal, err.Error())
 	}
-	request.Node = node.ID
-	answer, err := node.Core.Carry(ctx, request)
-	if err != nil {
-		return err
-	}
-	return translate.Refusal(answer.Reply)
+	return row, nil
 }
 
-// NodeStageVolume has a volume staged at a path, which is kept before anything is done there.
-func (node *Node) NodeStageVolume(ctx context.Context, request *wire.NodeStageVolumeRequest) (*wire.NodeStageVolumeResponse, error) {
+// isStale says whether the plugin refuses a call by its number, so that nothing else is to be judged: the call is of before.
+func isStale(row records.Staged, known serving.Known) bool {
+	return known.Number.Session < known.Session || known.Number.IsBefore(row.Last)
+}
+
+// NodeStageVolume has a volume staged at a path.
+func (node *node) NodeStageVolume(ctx context.Context, request *wire.NodeStageVolumeRequest) (*wire.NodeStageVolumeResponse, error) {
 	body, err := translate.NodeStageVolume(request)
-	path := request.GetStagingTargetPath()
-	err = node.carry(ctx, serving.Request{
-		Body:   body,
-		Before: node.at(body.ID, path),
-		Act: func(number frames.Number) error {
-			if err := node.Paths.Put(body.ID, staging.Line{Number: number, Path: path}); err != nil {
-				return err
-			}
-			return node.Hooks.Do(hooks.Deed{Call: "NodeStageVolume", Volume: body.ID, Staging: path, Capability: &body.Capability})
-		},
-	}, err)
+	if err == nil {
+		err = node.carry(ctx, body, hooks.Deed{
+			Call: "NodeStageVolume", Staging: request.GetStagingTargetPath(), Capability: &body.Capability, Private: translate.PrivateOfNode(request),
+		}, always)
+	}
 	return &wire.NodeStageVolumeResponse{}, found(err)
 }
 
-// NodeUnstageVolume has that undone. The path is taken out after the commit.
-func (node *Node) NodeUnstageVolume(ctx context.Context, request *wire.NodeUnstageVolumeRequest) (*wire.NodeUnstageVolumeResponse, error) {
+// NodeUnstageVolume has that undone.
+func (node *node) NodeUnstageVolume(ctx context.Context, request *wire.NodeUnstageVolumeRequest) (*wire.NodeUnstageVolumeResponse, error) {
 	body, err := translate.NodeUnstageVolume(request)
-	path := request.GetStagingTargetPath()
-	err = node.carry(ctx, serving.Request{
-		Body:   body,
-		Before: node.at(body.ID, path),
-		Act: func(frames.Number) error {
-			return node.Hooks.Do(hooks.Deed{Call: "NodeUnstageVolume", Volume: body.ID, Staging: path})
-		},
-		After: func(number frames.Number) error { return node.takeOut(body.ID, number) },
-	}, err)
+	if err == nil {
+		err = node.carry(ctx, body, hooks.Deed{Call: "NodeUnstageVolume", Staging: request.GetStagingTargetPath()}, func(known serving.Known) (bool, error) {
+			row, err := rowOf(known)
+			return row.IsStaged, err
+		})
+	}
 	return &wire.NodeUnstageVolumeResponse{}, undone(err)
 }
 
 // NodePublishVolume has a volume published at a target path.
-func (node *Node) NodePublishVolume(ctx context.Context, request *wire.NodePublishVolumeRequest) (*wire.NodePublishVolumeResponse, error) {
+func (node *node) NodePublishVolume(ctx context.Context, request *wire.NodePublishVolumeRequest) (*wire.NodePublishVolumeResponse, error) {
 	body, err := translate.NodePublishVolume(request)
-	path := request.GetStagingTargetPath()
-	err = node.carry(ctx, serving.Request{
-		Body:   body,
-		Before: node.at(body.ID, path),
-		Act: func(frames.Number) error {
-			return node.Hooks.Do(hooks.Deed{
-				Call: "NodePublishVolume", Volume: body.ID, Staging: path, Target: body.Target, Capability: &body.Capability, Readonly: body.Readonly,
-			})
-		},
-	}, err)
+	if err == nil {
+		err = node.carry(ctx, body, hooks.Deed{
+			Call: "NodePublishVolume", Staging: request.GetStagingTargetPath(), Target: body.Target, Capability: &body.Capability,
+			Readonly: body.Readonly, Private: translate.PrivateOfNode(request),
+		}, always)
+	}
 	return &wire.NodePublishVolumeResponse{}, found(err)
 }
 
 // NodeUnpublishVolume has that undone.
-func (node *Node) NodeUnpublishVolume(ctx context.Context, request *wire.NodeUnpublishVolumeRequest) (*wire.NodeUnpublishVolumeResponse, error) {
+func (node *node) NodeUnpublishVolume(ctx context.Context, request *wire.NodeUnpublishVolumeRequest) (*wire.NodeUnpublishVolumeResponse, error) {
 	body, err := translate.NodeUnpublishVolume(request)
-	err = node.carry(ctx, serving.Request{
-		Body: body,
-		Act: func(frames.Number) error {
-			line, _ := node.Paths.Of(body.ID)
-			return node.Hooks.Do(hooks.Deed{Call: "NodeUnpublishVolume", Volume: body.ID, Staging: line.Path, Target: body.Target})
-		},
-	}, err)
+	if err == nil {
+		err = node.carry(ctx, body, hooks.Deed{Call: "NodeUnpublishVolume", Target: body.Target}, func(known serving.Known) (bool, error) {
+			row, err := rowOf(known)
+			return row.IsAt(body.Target), err
+		})
+	}
 	return &wire.NodeUnpublishVolumeResponse{}, undone(err)
 }
 
 // NodeGetCapabilities tells which calls are served.
-func (node *Node) NodeGetCapabilities(context.Context, *wire.NodeGetCapabilitiesRequest) (*wire.NodeGetCapabilitiesResponse, error) {
+func (node *node) NodeGetCapabilities(context.Context, *wire.NodeGetCapabilitiesRequest) (*wire.NodeGetCapabilitiesResponse, error) {
 	response := &wire.NodeGetCapabilitiesResponse{}
 	for _, it := range []wire.NodeServiceCapability_RPC_Type{
 		wire.NodeServiceCapability_RPC_STAGE_UNSTAGE_VOLUME,
@@ -148,6 +129,6 @@ func (node *Node) NodeGetCapabilities(context.Context, *wire.NodeGetCapabilities
 }
 
 // NodeGetInfo tells the node's id.
-func (node *Node) NodeGetInfo(context.Context, *wire.NodeGetInfoRequest) (*wire.NodeGetInfoResponse, error) {
-	return &wire.NodeGetInfoResponse{NodeId: node.ID, MaxVolumesPerNode: node.MaxVolumes}, nil
+func (node *node) NodeGetInfo(context.Context, *wire.NodeGetInfoRequest) (*wire.NodeGetInfoResponse, error) {
+	return &wire.NodeGetInfoResponse{NodeId: node.options.ID, MaxVolumesPerNode: node.options.MaxVolumes}, nil
 }

@@ -2,72 +2,25 @@ package driver
 
 import (
 	"context"
-	"errors"
 	"fmt"
-	"net"
+	"io"
 	"os"
-	"path/filepath"
+	"runtime/debug"
 	"strings"
-	"syscall"
 
 	"google.golang.org/grpc"
+	"google.golang.org/grpc/codes"
+	"google.golang.org/grpc/health/grpc_health_v1"
+	"google.golang.org/grpc/status"
 
-	"tufayon/service/serving"
+	"tufayon/service/limiting"
 	"tufayon/service/translate"
 )
 
-// ErrSocket says that the socket can't be made where nobody else gets in.
-var ErrSocket = errors.New("the socket")
-
-const schema = "unix://"
-
-// SocketOf gives the path of an endpoint, which CSI writes unix://PATH.
-func SocketOf(endpoint string) (string, error) {
-	path := strings.TrimPrefix(endpoint, schema)
-	if path == endpoint || !filepath.IsAbs(path) {
-		return "", fmt.Errorf("%w: an endpoint is %sPATH, with an absolute path", ErrSocket, schema)
-	}
-	return path, nil
-}
-
-// Listen makes a socket of mode 0600 in a folder of mode 0700 of this user's, and makes the folder where it is missing. A socket that an earlier
-// process left there goes, unless somebody serves it.
-func Listen(path string) (net.Listener, error) {
-	if err := guarded(filepath.Dir(path)); err != nil {
-		return nil, err
-	}
-	if other, err := net.Dial("unix", path); err == nil {
-		other.Close()
-		return nil, fmt.Errorf("%w: %s is served by another process", ErrSocket, path)
-	}
-	if left, err := os.Lstat(path); err == nil && left.Mode()&os.ModeSocket != 0 {
-		os.Remove(path)
-	}
-	listener, err := net.Listen("unix", path)
-	if err != nil {
-		return nil, fmt.Errorf("%w: %v", ErrSocket, err)
-	}
-	if err := os.Chmod(path, 0o600); err != nil {
-		listener.Close()
-		return nil, fmt.Errorf("%w: %v", ErrSocket, err)
-	}
-	return listener, nil
-}
-
-func guarded(folder string) error {
-	if err := os.Mkdir(folder, 0o700); err != nil && !errors.Is(err, os.ErrExist) {
-		return fmt.Errorf("%w: %v", ErrSocket, err)
-	}
-	status, err := os.Lstat(folder)
-	if err != nil {
-		return fmt.Errorf("%w: %v", ErrSocket, err)
-	}
-	owner, ok := status.Sys().(*syscall.Stat_t)
-	if !status.IsDir() || status.Mode().Perm() != 0o700 || !ok || int(owner.Uid) != os.Geteuid() {
-		return fmt.Errorf("%w: %s isn't a folder of mode 0700 of this user's", ErrSocket, folder)
-	}
-	return nil
-}
+const (
+	maxMessage  = 128 << 10 // of a request: all fields at their limits have less than half of it
+	maxMetadata = 16 << 10
+)
 
 // numbered are the calls that become frames, and so have numbers.
 var numbered = map[string]bool{
@@ -75,19 +28,42 @@ var numbered = map[string]bool{
 	"NodeStageVolume": true, "NodeUnstageVolume": true, "NodePublishVolume": true, "NodeUnpublishVolume": true,
 }
 
-// NewServer makes a server without services, which judges of each request first its number, if it is of a call that has one, and then whether the
-// proto has its fields.
-func NewServer(core *serving.Core) *grpc.Server {
-	admit := func(ctx context.Context, request any, info *grpc.UnaryServerInfo, handle grpc.UnaryHandler) (any, error) {
-		if numbered[info.FullMethod[strings.LastIndex(info.FullMethod, "/")+1:]] {
-			if err := core.Admit(ctx); err != nil {
-				return nil, err
-			}
-		}
-		if err := translate.Known(request); err != nil {
+// NewServer makes a server with the health service alone, which judges of each request first its number, if it is of a call that has one, and then
+// whether the proto has its fields. A panic ends the call alone, and is told on standard error.
+func NewServer(backend *Backend, limits *limiting.Limits) *grpc.Server {
+	options := append(limits.Options(), grpc.MaxRecvMsgSize(maxMessage), grpc.MaxHeaderListSize(maxMetadata),
+		grpc.ChainUnaryInterceptor(limits.Intercept, recovering(os.Stderr), backend.admit))
+	server := grpc.NewServer(options...)
+	grpc_health_v1.RegisterHealthServer(server, backend.health)
+	return server
+}
+
+// admit judges a call's number and a request's fields.
+func (backend *Backend) admit(ctx context.Context, request any, info *grpc.UnaryServerInfo, handle grpc.UnaryHandler) (any, error) {
+	if numbered[info.FullMethod[strings.LastIndex(info.FullMethod, "/")+1:]] {
+		core, err := backend.core()
+		if err != nil {
 			return nil, err
 		}
+		if err := core.Admit(ctx); err != nil {
+			return nil, err
+		}
+	}
+	if err := translate.Known(request); err != nil {
+		return nil, err
+	}
+	return handle(ctx, request)
+}
+
+// recovering answers a call that panics. What it panicked of isn't told, since it may show what is private.
+func recovering(log io.Writer) grpc.UnaryServerInterceptor {
+	return func(ctx context.Context, request any, info *grpc.UnaryServerInfo, handle grpc.UnaryHandler) (response any, err error) {
+		defer func() {
+			if why := recover(); why != nil {
+				fmt.Fprintf(log, "csi-driver: a panic (%T) in %s\n%s", why, info.FullMethod, debug.Stack())
+				response, err = nil, status.Error(codes.Internal, "panic")
+			}
+		}()
 		return handle(ctx, request)
 	}
-	return grpc.NewServer(grpc.UnaryInterceptor(admit))
 }

@@ -1,4 +1,4 @@
-// Package hooks does what a node's calls ask for: by commands of whoever runs the driver, or by directories and bind mounts.
+// Package hooks does what calls ask for: by commands of whoever runs the driver, or by directories and bind mounts.
 package hooks
 
 import (
@@ -8,118 +8,164 @@ import (
 	"io"
 	"os"
 	"os/exec"
-	"strconv"
 	"strings"
 	"syscall"
 	"time"
-
-	"tufayon/service/frames"
 )
 
-// A Deed is what a node's call asks for. Each may be asked for again when it is done already.
-type Deed struct {
-	Call       string // CSI's name of the call
-	Volume     uint64
-	Staging    string
-	Target     string             // of a publication
-	Capability *frames.Capability // of what is staged or published; nil of their undoing
-	Readonly   bool
-}
-
-// Hooks does deeds. An error's text is the message of the refusal.
-type Hooks interface {
-	Do(Deed) error
-}
-
-// None does nothing: the books alone are kept.
-type None struct{}
-
-// Do does nothing.
-func (None) Do(Deed) error { return nil }
-
 // Commands runs a command for each of these calls, by CSI's name of the call, and leaves the others to Rest. What is to be done stands in the
-// command's environment.
+// command's environment, and what is private on its standard input. It has a process group of its own, and a lock of its volume (Locks).
 type Commands struct {
 	Of     map[string]string
 	Rest   Hooks
 	Within time.Duration
+	Locks  Locks
 }
 
-// Do runs the call's command, for at most the time that it may take. Where it fails, the error is its last line.
-func (commands Commands) Do(deed Deed) error {
-	command := commands.Of[deed.Call]
-	if command == "" {
-		return commands.Rest.Do(deed)
-	}
-	ctx, cancel := context.WithTimeout(context.Background(), commands.Within)
-	defer cancel()
-	running := exec.CommandContext(ctx, command)
-	running.Env = append(os.Environ(), environment(deed)...)
-	running.SysProcAttr = &syscall.SysProcAttr{Setpgid: true, Pdeathsig: syscall.SIGKILL}
-	output, err := run(ctx, running)
-	if err == nil {
+// Judge leaves to Rest what has no command.
+func (commands Commands) Judge(deed Deed) error {
+	if commands.Of[deed.Call] != "" {
 		return nil
 	}
-	if ctx.Err() != nil {
-		return fmt.Errorf("%s: it took longer than %v", command, commands.Within)
-	}
-	if line := lastLine(output); line != "" {
-		return errors.New(line)
-	}
-	return fmt.Errorf("%s: %v", command, err)
+	return commands.Rest.Judge(deed)
 }
 
-// run runs the command to its end, or kills it with all that it started once the context ends.
-func run(ctx context.Context, running *exec.Cmd) (string, error) {
+// Do runs the call's command, for at most the time that it may take, once a command of an earlier process at this volume is ended. Where it fails the
+// error is its last line, and what it started is killed with it.
+func (commands Commands) Do(ctx context.Context, deed Deed) (Answer, error) {
+	lock, err := commands.Locks.take(ctx, deed.Volume)
+	if err != nil {
+		return Answer{}, err
+	}
+	command := commands.Of[deed.Call]
+	if command == "" {
+		defer lock.release()
+		return commands.Rest.Do(ctx, deed)
+	}
+	within, cancel := context.WithTimeout(ctx, commands.Within)
+	defer cancel()
+	run := running{command: command, deed: deed, lock: lock}
+	output, err := run.run(within)
+	switch {
+	case err == nil:
+		lock.release()
+		return deed.ReadAnswer(output)
+	case ctx.Err() != nil:
+		err = fmt.Errorf("%s: the driver ended it", command)
+	case within.Err() != nil:
+		err = fmt.Errorf("%s: it took longer than %v", command, commands.Within)
+	}
+	lock.leave()
+	return Answer{}, err
+}
+
+// afterKill is how long a process that was killed may take to end.
+const afterKill = 5 * time.Second
+
+// mostOutput is how many bytes of what a command writes are read: the first ones of its standard output, the last ones of its errors.
+const mostOutput = 64 << 10
+
+// A running is a command that runs for a deed.
+type running struct {
+	command string
+	deed    Deed
+	lock    *lock
+}
+
+// run runs the command to its end, and gives its output, or kills it with all that it started once the context ends.
+func (run running) run(ctx context.Context) ([]byte, error) {
+	command := exec.Command(run.command)
+	command.Env = append(os.Environ(), run.deed.Environment()...)
+	command.SysProcAttr = &syscall.SysProcAttr{Setpgid: true}
+	command.ExtraFiles = []*os.File{run.lock.file} // file 3: as long as anything has it, the command isn't over
+	output, err := scratch()
+	if err != nil {
+		return nil, err
+	}
+	defer output.Close()
+	faults, err := scratch()
+	if err != nil {
+		return nil, err
+	}
+	defer faults.Close()
+	command.Stdout, command.Stderr = output, faults // files, and no pipes that what it left running could hold open
+	reads, writes, err := os.Pipe()
+	if err != nil {
+		return nil, err
+	}
+	defer writes.Close() // ends the goroutine, if the command doesn't read
+	command.Stdin = reads
+	err = command.Start()
+	reads.Close()
+	if err != nil {
+		return nil, fmt.Errorf("%s: %w", run.command, err)
+	}
+	run.lock.write(command.Process.Pid)
+	go func() {
+		writes.Write(run.deed.Input())
+		writes.Close()
+	}()
+	if err := run.await(ctx, command); err != nil {
+		return nil, run.fault(err, output, faults)
+	}
+	return first(output), nil
+}
+
+// await waits for the command's end. It kills its group where the context ends before, and where it failed.
+func (run running) await(ctx context.Context, command *exec.Cmd) error {
+	ended := make(chan error, 1)
+	go func() { ended <- command.Wait() }()
+	select {
+	case err := <-ended:
+		if err != nil {
+			syscall.Kill(-command.Process.Pid, syscall.SIGKILL)
+		}
+		return err
+	case <-ctx.Done():
+	}
+	syscall.Kill(-command.Process.Pid, syscall.SIGKILL)
+	select {
+	case <-ended:
+	case <-time.After(afterKill): // it is in the kernel: its lock tells that it is there still
+	}
+	return ctx.Err()
+}
+
+// fault is what a command that failed said last, without what is private.
+func (run running) fault(err error, output, faults *os.File) error {
+	for _, file := range []*os.File{faults, output} {
+		if line := lastLine(last(file)); line != "" {
+			return errors.New(run.deed.Hide(line))
+		}
+	}
+	return fmt.Errorf("%s: %w", run.command, err)
+}
+
+// scratch makes a file without a name.
+func scratch() (*os.File, error) {
 	file, err := os.CreateTemp("", "hook")
 	if err != nil {
-		return "", err
+		return nil, err
 	}
-	defer file.Close()
-	os.Remove(file.Name())
-	running.Stdout, running.Stderr = file, file // a file, and no pipe that what it left running could hold open
-	if err := running.Start(); err != nil {
-		return "", err
-	}
-	stop := make(chan struct{})
-	defer close(stop)
-	go func() {
-		select {
-		case <-ctx.Done():
-			syscall.Kill(-running.Process.Pid, syscall.SIGKILL)
-		case <-stop:
-		}
-	}()
-	err = running.Wait()
-	said := make([]byte, 4096)
+	return file, os.Remove(file.Name())
+}
+
+func first(file *os.File) []byte {
+	said, _ := io.ReadAll(io.NewSectionReader(file, 0, mostOutput))
+	return said
+}
+
+func last(file *os.File) string {
 	end, _ := file.Seek(0, io.SeekEnd)
-	from := end - int64(len(said))
+	from := end - 4096
 	if from < 0 {
 		from = 0
 	}
-	count, _ := file.ReadAt(said, from)
-	return string(said[:count]), err
+	said, _ := io.ReadAll(io.NewSectionReader(file, from, 4096))
+	return string(said)
 }
 
 func lastLine(output string) string {
 	lines := strings.Split(strings.TrimSpace(output), "\n")
 	return strings.ToValidUTF8(strings.TrimSpace(lines[len(lines)-1]), "?")
-}
-
-func environment(deed Deed) []string {
-	variables := []string{
-		"TUFAYON_CALL=" + deed.Call,
-		"TUFAYON_VOLUME=" + strconv.FormatUint(deed.Volume, 10),
-		"TUFAYON_STAGING=" + deed.Staging,
-		"TUFAYON_TARGET=" + deed.Target,
-	}
-	if deed.Capability == nil {
-		return variables
-	}
-	access := "block"
-	if deed.Capability.Mount {
-		access = "mount"
-	}
-	return append(variables, "TUFAYON_ACCESS="+access, "TUFAYON_FS_TYPE="+deed.Capability.FsType, "TUFAYON_MODE="+strconv.Itoa(int(deed.Capability.Mode)),
-		"TUFAYON_READONLY="+strconv.FormatBool(deed.Readonly))
 }

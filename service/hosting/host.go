@@ -1,6 +1,7 @@
 package hosting
 
 import (
+	"bytes"
 	"context"
 	"encoding/hex"
 	"encoding/json"
@@ -26,13 +27,19 @@ type host struct {
 	giveUp       context.CancelFunc
 }
 
-// An event is what came of a call, or that it is time to try again: a line for the orchestrator.
+// An event is a command, what came of a call, or that it is time to try again: a line for the orchestrator.
 type event struct {
+	isCommand bool // then it has the line alone
 	name      string
 	line      []byte
 	err       error
 	isTimeout bool
 	losses    int // how often a node had been lost when the call was made
+}
+
+// mayBeLoss says whether it may be the command that declares a node lost.
+func (event event) mayBeLoss() bool {
+	return event.isCommand && bytes.Contains(event.line, []byte("lose"))
 }
 
 // Serve has each line of the input, a command, answered by an orchestrator that has just been made, whose first line this is, and prints its answers
@@ -75,11 +82,11 @@ func (host *host) serve(ctx context.Context, first Answer, input *reading) error
 				lines = nil
 				continue
 			}
-			if err := host.ask(ctx, line); err != nil {
+			if err := host.answer(ctx, host.together(event{line: line, isCommand: true}, lines)); err != nil {
 				return err
 			}
 		case event := <-host.came:
-			if err := host.hear(ctx, event); err != nil {
+			if err := host.answer(ctx, host.together(event, lines)); err != nil {
 				return err
 			}
 		case <-ctx.Done():
@@ -89,6 +96,54 @@ func (host *host) serve(ctx context.Context, first Answer, input *reading) error
 	return nil
 }
 
+// together gives what came, and what waits behind it, as much as is answered together. A loss ends it: what came before the session has another sense
+// in the next one.
+func (host *host) together(first event, lines <-chan []byte) []event {
+	came := []event{first}
+	for len(came) < MostTogether && !came[len(came)-1].mayBeLoss() {
+		select {
+		case line, more := <-lines:
+			if !more {
+				return came // it is found again: the channel is closed
+			}
+			came = append(came, event{line: line, isCommand: true})
+		case event := <-host.came:
+			came = append(came, event)
+		default:
+			return came
+		}
+	}
+	return came
+}
+
+// answer has the orchestrator answer what came, and does what the answers say.
+func (host *host) answer(ctx context.Context, came []event) error {
+	var asked [][]byte
+	var of, spent []event
+	for _, event := range came {
+		if event.isCommand {
+			asked, of = append(asked, event.line), append(of, event)
+			continue
+		}
+		if host.waiting[event.name]--; host.waiting[event.name] == 0 {
+			delete(host.waiting, event.name)
+		}
+		if event.err != nil {
+			return event.err
+		}
+		if event.isTimeout && event.losses != host.losses {
+			spent = append(spent, event) // it was given up at a loss, and has timed out already
+			continue
+		}
+		asked, of = append(asked, event.line), append(of, event)
+	}
+	err := host.ask(ctx, asked, of)
+	for _, event := range spent {
+		host.goOn(ctx, event.name)
+	}
+	return err
+}
+
 // tellAll tells the timeout of each volume of which something is wanted: no call is open then.
 func (host *host) tellAll(ctx context.Context) error {
 	names := make([]string, 0, len(host.wanted))
@@ -96,41 +151,49 @@ func (host *host) tellAll(ctx context.Context) error {
 		names = append(names, name)
 	}
 	sort.Strings(names)
+	asked := make([][]byte, 0, len(names))
 	for _, name := range names {
-		if err := host.ask(ctx, timeoutOf(name)); err != nil {
+		asked = append(asked, timeoutOf(name))
+	}
+	for len(asked) > MostTogether {
+		if err := host.ask(ctx, asked[:MostTogether], nil); err != nil {
 			return err
 		}
+		asked = asked[MostTogether:]
 	}
-	return nil
+	return host.ask(ctx, asked, nil)
 }
 
-// hear tells the orchestrator what came. A call that was given up at a loss has timed out already.
-func (host *host) hear(ctx context.Context, came event) error {
-	if host.waiting[came.name]--; host.waiting[came.name] == 0 {
-		delete(host.waiting, came.name)
+// ask asks the orchestrator, prints its answers, and has done what they say.
+func (host *host) ask(ctx context.Context, asked [][]byte, of []event) error {
+	if len(asked) == 0 {
+		return nil
 	}
-	if came.err != nil {
-		return came.err
+	answers, err := host.orchestrator.Answers(asked)
+	var said []byte
+	for _, answer := range answers {
+		said = append(said, answer.Line...)
 	}
-	if !came.isTimeout || came.losses == host.losses {
-		if err := host.ask(ctx, came.line); err != nil {
-			return err
-		}
+	if _, failed := host.output.Write(said); failed != nil {
+		return failed
 	}
-	host.goOn(ctx, came.name)
-	return nil
-}
-
-// ask asks the orchestrator, prints its answer, and has done what it says: a call made; or a timeout told after a while where something is
-// wanted and no call is under way; or, where a node was lost, the timeouts of all of which something is wanted.
-func (host *host) ask(ctx context.Context, line []byte) error {
-	answer, err := host.orchestrator.Answer(line)
 	if err != nil {
 		return err
 	}
-	if _, err := host.output.Write(answer.Line); err != nil {
-		return err
+	for at, answer := range answers {
+		if err := host.follow(ctx, answer); err != nil {
+			return err
+		}
+		if at < len(of) && !of[at].isCommand {
+			host.goOn(ctx, of[at].name)
+		}
 	}
+	return nil
+}
+
+// follow does what an answer says: has a call made; or a timeout told after a while where something is wanted and no call is under way; or, where a
+// node was lost, the timeouts of all of which something is wanted.
+func (host *host) follow(ctx context.Context, answer Answer) error {
 	if answer.IsLoss() {
 		host.losses++
 		host.giveUp()

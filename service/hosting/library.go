@@ -68,30 +68,31 @@ func (library *library) load(ctx context.Context, config []byte) error {
 			return err
 		}
 	}
-	_, err = library.commit()
-	return err
+	changes, _, err := library.changed()
+	if err != nil {
+		return err
+	}
+	return library.store.Commit(ctx, false, changes)
 }
 
-// commit puts what was changed into the store, and gives what the row says that was put in last, if one was.
-func (library *library) commit() (wanted records.Wanted, err error) {
-	changes, err := library.orchestrator.Changes()
+// changed is what was changed by making the orchestrator, or by the last thing that it was asked: it is noted, and to be committed. It gives what the
+// row says that was put in last, if one was.
+func (library *library) changed() (changes []store.Change, wanted records.Wanted, err error) {
+	changes, err = library.orchestrator.Changes()
 	if err != nil {
-		return wanted, err
-	}
-	if err := library.store.Commit(context.Background(), false, changes); err != nil {
-		return wanted, err
+		return nil, wanted, err
 	}
 	began := false
 	for _, change := range changes {
 		began = began || change.Key == records.HeadKey
 		if wanted, err = library.note(change); err != nil {
-			return wanted, err
+			return nil, wanted, err
 		}
 	}
 	if began {
 		library.index() // names may be forgotten, and rows have other keys
 	}
-	return wanted, nil
+	return changes, wanted, nil
 }
 
 // note keeps what a part of the record says: the session, or what is wanted of a volume.
@@ -136,16 +137,47 @@ func (library *library) first() []byte {
 	return lines.Opened(library.session, names)
 }
 
-func (library *library) Answer(line []byte) (Answer, error) {
-	said, err := library.say(line)
-	if err != nil {
-		return Answer{}, err
+// mostChanges is after how many a group is committed, whoever waits: a loss has the whole record.
+const mostChanges = 1024
+
+func (library *library) Answers(asked [][]byte) ([]Answer, error) {
+	var answers, group []Answer
+	var changes []store.Change
+	settle := func() error {
+		if len(changes) > 0 {
+			if err := library.store.Commit(context.Background(), false, changes); err != nil {
+				return err
+			}
+		}
+		answers, group, changes = append(answers, group...), nil, nil
+		return nil
 	}
-	return answerOf(said)
+	for _, line := range asked {
+		said, more, err := library.say(line)
+		if err == nil {
+			var answer Answer
+			if answer, err = answerOf(said); err == nil {
+				group, changes = append(group, answer), append(changes, more...)
+			}
+		}
+		if err != nil {
+			if refused := settle(); refused != nil { // what was answered before is committed
+				err = refused
+			}
+			return answers, err
+		}
+		if len(changes) >= mostChanges {
+			if err := settle(); err != nil {
+				return answers, err
+			}
+		}
+	}
+	err := settle()
+	return answers, err
 }
 
-// say answers a line by a line, once what it changed is committed.
-func (library *library) say(line []byte) ([]byte, error) {
+// say answers a line by a line, which may be said once what it changed is committed.
+func (library *library) say(line []byte) ([]byte, []store.Change, error) {
 	request, err := lines.Read(line)
 	var outcome plugin.Outcome
 	if err == nil {
@@ -153,18 +185,26 @@ func (library *library) say(line []byte) ([]byte, error) {
 	}
 	var fault lines.Fault
 	if errors.As(err, &fault) {
-		return lines.Faulty(fault), nil
+		return lines.Faulty(fault), nil, nil
 	}
 	if err != nil {
-		return nil, err
+		return nil, nil, err
 	}
 	if outcome.Refusal != 0 {
-		return library.refused(request, outcome.Refusal)
+		said, err := library.refused(request, outcome.Refusal)
+		return said, nil, err
 	}
-	wanted, err := library.commit()
+	changes, wanted, err := library.changed()
+	if err != nil {
+		return nil, nil, err
+	}
+	said, err := library.told(request, outcome, wanted)
+	return said, changes, err
+}
+
+// told is what is told of what came of a request.
+func (library *library) told(request lines.Request, outcome plugin.Outcome, wanted records.Wanted) ([]byte, error) {
 	switch {
-	case err != nil:
-		return nil, err
 	case request.Key == lines.Lose:
 		return lines.AboutLoss(request.Node, lines.HasLost, library.session), nil
 	case outcome.IsIgnored:

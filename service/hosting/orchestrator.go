@@ -11,14 +11,18 @@ import (
 	"tufayon/service/plugin"
 )
 
+// MostTogether is how many lines are answered together at most.
+const MostTogether = 64
+
 // ErrOrchestrator says that the program of an orchestrator ended, or wrote what no orchestrator writes.
 var ErrOrchestrator = errors.New("the orchestrator")
 
 // An Orchestrator answers lines by lines, as docs/LINES.md, "The lines of `csi-replay orchestrator`", has them: the library's (Open), or a program
 // that runs beside this one (Run). What an answer says is committed. One thread asks, that which made it.
 type Orchestrator interface {
-	// Answer gives the answer to a line. Where it fails, nothing more is to be asked.
-	Answer(line []byte) (Answer, error)
+	// Answers gives the answers to lines, in their order, once all that they changed is committed. Where it fails, nothing more is to be asked; the
+	// answers that it gives then are those of the lines before, which are committed.
+	Answers(lines [][]byte) ([]Answer, error)
 	// Close ends it.
 	Close() error
 }

@@ -47,11 +47,28 @@ func (running *process) read() (Answer, error) {
 	return answerOf(line)
 }
 
-func (running *process) Answer(line []byte) (Answer, error) {
-	if _, err := running.input.Write(append(line, '\n')); err != nil {
-		return Answer{}, fmt.Errorf("%w: %v", ErrOrchestrator, err)
+func (running *process) Answers(asked [][]byte) ([]Answer, error) {
+	var input []byte
+	for _, line := range asked {
+		input = append(append(input, line...), '\n')
 	}
-	return running.read()
+	wrote := make(chan error, 1)
+	go func() { // beside the reading: neither pipe need have room for all of it
+		_, err := running.input.Write(input)
+		wrote <- err
+	}()
+	answers := make([]Answer, 0, len(asked))
+	for range asked {
+		answer, err := running.read()
+		if err != nil {
+			return answers, err
+		}
+		answers = append(answers, answer)
+	}
+	if err := <-wrote; err != nil {
+		return answers, fmt.Errorf("%w: %v", ErrOrchestrator, err)
+	}
+	return answers, nil
 }
 
 func (running *process) Close() error {

@@ -18,14 +18,19 @@ var ErrLong = errors.New("line fault")
 type Scanner struct {
 	lines *bufio.Scanner
 	count int
+	waits bool
 }
 
 // NewScanner begins with the first line.
 func NewScanner(input io.Reader) *Scanner {
-	lines := bufio.NewScanner(input)
-	lines.Buffer(nil, mostOfLine+2)
-	lines.Split(split)
-	return &Scanner{lines: lines}
+	scanner := &Scanner{lines: bufio.NewScanner(input)}
+	scanner.lines.Buffer(nil, mostOfLine+2)
+	scanner.lines.Split(func(data []byte, atEnd bool) (int, []byte, error) {
+		used, line, err := split(data, atEnd)
+		scanner.waits = bytes.IndexByte(data[used:], '\n') >= 0
+		return used, line, err
+	})
+	return scanner
 }
 
 func split(data []byte, atEnd bool) (int, []byte, error) {
@@ -49,6 +54,9 @@ func (scanner *Scanner) Scan() bool {
 
 // Line is the line that was found last, without its newline, until the next one is looked for.
 func (scanner *Scanner) Line() []byte { return scanner.lines.Bytes() }
+
+// Waits says whether another whole line was read already, so that Scan waits for nothing.
+func (scanner *Scanner) Waits() bool { return scanner.waits }
 
 // Err says why there is no next line: nil where the stream ended, or ErrLong with the line's number, from 1.
 func (scanner *Scanner) Err() error {

@@ -19,6 +19,10 @@ import (
 // Key is the key of gRPC's metadata under which a call's number travels, as SESSION.CALL in decimal.
 const Key = "tufayon-number"
 
+// ReplyKey is the key of gRPC's trailer that each reply of the plugin itself has, with the call's number as value: without one, what a caller got is
+// gRPC's or the driver's own, and says nothing of the ledger.
+const ReplyKey = "tufayon-reply"
+
 // SmallerPromise is what a driver that numbers calls by arrival says once, when it starts.
 const SmallerPromise = "calls are numbered as they arrive: CSI's rules and exclusive attachment hold, " +
 	"but a call that was late before it arrived isn't known to be"
@@ -32,12 +36,19 @@ var ErrNumber = status.Error(codes.FailedPrecondition, "number")
 // errSession refuses a call of a session that is too far above the latest.
 var errSession = status.Error(codes.FailedPrecondition, "session")
 
-// A Source gives a call its number. It is asked when the call has got the plugin, so that there is no earlier one under way.
+// An Of is what of a call its number depends on.
+type Of struct {
+	Kind   frames.Kind
+	HasRow bool   // the plugin keeps the volume's last call; false of a CreateVolume
+	Latest uint64 // the latest session that the plugin has heard of
+}
+
+// A Source gives a call its number. It is asked on the plugin's turn, so that each number that it gave before has got the plugin, or never will.
 type Source interface {
 	// Admit refuses a call that comes with a number where it shouldn't, or without one where it should.
 	Admit(ctx context.Context) error
-	// Number gives the number of a call of this kind; latest is the latest session that the plugin has heard of.
-	Number(ctx context.Context, kind frames.Kind, latest uint64) (frames.Number, error)
+	// Number gives a call's number. It may be asked for again, of the same call: then by arrival it is a later one.
+	Number(ctx context.Context, of Of) (frames.Number, error)
 }
 
 // Metadata takes numbers from the calls' metadata.
@@ -53,12 +64,12 @@ func (Metadata) Admit(ctx context.Context) error {
 }
 
 // Number is the call's own. It is refused where its session is too far above the latest: that session would make every other one stale for good.
-func (source Metadata) Number(ctx context.Context, _ frames.Kind, latest uint64) (frames.Number, error) {
+func (source Metadata) Number(ctx context.Context, of Of) (frames.Number, error) {
 	number, err := fromContext(ctx)
 	if err != nil {
 		return frames.Number{}, err
 	}
-	if source.MostAbove > 0 && number.Session > latest && number.Session-latest > source.MostAbove {
+	if source.MostAbove > 0 && number.Session > of.Latest && number.Session-of.Latest > source.MostAbove {
 		return frames.Number{}, errSession
 	}
 	return number, nil
@@ -71,6 +82,12 @@ func fromContext(ctx context.Context) (frames.Number, error) {
 		return frames.Number{}, ErrNumber
 	}
 	return Parse(values[0])
+}
+
+// IsIn says whether a call came with a number. Of those that were admitted, all did, or by arrival none.
+func IsIn(ctx context.Context) bool {
+	headers, _ := metadata.FromIncomingContext(ctx)
+	return len(headers.Get(Key)) > 0
 }
 
 // Parse reads a number as it travels.
@@ -104,14 +121,11 @@ func Decimal(text string) (uint64, bool) {
 	return value, true
 }
 
-// volumesOfSession is how many volumes are asked for in a session of arrival: then the next one begins, in which the plugin forgets those that
-// were deleted, or aren't staged.
-const volumesOfSession = 1000
-
-// Arrival numbers calls in the order in which they get the plugin, in sessions of its own.
+// Arrival numbers calls in the order in which they get the plugin, in sessions of its own. A plugin keeps the last call of a volume that was deleted,
+// or isn't staged, until it hears of a later session: until then its name is taken, and its row. So one begins where a row is wanted.
 type Arrival struct {
 	session, call uint64
-	volumes       int
+	hasEmpty      bool // there may be such a row
 }
 
 // NewArrival begins the session after the latest that the plugin has heard of.
@@ -124,28 +138,37 @@ func (source *Arrival) begin() error {
 	if source.session == math.MaxUint64 {
 		return ErrSpent
 	}
-	source.session, source.call, source.volumes = source.session+1, 0, 0
+	source.session, source.call, source.hasEmpty = source.session+1, 0, false
 	return nil
 }
 
 // Admit refuses a call that has a number.
 func (*Arrival) Admit(ctx context.Context) error {
-	if headers, _ := metadata.FromIncomingContext(ctx); len(headers.Get(Key)) > 0 {
+	if IsIn(ctx) {
 		return ErrNumber
 	}
 	return nil
 }
 
-// Number is the next one. A session has 1,000 CreateVolumes or, at a node, NodeStageVolumes.
-func (source *Arrival) Number(_ context.Context, kind frames.Kind, _ uint64) (frames.Number, error) {
-	if kind == frames.CreateVolumeKind || kind == frames.NodeStageVolumeKind {
-		if source.volumes == volumesOfSession {
-			if err := source.begin(); err != nil {
-				return frames.Number{}, status.Error(codes.ResourceExhausted, err.Error())
-			}
+// Number is the next one, of the next session where the call may want a row, and one may be kept of a volume that is gone.
+func (source *Arrival) Number(_ context.Context, of Of) (frames.Number, error) {
+	if source.hasEmpty && !of.HasRow {
+		if err := source.begin(); err != nil {
+			return frames.Number{}, status.Error(codes.ResourceExhausted, err.Error())
 		}
-		source.volumes++
 	}
+	source.hasEmpty = source.hasEmpty || leavesEmpty(of)
 	source.call++
 	return frames.Number{Session: source.session, Call: source.call}, nil
+}
+
+// leavesEmpty says whether a call may leave the row of a volume that isn't there, or isn't staged: a node keeps the last call of any volume.
+func leavesEmpty(of Of) bool {
+	switch of.Kind {
+	case frames.DeleteVolumeKind, frames.NodeUnstageVolumeKind:
+		return true
+	case frames.NodePublishVolumeKind, frames.NodeUnpublishVolumeKind:
+		return !of.HasRow
+	}
+	return false
 }

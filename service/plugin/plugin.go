@@ -40,6 +40,9 @@ func (ending Ending) Error() string {
 	return fmt.Sprintf("ending %d", uint32(ending))
 }
 
+// Is says that a refused allocation is what it is to those who don't know the library.
+func (ending Ending) Is(target error) bool { return ending == NoMemory && target == store.ErrMemory }
+
 // A Maker says which plugin is made: a controller, or a node.
 type Maker struct {
 	IsController bool

@@ -16,9 +16,6 @@ const (
 	orchestrator = 2 // the kind of a head
 )
 
-// unstaged is the kind of the reply to a NodeUnstageVolume.
-const unstaged = 128 + uint8(frames.NodeUnstageVolumeKind)
-
 // HeadKey is the key of a record's head; a volume's row has its id as key.
 const HeadKey = 0
 
@@ -30,15 +27,19 @@ func Session(head []byte) (uint64, error) {
 	return binary.BigEndian.Uint64(head[len(head)-8:]), nil
 }
 
-// A Volume is what a controller's row says of a volume that it made.
+// A Volume is what a controller's row says of a volume that it made: nothing where there is no row.
 type Volume struct {
 	Live         bool
 	Capacity     uint64
 	Capabilities []frames.Capability
+	Nodes        []string // where it is attached
 }
 
-// ReadVolume reads the value of a controller's row, as far as its capabilities.
+// ReadVolume reads the value of a controller's row, as far as its nodes.
 func ReadVolume(value []byte) (Volume, error) {
+	if value == nil {
+		return Volume{}, nil
+	}
 	from := &fields{rest: value}
 	head, state := from.byte(), from.byte()
 	if head != version || state < 1 || state > 2 {
@@ -46,7 +47,22 @@ func ReadVolume(value []byte) (Volume, error) {
 	}
 	from.text() // its name
 	volume := Volume{Live: state == 1, Capacity: from.number(), Capabilities: from.capabilities()}
+	for count := from.byte(); count > 0 && from.err == nil; count-- {
+		volume.Nodes = append(volume.Nodes, from.text())
+		from.capability()
+		from.flag() // readonly
+	}
 	return volume, from.err
+}
+
+// IsAt says whether the volume is attached to a node.
+func (volume Volume) IsAt(node string) bool {
+	for _, it := range volume.Nodes {
+		if it == node {
+			return true
+		}
+	}
+	return false
 }
 
 // Has says whether the volume was made with this capability.
@@ -57,13 +73,4 @@ func (volume Volume) Has(capability frames.Capability) bool {
 		}
 	}
 	return false
-}
-
-// UnstagedBy gives the number of a node's last call of a volume, where that was a NodeUnstageVolume that succeeded; the value is the volume's row.
-func UnstagedBy(value []byte) (frames.Number, bool) {
-	const size = 3 + 16 + 2 // the version, nothing staged, no targets; the number; kind and status
-	if len(value) < size || value[0] != version || value[1] != 0 || value[2] != 0 || value[19] != unstaged || value[20] != 0 {
-		return frames.Number{}, false
-	}
-	return frames.Number{Session: binary.BigEndian.Uint64(value[3:]), Call: binary.BigEndian.Uint64(value[11:])}, true
 }

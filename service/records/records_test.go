@@ -28,7 +28,7 @@ func TestValues(t *testing.T) {
 		t.Errorf("a controller's head: %d, %v", session, err)
 	}
 	volume, err := ReadVolume(bytesOf(t, "03 01 0176 000000000000000a 01 00 01 00 0000000000000001 0000000000000001 81 00 0000000000000001 00"))
-	if err != nil || !reflect.DeepEqual(volume, Volume{true, 10, []frames.Capability{block}}) {
+	if err != nil || !reflect.DeepEqual(volume, Volume{true, 10, []frames.Capability{block}, nil}) {
 		t.Errorf("a controller's row: %+v, %v", volume, err)
 	}
 	session, err = OrchestratorSession(bytesOf(t, "03 02 0000000000000003 02 026e31 026e32"))

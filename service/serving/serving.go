@@ -1,65 +1,132 @@
-// Package serving carries calls to a plugin over its store, one after another: what a call changed is committed before its reply is given.
+// Package serving carries calls to a plugin over its store, and has done what they ask for, in the order of docs/DRIVER.md, "What is done in which
+// order": what waits together is committed together, and what a call really does is done outside the plugin's goroutine, one call of a volume at a time.
 package serving
 
 import (
 	"context"
-	"errors"
-	"fmt"
-	"runtime"
 	"sync"
+	"time"
 
 	"google.golang.org/grpc/codes"
 	"google.golang.org/grpc/status"
 
 	"tufayon/service/frames"
 	"tufayon/service/numbers"
-	"tufayon/service/plugin"
-	"tufayon/service/records"
+	"tufayon/service/staging"
 	"tufayon/service/store"
 )
 
-// A Request is a call, and what the driver does besides. Each function may be nil. They are run one request after another.
-type Request struct {
-	Node   string // of a call to a node
-	Body   frames.Body
-	Before func() error              // refuses the call before it gets a number
-	Act    func(frames.Number) error // what it really does: after the plugin's OK and before the commit, unless it is stale or a duplicate
-	After  func(frames.Number) error // after the commit, where the plugin's reply to this call is OK, also the reply to a duplicate
+// A Plugin answers frames, and tells what the last one changed. One goroutine, bound to its thread, makes all its calls.
+type Plugin interface {
+	// Answer answers one whole frame. Where it fails, nothing was changed.
+	Answer(frame []byte) ([]byte, error)
+	// Changes are those of the last answered frame, or of making the plugin. Where that fails, they are lost.
+	Changes() ([]store.Change, error)
+	Free()
 }
 
-// An Answer is the plugin's reply, and the value of the volume's row where it has one.
-type Answer struct {
-	Reply frames.Reply
-	Row   []byte
-}
-
-// A Core is a plugin over its store. It has one goroutine, bound to its thread, which makes all calls of the plugin.
-type Core struct {
-	maker  plugin.Maker
-	store  store.Store
-	source numbers.Source
-
-	jobs chan func() // each is run by the goroutine
-	stop chan struct{}
-	done chan struct{}
-	once sync.Once
-	err  error // why it ended, read once done is closed
-
-	// What only the goroutine uses.
-	plugin *plugin.Plugin
-	parts  map[uint64][]byte // the record, as it was committed last
-}
+// Make makes the plugin of a whole record, or a new one of none. Where renewed is set, its changes take the place of all that the store has.
+type Make func(record []byte) (plugin Plugin, renewed bool, err error)
 
 // Numbering makes the source of numbers, once the latest session is known.
 type Numbering func(latest uint64) (numbers.Source, error)
 
+// Notes keep where volumes are staged, beside the record.
+type Notes interface {
+	Load(ctx context.Context) (map[uint64]string, error)
+	// Commit makes all changes, in order, or none.
+	Commit(ctx context.Context, notes []store.Note) error
+}
+
+// Config says over what a core serves.
+type Config struct {
+	Make      Make
+	Store     store.Store
+	Notes     func(context.Context) (Notes, error) // opens them, once the plugin is made; nil of a controller
+	Numbering Numbering
+	Calls     int // how many may wait or be under way: 0 for 2,048
+}
+
+// A Request is a call, and what the driver does besides. Judge and Act may be nil.
+type Request struct {
+	Node    string // of a call to a node
+	Body    frames.Body
+	Staging string // the staging path that it names, if it names one
+	Like    string // what else is asked: only compared, to see whether a repeat asks the same
+	// Judge refuses the call before the plugin is asked: then nothing was changed. It is run on the plugin's goroutine, and doesn't wait.
+	Judge func(Known) error
+	// Act does what the call asks for, or undoes it. What it gives becomes the Answer's Acted. It returns soon once the context ends.
+	Act func(context.Context, Known) ([]byte, error)
+}
+
+// Known is what the store has of a call's volume before that call; where Act is run for a duplicate, with that call.
+type Known struct {
+	Number  frames.Number // the call's
+	Volume  uint64        // the call's, or that which a CreateVolume made
+	Session uint64        // the latest that the plugin has heard of
+	Row     []byte        // nil where the volume has none
+	Staging string        // where it is staged, if it is
+}
+
+// An Answer is the plugin's reply, the value of the volume's row where it has one, and what Act gave.
+type Answer struct {
+	Reply frames.Reply
+	Row   []byte
+	Acted []byte
+}
+
+// usualCalls is how many calls wait, or are under way, at most.
+const usualCalls = 2048
+
+var (
+	// errEnded is what a call gets whose commit failed, or that came after that: it got no reply of the plugin.
+	errEnded  = status.Error(codes.Unavailable, "serving ended")
+	errMemory = status.Error(codes.ResourceExhausted, "memory")
+	errCalls  = status.Error(codes.ResourceExhausted, "calls")
+)
+
+// A Core is a plugin over its store. It has one goroutine, bound to its thread, which makes all calls of the plugin.
+type Core struct {
+	config Config
+	source numbers.Source
+	turns  turns
+	acts   acts
+
+	jobs chan *job     // each is carried out by the goroutine
+	stop chan struct{} // closed once it is to end
+	done chan struct{} // closed once it did
+	err  error         // why, read once done is closed
+
+	acting  context.Context // of what is done for calls
+	endActs context.CancelFunc
+
+	mutex   sync.Mutex
+	calls   int           // that wait or are under way
+	closing bool          // no more are let in
+	idle    chan struct{} // closed once closing is set, and there are none
+
+	// What only the goroutine uses.
+	plugin Plugin
+	parts  map[uint64][]byte // the record, with what was asked since the last commit
+	notes  Notes
+	paths  *staging.Paths
+}
+
 // Open makes the plugin of what the store has, commits what that changes, and begins to serve.
-func Open(ctx context.Context, maker plugin.Maker, kept store.Store, numbering Numbering) (*Core, error) {
-	core := &Core{maker: maker, store: kept, jobs: make(chan func()), stop: make(chan struct{}), done: make(chan struct{})}
+func Open(ctx context.Context, config Config) (*Core, error) {
+	if config.Calls == 0 {
+		config.Calls = usualCalls
+	}
+	core := &Core{
+		config: config, jobs: make(chan *job), stop: make(chan struct{}), done: make(chan struct{}), idle: make(chan struct{}),
+		turns: turns{queues: map[key][]chan struct{}{}}, acts: acts{running: map[key]*act{}, last: map[uint64]*act{}},
+	}
+	core.acting, core.endActs = context.WithCancel(context.Background())
 	opened := make(chan error)
-	go core.run(ctx, numbering, opened)
+	go core.run(ctx, opened)
 	if err := <-opened; err != nil {
 		<-core.done
+		core.endActs()
 		return nil, err
 	}
 	return core, nil
@@ -71,219 +138,108 @@ func (core *Core) Done() <-chan struct{} { return core.done }
 // Err says why the core ended, or nil where it was closed.
 func (core *Core) Err() error { return core.err }
 
-// Close ends the core, after the call that is under way. The store stays open.
+// Finish lets nothing more in, and waits until the calls that are under way have ended, or the context has.
+func (core *Core) Finish(ctx context.Context) {
+	core.mutex.Lock()
+	if !core.closing {
+		core.closing = true
+		if core.calls == 0 {
+			close(core.idle)
+		}
+	}
+	core.mutex.Unlock()
+	select {
+	case <-core.idle:
+	case <-ctx.Done():
+	}
+}
+
+// afterEnd is how long Close waits for what it ended.
+const afterEnd = 5 * time.Second
+
+// Close ends what is done for calls, and the core. The store stays open.
 func (core *Core) Close() {
-	core.once.Do(func() { close(core.stop) })
+	core.endActs()
+	ctx, cancel := context.WithTimeout(context.Background(), afterEnd)
+	defer cancel()
+	core.Finish(ctx)
+	core.mutex.Lock()
+	select {
+	case <-core.stop:
+	default:
+		close(core.stop)
+	}
+	core.mutex.Unlock()
 	<-core.done
 }
 
-func (core *Core) run(ctx context.Context, numbering Numbering, opened chan<- error) {
-	runtime.LockOSThread() // for good: the thread ends with the goroutine
-	defer close(core.done)
-	err := core.load(ctx)
-	if err == nil {
-		core.source, err = numbering(core.latest())
+// enter lets a call in, unless there are too many, or the core is to end.
+func (core *Core) enter() error {
+	core.mutex.Lock()
+	defer core.mutex.Unlock()
+	if core.closing {
+		return errEnded
 	}
-	opened <- err
-	if err != nil {
-		core.free()
-		return
+	if core.calls == core.config.Calls {
+		return errCalls
 	}
-	defer core.free()
-	for core.err == nil {
-		select {
-		case job := <-core.jobs:
-			job()
-		case <-core.store.Lost():
-			core.err = store.ErrLost
-		case <-core.stop:
-			return
-		}
-	}
-}
-
-// load makes the plugin from the store, and commits what that changes.
-func (core *Core) load(ctx context.Context) error {
-	parts, err := core.store.Load(ctx)
-	if err != nil {
-		return err
-	}
-	made, renewed, err := core.maker.Make(store.Record(parts))
-	if err != nil {
-		return err
-	}
-	core.plugin, core.parts = made, make(map[uint64][]byte, len(parts))
-	for _, part := range parts {
-		core.parts[part.Key] = part.Value
-	}
-	changes, err := made.Changes()
-	if err != nil {
-		return err
-	}
-	if len(changes) == 0 {
-		return nil
-	}
-	if err := core.store.Commit(ctx, renewed, changes); err != nil {
-		return err
-	}
-	if renewed {
-		core.parts = make(map[uint64][]byte, len(changes))
-	}
-	core.apply(changes)
+	core.calls++
 	return nil
 }
 
-func (core *Core) free() {
-	if core.plugin != nil {
-		core.plugin.Free()
-		core.plugin = nil
+func (core *Core) leave() {
+	core.mutex.Lock()
+	defer core.mutex.Unlock()
+	if core.calls--; core.calls == 0 && core.closing {
+		close(core.idle)
 	}
 }
-
-// reload frees the plugin, and makes it again from the store, which has nothing of the last call.
-func (core *Core) reload(ctx context.Context) error {
-	core.free()
-	return core.load(ctx)
-}
-
-func (core *Core) apply(changes []store.Change) {
-	for _, change := range changes {
-		if change.Out {
-			delete(core.parts, change.Key)
-		} else {
-			core.parts[change.Key] = change.Value
-		}
-	}
-}
-
-// latest is the latest session that the plugin has heard of.
-func (core *Core) latest() uint64 {
-	session, _ := records.Session(core.parts[records.HeadKey])
-	return session
-}
-
-// inTurn runs a job on the plugin's thread, after those that came before it. It isn't run where the context ends before its turn.
-func (core *Core) inTurn(ctx context.Context, job func()) error {
-	ran := make(chan struct{})
-	select {
-	case core.jobs <- func() { defer close(ran); job() }:
-		<-ran
-		return nil
-	case <-ctx.Done():
-		return status.FromContextError(ctx.Err()).Err()
-	case <-core.done:
-		return errEnded
-	}
-}
-
-// errEnded is what a call gets whose commit failed, or that came after that: it got no reply of the plugin.
-var errEnded = status.Error(codes.Unavailable, "serving ended")
 
 // Admit refuses a call that comes with a number where it shouldn't, or without one where it should.
 func (core *Core) Admit(ctx context.Context) error { return core.source.Admit(ctx) }
 
-// Carry carries a request to the plugin. An error is a refusal of the driver's own, and then nothing was changed, unless serving ended.
-func (core *Core) Carry(ctx context.Context, request Request) (answer Answer, err error) {
-	if ended := core.inTurn(ctx, func() { answer, err = core.carry(ctx, request) }); ended != nil {
-		return Answer{}, ended
-	}
-	return answer, err
-}
-
-func (core *Core) carry(ctx context.Context, request Request) (Answer, error) {
-	if request.Before != nil {
-		if err := request.Before(); err != nil {
-			return Answer{}, err
-		}
-	}
-	number, err := core.source.Number(ctx, request.Body.Kind(), core.latest())
-	if err != nil {
+// Carry carries a request to the plugin, once those of its volume that came before have ended, and has done what it asks for. An error is a refusal
+// of the driver's own, or says that no reply is given: then what was asked may have been done or not.
+func (core *Core) Carry(ctx context.Context, request Request) (Answer, error) {
+	if err := core.enter(); err != nil {
 		return Answer{}, err
 	}
-	frame, err := frames.Call{Number: number, Node: request.Node, Body: request.Body}.Encode()
-	if err != nil {
-		return Answer{}, status.Error(codes.InvalidArgument, err.Error())
+	defer core.leave()
+	key := keyOf(request.Body)
+	joined := core.acts.find(key, request)
+	if err := core.turns.take(ctx, key, core.done); err != nil {
+		return Answer{}, err
 	}
-	reply, err := core.plugin.Answer(frame)
-	if errors.Is(err, plugin.NoMemory) {
-		return Answer{}, status.Error(codes.ResourceExhausted, "memory")
+	defer core.turns.leave(key)
+	if request.Act != nil && undoes(request.Body.Kind()) {
+		return core.undo(ctx, request)
 	}
-	if err != nil {
-		return Answer{}, core.end(fmt.Errorf("the plugin: %w", err))
-	}
-	return core.settle(request, number, reply)
+	return core.do(ctx, key, request, joined)
 }
 
-// settle has what the call really does done, commits what it changed, and gives the reply. What was carried out is committed, whoever still waits.
-func (core *Core) settle(request Request, number frames.Number, bytes []byte) (Answer, error) {
-	ctx := context.Background()
-	reply, err := frames.DecodeReply(bytes)
-	if err != nil {
-		return Answer{}, core.end(fmt.Errorf("the plugin's reply: %w", err))
+// Known tells what the store has of a volume, and confirms that this process still has the store.
+func (core *Core) Known(ctx context.Context, volume uint64) (known Known, err error) {
+	if err := core.enter(); err != nil {
+		return Known{}, err
 	}
-	changes, err := core.plugin.Changes()
-	if err != nil {
-		return Answer{}, core.undo(ctx, status.Error(codes.ResourceExhausted, "memory"))
-	}
-	isDone := reply.Status == 0 && reply.Kind == request.Body.Kind()
-	if isDone && request.Act != nil && touches(changes, request.Body.Volume()) {
-		if err := request.Act(number); err != nil {
-			return Answer{}, core.undo(ctx, status.Error(codes.Internal, err.Error()))
-		}
-	}
-	if err := core.store.Commit(ctx, false, changes); err != nil {
-		return Answer{}, core.end(err)
-	}
-	core.apply(changes)
-	if isDone && request.After != nil {
-		if err := request.After(number); err != nil {
-			return Answer{}, core.end(err)
-		}
-	}
-	if reply.Kind != request.Body.Kind() {
-		return Answer{}, numbers.ErrNumber // a duplicate of another call's number gets that call's reply
-	}
-	volume := request.Body.Volume()
-	if reply.Volume != 0 {
-		volume = reply.Volume
-	}
-	return Answer{Reply: reply, Row: core.parts[volume]}, nil
-}
-
-// touches says whether the volume's row was put in: each call that the fence let through is kept there, and no other.
-func touches(changes []store.Change, volume uint64) bool {
-	for _, change := range changes {
-		if change.Key == volume && !change.Out {
-			return true
-		}
-	}
-	return false
-}
-
-// undo takes the last call back, by making the plugin again from the store, and gives the refusal of it.
-func (core *Core) undo(ctx context.Context, refusal error) error {
-	if err := core.reload(ctx); err != nil {
-		return core.end(err)
-	}
-	return refusal
-}
-
-// end ends serving: nothing is answered any more.
-func (core *Core) end(err error) error {
-	core.err = err
-	return errEnded
-}
-
-// Row gives the value of a volume's row, and confirms that this process still has the store.
-func (core *Core) Row(ctx context.Context, volume uint64) (row []byte, err error) {
-	ended := core.inTurn(ctx, func() {
-		if err = core.store.Commit(context.Background(), false, nil); err != nil {
-			err = core.end(err)
-		}
-		row = core.parts[volume]
+	defer core.leave()
+	err = core.inTurn(ctx, func(*group) (bool, error) {
+		known = core.known(frames.Number{}, volume)
+		return true, nil
 	})
-	if ended != nil {
-		return nil, ended
+	return known, err
+}
+
+// Row gives the value of a volume's row, as Known does.
+func (core *Core) Row(ctx context.Context, volume uint64) ([]byte, error) {
+	known, err := core.Known(ctx, volume)
+	return known.Row, err
+}
+
+// noReply is what a call gets whose deed failed: to who asked, no reply came, so that it asks again, or has it undone.
+func noReply(err error) error {
+	if told, is := status.FromError(err); is {
+		return status.Error(codes.Unavailable, told.Message())
 	}
-	return row, err
+	return status.Error(codes.Unavailable, err.Error())
 }

@@ -4,241 +4,420 @@ import (
 	"context"
 	"errors"
 	"fmt"
-	"sort"
 	"sync"
 	"testing"
 	"time"
 
 	"google.golang.org/grpc/codes"
-	"google.golang.org/grpc/metadata"
 	"google.golang.org/grpc/status"
 
 	"tufayon/service/frames"
-	"tufayon/service/numbers"
-	"tufayon/service/plugin"
 	"tufayon/service/store"
 )
 
-// memory is a store that outlives its cores, and may fail.
-type memory struct {
-	parts map[uint64][]byte
-	fault error
-	lost  chan struct{}
-}
-
-func newMemory() *memory { return &memory{parts: map[uint64][]byte{}, lost: make(chan struct{})} }
-
-func (kept *memory) Load(context.Context) ([]store.Part, error) {
-	var parts []store.Part
-	for key, value := range kept.parts {
-		parts = append(parts, store.Part{Key: key, Value: value})
-	}
-	sort.Slice(parts, func(i, j int) bool { return parts[i].Key < parts[j].Key })
-	return parts, nil
-}
-
-func (kept *memory) Commit(_ context.Context, _ bool, changes []store.Change) error {
-	if kept.fault != nil {
-		return kept.fault
-	}
-	for _, change := range changes {
-		if change.Out {
-			delete(kept.parts, change.Key)
-		} else {
-			kept.parts[change.Key] = change.Value
-		}
-	}
-	return nil
-}
-
-func (kept *memory) Lost() <-chan struct{} { return kept.lost }
-func (kept *memory) Close() error          { return nil }
-
-var (
-	controller = plugin.Maker{IsController: true, Name: []byte(`{"greatest":1000,"nodes":[]}`)}
-	node       = plugin.Maker{Name: []byte("n1")}
-	joined     = plugin.Maker{Name: []byte("n1"), Session: 5}
-	block      = frames.Capability{Mode: 1}
-)
-
-func open(t *testing.T, maker plugin.Maker, kept store.Store) *Core {
-	t.Helper()
-	core, err := Open(context.Background(), maker, kept, func(uint64) (numbers.Source, error) { return numbers.Metadata{}, nil })
-	if err != nil {
-		t.Fatal(err)
-	}
-	t.Cleanup(core.Close)
-	return core
-}
-
-func numbered(ctx context.Context, session, call uint64) context.Context {
-	number := frames.Number{Session: session, Call: call}
-	return metadata.NewIncomingContext(ctx, metadata.Pairs(numbers.Key, numbers.Text(number)))
-}
-
-func create(name string) Request {
-	return Request{Body: frames.CreateVolume{Name: name, Required: 10, Capabilities: []frames.Capability{block}}}
-}
-
-func wantCode(t *testing.T, err error, want codes.Code) {
-	t.Helper()
-	if status.Code(err) != want {
-		t.Errorf("%v, not %v", err, want)
-	}
-}
-
 // A commit that fails gives no reply and ends the core; another over the store goes on as if the call had never come.
 func TestCommitFails(t *testing.T) {
-	kept, ctx := newMemory(), numbered(context.Background(), 1, 1)
-	core := open(t, controller, kept)
+	kept := newMemory()
+	core := open(t, kept, 10, &faults{})
 	kept.fault = store.ErrDevice
-	_, err := core.Carry(ctx, create("v"))
-	wantCode(t, err, codes.Unavailable)
+	wants(t, core, numbered(1, 1), stage(1), codes.Unavailable)
 	<-core.Done()
 	if !errors.Is(core.Err(), store.ErrDevice) {
 		t.Errorf("it ended by %v", core.Err())
 	}
-	_, err = core.Carry(ctx, create("v"))
-	wantCode(t, err, codes.Unavailable)
+	wants(t, core, numbered(1, 1), stage(1), codes.Unavailable)
 	kept.fault = nil
-	answer, err := open(t, controller, kept).Carry(ctx, create("w"))
-	if err != nil || answer.Reply.Volume != 1 {
-		t.Errorf("the first volume is %+v, %v", answer.Reply, err)
-	}
+	wants(t, open(t, kept, 10, &faults{}), numbered(1, 1), stage(1), codes.OK)
 }
 
+// Who has the store no more ends at once, with what is being done.
 func TestLost(t *testing.T) {
-	kept := newMemory()
-	core := open(t, controller, kept)
+	kept, deed := newMemory(), newDeed()
+	core := open(t, kept, 10, &faults{})
+	under := carry(core, numbered(1, 1), stage(1).by(deed))
+	<-deed.begun
 	close(kept.lost)
+	wantsError(t, under, codes.Unavailable)
 	<-core.Done()
 	if !errors.Is(core.Err(), store.ErrLost) {
 		t.Errorf("it ended by %v", core.Err())
 	}
 }
 
-// Calls at once are carried out one after another, each once.
-func TestAtOnce(t *testing.T) {
-	const count = 100
-	core := open(t, controller, newMemory())
-	var group sync.WaitGroup
-	var mutex sync.Mutex
-	volumes := map[uint64]bool{}
-	for at := uint64(1); at <= count; at++ {
-		group.Add(1)
-		go func(at uint64) {
-			defer group.Done()
-			answer, err := core.Carry(numbered(context.Background(), 1, at), create(fmt.Sprint("v", at)))
-			if err != nil || answer.Reply.Status != 0 {
-				t.Errorf("call %d: %+v, %v", at, answer.Reply, err)
-			}
-			mutex.Lock()
-			volumes[answer.Reply.Volume] = true
-			mutex.Unlock()
-		}(at)
-	}
-	group.Wait()
-	if len(volumes) != count {
-		t.Errorf("%d volumes", len(volumes))
-	}
-}
-
-// A call whose caller gave up before its turn isn't carried out; one whose caller gave up in its midst is, and committed.
-func TestGivenUp(t *testing.T) {
-	kept := newMemory()
-	core := open(t, node, kept)
-	began, goOn := make(chan struct{}), make(chan struct{})
-	slow := Request{Node: "n1", Body: frames.NodeStageVolume{ID: 1, Capability: block}, Act: func(frames.Number) error {
-		close(began)
-		<-goOn
-		return nil
-	}}
-	slowCtx, giveUp := context.WithCancel(context.Background())
-	ended := make(chan error)
+// carry has a call made beside this one.
+func carry(core *Core, ctx context.Context, request Request) <-chan error {
+	ended := make(chan error, 1)
 	go func() {
-		_, err := core.Carry(numbered(slowCtx, 1, 1), slow)
+		_, err := core.Carry(ctx, request)
 		ended <- err
 	}()
-	<-began
-	giveUp()
-	short, cancel := context.WithTimeout(context.Background(), 10*time.Millisecond)
-	defer cancel()
-	_, err := core.Carry(numbered(short, 1, 2), Request{Node: "n1", Body: frames.NodeStageVolume{ID: 2, Capability: block}})
-	wantCode(t, err, codes.DeadlineExceeded)
-	close(goOn)
-	if err := <-ended; err != nil {
-		t.Errorf("the slow call: %v", err)
-	}
-	if len(kept.parts) != 2 || kept.parts[1] == nil {
-		t.Errorf("the store has %d parts", len(kept.parts))
+	return ended
+}
+
+func wantsError(t *testing.T, ended <-chan error, want codes.Code) {
+	t.Helper()
+	if err := <-ended; status.Code(err) != want {
+		t.Errorf("it ended by %v, not %v", err, want)
 	}
 }
 
-// A hook that fails leaves nothing: not the number, not the session, not the row.
-func TestActFails(t *testing.T) {
-	kept := newMemory()
-	core := open(t, node, kept)
-	stage := Request{Node: "n1", Body: frames.NodeStageVolume{ID: 1, Capability: block}}
-	failing := stage
-	failing.Act = func(frames.Number) error { return errors.New("the disk burns") }
-	before := fmt.Sprint(kept.parts)
-	_, err := core.Carry(numbered(context.Background(), 7, 1), failing)
-	if status.Code(err) != codes.Internal || status.Convert(err).Message() != "the disk burns" {
-		t.Errorf("it is refused by %v", err)
+// What does something is in the store before it is done, and stays there where that fails; the repeat does it again, by the same number or another
+// one, and once it was done a duplicate doesn't.
+func TestDoing(t *testing.T) {
+	kept, deed := newMemory(), newDeed()
+	core := open(t, kept, 10, &faults{})
+	ended := carry(core, numbered(1, 1), stage(1).by(deed))
+	<-deed.begun
+	if !kept.has(1) {
+		t.Error("it is done before it is committed")
 	}
-	if after := fmt.Sprint(kept.parts); after != before {
-		t.Errorf("the store has %s, not %s", after, before)
+	deed.goOn <- errors.New("the disk burns")
+	if err := <-ended; status.Code(err) != codes.Unavailable || status.Convert(err).Message() != "the disk burns" {
+		t.Errorf("it ended by %v", err)
 	}
-	if answer, err := core.Carry(numbered(context.Background(), 6, 1), stage); err != nil || answer.Reply.Status != 0 {
-		t.Errorf("a call of an earlier session: %+v, %v", answer.Reply, err)
+	if !kept.has(1) {
+		t.Error("the store let go of what may be there")
 	}
-}
-
-// A node that joins with a session finds calls of earlier ones stale, also once a hook failed, and when it is opened again.
-func TestJoined(t *testing.T) {
-	kept := newMemory()
-	core := open(t, joined, kept)
-	stage := Request{Node: "n1", Body: frames.NodeStageVolume{ID: 1, Capability: block}}
-	failing := stage
-	failing.Act = func(frames.Number) error { return errors.New("the disk burns") }
-	_, err := core.Carry(numbered(context.Background(), 6, 1), failing)
-	wantCode(t, err, codes.Internal)
-	wantStale := func(core *Core) {
-		t.Helper()
-		if answer, err := core.Carry(numbered(context.Background(), 4, 9), stage); err != nil || answer.Reply.Status != uint8(codes.Aborted) {
-			t.Errorf("a call of an earlier session: %+v, %v", answer.Reply, err)
+	close(deed.goOn)
+	for _, call := range []uint64{1, 1, 2, 2} {
+		answer := wants(t, core, numbered(1, call), stage(1).by(deed), codes.OK)
+		if string(answer.Acted) != "1" {
+			t.Errorf("it gave %q", answer.Acted)
 		}
 	}
-	wantStale(core)
-	if len(kept.parts) != 1 {
-		t.Errorf("the store has %d parts", len(kept.parts))
+	if deed.times() != 3 {
+		t.Errorf("it was done %d times", deed.times())
 	}
-	if answer, err := core.Carry(numbered(context.Background(), 5, 1), stage); err != nil || answer.Reply.Status != 0 {
-		t.Errorf("a call of its session: %+v, %v", answer.Reply, err)
-	}
+	wants(t, core, numbered(1, 1), stage(1).by(deed), codes.Aborted)
 	core.Close()
-	for _, maker := range []plugin.Maker{joined, node} { // the store's session is above 0 too
-		again := open(t, maker, kept)
-		wantStale(again)
-		again.Close()
+	wants(t, open(t, kept, 10, &faults{}), numbered(1, 2), stage(1).by(deed), codes.OK) // another process doesn't know that it was done
+	if deed.times() != 4 {
+		t.Errorf("it was done %d times", deed.times())
 	}
 }
 
-// The store of an earlier session than that of the joining, a lost node's, is refused, and stays as it is.
-func TestEarlierSession(t *testing.T) {
+// What undoes something is in the store only once it is undone; where that fails nothing is changed, not even the session.
+func TestUndoing(t *testing.T) {
+	kept, deed := newMemory(), newDeed()
+	core := open(t, kept, 10, &faults{})
+	wants(t, core, numbered(1, 1), stage(1), codes.OK)
+	before := kept.text()
+	ended := carry(core, numbered(2, 1), unstage(1).by(deed))
+	<-deed.begun
+	if kept.text() != before {
+		t.Error("the store lets go of what is there")
+	}
+	deed.goOn <- errors.New("it is busy")
+	wantsError(t, ended, codes.Unavailable)
+	if kept.text() != before {
+		t.Errorf("the store has %s, not %s", kept.text(), before)
+	}
+	wants(t, core, numbered(1, 2), stage(2), codes.OK) // no session began
+	close(deed.goOn)
+	wants(t, core, numbered(2, 1), unstage(1).by(deed), codes.OK)
+	wants(t, core, numbered(2, 1), unstage(1).by(deed), codes.OK)
+	if kept.has(1) || deed.times() != 2 {
+		t.Errorf("it is there: %v, and was undone %d times", kept.has(1), deed.times())
+	}
+	wants(t, core, numbered(1, 9), unstage(2).by(deed), codes.Aborted)
+	wants(t, core, numbered(2, 2), unstage(7).by(deed), codes.OK) // nobody has it
+	if deed.times() != 2 {
+		t.Errorf("it was undone %d times", deed.times())
+	}
+}
+
+// A session that begins while something is undone makes the call stale: the store still has the thing.
+func TestSessionBegins(t *testing.T) {
+	kept, deed := newMemory(), newDeed()
+	core := open(t, kept, 10, &faults{})
+	wants(t, core, numbered(1, 1), stage(1), codes.OK)
+	answers := make(chan Answer, 1)
+	go func() {
+		answer, _ := core.Carry(numbered(1, 2), unstage(1).by(deed))
+		answers <- answer
+	}()
+	<-deed.begun
+	wants(t, core, numbered(2, 1), stage(2), codes.OK)
+	close(deed.goOn)
+	if answer := <-answers; answer.Reply.Status != uint8(codes.Aborted) || !kept.has(1) {
+		t.Errorf("its reply is %+v, and the store has it: %v", answer.Reply, kept.has(1))
+	}
+}
+
+// Who gave up finds it done by a repeat that came meanwhile, and it isn't done twice; other calls, and those after another one, do it.
+func TestJoining(t *testing.T) {
+	core, deed := open(t, newMemory(), 10, &faults{}), newDeed()
+	ctx, giveUp := context.WithCancel(numbered(1, 1))
+	first := carry(core, ctx, stage(1).by(deed))
+	<-deed.begun
+	giveUp()
+	like, other := stage(1).by(deed), stage(1).by(deed)
+	other.Like = "with other flags"
+	repeats := []<-chan error{}
+	for call, request := range map[uint64]Request{1: like, 2: like, 3: like} {
+		repeats = append(repeats, carry(core, numbered(1, call), request))
+	}
+	for waiting(core, key{volume: 1}) < 3 {
+		time.Sleep(time.Millisecond)
+	}
+	close(deed.goOn)
+	wantsError(t, first, codes.OK)
+	for _, it := range repeats {
+		<-it // by their order some may be stale
+	}
+	if deed.times() != 1 {
+		t.Errorf("it was done %d times", deed.times())
+	}
+	wants(t, core, numbered(1, 4), other, codes.OK)
+	wants(t, core, numbered(1, 5), like, codes.OK)
+	if deed.times() != 3 {
+		t.Errorf("it was done %d times", deed.times())
+	}
+}
+
+// What was joined doesn't count where another deed came between, also one that failed.
+func TestJoiningAfterFailing(t *testing.T) {
+	core, deed, failing := open(t, newMemory(), 10, &faults{}), newDeed(), newDeed()
+	first := carry(core, numbered(1, 1), stage(1).by(deed))
+	<-deed.begun
+	other := stage(1).by(failing)
+	other.Like = "with other flags"
+	second := carry(core, numbered(1, 2), other)
+	for waiting(core, key{volume: 1}) < 1 {
+		time.Sleep(time.Millisecond)
+	}
+	again := carry(core, numbered(1, 3), stage(1).by(deed))
+	for waiting(core, key{volume: 1}) < 2 {
+		time.Sleep(time.Millisecond)
+	}
+	close(deed.goOn)
+	<-failing.begun
+	failing.goOn <- errors.New("no such flags")
+	wantsError(t, first, codes.OK)
+	wantsError(t, second, codes.Unavailable)
+	wantsError(t, again, codes.OK)
+	if deed.times() != 2 {
+		t.Errorf("it was done %d times", deed.times())
+	}
+}
+
+func TestJoiningAfterUndoing(t *testing.T) {
+	core, deed, undo := open(t, newMemory(), 10, &faults{}), newDeed(), done()
+	first := carry(core, numbered(1, 1), stage(1).by(deed))
+	<-deed.begun
+	undone := carry(core, numbered(1, 2), unstage(1).by(undo))
+	for waiting(core, key{volume: 1}) < 1 {
+		time.Sleep(time.Millisecond)
+	}
+	again := carry(core, numbered(1, 3), stage(1).by(deed))
+	for waiting(core, key{volume: 1}) < 2 {
+		time.Sleep(time.Millisecond)
+	}
+	close(deed.goOn)
+	for _, it := range []<-chan error{first, undone, again} {
+		wantsError(t, it, codes.OK)
+	}
+	if deed.times() != 2 || undo.times() != 1 {
+		t.Errorf("it was done %d times, and undone %d times", deed.times(), undo.times())
+	}
+}
+
+// waiting is how many calls wait for a key.
+func waiting(core *Core, key key) int {
+	core.turns.mutex.Lock()
+	defer core.turns.mutex.Unlock()
+	return len(core.turns.queues[key])
+}
+
+// A slow deed holds up no other volume; the next call of its own volume isn't asked before it ended.
+func TestSideBySide(t *testing.T) {
+	const count = 1000
+	kept, slow, quick := newMemory(), newDeed(), done()
+	core := open(t, kept, count+1, &faults{})
+	first := carry(core, numbered(1, 1), stage(1).by(slow))
+	<-slow.begun
+	next := carry(core, numbered(1, 2), unstage(1).by(quick))
+	var group sync.WaitGroup
+	for volume := uint64(2); volume < count+2; volume++ {
+		group.Add(1)
+		go func(volume uint64) {
+			defer group.Done()
+			wants(t, core, numbered(1, volume+1), stage(volume), codes.OK)
+		}(volume)
+	}
+	group.Wait()
+	if !kept.has(1) || !kept.has(count+1) || quick.times() != 0 {
+		t.Error("the slow one isn't there, or another one, or what came after it was done before it ended")
+	}
+	close(slow.goOn)
+	wantsError(t, first, codes.OK)
+	wantsError(t, next, codes.OK)
+	if kept.has(1) {
+		t.Error("it is there still")
+	}
+}
+
+// The last room is taken as soon as it is claimed, and free again only once what had it is undone.
+func TestLastRoom(t *testing.T) {
+	core, does, undoes := open(t, newMemory(), 1, &faults{}), newDeed(), newDeed()
+	first := carry(core, numbered(1, 1), stage(1).by(does))
+	<-does.begun
+	wants(t, core, numbered(1, 2), stage(2), codes.ResourceExhausted)
+	does.goOn <- errors.New("the disk burns")
+	wantsError(t, first, codes.Unavailable)
+	wants(t, core, numbered(1, 3), stage(2), codes.ResourceExhausted)
+	second := carry(core, numbered(1, 4), unstage(1).by(undoes))
+	<-undoes.begun
+	wants(t, core, numbered(1, 5), stage(2), codes.ResourceExhausted)
+	close(undoes.goOn)
+	wantsError(t, second, codes.OK)
+	wants(t, core, numbered(1, 6), stage(2), codes.OK)
+}
+
+// A volume that is made is acted on under its name, and then under its id.
+func TestMaking(t *testing.T) {
+	core, deed, undo := open(t, newMemory(), 10, &faults{}), newDeed(), done()
+	first := carry(core, numbered(1, 1), create("abc").by(deed))
+	<-deed.begun
+	removed := carry(core, numbered(1, 2), Request{Body: frames.DeleteVolume{ID: 3}}.by(undo))
+	for waiting(core, key{volume: 3}) < 1 {
+		time.Sleep(time.Millisecond)
+	}
+	if undo.times() != 0 {
+		t.Error("it is deleted while it is made")
+	}
+	close(deed.goOn)
+	wantsError(t, first, codes.OK)
+	wantsError(t, removed, codes.OK)
+	if undo.times() != 1 {
+		t.Errorf("it was deleted %d times", undo.times())
+	}
+}
+
+// A call whose caller gave up before its turn isn't carried out.
+func TestGivenUp(t *testing.T) {
+	kept, slow := newMemory(), newDeed()
+	core := open(t, kept, 10, &faults{})
+	first := carry(core, numbered(1, 1), stage(1).by(slow))
+	<-slow.begun
+	short, cancel := context.WithTimeout(numbered(1, 2), 10*time.Millisecond)
+	defer cancel()
+	wants(t, core, short, unstage(1), codes.DeadlineExceeded)
+	if queue := waiting(core, key{volume: 1}); queue != 0 {
+		t.Errorf("%d wait", queue)
+	}
+	close(slow.goOn)
+	wantsError(t, first, codes.OK)
+	if !kept.has(1) {
+		t.Error("it was carried out")
+	}
+	gone, cancelled := context.WithCancel(numbered(1, 3))
+	cancelled()
+	wants(t, core, gone, unstage(1), codes.Canceled)
+	// What is being undone is undone to its end, whoever waits for it.
+	undoing := newDeed()
+	leaving, leave := context.WithCancel(numbered(1, 4))
+	last := carry(core, leaving, unstage(1).by(undoing))
+	<-undoing.begun
+	leave()
+	close(undoing.goOn)
+	wantsError(t, last, codes.OK)
+	if kept.has(1) {
+		t.Error("it is there still")
+	}
+}
+
+// There are so many calls at most.
+func TestLimit(t *testing.T) {
+	slow := newDeed()
+	core, err := Open(context.Background(), Config{Make: making(10, &faults{}), Store: newMemory(), Numbering: byMetadata, Calls: 2})
+	if err != nil {
+		t.Fatal(err)
+	}
+	t.Cleanup(core.Close)
+	first := carry(core, numbered(1, 1), stage(1).by(slow))
+	<-slow.begun
+	second := carry(core, numbered(1, 2), stage(1).by(slow))
+	for waiting(core, key{volume: 1}) < 1 {
+		time.Sleep(time.Millisecond)
+	}
+	_, err = core.Carry(numbered(1, 3), stage(3))
+	if status.Code(err) != codes.ResourceExhausted || status.Convert(err).Message() != "calls" {
+		t.Errorf("the third: %v", err)
+	}
+	close(slow.goOn)
+	wantsError(t, first, codes.OK)
+	wantsError(t, second, codes.OK)
+	wants(t, core, numbered(1, 3), stage(3), codes.OK)
+}
+
+// An end waits for what is under way, for a while, and then ends it: no reply is given, and the store has what may be there.
+func TestEnd(t *testing.T) {
+	kept, slow := newMemory(), newDeed()
+	core := open(t, kept, 10, &faults{})
+	first := carry(core, numbered(1, 1), stage(1).by(slow))
+	<-slow.begun
+	ctx, cancel := context.WithTimeout(context.Background(), 10*time.Millisecond)
+	defer cancel()
+	core.Finish(ctx)
+	wants(t, core, numbered(1, 2), stage(2), codes.Unavailable)
+	core.Close()
+	wantsError(t, first, codes.Unavailable)
+	if !kept.has(1) || core.Err() != nil {
+		t.Errorf("the store has it: %v, and it ended by %v", kept.has(1), core.Err())
+	}
+}
+
+// A path is in the notes before its row, and goes once the volume isn't staged any more.
+func TestPaths(t *testing.T) {
 	kept := newMemory()
-	core := open(t, node, kept)
-	stage := Request{Node: "n1", Body: frames.NodeStageVolume{ID: 1, Capability: block}}
-	if answer, err := core.Carry(numbered(context.Background(), 4, 1), stage); err != nil || answer.Reply.Status != 0 {
-		t.Errorf("%+v, %v", answer.Reply, err)
+	core := open(t, kept, 10, &faults{})
+	wants(t, core, numbered(1, 1), stage(1), codes.OK)
+	wants(t, core, numbered(1, 2), stage(2), codes.OK)
+	known, err := core.Known(context.Background(), 1)
+	if err != nil || known.Staging != "/s/1" || known.Session != 1 || known.Row == nil {
+		t.Errorf("it is known as %+v, %v", known, err)
+	}
+	wants(t, core, numbered(1, 3), unstage(1), codes.OK)
+	if known, err := core.Known(context.Background(), 1); err != nil || known.Staging != "" {
+		t.Errorf("it is known as %+v, %v", known, err)
 	}
 	core.Close()
-	before := fmt.Sprint(kept.parts)
-	_, err := Open(context.Background(), joined, kept, func(uint64) (numbers.Source, error) { return numbers.Metadata{}, nil })
-	if !errors.Is(err, plugin.EarlierSession) {
-		t.Errorf("it is opened, or refused otherwise: %v", err)
+	if notes := fmt.Sprint(kept.notes); notes != "map[2:/s/2]" {
+		t.Errorf("the notes are %s", notes)
 	}
-	if after := fmt.Sprint(kept.parts); after != before {
-		t.Errorf("the store has %s, not %s", after, before)
+	kept.notes[7] = "/s/7" // of a process that was killed before the row came
+	again := open(t, kept, 10, &faults{})
+	if known, err := again.Known(context.Background(), 7); err != nil || known.Staging != "" {
+		t.Errorf("it is known as %+v, %v", known, err)
+	}
+	if known, err := again.Known(context.Background(), 2); err != nil || known.Staging != "/s/2" {
+		t.Errorf("it is known as %+v, %v", known, err)
+	}
+	kept.fault = store.ErrNotes
+	wants(t, again, numbered(1, 5), stage(5), codes.Unavailable)
+	if kept.has(5) {
+		t.Error("the row is there, and its note isn't")
+	}
+}
+
+// A refusal of Judge changes nothing, and is told as it is.
+func TestJudged(t *testing.T) {
+	kept, deed := newMemory(), done()
+	core := open(t, kept, 10, &faults{})
+	wants(t, core, numbered(1, 1), stage(1), codes.OK)
+	before := kept.text()
+	for _, request := range []Request{stage(1), unstage(1), stage(2)} {
+		request = request.by(deed)
+		request.Judge = func(known Known) error {
+			if known.Number != (frames.Number{Session: 1, Call: 2}) || known.Session != 1 || (known.Row != nil) != (known.Volume == 1) {
+				t.Errorf("it is judged by %+v", known)
+			}
+			return status.Error(codes.FailedPrecondition, "no")
+		}
+		wants(t, core, numbered(1, 2), request, codes.FailedPrecondition)
+	}
+	if kept.text() != before || deed.times() != 0 {
+		t.Errorf("the store has %s, and %d deeds were done", kept.text(), deed.times())
 	}
 }

@@ -1,54 +1,28 @@
 package staging
 
 import (
-	"errors"
-	"os"
-	"path/filepath"
+	"reflect"
 	"testing"
 
-	"tufayon/service/frames"
+	"tufayon/service/store"
 )
 
-func TestFile(t *testing.T) {
-	file := filepath.Join(t.TempDir(), "n1.db.paths")
-	paths, err := Open(file)
-	if err != nil {
-		t.Fatal(err)
+func TestPaths(t *testing.T) {
+	paths := New(map[uint64]string{1: "/a", 2: "/b"})
+	if paths.Of(1) != "/a" || paths.Of(3) != "" {
+		t.Errorf("volume 1 has %q, and 3 has %q", paths.Of(1), paths.Of(3))
 	}
-	for volume, path := range map[uint64]string{12: "/b", 3: "/a \"\n\u00e9"} {
-		if err := paths.Put(volume, Line{frames.Number{Session: 2, Call: volume}, path}); err != nil {
-			t.Fatal(err)
-		}
+	if note := paths.Put(3, "/c"); note != (store.Note{Volume: 3, Path: "/c"}) || paths.Of(3) != "/c" {
+		t.Errorf("the note is %v", note)
 	}
-	const want = "3 2.3 \"/a \\\"\\n\u00e9\"\n12 2.12 \"/b\"\n"
-	if content, err := os.ReadFile(file); err != nil || string(content) != want {
-		t.Errorf("the file has %q, %v, not %q", content, err, want)
+	for _, volume := range []uint64{3, 2, 2, 9, 1} {
+		paths.Take(volume)
 	}
-	if err := paths.Take(12); err != nil {
-		t.Fatal(err)
+	paths.Put(1, "/d")
+	if late := paths.Late(); !reflect.DeepEqual(late, []store.Note{{Volume: 2, Out: true}, {Volume: 3, Out: true}}) {
+		t.Errorf("late are %v", late)
 	}
-	again, err := Open(file)
-	if err != nil {
-		t.Fatal(err)
-	}
-	if line, there := again.Of(3); !there || line != (Line{frames.Number{Session: 2, Call: 3}, "/a \"\n\u00e9"}) {
-		t.Errorf("volume 3 has %+v", line)
-	}
-	if _, there := again.Of(12); there {
-		t.Error("volume 12 is there still")
-	}
-}
-
-func TestDamaged(t *testing.T) {
-	for _, content := range []string{
-		"1", "\n", `1 1.1 "/a"`, `0 1.1 "/a"` + "\n", `01 1.1 "/a"` + "\n", `1 1 "/a"` + "\n", "1 1.1 /a\n", `1 1.1 "/a"` + "\n" + `1 1.2 "/b"` + "\n",
-	} {
-		file := filepath.Join(t.TempDir(), "paths")
-		if err := os.WriteFile(file, []byte(content), 0o600); err != nil {
-			t.Fatal(err)
-		}
-		if _, err := Open(file); !errors.Is(err, ErrFile) {
-			t.Errorf("%q: %v", content, err)
-		}
+	if late := paths.Late(); len(late) != 0 || paths.Of(1) != "/d" || paths.Of(2) != "" {
+		t.Errorf("late are %v", late)
 	}
 }

@@ -25,8 +25,9 @@ const (
 
 // sqlite is the store that csi-replay has too: a file with the table parts.
 type sqlite struct {
-	db   *sql.DB
-	lost chan struct{}
+	db        *sql.DB
+	put, take *sql.Stmt
+	lost      chan struct{}
 }
 
 // OpenSQLite opens the file of a store, and makes it where it is missing. It holds the file's lock until it is closed.
@@ -42,17 +43,24 @@ func OpenSQLite(ctx context.Context, path string) (Store, error) {
 	}
 	db.SetMaxOpenConns(1) // one connection, which has the lock
 	store := &sqlite{db: db, lost: make(chan struct{})}
-	if err := store.prepare(ctx); err != nil {
+	err = prepare(ctx, db, listOther, makeTable)
+	if err == nil {
+		store.put, err = db.PrepareContext(ctx, putPart)
+	}
+	if err == nil {
+		store.take, err = db.PrepareContext(ctx, takePart)
+	}
+	if err != nil {
 		db.Close()
 		return nil, fmt.Errorf("%w: %v", ErrNotOpened, err)
 	}
 	return store, nil
 }
 
-// prepare makes the table where it is missing, and takes the file's lock. It changes no other database.
-func (store *sqlite) prepare(ctx context.Context) error {
+// prepare makes a table where it is missing, and takes the file's lock. It changes no other database: what is listed counts what else one has.
+func prepare(ctx context.Context, db *sql.DB, listOther, makeTable string) error {
 	var others int
-	if err := store.db.QueryRowContext(ctx, listOther).Scan(&others); err != nil {
+	if err := db.QueryRowContext(ctx, listOther).Scan(&others); err != nil {
 		return err
 	}
 	if others > 0 {
@@ -60,20 +68,20 @@ func (store *sqlite) prepare(ctx context.Context) error {
 	}
 	// Only now: this writes the mode into the file, where it stays.
 	var mode string
-	if err := store.db.QueryRowContext(ctx, "PRAGMA journal_mode = WAL").Scan(&mode); err != nil {
+	if err := db.QueryRowContext(ctx, "PRAGMA journal_mode = WAL").Scan(&mode); err != nil {
 		return err
 	}
 	if mode != "wal" {
 		return fmt.Errorf("it stays in the mode %s", mode)
 	}
-	return store.transact(ctx, func(tx *sql.Tx) error {
+	return transact(ctx, db, func(tx *sql.Tx) error {
 		_, err := tx.ExecContext(ctx, makeTable)
 		return err
 	})
 }
 
-func (store *sqlite) transact(ctx context.Context, change func(*sql.Tx) error) error {
-	tx, err := store.db.BeginTx(ctx, nil)
+func transact(ctx context.Context, db *sql.DB, change func(*sql.Tx) error) error {
+	tx, err := db.BeginTx(ctx, nil)
 	if err != nil {
 		return err
 	}
@@ -111,14 +119,15 @@ func (store *sqlite) Commit(ctx context.Context, anew bool, changes []Change) er
 	if !anew && len(changes) == 0 {
 		return nil // the file's lock says that it is ours
 	}
-	err := store.transact(ctx, func(tx *sql.Tx) error {
+	err := transact(ctx, store.db, func(tx *sql.Tx) error {
 		if anew {
 			if _, err := tx.ExecContext(ctx, takeAll); err != nil {
 				return err
 			}
 		}
+		put, take := tx.StmtContext(ctx, store.put), tx.StmtContext(ctx, store.take)
 		for _, change := range changes {
-			if err := apply(ctx, tx, change); err != nil {
+			if err := apply(ctx, put, take, change); err != nil {
 				return err
 			}
 		}
@@ -130,13 +139,13 @@ func (store *sqlite) Commit(ctx context.Context, anew bool, changes []Change) er
 	return nil
 }
 
-func apply(ctx context.Context, tx *sql.Tx, change Change) error {
+func apply(ctx context.Context, put, take *sql.Stmt, change Change) error {
 	key := binary.BigEndian.AppendUint64(nil, change.Key)
 	if change.Out {
-		_, err := tx.ExecContext(ctx, takePart, key)
+		_, err := take.ExecContext(ctx, key)
 		return err
 	}
-	_, err := tx.ExecContext(ctx, putPart, key, change.Value)
+	_, err := put.ExecContext(ctx, key, change.Value)
 	return err
 }
 
@@ -144,18 +153,16 @@ func (store *sqlite) Lost() <-chan struct{} { return store.lost }
 
 // Close puts the log back into the file, which alone is the store then.
 func (store *sqlite) Close() error {
-	_, failed := store.db.Exec("PRAGMA wal_checkpoint(TRUNCATE)")
-	if err := store.db.Close(); err != nil || failed != nil {
-		return fmt.Errorf("%w: the last checkpoint: %v", ErrDevice, firstOf(failed, err))
+	if err := closeFile(store.db); err != nil {
+		return fmt.Errorf("%w: the last checkpoint: %v", ErrDevice, err)
 	}
 	return nil
 }
 
-func firstOf(errs ...error) error {
-	for _, err := range errs {
-		if err != nil {
-			return err
-		}
+func closeFile(db *sql.DB) error {
+	_, failed := db.Exec("PRAGMA wal_checkpoint(TRUNCATE)")
+	if err := db.Close(); err != nil && failed == nil {
+		return err
 	}
-	return nil
+	return failed
 }

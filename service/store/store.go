@@ -40,6 +40,8 @@ var (
 	ErrLost      = errors.New("leadership lost")
 	ErrUnknown   = errors.New("a commit's outcome isn't known")
 	ErrTooSmall  = errors.New("etcd takes no commit that is large enough")
+	ErrNotes     = errors.New("the notes of staging paths")
+	ErrMemory    = errors.New("memory") // an allocation of a plugin was refused
 )
 
 // Record gives the bytes of the whole record that has these parts, by rising key: none where there are no parts.

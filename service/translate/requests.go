@@ -11,6 +11,7 @@ import (
 	"google.golang.org/grpc/status"
 
 	"tufayon/service/frames"
+	"tufayon/service/hooks"
 	"tufayon/service/numbers"
 	"tufayon/service/wire"
 )
@@ -42,8 +43,48 @@ func (judged *fields) text(field, value string, most int) {
 
 func hasZero(text string) bool { return strings.ContainsRune(text, 0) }
 
-func (judged *fields) noMap(field string, value map[string]string) {
-	judged.refuse(field, len(value) > 0)
+// path judges a path of a node: absolute, and without a parent directory.
+func (judged *fields) path(field, value string, most int) {
+	judged.text(field, value, most)
+	judged.refuse(field, !hooks.IsAbsolute(value))
+}
+
+// staged judges the staging path of a publication: CSI has another status where a plugin that stages isn't told it.
+func (judged *fields) staged(value string) {
+	if judged.err == nil && value == "" {
+		judged.err = status.Error(codes.FailedPrecondition, "staging_target_path")
+	}
+	judged.path("staging_target_path", value, maxPath)
+}
+
+// target judges a target path. Whether it begins with a slash, where a volume is published, is the plugin's to say.
+func (judged *fields) target(value string) {
+	judged.text("target_path", value, frames.MaxTarget)
+	judged.refuse("target_path", hooks.HasParent(value))
+}
+
+// hidden judges what only hooks are told: no more bytes than CSI has in a map.
+func (judged *fields) hidden(field string, value map[string]string) {
+	judged.refuse(field, !hooks.Fits(value))
+}
+
+// isFsType says whether a type of a file system has letters, digits, - and _ alone, so that no hook's command takes it for anything else.
+func isFsType(text string) bool {
+	for _, char := range text {
+		if !(char >= 'a' && char <= 'z' || char >= 'A' && char <= 'Z' || char >= '0' && char <= '9' || char == '-' || char == '_') {
+			return false
+		}
+	}
+	return len(text) <= frames.MaxFsType && !strings.HasPrefix(text, "-")
+}
+
+// sizeOf is how many bytes texts have together.
+func sizeOf(texts []string) int {
+	size := 0
+	for _, text := range texts {
+		size += len(text)
+	}
+	return size
 }
 
 func (judged *fields) capability(field string, value *wire.VolumeCapability) frames.Capability {
@@ -53,8 +94,8 @@ func (judged *fields) capability(field string, value *wire.VolumeCapability) fra
 	case *wire.VolumeCapability_Block:
 	case *wire.VolumeCapability_Mount:
 		mount := access.Mount
-		judged.refuse("fs_type", len(mount.GetFsType()) > frames.MaxFsType || hasZero(mount.GetFsType()))
-		judged.refuse("mount_flags", len(mount.GetMountFlags()) > 0)
+		judged.refuse("fs_type", !isFsType(mount.GetFsType()))
+		judged.refuse("mount_flags", sizeOf(mount.GetMountFlags()) > hooks.MaxMap)
 		judged.refuse("volume_mount_group", mount.GetVolumeMountGroup() != "")
 		capability.Mount, capability.FsType = true, mount.GetFsType()
 	default:
@@ -106,8 +147,8 @@ func CreateVolume(request *wire.CreateVolumeRequest) (frames.CreateVolume, error
 		body.Required, body.Limit = uint64(bounds.GetRequiredBytes()), uint64(bounds.GetLimitBytes())
 	}
 	body.Capabilities = judged.capabilities(request.GetVolumeCapabilities())
-	judged.noMap("parameters", request.GetParameters())
-	judged.noMap("secrets", request.GetSecrets())
+	judged.hidden("parameters", request.GetParameters())
+	judged.hidden("secrets", request.GetSecrets())
 	judged.refuse("volume_content_source", request.GetVolumeContentSource() != nil)
 	judged.refuse("accessibility_requirements", request.GetAccessibilityRequirements() != nil)
 	return body, judged.err
@@ -117,7 +158,7 @@ func CreateVolume(request *wire.CreateVolumeRequest) (frames.CreateVolume, error
 func DeleteVolume(request *wire.DeleteVolumeRequest) (frames.DeleteVolume, error) {
 	judged := fields{}
 	body := frames.DeleteVolume{ID: judged.volume(request.GetVolumeId())}
-	judged.noMap("secrets", request.GetSecrets())
+	judged.hidden("secrets", request.GetSecrets())
 	return body, judged.end(body.ID)
 }
 
@@ -127,16 +168,19 @@ func ControllerPublishVolume(request *wire.ControllerPublishVolumeRequest) (fram
 	body := frames.ControllerPublishVolume{ID: judged.volume(request.GetVolumeId()), Node: request.GetNodeId(), Readonly: request.GetReadonly()}
 	judged.text("node_id", body.Node, frames.MaxNode)
 	body.Capability = judged.capability("volume_capability", request.GetVolumeCapability())
-	judged.noMap("secrets", request.GetSecrets())
+	judged.hidden("secrets", request.GetSecrets())
+	judged.hidden("volume_context", request.GetVolumeContext())
 	return body, judged.end(body.ID)
 }
 
-// ControllerUnpublishVolume makes the call of the request.
-func ControllerUnpublishVolume(request *wire.ControllerUnpublishVolumeRequest) (frames.ControllerUnpublishVolume, error) {
+// ControllerUnpublishVolume makes the call of the request. Where it may be of all nodes, its node may be empty, which no frame can say.
+func ControllerUnpublishVolume(request *wire.ControllerUnpublishVolumeRequest, mayBeAll bool) (frames.ControllerUnpublishVolume, error) {
 	judged := fields{}
 	body := frames.ControllerUnpublishVolume{ID: judged.volume(request.GetVolumeId()), Node: request.GetNodeId()}
-	judged.text("node_id", body.Node, frames.MaxNode)
-	judged.noMap("secrets", request.GetSecrets())
+	if !mayBeAll || body.Node != "" {
+		judged.text("node_id", body.Node, frames.MaxNode)
+	}
+	judged.hidden("secrets", request.GetSecrets())
 	return body, judged.end(body.ID)
 }
 
@@ -144,9 +188,11 @@ func ControllerUnpublishVolume(request *wire.ControllerUnpublishVolumeRequest) (
 func NodeStageVolume(request *wire.NodeStageVolumeRequest) (frames.NodeStageVolume, error) {
 	judged := fields{}
 	body := frames.NodeStageVolume{ID: judged.volume(request.GetVolumeId())}
-	judged.text("staging_target_path", request.GetStagingTargetPath(), maxPath)
+	judged.hidden("publish_context", request.GetPublishContext())
+	judged.path("staging_target_path", request.GetStagingTargetPath(), maxPath)
 	body.Capability = judged.capability("volume_capability", request.GetVolumeCapability())
-	judged.noMap("secrets", request.GetSecrets())
+	judged.hidden("secrets", request.GetSecrets())
+	judged.hidden("volume_context", request.GetVolumeContext())
 	return body, judged.end(body.ID)
 }
 
@@ -154,7 +200,7 @@ func NodeStageVolume(request *wire.NodeStageVolumeRequest) (frames.NodeStageVolu
 func NodeUnstageVolume(request *wire.NodeUnstageVolumeRequest) (frames.NodeUnstageVolume, error) {
 	judged := fields{}
 	body := frames.NodeUnstageVolume{ID: judged.volume(request.GetVolumeId())}
-	judged.text("staging_target_path", request.GetStagingTargetPath(), maxPath)
+	judged.path("staging_target_path", request.GetStagingTargetPath(), maxPath)
 	return body, judged.end(body.ID)
 }
 
@@ -162,10 +208,12 @@ func NodeUnstageVolume(request *wire.NodeUnstageVolumeRequest) (frames.NodeUnsta
 func NodePublishVolume(request *wire.NodePublishVolumeRequest) (frames.NodePublishVolume, error) {
 	judged := fields{}
 	body := frames.NodePublishVolume{ID: judged.volume(request.GetVolumeId()), Target: request.GetTargetPath(), Readonly: request.GetReadonly()}
-	judged.text("staging_target_path", request.GetStagingTargetPath(), maxPath)
-	judged.text("target_path", body.Target, frames.MaxTarget)
+	judged.hidden("publish_context", request.GetPublishContext())
+	judged.staged(request.GetStagingTargetPath())
+	judged.target(body.Target)
 	body.Capability = judged.capability("volume_capability", request.GetVolumeCapability())
-	judged.noMap("secrets", request.GetSecrets())
+	judged.hidden("secrets", request.GetSecrets())
+	judged.hidden("volume_context", request.GetVolumeContext())
 	return body, judged.end(body.ID)
 }
 
@@ -173,7 +221,7 @@ func NodePublishVolume(request *wire.NodePublishVolumeRequest) (frames.NodePubli
 func NodeUnpublishVolume(request *wire.NodeUnpublishVolumeRequest) (frames.NodeUnpublishVolume, error) {
 	judged := fields{}
 	body := frames.NodeUnpublishVolume{ID: judged.volume(request.GetVolumeId()), Target: request.GetTargetPath()}
-	judged.text("target_path", body.Target, frames.MaxTarget)
+	judged.target(body.Target)
 	return body, judged.end(body.ID)
 }
 
@@ -187,12 +235,14 @@ type Validation struct {
 func ValidateVolumeCapabilities(request *wire.ValidateVolumeCapabilitiesRequest) (Validation, error) {
 	judged := fields{}
 	asked := Validation{Volume: judged.volume(request.GetVolumeId())}
+	judged.hidden("volume_context", request.GetVolumeContext())
 	judged.refuse("volume_capabilities", len(request.GetVolumeCapabilities()) == 0)
 	for _, value := range request.GetVolumeCapabilities() {
 		if judged.err == nil {
 			asked.Capabilities = append(asked.Capabilities, judged.capability("volume_capabilities", value))
 		}
 	}
-	judged.noMap("secrets", request.GetSecrets())
+	judged.hidden("parameters", request.GetParameters())
+	judged.hidden("secrets", request.GetSecrets())
 	return asked, judged.end(asked.Volume)
 }

@@ -17,8 +17,8 @@ func Refusal(reply frames.Reply) error {
 	return status.Error(codes.Code(reply.Status), reply.Detail)
 }
 
-// Created is the response to a CreateVolume that succeeded; the row is the volume's, which says what capacity it has.
-func Created(reply frames.Reply, row []byte) (*wire.CreateVolumeResponse, error) {
+// Created is the response to a CreateVolume that succeeded; the row is the volume's, which says what capacity it has, and the context its hook's.
+func Created(reply frames.Reply, row []byte, context map[string]string) (*wire.CreateVolumeResponse, error) {
 	volume, err := records.ReadVolume(row)
 	if err != nil {
 		return nil, status.Error(codes.Internal, err.Error())
@@ -26,11 +26,12 @@ func Created(reply frames.Reply, row []byte) (*wire.CreateVolumeResponse, error)
 	return &wire.CreateVolumeResponse{Volume: &wire.Volume{
 		VolumeId:      VolumeID(reply.Volume),
 		CapacityBytes: int64(volume.Capacity),
+		VolumeContext: context,
 	}}, nil
 }
 
 // Validated is the response to a ValidateVolumeCapabilities of a volume that is there. Confirmed are the capabilities where the volume has all of
-// them and no parameters are given, since it was made with none; a volume's context isn't kept, and so not confirmed.
+// them and no parameters are given: those of a volume aren't kept, nor is its context, and so they aren't confirmed.
 func Validated(volume records.Volume, asked Validation, request *wire.ValidateVolumeCapabilitiesRequest) *wire.ValidateVolumeCapabilitiesResponse {
 	if len(request.GetParameters()) > 0 {
 		return &wire.ValidateVolumeCapabilitiesResponse{Message: "parameters"}

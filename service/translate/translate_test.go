@@ -39,7 +39,7 @@ func bodyOf(request proto.Message) (frames.Body, error) {
 	case *wire.ControllerPublishVolumeRequest:
 		return ControllerPublishVolume(request)
 	case *wire.ControllerUnpublishVolumeRequest:
-		return ControllerUnpublishVolume(request)
+		return ControllerUnpublishVolume(request, false)
 	case *wire.NodeStageVolumeRequest:
 		return NodeStageVolume(request)
 	case *wire.NodeUnstageVolumeRequest:

@@ -55,6 +55,11 @@ class Driver:
         if not self.serves_within(within):
             self.process.kill()
             raise Wrong(f"{self.words} doesn't serve: {self.said!r}")
+        self.connect()
+
+    def connect(self):
+        if self.channel:
+            self.channel.close()
         self.channel = grpc.insecure_channel(f"unix:{self.socket}", options=[("grpc.use_local_subchannel_pool", 1)])
 
     def serves_within(self, seconds):

@@ -5,25 +5,29 @@ import stat
 import csi_pb2
 from program.running import wanted
 
+from .box import ended
 from .requests import BLOCK, attach, capability, create, delete, detach, publish, stage, unpublish, unstage, validate
 
 UNKNOWN = b"\xf8\x3f\x01"  # field 1023, which no message has
-SECRETS = {"secrets": {"k": "v"}}
-CONTEXT = {"volume_context": {"k": "v"}}
 LONG = "x" * 4097
+TOO_MUCH = {"k": LONG[1:]}  # a map of one byte more than CSI has in one
+SECRETS = {"secrets": TOO_MUCH}
+CONTEXT = {"volume_context": {"k": LONG[2:]}}
+PATHS = ("", LONG, "/a\0", "a", "../a", "/a/..", "/a/../b")
+FS_TYPES = ("x" * 129, "x\0", "ext 4", "ext4,ro", "a/b", "ext4\n", "e\u0301", "-t")
 
 
 def bad_capabilities(made, fields):
     """Requests that `made` makes of a bad capability, and what they get."""
     flags, group = capability(1, "ext4"), capability(1, "ext4")
-    flags.mount.mount_flags.append("noatime")
+    flags.mount.mount_flags.extend(["noatime", LONG[7:]])  # a byte too many together
     group.mount.volume_mount_group = "g"
     yield made(csi_pb2.VolumeCapability(access_mode={"mode": 1})), "access_type"
     yield made(capability(0)), "access_mode"
     yield made(capability(8)), "access_mode"
     yield made(csi_pb2.VolumeCapability(block={})), "access_mode"
-    yield made(capability(1, "x" * 129)), "fs_type"
-    yield made(capability(1, "x\0")), "fs_type"
+    for fs_type in FS_TYPES:
+        yield made(capability(1, fs_type)), "fs_type"
     yield made(flags), "mount_flags"
     yield made(group), "volume_mount_group"
     if fields:
@@ -41,7 +45,7 @@ def bad_of_controller():
         (create("v", -1), "capacity"),
         (create("v", 1, -1), "capacity"),
         (create("v", capabilities=[BLOCK] * 9), "volume_capabilities"),
-        (create("v", parameters={"k": "v"}), "parameters"),
+        (create("v", parameters=TOO_MUCH), "parameters"),
         (create("v", **SECRETS), "secrets"),
         (create("v", volume_content_source={}), "volume_content_source"),
         (create("v", volume_content_source={"snapshot": {"snapshot_id": "s"}}), "volume_content_source"),
@@ -55,6 +59,7 @@ def bad_of_controller():
         (attach(1, "x" * 256), "node_id"),
         (attach(1, "n\0"), "node_id"),
         (attach(1, **SECRETS), "secrets"),
+        (attach(1, volume_context=TOO_MUCH), "volume_context"),
         (csi_pb2.ControllerPublishVolumeRequest(volume_id="1", node_id="n1"), "volume_capability"),
         (detach(""), "volume_id"),
         (detach(1, ""), "node_id"),
@@ -63,6 +68,8 @@ def bad_of_controller():
         (validate(""), "volume_id"),
         (validate(1, []), "volume_capabilities"),
         (validate(1, **SECRETS), "secrets"),
+        (validate(1, volume_context=TOO_MUCH), "volume_context"),
+        (validate(1, parameters=TOO_MUCH), "parameters"),
         *bad_capabilities(lambda it: create("v", capabilities=[BLOCK, it]), True),
         *bad_capabilities(lambda it: attach(1, how=it), True),
         *bad_capabilities(lambda it: validate(1, [it]), True),
@@ -76,22 +83,23 @@ def bad_of_node():
         yield request.SerializeToString() + UNKNOWN, type(request).DESCRIPTOR.name, "unknown field"
     rows = [
         (stage(""), "volume_id"),
-        (stage(1, path=""), "staging_target_path"),
-        (stage(1, path=LONG), "staging_target_path"),
-        (stage(1, path="/a\0"), "staging_target_path"),
+        *((stage(1, path=it), "staging_target_path") for it in PATHS),
         (stage(1, **SECRETS), "secrets"),
+        (stage(1, publish_context=TOO_MUCH), "publish_context"),
+        (stage(1, volume_context=TOO_MUCH), "volume_context"),
         (csi_pb2.NodeStageVolumeRequest(volume_id="1", staging_target_path="/s"), "volume_capability"),
         (unstage(""), "volume_id"),
-        (unstage(1, path=""), "staging_target_path"),
+        *((unstage(1, path=it), "staging_target_path") for it in PATHS),
         (publish(""), "volume_id"),
-        (publish(1, path=""), "staging_target_path"),
-        (publish(1, ""), "target_path"),
-        (publish(1, "/" + "x" * 255), "target_path"),
-        (publish(1, "/a\0"), "target_path"),
+        *((publish(1, path=it), "staging_target_path") for it in PATHS[1:]),
+        *((publish(1, it), "target_path") for it in ("", "/" + "x" * 255, "/a\0", "../a", "/a/..", "/a/../b")),
         (publish(1, "a"), "target"),  # by the plugin
         (publish(1, **SECRETS), "secrets"),
+        (publish(1, publish_context=TOO_MUCH), "publish_context"),
+        (publish(1, volume_context=TOO_MUCH), "volume_context"),
         (unpublish(""), "volume_id"),
         (unpublish(1, ""), "target_path"),
+        (unpublish(1, "/a/../b"), "target_path"),
         *bad_capabilities(lambda it: stage(1, it), True),
         *bad_capabilities(lambda it: publish(1, how=it), True),
     ]
@@ -127,7 +135,8 @@ def controller(box):
         driver.wants((5, "volume"), "ValidateVolumeCapabilities", validate(volume))
         driver.wants(0, "DeleteVolume", delete(volume), (2, 20 + at))
         driver.wants(0, "ControllerUnpublishVolume", detach(volume), (2, 30 + at))
-    driver.wants(0, "ControllerPublishVolume", attach(2, "n1", capability(5, "ext4"), True, **CONTEXT), (2, 40))
+    taken = flagged(capability(5, "ext4"))
+    driver.wants(0, "ControllerPublishVolume", attach(2, "n1", taken, True, secrets={"k": "v"}, **CONTEXT), (2, 40))
     driver.wants((9, "n1"), "DeleteVolume", delete(2), (2, 41))
     driver.wants((9, "number"), "DeleteVolume", delete(1), (2, 1))
     driver.wants((12, "unknown service csi.v1.Node"), "NodeGetInfo", csi_pb2.NodeGetInfoRequest())
@@ -139,6 +148,12 @@ def controller(box):
     wanted("attached", record["volumes"][1]["attached"], [{"capability": {"access": "mount", "fs": "ext4", "mode": 5}, "node": "n1", "readonly": True}])
     wanted("the status", driver.stop(), 0)
     return f"{count} requests refused by the driver"
+
+
+def flagged(how):
+    """The capability with mount flags, as many bytes as CSI has in them."""
+    how.mount.mount_flags.extend(["noatime", LONG[8:]])
+    return how
 
 
 def validated(driver):
@@ -158,14 +173,15 @@ def validated(driver):
 def node(box):
     driver = box.node("--max-volumes", "7")
     count = refused(driver, bad_of_node())
+    driver.wants((9, "staging_target_path"), "NodePublishVolume", publish(1, path=""), (1, 1000))  # CSI's own status
     for at, volume in enumerate(("x", "0", "01")):
         driver.wants((5, "volume"), "NodeStageVolume", stage(volume), (2, 10 + at))
         driver.wants((5, "volume"), "NodePublishVolume", publish(volume), (2, 20 + at))
         driver.wants(0, "NodeUnstageVolume", unstage(volume), (2, 30 + at))
         driver.wants(0, "NodeUnpublishVolume", unpublish(volume), (2, 40 + at))
-    how = capability(7, "")
-    driver.wants(0, "NodeStageVolume", stage(1 << 63, how, publish_context={"k": "v"}, **CONTEXT), (3, 1))
-    driver.wants(0, "NodePublishVolume", publish(1 << 63, "/t", how, True, publish_context={"k": "v"}, **CONTEXT), (3, 2))
+    how, told = flagged(capability(7, "")), {"publish_context": {"k": "v"}, "secrets": {"k": "v"}, **CONTEXT}
+    driver.wants(0, "NodeStageVolume", stage(1 << 63, how, **told), (3, 1))
+    driver.wants(0, "NodePublishVolume", publish(1 << 63, "/t", how, True, **told), (3, 2))
     info = driver.wants(0, "NodeGetInfo", csi_pb2.NodeGetInfoRequest())
     wanted("NodeGetInfo", str(info), str(csi_pb2.NodeGetInfoResponse(node_id="n1", max_volumes_per_node=7)))
     kinds = [it.rpc.type for it in driver.wants(0, "NodeGetCapabilities", csi_pb2.NodeGetCapabilitiesRequest()).capabilities]
@@ -184,34 +200,35 @@ def identity(box):
         wanted("Probe", driver.wants(0, "Probe", csi_pb2.ProbeRequest()).ready.value, True)
         for name in ("GetPluginInfo", "GetPluginCapabilities", "Probe"):
             driver.wants((3, "unknown field"), name, UNKNOWN)
+        wanted("health: SERVING", driver.channel.unary_unary("/grpc.health.v1.Health/Check")(b""), b"\x08\x01")
     kinds = box.drivers[0].wants(0, "ControllerGetCapabilities", csi_pb2.ControllerGetCapabilitiesRequest()).capabilities
     wanted("ControllerGetCapabilities", [it.rpc.type for it in kinds], [1, 2, 8, 13])
 
 
 # Of each request its fields by rising number: the text of the refusal, a wrong value and a right one. No volume can have the id "x".
 IDS = ("volume_id", "", "x")
-HIDDEN = ("secrets", {"k": "v"}, {})
-PATH, WAY = ("staging_target_path", "", "/s"), ("volume_capability", None, BLOCK)
+HIDDEN, OF_VOLUME, OF_NODE = (("secrets", TOO_MUCH, {"k": "v"}), ("volume_context", TOO_MUCH, {"k": "v"}), ("publish_context", TOO_MUCH, {"k": "v"}))
+PATH, WAY = ("staging_target_path", "s", "/s"), ("volume_capability", None, BLOCK)
 FIELDS = {
     "CreateVolume": [
         ("name", "", "v"),
         ("capacity_range", {"required_bytes": -1}, None),
         ("volume_capabilities", [BLOCK] * 9, [BLOCK]),
-        ("parameters", {"k": "v"}, {}),
+        ("parameters", TOO_MUCH, {"k": "v"}),
         HIDDEN,
         ("volume_content_source", {}, None),
         ("accessibility_requirements", {}, None),
     ],
     "DeleteVolume": [IDS, HIDDEN],
-    "ControllerPublishVolume": [IDS, ("node_id", "", "n1"), WAY, HIDDEN],
+    "ControllerPublishVolume": [IDS, ("node_id", "", "n1"), WAY, HIDDEN, OF_VOLUME],
     "ControllerUnpublishVolume": [IDS, ("node_id", "", "n1"), HIDDEN],
-    "ValidateVolumeCapabilities": [IDS, ("volume_capabilities", [], [BLOCK]), HIDDEN],
-    "NodeStageVolume": [IDS, PATH, WAY, HIDDEN],
+    "ValidateVolumeCapabilities": [IDS, OF_VOLUME, ("volume_capabilities", [], [BLOCK]), ("parameters", TOO_MUCH, {}), HIDDEN],
+    "NodeStageVolume": [IDS, OF_NODE, PATH, WAY, HIDDEN, OF_VOLUME],
     "NodeUnstageVolume": [IDS, PATH],
-    "NodePublishVolume": [IDS, PATH, ("target_path", "", "/t"), WAY, HIDDEN],
+    "NodePublishVolume": [IDS, OF_NODE, PATH, ("target_path", "", "/t"), WAY, HIDDEN, OF_VOLUME],
     "NodeUnpublishVolume": [IDS, ("target_path", "", "/t")],
 }
-MOUNT = [("fs_type", "x" * 129, ""), ("mount_flags", ["ro"], []), ("volume_mount_group", "g", "")]
+MOUNT = [("fs_type", "x y", ""), ("mount_flags", [LONG], ["ro"]), ("volume_mount_group", "g", "")]
 
 
 def mended(fields):
@@ -263,6 +280,24 @@ def numbers(box):
     wanted("the line", driver.said, b"csi-driver: numbers spent\n")
 
 
+def replies(box):
+    """What the plugin replied has its number as trailer, and no refusal of the driver's own has one."""
+    driver = box.controller()
+    for right, request, number, trailer in (
+        (0, create("v"), (1, 1), "1.1"),
+        (0, create("v"), (1, 1), "1.1"),
+        (6, create("v", 20), (1, 2), "1.2"),
+        (3, create(""), (1, 3), None),
+        (9, create("w"), None, None),
+        (9, create("w"), (2000000, 1), None),
+    ):
+        call = driver.start("CreateVolume", request, number)
+        wanted(f"{request!s} {number}", ended(call)[0], right)
+        wanted(f"the trailer of {request!s}", dict(call.trailing_metadata()).get("tufayon-reply"), trailer)
+    wanted("a message that is too long", driver.ask("CreateVolume", create("v", parameters={"k": "x" * (128 << 10)}), (1, 4))[0], 8)
+    driver.wants(0, "CreateVolume", create("v"), (1, 4))
+
+
 def sockets(box):
     """Nobody else gets in, and a driver is ended where they might."""
     driver = box.controller()
@@ -287,4 +322,5 @@ def cases(_drawn, _seed):
     yield "fields: Identity", identity
     yield "fields: by rising number", by_number
     yield "fields: numbers", numbers
+    yield "fields: replies", replies
     yield "fields: sockets", sockets

@@ -13,6 +13,7 @@ from program import frames, stores
 from program.running import LIMIT, Wrong, wanted
 
 from .box import Box, put_to_sleep
+from .staged import noted
 
 TOP = os.path.dirname(os.path.dirname(os.path.dirname(os.path.realpath(__file__))))
 BLOCK = {"access": "block", "mode": 1}
@@ -123,16 +124,15 @@ def plugins(box):
 def whole(over):
     def body(box):
         """Commands one after another; what was asked is so at the end, and no audit finds anything."""
-        plugins(box)
+        _, node = plugins(box)
         host = Host(box, over)
         for name, command in commands(0, 9):
             host.ask(name, command)
         wanted("the sessions", host.lines[0], {"session": 1, "wanted": []})
         host.end()
         wanted("the volumes", state(audited(box)), [(f"v{at}", "yes" if at % 3 < 2 else "no", int(at % 3 == 0), None) for at in range(9)])
-        with open(box.at("n1.db.paths"), encoding="utf-8") as file:
-            staged = [(line.split()[0], json.loads(line.split(" ", 2)[2])) for line in file]
-        wanted("where they are staged", staged, [(at, f"{box.at('staging')}/{at}") for at in ("1", "4", "7")])
+        node.stop()
+        wanted("where they are staged", noted(box), {at: f"{box.at('staging')}/{at}" for at in (1, 4, 7)})
 
     return body
 

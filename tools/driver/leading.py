@@ -6,13 +6,14 @@ import signal
 import subprocess
 import time
 
+import csi_pb2
 from program import frames, stores
 from program.running import LIMIT, LeftOut, Wrong, wanted
 
 from . import starting
 from .box import put_to_sleep
 from .requests import attach, create, delete, detach
-from .servers import LARGE, free_ports, over
+from .servers import DEBIAN, free_ports, over
 
 
 def wait_to_serve(driver, within):
@@ -163,33 +164,90 @@ def asleep_by_turns(box, cluster):
     return "5 turns, 25 volumes"
 
 
+def line_of(driver):
+    """What a driver says at its end, besides that it waits."""
+    return b"".join(line for line in driver.said.splitlines(True) if b"csi-driver: waits at " not in line)
+
+
 def too_small(driver):
     """What a driver says that ended since etcd takes no commit that is large enough: the options that it asks for."""
     told = rb"csi-driver: etcd takes no commit that is large enough: it has to run with (--max-txn-ops) (\d+) and (--max-request-bytes) (\d+) or more: .*\n"
     wanted("the end", driver.close(), 3)
-    said = re.fullmatch(told, driver.said)
+    said = re.fullmatch(told, line_of(driver))
     wanted(f"its line: {driver.said}", bool(said), True)
     return [it.decode() for it in said.groups()]
 
 
-@over(1, "--max-txn-ops", "128")
+@over(1, "--max-txn-ops", "100")
 def small(box, cluster):
-    """An etcd that takes no large commit isn't served from, unless it gets the options that are told; nor one that isn't on loopback, without TLS."""
-    asked = too_small(cluster.driver("first", serves=False))
-    cluster.restart(*asked)
-    wanted("it serves then", cluster.driver("first").stop(), 0)
-    for size in (120, 300):  # with such keys it is more than etcd takes, and then more than gRPC takes
-        cluster.restart(*LARGE)
-        asked = too_small(cluster.driver("first", serves=False, prefix="/" + "p" * size))
+    """An etcd that takes less than by itself isn't served from, unless it gets the options that are told; nor one that isn't on loopback, without TLS."""
+    for less in ((), ("--max-request-bytes", "100000")):
+        if less:
+            cluster.restart(*less)
+        asked = too_small(cluster.driver("first", serves=False))
         cluster.restart(*asked)
-        wanted("it serves then", cluster.driver("first", prefix="/" + "p" * size).stop(), 0)
+        wanted("it serves then", cluster.driver("first").stop(), 0)
+    cluster.restart(*DEBIAN)
+    wanted("long keys", cluster.driver("first", prefix="/" + "p" * 300).stop(), 0)
     wanted("parts", cluster.parts(), [starting.HEAD(1, 0)])
     driver = box.controller("--etcd", "http://192.0.2.1:2379", "--prefix", "/t", store=None, serves=False)
     line = b"csi-driver: store not opened: http://192.0.2.1:2379 isn't on loopback, so a client's certificate is needed\n"
-    wanted("no TLS", (driver.close(), driver.said), (3, line))
+    wanted("no TLS", (driver.close(), line_of(driver)), (3, line))
     cluster.end()
     driver = cluster.driver("first", serves=False)
-    wanted("no etcd", (driver.close(), driver.said[:30]), (3, b"csi-driver: store not opened: "))
+    wanted("no etcd", (driver.close(), line_of(driver)[:30]), (3, b"csi-driver: store not opened: "))
+
+
+@over(3)
+def waiting(_box, cluster):
+    """One that waits has its socket, and tells that it isn't ready; it ends at once."""
+    first, second = cluster.driver("first"), cluster.driver("second", serves=False)
+    cluster.await_drivers(2)
+    second.connect()
+    wanted("ready", second.wants(0, "Probe", csi_pb2.ProbeRequest()).ready.value, False)
+    wanted("a call", second.ask("CreateVolume", create("v"), (1, 1))[0], 14)
+    first.wants(0, "CreateVolume", create("v"), (1, 1))
+    first.stop()
+    second.await_serving()
+    wanted("ready", second.wants(0, "Probe", csi_pb2.ProbeRequest()).ready.value, True)
+    third = cluster.driver("third", serves=False)
+    cluster.await_drivers(2)
+    wanted("the end of one that waits", third.stop(), 0)
+
+
+@over(1)
+def restarted(_box, cluster):
+    """A server that is killed and comes again is waited for, with the call that is under way."""
+    driver = cluster.driver("first", lease=20)
+    for turn in range(1, 4):
+        cluster.end()
+        call = driver.start("CreateVolume", create(f"v{turn}"), (turn, 1))
+        time.sleep(0.5 * turn)
+        cluster.begin(DEBIAN)
+        wanted("the call", call.code().value[0], 0)
+    wanted("parts", len(cluster.parts()), 4)
+    wanted("its end", driver.stop(), 0)
+
+
+@over(3)
+def machine_gone(_box, cluster):
+    """The leader's machine is cut off, with the server there, whichever that is: the one that waits takes over."""
+    took = []
+    for at in range(3):
+        first, second = cluster.driver(f"first{at}"), cluster.driver(f"second{at}", serves=False)
+        others = [it for it in cluster.clients if it != cluster.clients[at]]
+        first.wants(0, "CreateVolume", create(f"v{at}"), (at + 1, 1))
+        cluster.await_drivers(2)
+        put_to_sleep(first.process)
+        put_to_sleep(cluster.servers[at])
+        took.append(wait_to_serve(second, 60))
+        second, came = until_served(cluster, second, others, "CreateVolume", create(f"v{at}"), (at + 1, 1))
+        wanted("the kept reply", came, (0, ""))
+        cluster.servers[at].send_signal(signal.SIGCONT)
+        cluster.await_healthy(at)
+        first.process.send_signal(signal.SIGCONT)
+        wanted("its end", (first.close(), second.stop()), (3, 0))
+    return ", ".join(f"{it:.1f} s" for it in took)
 
 
 ROWS = 4096  # as many as there may be
@@ -197,7 +255,7 @@ ROWS = 4096  # as many as there may be
 
 @over(1)
 def forgets(_box, cluster):
-    """A session that forgets all volumes but one is one commit, within etcd's own limit of bytes."""
+    """A session that forgets all volumes but one is one commit, in pieces."""
     rows = [starting.ROW(at, f"v{at}", stores.kept("DeleteVolume", (1, at)), live=False) for at in range(2, ROWS + 1)]
     kept = starting.ROW(1, "v", stores.kept("CreateVolume", (1, 1), 0, 1))
     cluster.put([starting.HEAD(ROWS + 1, 1), kept, *rows])
@@ -219,7 +277,7 @@ def renewed(_box, cluster):
 
 
 def rewritten(ways):
-    """A record of an earlier version that is larger than what etcd takes at once: rows of names of 128 bytes, and of so many capabilities."""
+    """A record of an earlier version that is larger than what etcd takes at once goes in pieces: rows of names of 128 bytes, and of so many capabilities."""
 
     def row(at, version):
         last, how = stores.kept("CreateVolume", (1, at), 0, at), [frames.mount("f" * 128, 1)] * ways
@@ -229,13 +287,10 @@ def rewritten(ways):
     def body(_box, cluster):
         older, later = ([starting.HEAD(ROWS + 1, 1, version), *(row(at, version) for at in range(1, ROWS + 1))] for version in (2, 3))
         cluster.put(older)
-        asked = too_small(cluster.driver("first", serves=False))
-        wanted("the parts", cluster.parts() == older, True)
-        cluster.restart(*asked)
-        driver = cluster.driver("first")
-        wanted("the parts then", cluster.parts() == later, True)
+        driver = cluster.driver("first", lease=20)
+        wanted("the parts", cluster.parts() == later, True)
         driver.wants(0, "DeleteVolume", delete(ROWS), (1, ROWS + 1))
-        return f"{sum(len(value) for _, value in later)} bytes of parts, with {' '.join(asked)}"
+        return f"{sum(len(value) for _, value in later)} bytes of parts"
 
     return body
 
@@ -260,7 +315,7 @@ def secured(box):
     client, peer = (f"127.0.0.1:{port}" for port in free_ports(2))
     words = ["etcd", "--data-dir", box.at("e"), "--listen-client-urls", f"https://{client}", "--advertise-client-urls", f"https://{client}"]
     words += ["--listen-peer-urls", f"http://{peer}", "--initial-advertise-peer-urls", f"http://{peer}", "--initial-cluster", f"default=http://{peer}"]
-    words += ["--cert-file", box.at("server.pem"), "--key-file", box.at("server.key"), "--client-cert-auth", "--trusted-ca-file", box.at("ca.pem"), *LARGE]
+    words += ["--cert-file", box.at("server.pem"), "--key-file", box.at("server.key"), "--client-cert-auth", "--trusted-ca-file", box.at("ca.pem"), *DEBIAN]
     with open(box.at("e.log"), "wb") as said:
         server = subprocess.Popen(words, stdout=said, stderr=said, stdin=subprocess.DEVNULL)
     try:
@@ -269,9 +324,9 @@ def secured(box):
         driver.wants(0, "CreateVolume", create("v"), (1, 1))
         wanted("the end", driver.stop(), 0)
         driver = box.controller("--etcd", f"https://{client}", "--prefix", "/t", store=None, serves=False)
-        wanted("without a certificate", (driver.close(), driver.said[:30]), (3, b"csi-driver: store not opened: "))
+        wanted("without a certificate", (driver.close(), line_of(driver)[:30]), (3, b"csi-driver: store not opened: "))
         driver = box.controller("--etcd", f"http://{client}", "--prefix", "/t", *files, store=None, serves=False)
-        wanted("without TLS", (driver.close(), driver.said), (3, f"csi-driver: store not opened: http://{client} isn't spoken to by TLS\n".encode()))
+        wanted("without TLS", (driver.close(), line_of(driver)), (3, f"csi-driver: store not opened: http://{client} isn't spoken to by TLS\n".encode()))
     finally:
         server.kill()
         server.wait()
@@ -296,6 +351,9 @@ def cases(drawn, _seed):
     if drawn < 1000:
         return  # the gate needs no servers
     yield "etcd: too small, or without TLS", small
+    yield "etcd: one that waits", waiting
+    yield "etcd: a server that restarts", restarted
+    yield "etcd: the leader's machine is cut off", machine_gone
     yield "etcd: the driver is killed", killed
     yield "etcd: its leader is killed", etcd_leader
     yield "etcd: the driver sleeps", asleep

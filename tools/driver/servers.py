@@ -14,6 +14,7 @@ import urllib.request
 from program.running import LIMIT, LeftOut, Wrong
 
 LEASE = 2  # seconds
+DEBIAN = ()  # etcd as Debian starts it
 
 
 def coded(text):
@@ -112,8 +113,8 @@ class Cluster:
             ]
             self.ask(self.clients[0], "kv/txn", success=puts)
 
-    def driver(self, name, serves=True, prefix="/t", clients=None):
-        options = ["--etcd", ",".join(clients or self.clients), "--prefix", prefix, "--lease-seconds", str(LEASE)]
+    def driver(self, name, serves=True, prefix="/t", clients=None, lease=LEASE):
+        options = ["--etcd", ",".join(clients or self.clients), "--prefix", prefix, "--lease-seconds", str(lease)]
         return self.box.controller(*options, store=None, socket=name, serves=serves)
 
     def end(self):
@@ -127,15 +128,12 @@ class Cluster:
         self.begin(options)
 
 
-LARGE = ("--max-txn-ops", "8500")
-
-
 def over(count, *options):
     """A case over a cluster of so many servers."""
 
     def with_body(body):
         def run(box):
-            cluster = Cluster(box, count, *(options or LARGE))
+            cluster = Cluster(box, count, *(options or DEBIAN))
             try:
                 return body(box, cluster)
             finally:

@@ -55,10 +55,12 @@ def joined(box):
 
     driver = box.node("--on-stage", "/bin/false", session=2)
     none_done(driver)
-    driver.wants((13, "/bin/false: exit status 1"), "NodeStageVolume", stage(1), (2, 2))
-    none_done(driver)  # the plugin was made again
     driver.kill()
     wanted("a new store", stores.parts_of(box.at("n1.db")), [stores.node_head("n1", 2)])
+    driver = box.node("--on-stage", "/bin/false", session=2)
+    driver.wants((14, "/bin/false: exit status 1"), "NodeStageVolume", stage(1), (2, 2))
+    none_done(driver)
+    driver.kill()
     driver = box.node(session=2)
     driver.wants(0, "NodeStageVolume", stage(1), (2, 3))
     driver.wants(0, "NodePublishVolume", publish(1), (2, 4))
@@ -100,7 +102,8 @@ def earlier_session(box):
         driver.wants(0, "NodeStageVolume", stage(1), (4, 2))
         driver.stop()
         wanted("the parts then", stores.parts_of(path), [stores.node_head("n1", 4), stores.staged(1, block(1), last[0])])
-        os.remove(path)
+        for it in (path, f"{path}.driver"):
+            os.remove(it)
 
 
 def content(path):

@@ -8,17 +8,11 @@ import (
 	"os"
 	"os/signal"
 	"syscall"
-	"time"
-
-	"google.golang.org/grpc"
 
 	"tufayon/service/driver"
 	"tufayon/service/numbers"
 	"tufayon/service/plugin"
-	"tufayon/service/serving"
-	"tufayon/service/staging"
 	"tufayon/service/store"
-	"tufayon/service/wire"
 )
 
 func main() {
@@ -39,13 +33,17 @@ func statusOf(err error) int {
 	case errors.Is(err, errUsage):
 		return 2
 	case errors.Is(err, plugin.BadName), errors.Is(err, plugin.BadRecord), errors.Is(err, plugin.EarlierSession),
-		errors.Is(err, numbers.ErrSpent), errors.Is(err, staging.ErrFile):
+		errors.Is(err, numbers.ErrSpent), errors.Is(err, store.ErrNotes):
 		return 1
 	}
 	return 3
 }
 
 func run(ctx context.Context, words []string) error {
+	if len(words) == 1 && words[0] == "--version" {
+		fmt.Printf("csi-driver %s\n", driver.Version)
+		return nil
+	}
 	options, err := parse(words)
 	if err != nil {
 		return err
@@ -53,61 +51,16 @@ func run(ctx context.Context, words []string) error {
 	if err := options.maker.Check(); err != nil {
 		return err // before there is a store
 	}
-	kept, err := options.open(ctx)
-	if err != nil {
-		if ctx.Err() != nil {
-			return nil // it was ended while it waited to lead
+	life := newLife(options)
+	if options.waits() {
+		if err := life.listen(); err != nil {
+			return err // its socket is there while it waits to lead, and tells that it isn't ready
 		}
-		return err
+		fmt.Fprintf(os.Stderr, "csi-driver: waits at %s\n", options.socket)
 	}
-	err = serve(ctx, options, kept)
-	if closed := kept.Close(); err == nil {
-		err = closed
+	err = life.serve(ctx)
+	if ended := life.end(); err == nil {
+		err = ended
 	}
 	return err
-}
-
-func serve(ctx context.Context, options *options, kept store.Store) error {
-	core, err := serving.Open(ctx, options.maker, kept, options.numbering())
-	if err != nil {
-		return err
-	}
-	defer core.Close()
-	server := driver.NewServer(core)
-	wire.RegisterIdentityServer(server, &driver.Identity{Name: options.name, Core: core})
-	if err := options.register(ctx, server, core); err != nil {
-		return err
-	}
-	listener, err := driver.Listen(options.socket)
-	if err != nil {
-		return err
-	}
-	if options.byArrival {
-		fmt.Fprintf(os.Stderr, "csi-driver: %s\n", numbers.SmallerPromise)
-	}
-	fmt.Fprintf(os.Stderr, "csi-driver: serves at %s\n", options.socket)
-	served := make(chan error, 1)
-	go func() { served <- server.Serve(listener) }()
-	select {
-	case err := <-served:
-		return err
-	case <-core.Done():
-		finish(server) // each call that is under way gets its refusal
-		return core.Err()
-	case <-ctx.Done():
-		finish(server)
-		core.Close()
-		return core.Err()
-	}
-}
-
-// finish lets the calls that are under way end, for a while.
-func finish(server *grpc.Server) {
-	finished := make(chan struct{})
-	go func() { server.GracefulStop(); close(finished) }()
-	select {
-	case <-finished:
-	case <-time.After(10 * time.Second):
-		server.Stop()
-	}
 }

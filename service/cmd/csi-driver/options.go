@@ -7,6 +7,7 @@ import (
 	"fmt"
 	"io"
 	"os"
+	"path/filepath"
 	"regexp"
 	"strings"
 	"time"
@@ -14,13 +15,13 @@ import (
 	"google.golang.org/grpc"
 
 	"tufayon/service/driver"
+	"tufayon/service/etcd"
 	"tufayon/service/hooks"
+	"tufayon/service/mounting"
 	"tufayon/service/numbers"
 	"tufayon/service/plugin"
 	"tufayon/service/serving"
-	"tufayon/service/staging"
 	"tufayon/service/store"
-	"tufayon/service/wire"
 )
 
 var errUsage = errors.New("usage: csi-driver controller [OPTION..] DB CONFIG, " +
@@ -35,12 +36,13 @@ type options struct {
 	byArrival bool
 	mostAbove uint64
 
-	etcd store.Etcd // of a controller
-
-	maxVolumes  int64 // of a node
-	hooks       string
 	commands    map[string]*string
 	hookSeconds int
+
+	etcd etcd.Config // of a controller
+
+	maxVolumes int64 // of a node
+	hooks      string
 }
 
 func parse(words []string) (*options, error) {
@@ -57,10 +59,11 @@ func parse(words []string) (*options, error) {
 	flags.Uint64Var(&options.mostAbove, "sessions-above", 1000000, "how far a call's session may be above the latest one; 0 for any")
 	endpoints := ""
 	if options.maker.IsController {
-		options.addEtcd(flags, &endpoints)
+		options.addController(flags, &endpoints)
 	} else {
 		options.addNode(flags)
 	}
+	flags.IntVar(&options.hookSeconds, "hook-seconds", 120, "how long a command may take")
 	if err := flags.Parse(words[1:]); err != nil {
 		return nil, fmt.Errorf("%w (%v)", errUsage, err)
 	}
@@ -93,11 +96,11 @@ var pluginName = regexp.MustCompile(`^[A-Za-z0-9]([-.A-Za-z0-9]{0,61}[A-Za-z0-9]
 
 // fit says whether the options have values that they may have, and each that another one needs.
 func (options *options) fit() bool {
-	if !pluginName.MatchString(options.name) {
+	if !pluginName.MatchString(options.name) || options.hookSeconds <= 0 {
 		return false
 	}
 	if !options.maker.IsController {
-		return (options.hooks == "mounts" || options.hooks == "none") && options.hookSeconds > 0 && options.maxVolumes >= 0
+		return (options.hooks == "mounts" || options.hooks == "none") && options.maxVolumes >= 0
 	}
 	etcd := options.etcd
 	isTLS := etcd.CA != "" && etcd.Certificate != "" && etcd.Key != ""
@@ -124,7 +127,10 @@ func (options *options) words(words []string) (name string, ok bool) {
 	return words[0], true
 }
 
-func (options *options) addEtcd(flags *flag.FlagSet, endpoints *string) {
+func (options *options) addController(flags *flag.FlagSet, endpoints *string) {
+	options.addCommands(flags, map[string]string{
+		"CreateVolume": "on-create", "DeleteVolume": "on-delete", "ControllerPublishVolume": "on-attach", "ControllerUnpublishVolume": "on-detach",
+	})
 	flags.StringVar(endpoints, "etcd", "", "etcd's endpoints, with commas between")
 	flags.StringVar(&options.etcd.Prefix, "prefix", "", "what the keys of this store begin with in etcd")
 	flags.StringVar(&options.etcd.CA, "etcd-ca", "", "the certificate of who signed etcd's")
@@ -134,22 +140,45 @@ func (options *options) addEtcd(flags *flag.FlagSet, endpoints *string) {
 }
 
 func (options *options) addNode(flags *flag.FlagSet) {
+	options.addCommands(flags, map[string]string{
+		"NodeStageVolume": "on-stage", "NodeUnstageVolume": "on-unstage", "NodePublishVolume": "on-publish", "NodeUnpublishVolume": "on-unpublish",
+	})
 	flags.Int64Var(&options.maxVolumes, "max-volumes", 0, "what NodeGetInfo tells")
 	flags.StringVar(&options.hooks, "hooks", "mounts", "mounts, or none")
-	for call, name := range map[string]string{
-		"NodeStageVolume": "on-stage", "NodeUnstageVolume": "on-unstage", "NodePublishVolume": "on-publish", "NodeUnpublishVolume": "on-unpublish",
-	} {
+}
+
+func (options *options) addCommands(flags *flag.FlagSet, names map[string]string) {
+	for call, name := range names {
 		options.commands[call] = flags.String(name, "", "the command that does it")
 	}
-	flags.IntVar(&options.hookSeconds, "hook-seconds", 120, "how long a command may take")
 }
+
+// waits says whether this process waits to lead, and may so take long to start.
+func (options *options) waits() bool { return len(options.etcd.Endpoints) > 0 }
 
 // open opens the store, and waits until this process leads where it is in etcd.
 func (options *options) open(ctx context.Context) (store.Store, error) {
-	if len(options.etcd.Endpoints) > 0 {
+	if options.waits() {
 		return options.etcd.Open(ctx)
 	}
 	return store.OpenSQLite(ctx, options.database)
+}
+
+// plugin makes the plugin of a record.
+func (options *options) plugin(record []byte) (serving.Plugin, bool, error) {
+	made, renewed, err := options.maker.Make(record)
+	if err != nil {
+		return nil, false, err
+	}
+	return made, renewed, nil
+}
+
+// notes is the file of a node's notes; none of a controller.
+func (options *options) notes() string {
+	if options.maker.IsController {
+		return ""
+	}
+	return options.database + ".driver"
 }
 
 func (options *options) numbering() serving.Numbering {
@@ -162,27 +191,31 @@ func (options *options) numbering() serving.Numbering {
 }
 
 // register adds the services of the plugin to the server.
-func (options *options) register(ctx context.Context, server *grpc.Server, core *serving.Core) error {
+func (options *options) register(server *grpc.Server, backend *driver.Backend) {
 	if options.maker.IsController {
-		wire.RegisterControllerServer(server, &driver.Controller{Core: core})
-		return nil
+		driver.RegisterController(server, backend, options.deeds())
+		return
 	}
-	paths, err := staging.Open(options.database + ".paths")
-	if err != nil {
-		return err
-	}
-	node := &driver.Node{ID: string(options.maker.Name), MaxVolumes: options.maxVolumes, Core: core, Paths: paths, Hooks: options.deeds()}
-	wire.RegisterNodeServer(server, node)
-	return node.Mend(ctx)
+	driver.RegisterNode(server, backend, driver.NodeOptions{ID: string(options.maker.Name), MaxVolumes: options.maxVolumes, Hooks: options.deeds()})
 }
 
+// deeds is what does what calls ask for: nil where nothing does.
 func (options *options) deeds() hooks.Hooks {
-	commands := hooks.Commands{Of: map[string]string{}, Rest: hooks.Mounts{}, Within: time.Duration(options.hookSeconds) * time.Second}
-	if options.hooks == "none" {
-		commands.Rest = hooks.None{}
-	}
+	commands := hooks.Commands{Of: map[string]string{}, Rest: hooks.None{}, Within: time.Duration(options.hookSeconds) * time.Second}
 	for call, command := range options.commands {
-		commands.Of[call] = *command
+		if *command != "" {
+			commands.Of[call] = *command
+		}
+	}
+	if options.hooks == "mounts" {
+		commands.Rest = mounting.Mounts{}
+	}
+	if len(commands.Of) == 0 && options.hooks != "mounts" {
+		return nil
+	}
+	commands.Locks.Folder = options.database + ".hooks"
+	if options.database == "" {
+		commands.Locks.Folder = filepath.Join(filepath.Dir(options.socket), "hooks")
 	}
 	return commands
 }

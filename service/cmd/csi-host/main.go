@@ -39,7 +39,7 @@ func end(status int, why any) {
 }
 
 func read(file string) (hosting.Config, error) {
-	config := hosting.Config{DeadlineSeconds: 30, RetrySeconds: 1}
+	config := hosting.Config{DeadlineSeconds: 60, RetrySeconds: 1}
 	content, err := os.ReadFile(file)
 	if err != nil {
 		return config, err

@@ -44,19 +44,28 @@ func run(words []string) error {
 	return err
 }
 
-// answer writes the first line, and an answer to each line of standard input.
+// answer writes the first line, and an answer to each line of standard input: those that wait are answered together.
 func answer(orchestrator hosting.Orchestrator, first hosting.Answer) error {
-	said := first
-	for scanner := lines.NewScanner(os.Stdin); ; {
-		if _, err := os.Stdout.Write(said.Line); err != nil {
+	if _, err := os.Stdout.Write(first.Line); err != nil {
+		return fmt.Errorf("device: %w", err)
+	}
+	scanner := lines.NewScanner(os.Stdin)
+	for scanner.Scan() {
+		asked := [][]byte{append([]byte(nil), scanner.Line()...)}
+		for len(asked) < hosting.MostTogether && scanner.Waits() && scanner.Scan() {
+			asked = append(asked, append([]byte(nil), scanner.Line()...))
+		}
+		answers, refused := orchestrator.Answers(asked)
+		var said []byte
+		for _, answer := range answers {
+			said = append(said, answer.Line...)
+		}
+		if _, err := os.Stdout.Write(said); err != nil {
 			return fmt.Errorf("device: %w", err)
 		}
-		if !scanner.Scan() {
-			return scanner.Err()
-		}
-		var err error
-		if said, err = orchestrator.Answer(scanner.Line()); err != nil {
-			return err
+		if refused != nil {
+			return refused
 		}
 	}
+	return scanner.Err()
 }

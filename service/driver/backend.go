@@ -1,0 +1,94 @@
+package driver
+
+import (
+	"context"
+	"sync"
+
+	"google.golang.org/grpc"
+	"google.golang.org/grpc/codes"
+	"google.golang.org/grpc/health"
+	"google.golang.org/grpc/health/grpc_health_v1"
+	"google.golang.org/grpc/metadata"
+	"google.golang.org/grpc/status"
+
+	"tufayon/service/numbers"
+	"tufayon/service/serving"
+	"tufayon/service/translate"
+)
+
+// A Core carries calls to a plugin: serving.Core.
+type Core interface {
+	Admit(ctx context.Context) error
+	Carry(ctx context.Context, request serving.Request) (serving.Answer, error)
+	Known(ctx context.Context, volume uint64) (serving.Known, error)
+	Done() <-chan struct{}
+}
+
+// errNotReady is what a call gets that needs the plugin, while the driver waits for its store, or once it serves no more.
+var errNotReady = status.Error(codes.Unavailable, "not ready")
+
+// A Backend is the core behind the services, which are there before it, while the driver waits to lead.
+type Backend struct {
+	health *health.Server
+	mutex  sync.RWMutex
+	served Core // nil while there is none
+}
+
+// NewBackend makes one that isn't ready.
+func NewBackend() *Backend {
+	backend := &Backend{health: health.NewServer()}
+	backend.tell(grpc_health_v1.HealthCheckResponse_NOT_SERVING)
+	return backend
+}
+
+// tell sets what grpc.health.v1 says of the whole server.
+func (backend *Backend) tell(how grpc_health_v1.HealthCheckResponse_ServingStatus) {
+	backend.health.SetServingStatus("", how)
+}
+
+// Serve has the services serve over the core, from now until it is done, or Stop.
+func (backend *Backend) Serve(core Core) {
+	backend.put(core)
+	go func() {
+		<-core.Done()
+		backend.Stop()
+	}()
+}
+
+// Stop has no further call get to the core. Those that are under way go on.
+func (backend *Backend) Stop() { backend.put(nil) }
+
+func (backend *Backend) put(core Core) {
+	backend.mutex.Lock()
+	defer backend.mutex.Unlock()
+	backend.served = core
+	how := grpc_health_v1.HealthCheckResponse_SERVING
+	if core == nil {
+		how = grpc_health_v1.HealthCheckResponse_NOT_SERVING
+	}
+	backend.tell(how)
+}
+
+// core gives the core, or refuses the call.
+func (backend *Backend) core() (Core, error) {
+	backend.mutex.RLock()
+	defer backend.mutex.RUnlock()
+	if backend.served == nil {
+		return nil, errNotReady
+	}
+	return backend.served, nil
+}
+
+// carry carries a request to the plugin, and gives the refusal where there is one. What the plugin itself replied is marked by the call's number.
+func (backend *Backend) carry(ctx context.Context, request serving.Request) (serving.Answer, error) {
+	core, err := backend.core()
+	if err != nil {
+		return serving.Answer{}, err
+	}
+	answer, err := core.Carry(ctx, request)
+	if err != nil {
+		return serving.Answer{}, err
+	}
+	_ = grpc.SetTrailer(ctx, metadata.Pairs(numbers.ReplyKey, numbers.Text(answer.Reply.Number))) // fails where gRPC isn't what calls
+	return answer, translate.Refusal(answer.Reply)
+}

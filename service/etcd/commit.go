@@ -1,0 +1,281 @@
+package etcd
+
+import (
+	"context"
+	"errors"
+	"fmt"
+	"strings"
+	"time"
+
+	"go.etcd.io/etcd/clientv3"
+	"go.etcd.io/etcd/etcdserver/api/v3rpc/rpctypes"
+	"google.golang.org/grpc/codes"
+	"google.golang.org/grpc/status"
+
+	"tufayon/service/store"
+)
+
+// What a transaction has at most. etcd takes 128 operations and 1.5 MiB unless it is told otherwise.
+const (
+	mostOperations = 120
+	mostBytes      = 1 << 20
+	usualTxnOps    = 128
+	usualBytes     = 1572864
+)
+
+const (
+	tryWithin = 5 * time.Second  // how long one try of a transaction may take
+	patience  = 60 * time.Second // how long one is tried again, as long as the lease lasts
+)
+
+// begin tries the largest transaction, reads how many there were, and carries over a large commit that was made, and not carried over.
+func (leading *leading) begin(ctx context.Context) error {
+	if err := leading.try(ctx); err != nil {
+		return err
+	}
+	got, err := leading.get(ctx, leading.countKey())
+	if err != nil {
+		return err
+	}
+	if len(got.Kvs) > 0 {
+		leading.last = string(got.Kvs[0].Value)
+		fmt.Sscanf(leading.last, "%d", &leading.count)
+	}
+	if got, err = leading.get(ctx, leading.wholeKey()); err != nil || len(got.Kvs) == 0 {
+		return err
+	}
+	kept, err := leading.read(ctx, leading.prefix+"/next/")
+	if err != nil {
+		return err
+	}
+	changes := make([]store.Change, 0, len(kept))
+	for _, it := range kept {
+		isPut := strings.HasPrefix(string(it.Value), "+")
+		if !isPut && string(it.Value) != "-" {
+			return fmt.Errorf("%w: it has another value under %s", store.ErrNotOpened, leading.nextKey(it.Key))
+		}
+		change := store.Change{Key: it.Key, Out: !isPut}
+		if isPut {
+			change.Value = it.Value[1:]
+		}
+		changes = append(changes, change)
+	}
+	return leading.carryOver(ctx, changes)
+}
+
+// try asks for a transaction that is as large as any. It isn't carried out.
+func (leading *leading) try(ctx context.Context) error {
+	operations := make([]clientv3.Op, 0, mostOperations+1)
+	for row := uint64(0); row <= mostOperations; row++ {
+		operations = append(operations, clientv3.OpPut(leading.nextKey(row), strings.Repeat(" ", mostBytes/(mostOperations+1))))
+	}
+	_, err := leading.transact(ctx, "", operations, leading.leads, leading.never)
+	if err != nil && !errors.Is(err, store.ErrTooSmall) {
+		return fmt.Errorf("%w: %v", store.ErrNotOpened, err)
+	}
+	return err
+}
+
+// Commit makes changes under the condition that this process leads: by one transaction, or where they are too many, or too large, by several, of which
+// one makes them all.
+func (leading *leading) Commit(ctx context.Context, anew bool, changes []store.Change) error {
+	if anew {
+		parts, err := leading.Load(ctx)
+		if err != nil {
+			return err
+		}
+		removals := make([]store.Change, 0, len(parts)+len(changes))
+		for _, part := range parts {
+			removals = append(removals, store.Change{Key: part.Key, Out: true})
+		}
+		changes = append(removals, changes...)
+	}
+	changes = lastOfEach(changes)
+	if len(changes) == 0 {
+		return leading.confirm(ctx)
+	}
+	operations := leading.operations(changes)
+	if len(split(operations)) == 1 {
+		return leading.change(ctx, operations)
+	}
+	return leading.commitInParts(ctx, changes)
+}
+
+// lastOfEach has one change for each key, since a transaction may name none twice.
+func lastOfEach(changes []store.Change) []store.Change {
+	places := make(map[uint64]int, len(changes))
+	var last []store.Change
+	for _, change := range changes {
+		if at, there := places[change.Key]; there {
+			last[at] = change
+			continue
+		}
+		places[change.Key] = len(last)
+		last = append(last, change)
+	}
+	return last
+}
+
+// operations carry changes out.
+func (leading *leading) operations(changes []store.Change) []clientv3.Op {
+	operations := make([]clientv3.Op, 0, len(changes))
+	for _, change := range changes {
+		if change.Out {
+			operations = append(operations, clientv3.OpDelete(leading.partKey(change.Key)))
+		} else {
+			operations = append(operations, clientv3.OpPut(leading.partKey(change.Key), string(change.Value)))
+		}
+	}
+	return operations
+}
+
+// split gives operations as transactions have them.
+func split(operations []clientv3.Op) [][]clientv3.Op {
+	var pieces [][]clientv3.Op
+	from, bytes := 0, 0
+	for at, it := range operations {
+		size := sizeOf(it)
+		if at > from && (at-from == mostOperations || bytes+size > mostBytes) {
+			pieces = append(pieces, operations[from:at])
+			from, bytes = at, 0
+		}
+		bytes += size
+	}
+	return append(pieces, operations[from:])
+}
+
+// sizeOf is as many bytes as an operation has in a transaction at most.
+func sizeOf(it clientv3.Op) int { return len(it.KeyBytes()) + len(it.ValueBytes()) + 32 }
+
+// commitInParts writes the changes beside the record first, and makes them by a last transaction. Then they are carried over.
+func (leading *leading) commitInParts(ctx context.Context, changes []store.Change) error {
+	notes := make([]clientv3.Op, 0, len(changes))
+	for _, change := range changes {
+		value := "-"
+		if !change.Out {
+			value = "+" + string(change.Value)
+		}
+		notes = append(notes, clientv3.OpPut(leading.nextKey(change.Key), value))
+	}
+	if err := leading.change(ctx, []clientv3.Op{leading.forgetNext()}); err != nil {
+		return err
+	}
+	for _, piece := range split(notes) {
+		if err := leading.change(ctx, piece); err != nil {
+			return err
+		}
+	}
+	if err := leading.change(ctx, []clientv3.Op{clientv3.OpPut(leading.wholeKey(), "")}); err != nil {
+		return err
+	}
+	return leading.carryOver(ctx, changes)
+}
+
+// carryOver has a large commit, which was made, in the parts themselves.
+func (leading *leading) carryOver(ctx context.Context, changes []store.Change) error {
+	for _, piece := range split(leading.operations(changes)) {
+		if err := leading.change(ctx, piece); err != nil {
+			return err
+		}
+	}
+	return leading.change(ctx, []clientv3.Op{clientv3.OpDelete(leading.wholeKey()), leading.forgetNext()})
+}
+
+func (leading *leading) forgetNext() clientv3.Op {
+	return clientv3.OpDelete(leading.prefix+"/next/", clientv3.WithPrefix())
+}
+
+// confirm says whether this process leads.
+func (leading *leading) confirm(ctx context.Context) error {
+	leads, err := leading.transact(ctx, "", nil, leading.leads)
+	if err == nil && !leads {
+		err = store.ErrLost
+	}
+	return err
+}
+
+// change carries operations out, once, under the condition that this process leads, and that no transaction came after its last one. So where it isn't
+// known what became of one, it may be asked for again: it is carried out now, or tells that it was.
+func (leading *leading) change(ctx context.Context, operations []clientv3.Op) error {
+	before := clientv3.Compare(clientv3.Value(leading.countKey()), "=", leading.last)
+	if leading.last == "" {
+		before = clientv3.Compare(clientv3.CreateRevision(leading.countKey()), "=", 0)
+	}
+	next := fmt.Sprintf("%d %x", leading.count+1, leading.session.Lease())
+	operations = append(operations[:len(operations):len(operations)], clientv3.OpPut(leading.countKey(), next))
+	done, err := leading.transact(ctx, next, operations, leading.leads, before)
+	if err == nil && !done {
+		err = store.ErrLost
+	}
+	if err == nil {
+		leading.count, leading.last = leading.count+1, next
+	}
+	return err
+}
+
+// transact asks for a transaction, again where no answer comes, and says whether its conditions held, or it was carried out before: then the key of
+// their count has this mark. It fails with ErrTooSmall where etcd refused it for its size, and nothing was done, and else with ErrUnknown.
+func (leading *leading) transact(ctx context.Context, mark string, operations []clientv3.Op, conditions ...clientv3.Cmp) (bool, error) {
+	ctx, cancel := context.WithTimeout(ctx, patience)
+	defer cancel()
+	for {
+		done, err := leading.ask(ctx, mark, operations, conditions)
+		if isTooLarge(err) {
+			return false, fmt.Errorf("%w: it has to run with --max-txn-ops %d and --max-request-bytes %d or more: %v",
+				store.ErrTooSmall, usualTxnOps, usualBytes, err)
+		}
+		if err == nil {
+			return done, nil
+		}
+		if !mayCome(err) {
+			return false, fmt.Errorf("%w: %v", store.ErrUnknown, err)
+		}
+		select {
+		case <-leading.session.Done():
+			return false, fmt.Errorf("%w: %v", store.ErrUnknown, err)
+		case <-ctx.Done():
+			return false, fmt.Errorf("%w: %v", store.ErrUnknown, err)
+		case <-time.After(again):
+		}
+	}
+}
+
+// ask asks once, and gives up where the lease ends.
+func (leading *leading) ask(ctx context.Context, mark string, operations []clientv3.Op, conditions []clientv3.Cmp) (bool, error) {
+	ctx, cancel := context.WithTimeout(ctx, tryWithin)
+	defer cancel()
+	go func() {
+		select {
+		case <-leading.session.Done():
+			cancel()
+		case <-ctx.Done():
+		}
+	}()
+	came, err := leading.client.Txn(ctx).If(conditions...).Then(operations...).Else(clientv3.OpGet(leading.countKey())).Commit()
+	if err != nil || came.Succeeded {
+		return err == nil, err
+	}
+	found := came.Responses[0].GetResponseRange().Kvs
+	return mark != "" && len(found) > 0 && string(found[0].Value) == mark, nil
+}
+
+// mayCome says whether it may be otherwise when a transaction is asked for again: a server is gone, or restarts, or they find a leader.
+func mayCome(err error) bool {
+	if errors.Is(err, context.DeadlineExceeded) || errors.Is(err, context.Canceled) {
+		return true
+	}
+	code := status.Code(err)
+	var told rpctypes.EtcdError
+	if errors.As(err, &told) {
+		code = told.Code()
+	}
+	return code == codes.Unavailable || code == codes.DeadlineExceeded || code == codes.Canceled
+}
+
+// isTooLarge says whether etcd refused a request for its size: by its own limits, or by that of gRPC, which it sets 512 KiB above.
+func isTooLarge(err error) bool {
+	if errors.Is(err, rpctypes.ErrRequestTooLarge) || errors.Is(err, rpctypes.ErrTooManyOps) {
+		return true
+	}
+	return status.Code(err) == codes.ResourceExhausted && strings.Contains(err.Error(), "larger than max")
+}

@@ -1,0 +1,189 @@
+package etcd
+
+import (
+	"context"
+	"errors"
+	"fmt"
+	"net"
+	"os"
+	"os/exec"
+	"reflect"
+	"strings"
+	"testing"
+	"time"
+
+	"go.etcd.io/etcd/clientv3"
+
+	"tufayon/service/store"
+)
+
+// Transactions have so many operations and bytes at most; an operation that is larger than that is alone.
+func TestSplit(t *testing.T) {
+	operations := make([]clientv3.Op, 0, 1000)
+	for at := 0; at < 300; at++ {
+		operations = append(operations, clientv3.OpDelete(fmt.Sprint("k", at)))
+	}
+	operations = append(operations, clientv3.OpPut("k", strings.Repeat(" ", 2*mostBytes)), clientv3.OpPut("l", ""))
+	var sizes []int
+	for _, piece := range split(operations) {
+		sizes = append(sizes, len(piece))
+	}
+	if want := []int{120, 120, 60, 1, 1}; !reflect.DeepEqual(sizes, want) {
+		t.Errorf("the pieces have %v operations, not %v", sizes, want)
+	}
+}
+
+func TestLastOfEach(t *testing.T) {
+	changes := lastOfEach([]store.Change{{Key: 1, Out: true}, {Key: 2, Value: []byte{2}}, {Key: 1, Value: []byte{1}}, {Key: 2, Out: true}})
+	if want := []store.Change{{Key: 1, Value: []byte{1}}, {Key: 2, Out: true}}; !reflect.DeepEqual(changes, want) {
+		t.Errorf("it is %v", changes)
+	}
+}
+
+// server is etcd as Debian starts it, on loopback.
+func server(t *testing.T) Config {
+	t.Helper()
+	if _, err := exec.LookPath("etcd"); err != nil {
+		t.Skip("there is no etcd")
+	}
+	client, peer := port(t), port(t)
+	running := exec.Command("etcd", "--data-dir", t.TempDir(), "--listen-client-urls", client, "--advertise-client-urls", client,
+		"--listen-peer-urls", peer, "--initial-advertise-peer-urls", peer, "--initial-cluster", "default="+peer)
+	if err := running.Start(); err != nil {
+		t.Fatal(err)
+	}
+	t.Cleanup(func() { running.Process.Kill(); running.Wait() })
+	return Config{Endpoints: []string{client}, Prefix: "/t", LeaseSeconds: 5}
+}
+
+func port(t *testing.T) string {
+	t.Helper()
+	listener, err := net.Listen("tcp", "127.0.0.1:0")
+	if err != nil {
+		t.Fatal(err)
+	}
+	defer listener.Close()
+	return "http://" + listener.Addr().String()
+}
+
+func open(t *testing.T, config Config) *leading {
+	t.Helper()
+	ctx, cancel := context.WithTimeout(context.Background(), 30*time.Second)
+	defer cancel()
+	for {
+		kept, err := config.Open(ctx)
+		if err == nil {
+			return kept.(*leading)
+		}
+		if ctx.Err() != nil {
+			t.Fatal(err)
+		}
+		time.Sleep(100 * time.Millisecond) // it starts still
+	}
+}
+
+func (leading *leading) wants(t *testing.T, want map[uint64]string) {
+	t.Helper()
+	parts, err := leading.Load(context.Background())
+	if err != nil {
+		t.Fatal(err)
+	}
+	have := map[uint64]string{}
+	for _, part := range parts {
+		have[part.Key] = string(part.Value)
+	}
+	if !reflect.DeepEqual(have, want) {
+		t.Errorf("the store has %d parts, not %d, or others", len(have), len(want))
+	}
+}
+
+// Small commits and large ones, one that is cut short before and after it is made, and one whose outcome isn't known.
+func TestCommit(t *testing.T) {
+	if os.Getenv("TUFAYON_TEST_ETCD") == "" {
+		t.Skip("it starts etcd only where it is asked to")
+	}
+	ctx, config := context.Background(), server(t)
+	kept := open(t, config)
+	want := map[uint64]string{}
+	put := func(count int, value string) (changes []store.Change) {
+		for key := uint64(0); key < uint64(count); key++ {
+			changes = append(changes, store.Change{Key: key, Value: []byte(value)})
+		}
+		return changes
+	}
+	commit := func(anew bool, changes []store.Change) {
+		t.Helper()
+		if err := kept.Commit(ctx, anew, changes); err != nil {
+			t.Fatal(err)
+		}
+		if anew {
+			want = map[uint64]string{}
+		}
+		for _, change := range changes {
+			if delete(want, change.Key); !change.Out {
+				want[change.Key] = string(change.Value)
+			}
+		}
+		kept.wants(t, want)
+	}
+	commit(false, put(3, "small"))
+	commit(false, nil)
+	commit(false, []store.Change{{Key: 1, Out: true}, {Key: 2, Out: true}, {Key: 2, Value: []byte("again")}})
+	commit(false, put(4097, "many"))
+	commit(false, put(30, strings.Repeat("large", 20000)))
+	commit(true, put(5, "anew"))
+	// Cut short before it is made: nothing.
+	changes := put(500, "next")
+	for _, piece := range split([]clientv3.Op{clientv3.OpPut(kept.nextKey(1), "+next")}) {
+		if err := kept.change(ctx, piece); err != nil {
+			t.Fatal(err)
+		}
+	}
+	kept.Close()
+	kept = open(t, config)
+	kept.wants(t, want)
+	commit(false, put(600, "others"))
+	// Cut short once it is made: the next process carries it over.
+	var notes []clientv3.Op
+	for _, change := range changes {
+		notes = append(notes, clientv3.OpPut(kept.nextKey(change.Key), "+next"))
+		want[change.Key] = "next"
+	}
+	notes = append(notes, clientv3.OpPut(kept.nextKey(550), "-"))
+	delete(want, 550)
+	for _, piece := range append(split(notes), []clientv3.Op{clientv3.OpPut(kept.wholeKey(), "")}) {
+		if err := kept.change(ctx, piece); err != nil {
+			t.Fatal(err)
+		}
+	}
+	kept.Close()
+	kept = open(t, config)
+	kept.wants(t, want)
+	for _, key := range []string{kept.wholeKey(), "/t/next/"} {
+		if got, err := kept.client.Get(ctx, key, clientv3.WithPrefix()); err != nil || len(got.Kvs) > 0 {
+			t.Errorf("%s is left: %v", key, err)
+		}
+	}
+	// Asked for again, since nobody told what became of it: carried out once.
+	count, last := kept.count, kept.last
+	commit(false, []store.Change{{Key: 7, Value: []byte("once")}})
+	kept.count, kept.last = count, last
+	if err := kept.Commit(ctx, false, []store.Change{{Key: 7, Value: []byte("twice")}}); err != nil {
+		t.Errorf("it isn't told that it was carried out: %v", err)
+	}
+	kept.wants(t, want)
+	// Who doesn't lead any more commits nothing.
+	old := kept
+	if _, err := old.client.Revoke(ctx, old.session.Lease()); err != nil {
+		t.Fatal(err)
+	}
+	kept = open(t, config)
+	for _, changes := range [][]store.Change{nil, {{Key: 8, Value: []byte("late")}}} {
+		if err := old.Commit(ctx, false, changes); !errors.Is(err, store.ErrLost) && !errors.Is(err, store.ErrUnknown) {
+			t.Errorf("the old one commits: %v", err)
+		}
+	}
+	kept.wants(t, want)
+	old.Close()
+	kept.Close()
+}

@@ -1,0 +1,85 @@
+package hooks
+
+import (
+	"strings"
+	"testing"
+
+	"tufayon/service/frames"
+)
+
+var private = Private{
+	Secrets: map[string]string{"key": "s3cret", "long": "s3cret-and-more", "none": ""}, Parameters: map[string]string{"pool": "fast"},
+	VolumeContext: map[string]string{"v": "1"}, PublishContext: map[string]string{"p": "2"}, MountFlags: []string{"ro", "data=ordered"},
+}
+
+// What is private stands on the standard input alone.
+func TestInput(t *testing.T) {
+	deed := Deed{
+		Call: "NodeStageVolume", Volume: 7, Staging: "/s", Capability: &frames.Capability{Mount: true, FsType: "ext4", Mode: 5}, Private: private,
+	}
+	const want = `{"secrets":{"key":"s3cret","long":"s3cret-and-more","none":""},"parameters":{"pool":"fast"},` +
+		`"volume_context":{"v":"1"},"publish_context":{"p":"2"},"mount_flags":["ro","data=ordered"]}` + "\n"
+	if input := string(deed.Input()); input != want {
+		t.Errorf("it reads %s", input)
+	}
+	environment := strings.Join(deed.Environment(), " ")
+	const wanted = "TUFAYON_CALL=NodeStageVolume TUFAYON_VOLUME=7 TUFAYON_STAGING=/s TUFAYON_TARGET= TUFAYON_ACCESS=mount TUFAYON_FS_TYPE=ext4 TUFAYON_MODE=5 TUFAYON_READONLY=false"
+	if environment != wanted {
+		t.Errorf("its environment: %s", environment)
+	}
+	create := Deed{
+		Call: "CreateVolume", Volume: 7, Name: "v", Required: 10, Limit: 20, Capabilities: []frames.Capability{{Mode: 1}, {Mount: true, FsType: "xfs", Mode: 7}},
+	}
+	if input := string(create.Input()); input != `{"capabilities":[{"access":"block","fs_type":"","mode":1},{"access":"mount","fs_type":"xfs","mode":7}]}`+"\n" {
+		t.Errorf("it reads %s", input)
+	}
+	if environment := strings.Join(create.Environment(), " "); environment !=
+		"TUFAYON_CALL=CreateVolume TUFAYON_VOLUME=7 TUFAYON_NODE= TUFAYON_NAME=v TUFAYON_REQUIRED=10 TUFAYON_LIMIT=20" {
+		t.Errorf("its environment: %s", environment)
+	}
+}
+
+// A secret is hidden wherever it stands, a parameter or a flag where it is a word.
+func TestHide(t *testing.T) {
+	deed := Deed{Private: private}
+	for text, want := range map[string]string{
+		"with s3cret-and-more, s3crets and xs3cret": "with ***, ***s and x***",
+		"process of pool fast (ro,data=ordered)":    "process of pool *** (***,***)",
+		"ro":                                        "***",
+		"wrong, faster, \u00e9ro, ro\u00e9":         "wrong, faster, \u00e9ro, ro\u00e9",
+		"":                                          "",
+	} {
+		if hidden := deed.Hide(text); hidden != want {
+			t.Errorf("%q is %q, not %q", text, hidden, want)
+		}
+	}
+}
+
+// What a command answers is an object with the call's own context, of no more than CSI has, in which no secret stands; or nothing.
+func TestAnswers(t *testing.T) {
+	long := strings.Repeat("x", MaxMap)
+	for _, it := range []struct{ call, output, volume, publish, fault string }{
+		{"CreateVolume", "", "", "", ""},
+		{"CreateVolume", " \n", "", "", ""},
+		{"CreateVolume", `{"volume_context":{"k":"a"}}` + "\n", "a", "", ""},
+		{"ControllerPublishVolume", `{"publish_context":{"k":"b"}}`, "", "b", ""},
+		{"DeleteVolume", "anything", "", "", ""},
+		{"NodeStageVolume", `{"volume_context":{"k":"a"}}`, "", "", ""},
+		{"CreateVolume", `{"publish_context":{"k":"b"}}`, "", "", "the hook's answer has the context of another call"},
+		{"ControllerPublishVolume", `{"volume_context":{"k":"b"}}`, "", "", "the hook's answer has the context of another call"},
+		{"CreateVolume", "done s3cret", "", "", "the hook's answer is no such object"},
+		{"CreateVolume", `{"other":1}`, "", "", "the hook's answer is no such object"},
+		{"CreateVolume", `{"volume_context":{"k":1}}`, "", "", "the hook's answer is no such object"},
+		{"CreateVolume", `{}{}`, "", "", "the hook's answer is more than an object"},
+		{"CreateVolume", `{"volume_context":{"k":"` + long + `"}}`, "", "", "the hook's answer has a context of more than 4096 bytes"},
+		{"CreateVolume", `{"volume_context":{"k":"a s3cret b"}}`, "", "", "the hook's answer tells a secret"},
+	} {
+		answer, err := Deed{Call: it.call, Private: private}.ReadAnswer([]byte(it.output))
+		if (err != nil || it.fault != "") && (err == nil || err.Error() != it.fault) {
+			t.Errorf("%s, %.40s: %v, not %s", it.call, it.output, err, it.fault)
+		}
+		if answer.VolumeContext["k"] != it.volume && err == nil || answer.PublishContext["k"] != it.publish && err == nil {
+			t.Errorf("%s, %.40s: %+v", it.call, it.output, answer)
+		}
+	}
+}

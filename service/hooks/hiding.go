@@ -1,0 +1,67 @@
+package hooks
+
+import (
+	"sort"
+	"strings"
+	"unicode"
+	"unicode/utf8"
+)
+
+const hidden = "***"
+
+// Hide gives a text with *** in place of each secret of the deed, and of each parameter and mount flag where it stands as a word of its own: a flag
+// may be as short as ro.
+func (deed Deed) Hide(text string) string {
+	for _, secret := range longestFirst(valuesOf(deed.Private.Secrets)) {
+		text = strings.ReplaceAll(text, secret, hidden)
+	}
+	words := append(valuesOf(deed.Private.Parameters), deed.Private.MountFlags...)
+	for _, word := range longestFirst(words) {
+		text = hideWord(text, word)
+	}
+	return text
+}
+
+func valuesOf(values map[string]string) []string {
+	var texts []string
+	for _, value := range values {
+		texts = append(texts, value)
+	}
+	return texts
+}
+
+// longestFirst gives texts that aren't empty, so that none is hidden in part where it is a part of another one.
+func longestFirst(texts []string) []string {
+	var found []string
+	for _, text := range texts {
+		if text != "" {
+			found = append(found, text)
+		}
+	}
+	sort.Slice(found, func(i, j int) bool { return len(found[i]) > len(found[j]) })
+	return found
+}
+
+func hideWord(text, word string) string {
+	var read strings.Builder
+	for {
+		at := strings.Index(text, word)
+		if at < 0 {
+			read.WriteString(text)
+			return read.String()
+		}
+		before, _ := utf8.DecodeLastRuneInString(text[:at])
+		after, _ := utf8.DecodeRuneInString(text[at+len(word):])
+		if at > 0 && isOfWord(before) || isOfWord(after) {
+			_, size := utf8.DecodeRuneInString(text[at:])
+			read.WriteString(text[:at+size])
+			text = text[at+size:]
+			continue
+		}
+		read.WriteString(text[:at])
+		read.WriteString(hidden)
+		text = text[at+len(word):]
+	}
+}
+
+func isOfWord(char rune) bool { return unicode.IsLetter(char) || unicode.IsDigit(char) }

@@ -1,0 +1,227 @@
+package hooks
+
+import (
+	"context"
+	"fmt"
+	"os"
+	"os/exec"
+	"path/filepath"
+	"strconv"
+	"strings"
+	"syscall"
+	"testing"
+	"time"
+)
+
+// A place is a folder with a command, and with what that writes.
+type place struct {
+	*testing.T
+	folder string
+}
+
+func newPlace(t *testing.T) place { return place{t, t.TempDir()} }
+
+func (place place) at(name string) string { return filepath.Join(place.folder, name) }
+
+// commands has a stage done by a script.
+func (place place) commands(script string, within time.Duration) Commands {
+	place.Helper()
+	if err := os.WriteFile(place.at("hook"), []byte("#!/bin/sh\n"+script+"\n"), 0o700); err != nil {
+		place.Fatal(err)
+	}
+	return Commands{Of: map[string]string{"NodeStageVolume": place.at("hook")}, Rest: None{}, Within: within, Locks: Locks{place.at("locks")}}
+}
+
+func (place place) has(name string) bool {
+	_, err := os.Stat(place.at(name))
+	return err == nil
+}
+
+// pid reads a process's id that a script wrote.
+func (place place) pid(name string) int {
+	place.Helper()
+	for until := time.Now().Add(10 * time.Second); time.Now().Before(until); time.Sleep(5 * time.Millisecond) {
+		said, _ := os.ReadFile(place.at(name))
+		if id, err := strconv.Atoi(strings.TrimSpace(string(said))); err == nil {
+			return id
+		}
+	}
+	place.Fatalf("nothing writes %s", name)
+	return 0
+}
+
+// lives says whether a process runs, and isn't only waited for.
+func lives(id int) bool {
+	status, err := os.ReadFile(fmt.Sprintf("/proc/%d/stat", id))
+	if err != nil {
+		return false
+	}
+	fields := strings.Fields(string(status)[strings.LastIndex(string(status), ")")+1:])
+	return fields[0] != "Z" && fields[0] != "X"
+}
+
+func (place place) wantsDead(id int) {
+	place.Helper()
+	for until := time.Now().Add(10 * time.Second); lives(id); time.Sleep(5 * time.Millisecond) {
+		if time.Now().After(until) {
+			syscall.Kill(id, syscall.SIGKILL)
+			place.Fatalf("process %d lives", id)
+		}
+	}
+}
+
+var stage = Deed{Call: "NodeStageVolume", Volume: 7, Staging: "/s", Private: Private{Secrets: map[string]string{"key": "hidden"}}}
+
+// A command gets what it is asked in its environment, and what is private on its standard input alone.
+func TestCommand(t *testing.T) {
+	place := newPlace(t)
+	commands := place.commands(fmt.Sprintf(`cat > %s; echo "$TUFAYON_CALL $TUFAYON_VOLUME $TUFAYON_STAGING" > %s; env > %s`,
+		place.at("input"), place.at("asked"), place.at("env")), time.Minute)
+	if _, err := commands.Do(context.Background(), stage); err != nil {
+		t.Fatal(err)
+	}
+	for name, want := range map[string]string{"input": string(stage.Input()), "asked": "NodeStageVolume 7 /s\n"} {
+		if said, err := os.ReadFile(place.at(name)); err != nil || string(said) != want {
+			t.Errorf("%s is %q, %v, not %q", name, said, err, want)
+		}
+	}
+	if said, _ := os.ReadFile(place.at("env")); strings.Contains(string(said), "hidden") {
+		t.Error("a secret is in the environment")
+	}
+	if left, _ := os.ReadDir(place.at("locks")); len(left) != 0 {
+		t.Errorf("%d locks are left", len(left))
+	}
+}
+
+// A command that fails tells its last line, without what is private; one that takes too long, or that the driver ends, is killed with what it started.
+func TestFailing(t *testing.T) {
+	for name, row := range map[string]struct{ script, want string }{
+		"errors":      {`echo one; echo "the disk burns" >&2; exit 1`, "the disk burns"},
+		"output":      {`echo one; echo two; exit 1`, "two"},
+		"nothing":     {`exit 3`, "HOOK: exit status 3"},
+		"killed":      {`kill -9 $$`, "HOOK: signal: killed"},
+		"a secret":    {`echo "no hidden thing" >&2; exit 1`, "no *** thing"},
+		"no input":    {`exec < /dev/null; echo none; exit 1`, "none"},
+		"much output": {`i=0; while [ $i -lt 3000 ]; do echo "a line that is long enough"; i=$((i+1)); done; echo last >&2; exit 1`, "last"},
+	} {
+		place := newPlace(t)
+		_, err := place.commands(row.script, time.Minute).Do(context.Background(), stage)
+		if err == nil || strings.ReplaceAll(err.Error(), place.at("hook"), "HOOK") != row.want {
+			t.Errorf("%s: %v, not %s", name, err, row.want)
+		}
+	}
+}
+
+func TestSlow(t *testing.T) {
+	for _, isEnded := range []bool{false, true} {
+		place := newPlace(t)
+		commands := place.commands(fmt.Sprintf("sleep 60 & echo $! > %s; wait", place.at("pid")), 300*time.Millisecond)
+		ctx, end := context.WithCancel(context.Background())
+		want := "it took longer than 300ms"
+		if isEnded {
+			commands.Within, want = time.Minute, "the driver ended it"
+			go func() {
+				place.pid("pid")
+				end()
+			}()
+		}
+		since := time.Now()
+		_, err := commands.Do(ctx, stage)
+		end()
+		if err == nil || !strings.HasSuffix(err.Error(), want) || time.Since(since) > 20*time.Second {
+			t.Errorf("%v, not %s, in %v", err, want, time.Since(since))
+		}
+		place.wantsDead(place.pid("pid"))
+		if _, err := place.commands("exit 0", time.Minute).Do(context.Background(), stage); err != nil {
+			t.Errorf("the next one: %v", err)
+		}
+	}
+}
+
+// What a command that succeeded left running lives on, and holds nothing up.
+func TestDaemon(t *testing.T) {
+	place := newPlace(t)
+	commands := place.commands(fmt.Sprintf("sleep 60 & echo $! > %s", place.at("pid")), time.Minute)
+	if _, err := commands.Do(context.Background(), stage); err != nil {
+		t.Fatal(err)
+	}
+	id := place.pid("pid")
+	since := time.Now()
+	if _, err := place.commands("exit 0", time.Minute).Do(context.Background(), stage); err != nil || time.Since(since) > 5*time.Second {
+		t.Errorf("the next one: %v, in %v", err, time.Since(since))
+	}
+	if !lives(id) {
+		t.Error("what it left is dead")
+	}
+	syscall.Kill(id, syscall.SIGKILL)
+}
+
+// driven is the environment of this test's binary, run again as a driver that is killed while a command runs.
+const driven = "TUFAYON_TEST_DRIVEN"
+
+func TestMain(m *testing.M) {
+	if folder := os.Getenv(driven); folder != "" {
+		commands := Commands{Of: map[string]string{"NodeStageVolume": filepath.Join(folder, "hook")}, Within: time.Minute, Locks: Locks{filepath.Join(folder, "locks")}}
+		commands.Do(context.Background(), stage)
+		os.Exit(0)
+	}
+	os.Exit(m.Run())
+}
+
+// killedDriver has a script run by a driver of its own, and kills that while it runs.
+func (place place) killedDriver(script string) {
+	place.Helper()
+	place.commands(script, time.Minute)
+	driver := exec.Command(os.Args[0])
+	driver.Env = append(os.Environ(), driven+"="+place.folder)
+	if err := driver.Start(); err != nil {
+		place.Fatal(err)
+	}
+	place.pid("pid")
+	driver.Process.Kill()
+	driver.Wait()
+}
+
+// A command of a driver that was killed runs on, with what it started, and the next deed at its volume ends them first, whatever does that deed; a deed
+// at another volume doesn't.
+func TestKilledDriver(t *testing.T) {
+	place := newPlace(t)
+	script := fmt.Sprintf(`(sleep 3; touch %s) & echo $! > %s; wait`, place.at("late"), place.at("pid"))
+	for _, call := range []string{"NodeStageVolume", "NodeUnstageVolume"} {
+		os.Remove(place.at("pid"))
+		place.killedDriver(script)
+		id := place.pid("pid")
+		if !lives(id) {
+			t.Fatal("it doesn't live on")
+		}
+		commands, deed := place.commands("exit 0", time.Minute), stage
+		deed.Volume++
+		if _, err := commands.Do(context.Background(), deed); err != nil || !lives(id) {
+			t.Errorf("another volume: %v, and it lives: %v", err, lives(id))
+		}
+		deed = stage
+		deed.Call = call
+		if _, err := commands.Do(context.Background(), deed); err != nil || lives(id) {
+			t.Errorf("%s: %v, and it lives: %v", call, err, lives(id))
+		}
+	}
+	time.Sleep(10 * time.Millisecond)
+	if place.has("late") {
+		t.Error("it went on")
+	}
+}
+
+// What left the group of a command that is over, with its lock, isn't killed, and holds nothing up.
+func TestKilledDriverWithDaemon(t *testing.T) {
+	place := newPlace(t)
+	place.killedDriver(fmt.Sprintf(`setsid sleep 60 & while ! pgrep -s $! > /dev/null; do :; done; echo $! > %s; sleep 60`, place.at("pid")))
+	id := place.pid("pid")
+	since := time.Now()
+	if _, err := place.commands("exit 0", time.Minute).Do(context.Background(), stage); err != nil || time.Since(since) > 8*time.Second {
+		t.Errorf("the next one: %v, in %v", err, time.Since(since))
+	}
+	if !lives(id) {
+		t.Error("the daemon is dead")
+	}
+	syscall.Kill(id, syscall.SIGKILL)
+}

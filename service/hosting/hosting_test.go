@@ -1,0 +1,100 @@
+package hosting
+
+import (
+	"bytes"
+	"context"
+	"errors"
+	"fmt"
+	"strings"
+	"testing"
+	"time"
+)
+
+// asked is an orchestrator that wants nothing, and notes what it is asked together.
+type asked struct {
+	groups []int
+	lines  []string
+	fault  int // the line that it fails at, from 1; 0 for none
+	closed bool
+}
+
+var errAsked = errors.New("memory")
+
+func (asked *asked) Answers(lines [][]byte) ([]Answer, error) {
+	asked.groups = append(asked.groups, len(lines))
+	var answers []Answer
+	for _, line := range lines {
+		asked.lines = append(asked.lines, string(line))
+		if len(asked.lines) == asked.fault {
+			return answers, errAsked
+		}
+		answers = append(answers, Answer{Line: []byte(fmt.Sprintf("answer to %s\n", line))})
+	}
+	return answers, nil
+}
+
+func (asked *asked) Close() error { asked.closed = true; return nil }
+
+// slowly waits before each write, so that lines wait behind it.
+type slowly struct{ bytes.Buffer }
+
+func (output *slowly) Write(text []byte) (int, error) {
+	time.Sleep(20 * time.Millisecond)
+	return output.Buffer.Write(text)
+}
+
+// Lines that wait are answered together, in their order, and a loss ends a group; where the orchestrator fails, what it answered before is printed.
+func TestTogether(t *testing.T) {
+	var input, want strings.Builder
+	want.WriteString("first\n")
+	for at := 0; at < 200; at++ {
+		line := fmt.Sprintf(`{"create":"v%d"}`, at)
+		if at%50 == 7 {
+			line = `{"lose":"n1"}`
+		}
+		fmt.Fprintln(&input, line)
+		fmt.Fprintf(&want, "answer to %s\n", line)
+	}
+	for _, fault := range []int{0, 123} {
+		orchestrator, output := &asked{fault: fault}, &slowly{}
+		err := Serve(context.Background(), Config{}, orchestrator, Answer{Line: []byte("first\n")}, strings.NewReader(input.String()), output)
+		right := want.String()
+		if fault > 0 {
+			right = strings.Join(strings.SplitAfter(right, "\n")[:fault], "")
+		}
+		if errors.Is(err, errAsked) != (fault > 0) || output.String() != right || !orchestrator.closed {
+			t.Errorf("it ended by %v, after %d lines", err, strings.Count(output.String(), "\n"))
+		}
+		from := 0
+		for _, count := range orchestrator.groups {
+			for at := from; at < from+count-1; at++ {
+				if at < len(orchestrator.lines) && strings.Contains(orchestrator.lines[at], "lose") {
+					t.Errorf("line %d, a loss, is in the midst of a group", at)
+				}
+			}
+			from += count
+		}
+	}
+}
+
+// A program is written to and read from at once, so that neither waits for the other.
+func TestProcess(t *testing.T) {
+	running, first, err := Run("sh", "-c", `echo '{"wanted":["v"]}'; while read -r line; do echo '{"name":"'"$line"'"}'; done`)
+	if err != nil || len(first.Wanted) != 1 {
+		t.Fatalf("its first line is %+v, %v", first, err)
+	}
+	var asked [][]byte
+	for at := 0; at < MostTogether; at++ {
+		asked = append(asked, bytes.Repeat([]byte("x"), 4000))
+	}
+	answers, err := running.Answers(asked)
+	if err != nil || len(answers) != len(asked) || len(answers[63].Name) != 4000 {
+		t.Errorf("%d answers, %v", len(answers), err)
+	}
+	if err := running.Close(); err != nil {
+		t.Error(err)
+	}
+	if _, err := running.Answers(asked[:1]); !errors.Is(err, ErrOrchestrator) {
+		t.Errorf("a program that ended: %v", err)
+	}
+}

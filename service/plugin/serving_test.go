@@ -1,0 +1,218 @@
+package plugin_test
+
+import (
+	"context"
+	"errors"
+	"fmt"
+	"sort"
+	"sync"
+	"testing"
+
+	"google.golang.org/grpc/codes"
+	"google.golang.org/grpc/metadata"
+	"google.golang.org/grpc/status"
+
+	"tufayon/service/frames"
+	"tufayon/service/numbers"
+	"tufayon/service/plugin"
+	"tufayon/service/serving"
+	"tufayon/service/store"
+)
+
+// memory is a store that outlives its cores.
+type memory struct {
+	parts map[uint64][]byte
+	lost  chan struct{}
+}
+
+func newMemory() *memory { return &memory{parts: map[uint64][]byte{}, lost: make(chan struct{})} }
+
+func (kept *memory) Load(context.Context) ([]store.Part, error) {
+	var parts []store.Part
+	for key, value := range kept.parts {
+		parts = append(parts, store.Part{Key: key, Value: value})
+	}
+	sort.Slice(parts, func(i, j int) bool { return parts[i].Key < parts[j].Key })
+	return parts, nil
+}
+
+func (kept *memory) Commit(_ context.Context, _ bool, changes []store.Change) error {
+	for _, change := range changes {
+		if change.Out {
+			delete(kept.parts, change.Key)
+		} else {
+			kept.parts[change.Key] = change.Value
+		}
+	}
+	return nil
+}
+
+func (kept *memory) Lost() <-chan struct{} { return kept.lost }
+func (kept *memory) Close() error          { return nil }
+
+var (
+	controller = plugin.Maker{IsController: true, Name: []byte(`{"greatest":1000,"nodes":[{"id":"n1","slots":1},{"id":"n2","slots":9}]}`)}
+	node       = plugin.Maker{Name: []byte("n1")}
+	joined     = plugin.Maker{Name: []byte("n1"), Session: 5}
+	block      = frames.Capability{Mode: 1}
+)
+
+func open(maker plugin.Maker, kept store.Store) (*serving.Core, error) {
+	return serving.Open(context.Background(), serving.Config{
+		Store:     kept,
+		Numbering: func(uint64) (numbers.Source, error) { return numbers.Metadata{}, nil },
+		Make: func(record []byte) (serving.Plugin, bool, error) {
+			made, renewed, err := maker.Make(record)
+			if err != nil {
+				return nil, false, err
+			}
+			return made, renewed, nil
+		},
+	})
+}
+
+func opened(t *testing.T, maker plugin.Maker, kept store.Store) *serving.Core {
+	t.Helper()
+	core, err := open(maker, kept)
+	if err != nil {
+		t.Fatal(err)
+	}
+	t.Cleanup(core.Close)
+	return core
+}
+
+// wants fails unless a call ends with this status, its own or the reply's.
+func wants(t *testing.T, core *serving.Core, session, call uint64, request serving.Request, want codes.Code) serving.Answer {
+	t.Helper()
+	number := numbers.Text(frames.Number{Session: session, Call: call})
+	answer, err := core.Carry(metadata.NewIncomingContext(context.Background(), metadata.Pairs(numbers.Key, number)), request)
+	code := status.Code(err)
+	if err == nil {
+		code = codes.Code(answer.Reply.Status)
+	}
+	if code != want {
+		t.Errorf("%s: %v (%v, %s), not %v", request.Body.Kind(), code, err, answer.Reply.Detail, want)
+	}
+	return answer
+}
+
+func create(name string) serving.Request {
+	return serving.Request{Body: frames.CreateVolume{Name: name, Required: 10, Capabilities: []frames.Capability{block}}}
+}
+
+func attach(volume uint64, at string) serving.Request {
+	return serving.Request{Body: frames.ControllerPublishVolume{ID: volume, Node: at, Capability: block}}
+}
+
+func detach(volume uint64, at string) serving.Request {
+	return serving.Request{Body: frames.ControllerUnpublishVolume{ID: volume, Node: at}}
+}
+
+var stage = serving.Request{Node: "n1", Body: frames.NodeStageVolume{ID: 1, Capability: block}}
+
+// A copy tells of each call that undoes something what the plugin would: while a detach is under way, or failed, its node is full and the volume is
+// attached; what the plugin refuses isn't undone.
+func TestUndoing(t *testing.T) {
+	core := opened(t, controller, newMemory())
+	wants(t, core, 1, 1, create("v"), codes.OK)
+	wants(t, core, 1, 2, create("w"), codes.OK)
+	wants(t, core, 1, 3, attach(1, "n1"), codes.OK)
+	wants(t, core, 1, 4, attach(2, "n1"), codes.ResourceExhausted)
+	begun, goOn, ran := make(chan struct{}), make(chan error), 0
+	undoing := detach(1, "n1")
+	undoing.Act = func(context.Context, serving.Known) ([]byte, error) {
+		ran++
+		close(begun)
+		return nil, <-goOn
+	}
+	var group sync.WaitGroup
+	for turn, fault := range []error{errors.New("it is busy"), nil} {
+		begun = make(chan struct{})
+		group.Add(1)
+		want := codes.Unavailable
+		if fault == nil {
+			want = codes.OK
+		}
+		go func() {
+			defer group.Done()
+			wants(t, core, 2, uint64(turn), undoing, want)
+		}()
+		<-begun
+		wants(t, core, 1, uint64(5+turn), attach(2, "n1"), codes.ResourceExhausted)
+		goOn <- fault
+		group.Wait()
+	}
+	wants(t, core, 2, 7, attach(2, "n1"), codes.OK)
+	removing := serving.Request{Body: frames.DeleteVolume{ID: 2}, Act: undoing.Act}
+	wants(t, core, 2, 8, removing, codes.FailedPrecondition)
+	wants(t, core, 1, 9, removing, codes.Aborted)
+	if ran != 2 {
+		t.Errorf("%d were undone", ran)
+	}
+}
+
+// Of what is full, each name is made once, whatever comes at once.
+func TestAtOnce(t *testing.T) {
+	const count = 100
+	kept := newMemory()
+	core := opened(t, controller, kept)
+	var group sync.WaitGroup
+	for at := uint64(1); at <= count; at++ {
+		group.Add(1)
+		go func(at uint64) {
+			defer group.Done()
+			wants(t, core, 1, at, create(fmt.Sprint("v", at)), codes.OK)
+		}(at)
+	}
+	group.Wait()
+	if len(kept.parts) != count+1 {
+		t.Errorf("the store has %d parts", len(kept.parts))
+	}
+	core.Close()
+	again := opened(t, controller, kept)
+	if answer := wants(t, again, 1, count+1, create("another"), codes.OK); answer.Reply.Volume != count+1 {
+		t.Errorf("the next volume is %d", answer.Reply.Volume)
+	}
+}
+
+// A node that joins with a session finds calls of earlier ones stale, also once a deed failed, and when it is opened again.
+func TestJoined(t *testing.T) {
+	kept := newMemory()
+	core := opened(t, joined, kept)
+	wants(t, core, 4, 9, stage, codes.Aborted)
+	if len(kept.parts) != 1 {
+		t.Errorf("the store has %d parts", len(kept.parts))
+	}
+	failing := stage
+	failing.Act = func(context.Context, serving.Known) ([]byte, error) { return nil, errors.New("the disk burns") }
+	wants(t, core, 6, 1, failing, codes.Unavailable)
+	wants(t, core, 4, 9, stage, codes.Aborted)
+	wants(t, core, 6, 2, stage, codes.OK)
+	core.Close()
+	for _, maker := range []plugin.Maker{joined, node} { // the store's session is above 0 too
+		again := opened(t, maker, kept)
+		wants(t, again, 4, 9, stage, codes.Aborted)
+		again.Close()
+	}
+}
+
+// The store of an earlier session than that of the joining, a lost node's, is refused, and stays as it is.
+func TestEarlierSession(t *testing.T) {
+	kept := newMemory()
+	core := opened(t, node, kept)
+	wants(t, core, 4, 1, stage, codes.OK)
+	core.Close()
+	before := fmt.Sprint(kept.parts)
+	if _, err := open(joined, kept); !errors.Is(err, plugin.EarlierSession) {
+		t.Errorf("it is opened, or refused otherwise: %v", err)
+	}
+	if after := fmt.Sprint(kept.parts); after != before {
+		t.Errorf("the store has %s, not %s", after, before)
+	}
+}
+
+func TestEndings(t *testing.T) {
+	if !errors.Is(fmt.Errorf("the plugin: %w", plugin.NoMemory), store.ErrMemory) || errors.Is(plugin.BadFrame, store.ErrMemory) {
+		t.Error("a refused allocation isn't what it is to others")
+	}
+}

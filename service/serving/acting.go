@@ -1,0 +1,173 @@
+package serving
+
+import (
+	"context"
+	"reflect"
+	"sync"
+
+	"tufayon/service/frames"
+	"tufayon/service/numbers"
+)
+
+// An act is what was done for a call that does something, or is being done.
+type act struct {
+	request Request
+	number  frames.Number // of the last call that it counts for
+	volume  uint64
+	gave    []byte
+}
+
+// acts knows which are under way, and of each volume the last one that succeeded, unless something was tried or undone since. What an earlier process did
+// isn't known: it is done again where a call is repeated.
+type acts struct {
+	mutex   sync.Mutex
+	running map[key]*act
+	last    map[uint64]*act
+}
+
+// find gives what is being done for a request like this one.
+func (acts *acts) find(key key, request Request) *act {
+	acts.mutex.Lock()
+	defer acts.mutex.Unlock()
+	running := acts.running[key]
+	if running == nil || running.request.Staging != request.Staging || running.request.Like != request.Like ||
+		!reflect.DeepEqual(running.request.Body, request.Body) {
+		return nil
+	}
+	return running
+}
+
+// covers says whether what was done last at a volume counts for a call: it was done for this very number; or, of a fresh call, it was under way when
+// the call came, and was for one like it.
+func (acts *acts) covers(volume uint64, number frames.Number, joined *act) (gave []byte, covered bool) {
+	acts.mutex.Lock()
+	defer acts.mutex.Unlock()
+	last := acts.last[volume]
+	if last == nil || last.number != number && last != joined {
+		return nil, false
+	}
+	last.number = number
+	return last.gave, true
+}
+
+func (acts *acts) begin(key key, it *act) {
+	acts.mutex.Lock()
+	defer acts.mutex.Unlock()
+	acts.running[key] = it
+	delete(acts.last, it.volume)
+}
+
+func (acts *acts) end(key key, it *act, succeeded bool) {
+	acts.mutex.Lock()
+	defer acts.mutex.Unlock()
+	delete(acts.running, key)
+	if succeeded {
+		acts.last[it.volume] = it
+	}
+}
+
+// forget says that something is undone at a volume.
+func (acts *acts) forget(volume uint64) {
+	acts.mutex.Lock()
+	defer acts.mutex.Unlock()
+	delete(acts.last, volume)
+}
+
+// do carries out a call that does something: the plugin is asked, its reply committed, and then what it allows is done, unless that is known to be
+// done. Where that fails no reply is given: the store has what may be there.
+func (core *Core) do(ctx context.Context, key key, request Request, joined *act) (Answer, error) {
+	var asked asked
+	err := core.inTurn(ctx, func(group *group) (bool, error) {
+		number, err := core.number(ctx, request, true)
+		if err != nil {
+			return false, err
+		}
+		asked, err = core.ask(group, request, number)
+		return true, err
+	})
+	if err != nil {
+		return Answer{}, err
+	}
+	if asked.isAnothers {
+		return Answer{}, numbers.ErrNumber
+	}
+	if request.Act == nil || !asked.isOK {
+		return asked.answer, nil
+	}
+	if !asked.isFresh {
+		joined = nil // a duplicate is known by its number alone
+	}
+	if key.volume == 0 { // a volume was made: nobody else acts on it meanwhile
+		made := keyOf(frames.DeleteVolume{ID: asked.known.Volume})
+		if err := core.turns.take(context.Background(), made, nil); err != nil {
+			return Answer{}, err
+		}
+		defer core.turns.leave(made)
+	}
+	asked.answer.Acted, err = core.act(key, request, asked.known, joined)
+	if err != nil {
+		return Answer{}, noReply(err)
+	}
+	return asked.answer, nil
+}
+
+// act does what a call asks for, unless that is known to be done, and gives what Act gave.
+func (core *Core) act(key key, request Request, known Known, joined *act) ([]byte, error) {
+	if gave, covered := core.acts.covers(known.Volume, known.Number, joined); covered {
+		return gave, nil
+	}
+	it := &act{request: request, number: known.Number, volume: known.Volume}
+	core.acts.begin(key, it)
+	var err error
+	it.gave, err = request.Act(core.acting, known)
+	core.acts.end(key, it, err == nil)
+	return it.gave, err
+}
+
+// undo carries out a call that undoes something: a copy of the plugin is asked, and if it allows it, the thing is undone; only then the plugin is
+// asked, and its reply committed. So the store has what may be there, at each moment, and where undoing fails nothing was changed.
+func (core *Core) undo(ctx context.Context, request Request) (Answer, error) {
+	asked, known, acts, err := core.tryUndo(ctx, request)
+	if err != nil {
+		return Answer{}, err
+	}
+	if acts {
+		core.acts.forget(known.Volume)
+		gave, err := request.Act(core.acting, known)
+		if err != nil {
+			return Answer{}, noReply(err)
+		}
+		err = core.inTurn(context.Background(), func(group *group) (bool, error) {
+			number, err := core.number(ctx, request, false)
+			if err != nil {
+				return false, err
+			}
+			asked, err = core.ask(group, request, number)
+			return true, err
+		})
+		if err != nil {
+			return Answer{}, err
+		}
+		asked.answer.Acted = gave
+	}
+	if asked.isAnothers {
+		return Answer{}, numbers.ErrNumber
+	}
+	return asked.answer, nil
+}
+
+// tryUndo asks a copy of the plugin whether something is to be undone, and if not, the plugin: what the copy said nobody else can have changed.
+func (core *Core) tryUndo(ctx context.Context, request Request) (asked asked, known Known, acts bool, err error) {
+	err = core.inTurn(ctx, func(group *group) (bool, error) {
+		number, err := core.number(ctx, request, true)
+		if err != nil {
+			return false, err
+		}
+		known = core.known(number, request.Body.Volume())
+		if acts, err = core.allows(request, known); err == nil && !acts {
+			asked, err = core.ask(group, request, number)
+		}
+		return true, err
+	})
+	return asked, known, acts, err
+}

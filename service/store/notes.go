@@ -1,0 +1,112 @@
+package store
+
+import (
+	"context"
+	"database/sql"
+	"encoding/binary"
+	"errors"
+	"fmt"
+	"net/url"
+	"path/filepath"
+)
+
+const (
+	makeNotes   = "CREATE TABLE IF NOT EXISTS staged (volume BLOB NOT NULL PRIMARY KEY, path TEXT NOT NULL)"
+	putNote     = "INSERT INTO staged (volume, path) VALUES (?, ?) ON CONFLICT (volume) DO UPDATE SET path = excluded.path"
+	takeNote    = "DELETE FROM staged WHERE volume = ?"
+	readNotes   = "SELECT volume, path FROM staged ORDER BY volume"
+	listNotNote = "SELECT count(*) FROM sqlite_master WHERE NOT " +
+		"(type = 'table' AND name = 'staged' OR type = 'index' AND tbl_name = 'staged' AND sql IS NULL)"
+)
+
+// A Note says where a volume is staged, or is taken out.
+type Note struct {
+	Volume uint64
+	Path   string
+	Out    bool
+}
+
+// Notes are a node's, beside its record: a file of SQLite with the table staged. The record's own file may have no other table.
+type Notes struct {
+	db *sql.DB
+}
+
+// OpenNotes opens the file, and makes it where it is missing. It holds the file's lock until it is closed.
+func OpenNotes(ctx context.Context, path string) (*Notes, error) {
+	absolute, err := filepath.Abs(path)
+	if err != nil {
+		return nil, fmt.Errorf("%w: %v", ErrNotes, err)
+	}
+	name := url.URL{Scheme: "file", Path: absolute, RawQuery: how}
+	db, err := sql.Open("sqlite3", name.String())
+	if err != nil {
+		return nil, fmt.Errorf("%w: %v", ErrNotes, err)
+	}
+	db.SetMaxOpenConns(1) // one connection, which has the lock
+	if err := prepare(ctx, db, listNotNote, makeNotes); err != nil {
+		db.Close()
+		return nil, fmt.Errorf("%w: %v", ErrNotes, err)
+	}
+	return &Notes{db}, nil
+}
+
+// Load gives each volume's path.
+func (notes *Notes) Load(ctx context.Context) (map[uint64]string, error) {
+	paths, err := notes.load(ctx)
+	if err != nil {
+		return nil, fmt.Errorf("%w: %v", ErrNotes, err)
+	}
+	return paths, nil
+}
+
+func (notes *Notes) load(ctx context.Context) (map[uint64]string, error) {
+	rows, err := notes.db.QueryContext(ctx, readNotes)
+	if err != nil {
+		return nil, err
+	}
+	defer rows.Close()
+	paths := map[uint64]string{}
+	for rows.Next() {
+		var volume []byte
+		var path string
+		if err := rows.Scan(&volume, &path); err != nil {
+			return nil, err
+		}
+		if len(volume) != 8 {
+			return nil, errors.New("a volume that is none")
+		}
+		paths[binary.BigEndian.Uint64(volume)] = path
+	}
+	return paths, rows.Err()
+}
+
+// Commit makes all changes, in order, or none.
+func (notes *Notes) Commit(ctx context.Context, changes []Note) error {
+	err := transact(ctx, notes.db, func(tx *sql.Tx) error {
+		for _, change := range changes {
+			volume := binary.BigEndian.AppendUint64(nil, change.Volume)
+			var err error
+			if change.Out {
+				_, err = tx.ExecContext(ctx, takeNote, volume)
+			} else {
+				_, err = tx.ExecContext(ctx, putNote, volume, change.Path)
+			}
+			if err != nil {
+				return err
+			}
+		}
+		return nil
+	})
+	if err != nil {
+		return fmt.Errorf("%w: %v", ErrNotes, err)
+	}
+	return nil
+}
+
+// Close gives the file up.
+func (notes *Notes) Close() error {
+	if err := closeFile(notes.db); err != nil {
+		return fmt.Errorf("%w: the last checkpoint: %v", ErrNotes, err)
+	}
+	return nil
+}
