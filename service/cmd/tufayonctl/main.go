@@ -93,7 +93,7 @@ func (ctl *ctl) root() *cobra.Command {
 		SilenceUsage: true, SilenceErrors: true,
 	}
 	flags := root.PersistentFlags()
-	flags.StringVar(&ctl.connecting.address, "address", or(os.Getenv("TUFAYON_ADDRESS"), defaultAddress), "the service: unix://PATH, or HOST:PORT")
+	flags.StringVar(&ctl.connecting.address, "address", or(os.Getenv("TUFAYON_ADDRESS"), defaultAddress), "the service: unix://PATH, or HOST:PORT; of several, with commas between, that which leads")
 	flags.StringVar(&ctl.connecting.set, "set", os.Getenv("TUFAYON_SET"), "over TCP: the set's name")
 	flags.StringVar(&ctl.connecting.files.Certificate, "certificate", os.Getenv("TUFAYON_CERTIFICATE"), "over TCP: this client's certificate")
 	flags.StringVar(&ctl.connecting.files.Key, "key", os.Getenv("TUFAYON_KEY"), "over TCP: its key")
