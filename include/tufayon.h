@@ -149,9 +149,9 @@ uint32_t tufayon_node_from_record(const uint8_t *id, size_t id_size, const uint8
  * The node of an id that joins with a session: a new one, to which calls of earlier sessions are stale; and then, at each start, that of its record,
  * where the session is a check, which raises and lowers nothing. The two above are for session 0.
  *
- * The session is the orchestrator's present one when the node joins (csi-replay record tells it), at least the session that began when the id was
- * lost, and not above the present one. It is given unchanged at each start: a live node that lags must not be given a newer word. An emptied store
- * is a lost node: it joins again, with a new word. 0 is right only for an id that was never in an orchestrator's list.
+ * The session is the orchestrator's present one when the node joins (csi-replay record has it), at least the session that began when the id was
+ * lost, and not above the present one. It is given unchanged at each start: a live node that lags must not be given a newer one. A node whose store
+ * was wiped counts as lost: it joins again, with the session of that moment. 0 is right only for an id that was never in an orchestrator's list.
  *
  * Fail as those above; and the second with TUFAYON_EARLIER_SESSION if the record's session, in versions 1 and 2 the greatest of its rows' last calls,
  * is below this one: the store is a lost node's, which must never come back, and stays as it is.
@@ -222,8 +222,8 @@ uint32_t tufayon_deliver(tufayon_plugin *orchestrator, const uint8_t *came, size
                          size_t *written, uint32_t *fault);
 
 /*
- * The node of an id is lost, listed or not. Whoever makes this call promises: the machine is off for good, and its store never comes back; an
- * emptied store is a lost node. A session begins without the node in the list: what was staged and published there is so no more, a use there
+ * The node of an id is lost, listed or not. Make this call only if the machine is off for good and its store will never be used again; a node
+ * whose store was wiped counts as lost too. A session begins without the node in the list: what was staged and published there is so no more, a use there
  * becomes its stop, open calls are given up, and names whose volumes are gone and of which nothing is wanted are free again. What the controller
  * attached to it stays attached until tufayon_stop there, of any target, or tufayon_timeout detached it. Nothing is sent: what is wanted of volumes
  * goes on by a tufayon_timeout of each. Its changes are the whole record; the session that began stands in the value under key 0 (docs/FORMATS.md,

@@ -50,7 +50,8 @@ func serve(t testing.TB, kept store.Store, carrier host.Carrier, nodes int, list
 	if err != nil {
 		t.Fatal(err)
 	}
-	server, _ := api.New(&api.Server{Host: made, Plugins: states}, roles, known, zap.NewNop())
+	leading, server := api.New(states, roles, known, zap.NewNop())
+	leading.Lead(made)
 	go server.Serve(listener)
 	t.Cleanup(func() { server.Stop(); made.Close() })
 	return made
@@ -150,6 +151,31 @@ func TestCommands(t *testing.T) {
 	}
 	if again, err := client.Restart(ctx, &wire.RestartRequest{}); err != nil || again.Session != 3 {
 		t.Errorf("restarted: %v, %v", again, err)
+	}
+}
+
+// A service that doesn't lead says so, to each caller and by its health.
+func TestWaits(t *testing.T) {
+	listener, err := secure.Listen(filepath.Join(t.TempDir(), "socket"))
+	if err != nil {
+		t.Fatal(err)
+	}
+	roles, own := &api.Roles{}, uint32(os.Geteuid())
+	roles.Set(nil, map[uint32]api.Role{own: api.Loses})
+	_, server := api.New(plugins{}, roles, secure.Local{May: roles.MayConnect}, zap.NewNop())
+	go server.Serve(listener)
+	defer server.Stop()
+	connection := dial(t, "unix://"+listener.Addr().String(), secure.Local{May: func(uid uint32) bool { return uid == own }})
+	client := wire.NewOrchestratorClient(connection)
+	_, err = client.Delete(ctx, &wire.DeleteRequest{Name: "v"})
+	wants(t, "a command", err, codes.Unavailable, "this service doesn't lead")
+	_, err = client.Nodes(ctx, &wire.NodesRequest{})
+	wants(t, "the nodes", err, codes.Unavailable, "this service doesn't lead")
+	for _, service := range []string{"", api.Service} {
+		told, err := grpc_health_v1.NewHealthClient(connection).Check(ctx, &grpc_health_v1.HealthCheckRequest{Service: service})
+		if err != nil || told.Status != grpc_health_v1.HealthCheckResponse_NOT_SERVING {
+			t.Errorf("its health: %v, %v", told, err)
+		}
 	}
 }
 

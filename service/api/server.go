@@ -3,6 +3,7 @@ package api
 
 import (
 	"context"
+	"sync"
 	"time"
 
 	"go.uber.org/zap"
@@ -36,31 +37,66 @@ type Plugins interface {
 	States() map[string]carrying.State
 }
 
-// Server serves an orchestrator.
+// Server serves an orchestrator, once this process leads.
 type Server struct {
-	Host    *host.Host
-	Plugins Plugins
+	plugins Plugins
+	health  *health.Server
+	mutex   sync.RWMutex
+	leads   *host.Host // nil while this process doesn't lead
 }
 
-// New makes a gRPC server of a service, its health and its reflection. Who may call what, the roles say.
-func New(server *Server, roles *Roles, known credentials.TransportCredentials, log *zap.Logger) (*grpc.Server, *health.Server) {
+// New makes a server, which doesn't lead, and a gRPC server of its service, its health and its reflection. Who may call what, the roles say.
+func New(plugins Plugins, roles *Roles, known credentials.TransportCredentials, log *zap.Logger) (*Server, *grpc.Server) {
 	guard := &guard{roles: roles, log: log}
 	made := grpc.NewServer(
 		grpc.Creds(known), grpc.UnaryInterceptor(guard.unary), grpc.StreamInterceptor(guard.stream),
 		grpc.KeepaliveEnforcementPolicy(keepalive.EnforcementPolicy{MinTime: 5 * time.Second, PermitWithoutStream: true}),
 		grpc.KeepaliveParams(keepalive.ServerParameters{Time: 30 * time.Second, Timeout: 10 * time.Second}),
 	)
+	server := &Server{plugins: plugins, health: health.NewServer()}
+	server.tell(grpc_health_v1.HealthCheckResponse_NOT_SERVING)
 	wire.RegisterOrchestratorServer(made, server)
-	healthy := health.NewServer()
-	healthy.SetServingStatus(Service, grpc_health_v1.HealthCheckResponse_SERVING)
-	grpc_health_v1.RegisterHealthServer(made, healthy)
+	grpc_health_v1.RegisterHealthServer(made, server.health)
 	reflection.Register(made)
-	return made, healthy
+	return server, made
+}
+
+func (server *Server) tell(how grpc_health_v1.HealthCheckResponse_ServingStatus) {
+	server.health.SetServingStatus("", how)
+	server.health.SetServingStatus(Service, how)
+}
+
+// Lead has the server serve an orchestrator from now on.
+func (server *Server) Lead(leads *host.Host) {
+	server.mutex.Lock()
+	defer server.mutex.Unlock()
+	server.leads = leads
+	server.tell(grpc_health_v1.HealthCheckResponse_SERVING)
+}
+
+// Leave has its health say that it serves no more. What came is answered.
+func (server *Server) Leave() { server.tell(grpc_health_v1.HealthCheckResponse_NOT_SERVING) }
+
+// errWaits is what callers get while this process doesn't lead: nothing was done.
+var errWaits = status.Error(codes.Unavailable, "this service doesn't lead")
+
+// host is the orchestrator, if this process leads.
+func (server *Server) host() (*host.Host, error) {
+	server.mutex.RLock()
+	defer server.mutex.RUnlock()
+	if server.leads == nil {
+		return nil, errWaits
+	}
+	return server.leads, nil
 }
 
 // do has a command carried out.
 func (server *Server) do(ctx context.Context, command host.Command) (*wire.Volume, error) {
-	answer, err := server.Host.Do(ctx, command)
+	leads, err := server.host()
+	if err != nil {
+		return nil, err
+	}
+	answer, err := leads.Do(ctx, command)
 	if err != nil {
 		return nil, statusOf(err)
 	}
@@ -125,7 +161,11 @@ func (server *Server) Delete(ctx context.Context, request *wire.DeleteRequest) (
 
 // Restart has the next session begin, with the same nodes.
 func (server *Server) Restart(ctx context.Context, _ *wire.RestartRequest) (*wire.RestartResponse, error) {
-	session, err := server.Host.Begin(ctx, nil, "a caller asked for it")
+	leads, err := server.host()
+	if err != nil {
+		return nil, err
+	}
+	session, err := leads.Begin(ctx, nil, "a caller asked for it")
 	if err != nil {
 		return nil, statusOf(err)
 	}
@@ -142,7 +182,11 @@ func (server *Server) Lose(ctx context.Context, request *wire.LoseRequest) (*wir
 	if judged.err != nil {
 		return nil, judged.err
 	}
-	session, err := server.Host.Lose(ctx, request.Node)
+	leads, err := server.host()
+	if err != nil {
+		return nil, err
+	}
+	session, err := leads.Lose(ctx, request.Node)
 	if err != nil {
 		return nil, statusOf(err)
 	}
@@ -151,14 +195,18 @@ func (server *Server) Lose(ctx context.Context, request *wire.LoseRequest) (*wir
 
 // Get gives a volume as it is, or once nothing is wanted of it any more.
 func (server *Server) Get(ctx context.Context, request *wire.GetRequest) (*wire.Volume, error) {
+	leads, err := server.host()
+	if err != nil {
+		return nil, err
+	}
 	if request.Wait == wire.Wait_AT_REST {
-		answer, err := server.Host.AtRest(ctx, request.Name)
+		answer, err := leads.AtRest(ctx, request.Name)
 		if err != nil {
 			return nil, statusOf(err)
 		}
 		return volumeOf(answer.Volume), nil
 	}
-	volume, isThere := server.Host.Get(request.Name)
+	volume, isThere := leads.Get(request.Name)
 	if !isThere {
 		return nil, status.Error(codes.NotFound, "NoSuchVolume")
 	}
@@ -167,11 +215,15 @@ func (server *Server) Get(ctx context.Context, request *wire.GetRequest) (*wire.
 
 // List gives a page of volumes.
 func (server *Server) List(_ context.Context, request *wire.ListRequest) (*wire.ListResponse, error) {
+	leads, err := server.host()
+	if err != nil {
+		return nil, err
+	}
 	most := int(request.Most)
 	if most == 0 || most > mostListed {
 		most = mostListed
 	}
-	volumes, more := server.Host.List(request.After, most, func(volume host.Volume) bool {
+	volumes, more := leads.List(request.After, most, func(volume host.Volume) bool {
 		if request.Wanted && volume.Goal == records.None {
 			return false
 		}
@@ -190,7 +242,11 @@ func (server *Server) List(_ context.Context, request *wire.ListRequest) (*wire.
 
 // Watch gives what happens, until the caller goes.
 func (server *Server) Watch(request *wire.WatchRequest, stream wire.Orchestrator_WatchServer) error {
-	watching := server.Host.Watch(request.Current, request.Name)
+	leads, err := server.host()
+	if err != nil {
+		return err
+	}
+	watching := leads.Watch(request.Current, request.Name)
 	defer watching.End()
 	if err := stream.SendHeader(metadata.MD{}); err != nil { // so that a caller knows from when on it sees all
 		return err
@@ -214,8 +270,12 @@ func (server *Server) Watch(request *wire.WatchRequest, stream wire.Orchestrator
 
 // Nodes says how it stands with the controller and the nodes.
 func (server *Server) Nodes(context.Context, *wire.NodesRequest) (*wire.NodesResponse, error) {
+	leads, err := server.host()
+	if err != nil {
+		return nil, err
+	}
 	attached := map[string]uint32{}
-	server.Host.List("", 0, func(volume host.Volume) bool {
+	leads.List("", 0, func(volume host.Volume) bool {
 		for _, at := range volume.At {
 			if at.Attached != records.No {
 				attached[at.Node]++
@@ -223,8 +283,8 @@ func (server *Server) Nodes(context.Context, *wire.NodesRequest) (*wire.NodesRes
 		}
 		return false
 	})
-	states := server.Plugins.States()
-	response := &wire.NodesResponse{Session: server.Host.Session()}
+	states := server.plugins.States()
+	response := &wire.NodesResponse{Session: leads.Session()}
 	add := func(id, plugin string) {
 		state := states[plugin]
 		response.Nodes = append(response.Nodes, &wire.Node{
@@ -233,7 +293,7 @@ func (server *Server) Nodes(context.Context, *wire.NodesRequest) (*wire.NodesRes
 		})
 	}
 	add("", carrying.Controller)
-	for _, id := range server.Host.Nodes() {
+	for _, id := range leads.Nodes() {
 		add(id, carrying.NodeName(id))
 	}
 	return response, nil

@@ -20,10 +20,6 @@ import (
 	"tufayon/service/translate"
 )
 
-// ReplyKey is the key of the trailer by which a plugin says that what it answers is its reply: its value is the number of the call. A status without it
-// was made by gRPC, or by something between: the call got no reply then.
-const ReplyKey = "tufayon-reply"
-
 // Controller is the name of the controller among the plugins.
 const Controller = "controller"
 
@@ -160,9 +156,9 @@ func (carrier *Carrier) carry(ctx context.Context, plugin *plugin, call frames.C
 	return reply, true, err
 }
 
-// isReply says whether a trailer says that the plugin itself replied to this call.
+// isReply says whether a trailer says that the plugin itself replied to this call. A status without it was made by gRPC, or by something between.
 func isReply(trailer metadata.MD, number frames.Number) bool {
-	values := trailer.Get(ReplyKey)
+	values := trailer.Get(numbers.ReplyKey)
 	return len(values) == 1 && values[0] == numbers.Text(number)
 }
 

@@ -113,6 +113,35 @@ func TestLedgerOnly(t *testing.T) {
 	}
 }
 
+// By arrival the plugin isn't asked to undo what a volume without a row has; by metadata it keeps each call.
+func TestUnknown(t *testing.T) {
+	arrival, err := numbers.NewArrival(1)
+	if err != nil {
+		t.Fatal(err)
+	}
+	for _, it := range []struct {
+		source numbers.Source
+		ctx    context.Context
+		row    string
+		want   int
+	}{{arrival, context.Background(), "", 0}, {arrival, context.Background(), staged, 2}, {numbers.Metadata{}, by("3.1"), "", 2}} {
+		box := newBox(t)
+		box.core.source = it.source
+		box.backend.Serve(box.core)
+		if it.row != "" {
+			box.row(it.row)
+		}
+		node := wire.NewNodeClient(box.client)
+		_, err := node.NodeUnpublishVolume(it.ctx, &wire.NodeUnpublishVolumeRequest{VolumeId: "1", TargetPath: "/t"})
+		box.wants(err, codes.OK, "")
+		_, err = node.NodeUnstageVolume(it.ctx, &wire.NodeUnstageVolumeRequest{VolumeId: "1", StagingTargetPath: "/s"})
+		box.wants(err, codes.OK, "")
+		if len(box.core.carried) != it.want {
+			t.Errorf("%T, row %q: %d calls are carried", it.source, it.row, len(box.core.carried))
+		}
+	}
+}
+
 // A late call gets to the plugin, which refuses it by its number, whatever its path; another one is refused for its path, or by its hooks.
 func TestLate(t *testing.T) {
 	box := newBox(t)

@@ -10,9 +10,6 @@ import (
 	"tufayon/service/wire"
 )
 
-// Version is the driver's, as GetPluginInfo tells it.
-const Version = "1.0.0"
-
 // identity is CSI's Identity service of a plugin.
 type identity struct {
 	name, version string

@@ -9,6 +9,7 @@ import (
 
 	"tufayon/service/frames"
 	"tufayon/service/hooks"
+	"tufayon/service/numbers"
 	"tufayon/service/records"
 	"tufayon/service/serving"
 	"tufayon/service/translate"
@@ -68,6 +69,21 @@ func isStale(row records.Staged, known serving.Known) bool {
 	return known.Number.Session < known.Session || known.Number.IsBefore(row.Last)
 }
 
+// undo carries a call that undoes something. By arrival one of a volume that has no row is done: the plugin would say so too, and keep the call of an
+// id that may be nobody's.
+func (node *node) undo(ctx context.Context, body frames.Body, deed hooks.Deed, had had) error {
+	if !numbers.IsIn(ctx) {
+		core, err := node.backend.core()
+		if err != nil {
+			return err
+		}
+		if known, err := core.Known(ctx, body.Volume()); err != nil || known.Row == nil {
+			return err
+		}
+	}
+	return node.carry(ctx, body, deed, had)
+}
+
 // NodeStageVolume has a volume staged at a path.
 func (node *node) NodeStageVolume(ctx context.Context, request *wire.NodeStageVolumeRequest) (*wire.NodeStageVolumeResponse, error) {
 	body, err := translate.NodeStageVolume(request)
@@ -83,7 +99,7 @@ func (node *node) NodeStageVolume(ctx context.Context, request *wire.NodeStageVo
 func (node *node) NodeUnstageVolume(ctx context.Context, request *wire.NodeUnstageVolumeRequest) (*wire.NodeUnstageVolumeResponse, error) {
 	body, err := translate.NodeUnstageVolume(request)
 	if err == nil {
-		err = node.carry(ctx, body, hooks.Deed{Call: "NodeUnstageVolume", Staging: request.GetStagingTargetPath()}, func(known serving.Known) (bool, error) {
+		err = node.undo(ctx, body, hooks.Deed{Call: "NodeUnstageVolume", Staging: request.GetStagingTargetPath()}, func(known serving.Known) (bool, error) {
 			row, err := rowOf(known)
 			return row.IsStaged, err
 		})
@@ -107,7 +123,7 @@ func (node *node) NodePublishVolume(ctx context.Context, request *wire.NodePubli
 func (node *node) NodeUnpublishVolume(ctx context.Context, request *wire.NodeUnpublishVolumeRequest) (*wire.NodeUnpublishVolumeResponse, error) {
 	body, err := translate.NodeUnpublishVolume(request)
 	if err == nil {
-		err = node.carry(ctx, body, hooks.Deed{Call: "NodeUnpublishVolume", Target: body.Target}, func(known serving.Known) (bool, error) {
+		err = node.undo(ctx, body, hooks.Deed{Call: "NodeUnpublishVolume", Target: body.Target}, func(known serving.Known) (bool, error) {
 			row, err := rowOf(known)
 			return row.IsAt(body.Target), err
 		})

@@ -117,6 +117,17 @@ func TestPublish(t *testing.T) {
 		box.wantsFile("t", false)
 	}
 	box.wantsFile("v/v", true)
+	// After a restart of the machine nothing is mounted: it is published anew, or what is left is taken out.
+	for _, again := range []bool{true, false} {
+		box.must(box.does(box.publication("v", "t")))
+		box.must(unix.Unmount(box.at("t"), 0))
+		if again {
+			box.must(box.does(box.publication("v", "t")))
+			box.wantsMounts("t", 1)
+		}
+		box.must(box.unpublishes("v", "t"))
+		box.wantsFile("t", false)
+	}
 }
 
 // What is mounted at the target is compared with the volume: anything else is an error, and stays.

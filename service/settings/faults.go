@@ -116,8 +116,11 @@ func (times Times) check(to *checking) {
 }
 
 func (process *Process) check(to *checking) {
-	if process.Store == "" {
-		to.refuse("store", "the file is missing")
+	if (process.Store == "") == (process.Etcd == nil) {
+		to.refuse("store", "either this file is there, or etcd")
+	}
+	if etcd := process.Etcd; etcd != nil {
+		etcd.check(to)
 	}
 	checkAddress(to, "listen", process.Listen)
 	if process.IsTLS() && (process.Certificate == "" || process.Key == "" || process.Authorities == "") {
@@ -141,6 +144,21 @@ func (process *Process) check(to *checking) {
 		if _, isOne := api.ParseRole(role); !isOne {
 			to.refuse("users."+user, "%q is no role: read, operate or lose", role)
 		}
+	}
+}
+
+func (etcd *Etcd) check(to *checking) {
+	if len(etcd.Endpoints) == 0 {
+		to.refuse("etcd.endpoints", "there are none")
+	}
+	if etcd.Prefix == "" {
+		to.refuse("etcd.prefix", "it is missing")
+	}
+	if all := etcd.CA != "" && etcd.Certificate != "" && etcd.Key != ""; !all && etcd.CA+etcd.Certificate+etcd.Key != "" {
+		to.refuse("etcd.certificate", "ca, certificate and key are there together, or none of them")
+	}
+	if etcd.Lease < 1 {
+		to.refuse("etcd.lease", "%d isn't above 0", etcd.Lease)
 	}
 }
 

@@ -40,8 +40,9 @@ type Times struct {
 
 // A Process is the file of a process.
 type Process struct {
-	Set         string            `json:"set"`    // the set's file
-	Store       string            `json:"store"`  // the orchestrator's file of SQLite
+	Set         string            `json:"set"`   // the set's file
+	Store       string            `json:"store"` // the orchestrator's file of SQLite; or
+	Etcd        *Etcd             `json:"etcd"`
 	Listen      string            `json:"listen"` // unix://PATH, or HOST:PORT
 	Certificate string            `json:"certificate"`
 	Key         string            `json:"key"`
@@ -49,6 +50,16 @@ type Process struct {
 	Clients     map[string]string `json:"clients"` // the role of each client of the set, by its name
 	Users       map[string]string `json:"users"`   // the role of each user of this machine, by its number
 	Calls       Calls             `json:"calls"`
+}
+
+// Etcd says where the orchestrator's store is in etcd, and how this process leads.
+type Etcd struct {
+	Endpoints   []string `json:"endpoints"`
+	Prefix      string   `json:"prefix"`
+	CA          string   `json:"ca"` // files of TLS, all three unless all endpoints are on loopback
+	Certificate string   `json:"certificate"`
+	Key         string   `json:"key"`
+	Lease       int      `json:"lease"` // seconds
 }
 
 // Calls are how many are made at once.
@@ -90,9 +101,13 @@ func Read(file string) (*Settings, error) {
 	if settings.Process.Set == "" {
 		return nil, Faults{file + ": set: the set's file is missing"}
 	}
-	for _, path := range []*string{
+	paths := []*string{
 		&settings.Process.Set, &settings.Process.Store, &settings.Process.Certificate, &settings.Process.Key, &settings.Process.Authorities,
-	} {
+	}
+	if etcd := settings.Process.Etcd; etcd != nil {
+		paths = append(paths, &etcd.CA, &etcd.Certificate, &etcd.Key)
+	}
+	for _, path := range paths {
 		if *path != "" && !filepath.IsAbs(*path) {
 			*path = filepath.Join(filepath.Dir(file), *path)
 		}

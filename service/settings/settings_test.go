@@ -79,6 +79,10 @@ func TestFaults(t *testing.T) {
 		{strings.Replace(set, `"slots": 4`, `"slots": 5000`, 1), process, []string{"set.json: nodes[1].slots: 5000 are more than 4096"}},
 		{set, `{"set": "set.json", "store": "o.db", "listen": ":7", "key": "k", "users": {"ann": "read", "7": "king"}, "clients": {"bob": ""}, "calls": {"node": 0}}`,
 			[]string{"certificate: certificate, key", "users.ann: it is no", `users.7: "king" is no role`, `clients.bob: "" is no role`, "calls.node: 0"}},
+		{set, `{"set": "set.json", "listen": "unix:///o"}`, []string{"process.json: store: either this file is there, or etcd"}},
+		{set, `{"set": "set.json", "listen": "unix:///o", "store": "s", "etcd": {"ca": "ca.pem"}}`, []string{
+			"store: either", "etcd.endpoints: there are none", "etcd.prefix: it is missing", "etcd.certificate: ca, certificate and key", "etcd.lease: 0 isn't above 0",
+		}},
 	} {
 		_, err := settings.Read(write(t, it.set, it.process))
 		var faults settings.Faults

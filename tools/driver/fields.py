@@ -1,9 +1,10 @@
 """What becomes of each field of each request, and the responses: by the tables of docs/DRIVER.md, "From CSI to a frame"."""
 import os
 import stat
+import subprocess
 
 import csi_pb2
-from program.running import wanted
+from program.running import LIMIT, wanted
 
 from .box import ended
 from .requests import BLOCK, attach, capability, create, delete, detach, publish, stage, unpublish, unstage, validate
@@ -194,7 +195,8 @@ def node(box):
 def identity(box):
     for driver in (box.controller("--name", "a.example"), box.node("--name", "a.example")):
         info = driver.wants(0, "GetPluginInfo", csi_pb2.GetPluginInfoRequest())
-        wanted("GetPluginInfo", (info.name, info.vendor_version != ""), ("a.example", True))
+        told = subprocess.run([f"{box.built}/csi-driver", "--version"], capture_output=True, timeout=LIMIT, check=False, text=True)
+        wanted("GetPluginInfo", (info.name, f"csi-driver {info.vendor_version}\n"), ("a.example", told.stdout))
         told = driver.wants(0, "GetPluginCapabilities", csi_pb2.GetPluginCapabilitiesRequest())
         wanted("GetPluginCapabilities", [it.service.type for it in told.capabilities], [1])
         wanted("Probe", driver.wants(0, "Probe", csi_pb2.ProbeRequest()).ready.value, True)

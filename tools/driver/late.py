@@ -122,6 +122,8 @@ def full(box):
         node.wants(0, "NodeUnstageVolume", unstage(unknown + 2000))
     node.wants(0, "NodeStageVolume", stage(MOST, BLOCK))
     node.wants((8, "rows"), "NodeStageVolume", stage(MOST + 1, BLOCK))
+    node.wants(0, "NodeUnpublishVolume", unpublish(10**6))
+    node.wants(0, "NodeUnstageVolume", unstage(10**6))
     for at in range(1, GONE + 1):
         node.wants(0, "NodeUnstageVolume", unstage(at))
     for at in range(1, GONE + 1):

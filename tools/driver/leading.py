@@ -234,7 +234,7 @@ def machine_gone(_box, cluster):
     """The leader's machine is cut off, with the server there, whichever that is: the one that waits takes over."""
     took = []
     for at in range(3):
-        first, second = cluster.driver(f"first{at}"), cluster.driver(f"second{at}", serves=False)
+        first, second = cluster.driver(f"first{at}"), cluster.driver(f"second{at}", serves=False, lease=20)
         others = [it for it in cluster.clients if it != cluster.clients[at]]
         first.wants(0, "CreateVolume", create(f"v{at}"), (at + 1, 1))
         cluster.await_drivers(2)

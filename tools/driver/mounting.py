@@ -84,7 +84,10 @@ def mounted(box):
     except OSError as refused:
         wanted("the refusal", refused.errno, errno.EROFS)
     own.node.kill()
+    subprocess.run(["umount", box.at("write")], check=True)  # as a restart of the machine does
     own.node = box.node("--hooks", "mounts")
+    own.call -= 1
+    own.publishes(1, "staging dir", "write")  # the call of the same number
     own.publishes(1, "staging dir", "read", True)
     wanted("the mounts", [len(options_at(box.at(it))) for it in ("read", "write")], [1, 1])
     for name in ("read", "write"):

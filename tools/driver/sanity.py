@@ -6,7 +6,8 @@ import shutil
 import csi_pb2
 from program.running import LeftOut, wanted
 
-from .mounting import is_mounted, own_namespace
+from .box import ended
+from .mounting import is_mounted, options_at, own_namespace
 from .requests import BLOCK, attach, capability, create, delete, detach, publish, stage, unpublish, unstage, validate
 
 OK, INVALID, NOT_FOUND, EXISTS, PRECONDITION, UNIMPLEMENTED = 0, 3, 5, 6, 9, 12
@@ -188,7 +189,36 @@ def unknown(client):
         client(OK, "NodeUnstageVolume", unstage(volume, "/staging"))
 
 
-GROUPS = (identity, creating, deleting, validating, attaching, capabilities, missing, life, unknown)
+def together(client):
+    """Eight calls at once that ask the same: by arrival each is done, by metadata those that a later one overtook are 10; the thing is there once."""
+    box = client.box
+    staging, target = box.at("staging"), box.at("target")
+    os.mkdir(staging)
+
+    def at_once(name, request):
+        client.call += 8
+        number = (lambda at: (1, client.call - 7 + at)) if client.numbers == "metadata" else lambda _: None
+        driver = client.node if name.startswith("Node") else client.controller
+        came = [ended(it) for it in [driver.start(name, request, number(at)) for at in range(8)]]
+        may = {OK} if client.numbers == "arrival" else {OK, 10}
+        wanted(f"{name}: {[it[:2] for it in came]}", ({it[0] for it in came} <= may, OK in {it[0] for it in came}), (True, True))
+        return [it[2] for it in came if it[0] == OK]
+
+    made = {it.volume.volume_id for it in at_once("CreateVolume", create("v", 1 << 30, capabilities=[SHARED], **MORE))}
+    wanted("the volumes", len(made), 1)
+    volume = made.pop()
+    at_once("ControllerPublishVolume", attach(volume, "n1", SHARED))
+    at_once("NodeStageVolume", stage(volume, SHARED, staging))
+    at_once("NodePublishVolume", publish(volume, target, SHARED, path=staging))
+    wanted("the mounts at the target", len(options_at(target)), int(client.mounts))
+    at_once("NodeUnpublishVolume", unpublish(volume, target))
+    wanted("the target", os.path.exists(target), False)
+    at_once("NodeUnstageVolume", unstage(volume, staging))
+    at_once("ControllerUnpublishVolume", detach(volume, "n1"))
+    at_once("DeleteVolume", delete(volume))
+
+
+GROUPS = (identity, creating, deleting, validating, attaching, capabilities, missing, life, unknown, together)
 
 
 def suite(numbers):
@@ -205,8 +235,11 @@ def suite(numbers):
             group(client)
             wanted(f"{group.__name__}: their ends", [client.controller.stop(), client.node.stop()], [0, 0])
             calls += client.call
-            for path in glob.glob(box.at("*.db*")):
-                shutil.rmtree(path) if os.path.isdir(path) else os.remove(path)
+            for path in (*glob.glob(box.at("*.db*")), box.at("staging")):
+                if os.path.isdir(path):
+                    shutil.rmtree(path)
+                elif os.path.exists(path):
+                    os.remove(path)
         return f"{len(GROUPS)} groups, {calls} calls, hooks {hooks}"
 
     return body

@@ -107,9 +107,9 @@ class Cluster:
 
     def put(self, parts):
         """Puts parts there, as many in a transaction as fit well."""
-        for at in range(0, len(parts), 200):
+        for at in range(0, len(parts), 100):
             puts = [
-                {"requestPut": {"key": coded(f"/t/parts/{key.hex()}"), "value": base64.b64encode(value).decode()}} for key, value in parts[at : at + 200]
+                {"requestPut": {"key": coded(f"/t/parts/{key.hex()}"), "value": base64.b64encode(value).decode()}} for key, value in parts[at : at + 100]
             ]
             self.ask(self.clients[0], "kv/txn", success=puts)
 

@@ -13,7 +13,7 @@ from .whole import APART, TOGETHER, WHOLES, whole_of
 
 DEVICE = ended(3, "device")
 # In which groups calls come where a device fails, or the program is killed, at each call of the system, by the store that it runs over.
-WAYS = {"new": {"in two groups": [6]}, "used": {"one by one": APART, "all together": TOGETHER}, "log": {"in three groups": [1, 3]}}
+WAYS = {"new": {"in two groups": [6]}, "used": {"five alone, and the rest": [1] * 5, "all together": TOGETHER}, "log": {"in three groups": [1, 3]}}
 CREATE = b'{"create":{"capabilities":[],"limit":0,"name":"v","required":1}}'
 SCHEDULE = b'{"config":{"greatest":1,"nodes":[]},"events":[%s]}' % CREATE
 # The calls of the system that write, cut or sync; the program is to use the first five alone.

@@ -115,7 +115,7 @@ LONG_CONFIGS = [  # of about a megabyte each, with the fault that a schedule tel
 ]
 LONG_SCHEDULES = [
     ("that is no JSON", NOT_JSON, b"x" * 10**6),
-    ("that isn't JSON at its end", NOT_JSON, schedule(b",".join([EVENT] * 100_000))[:-1]),
+    ("that isn't JSON at its end", NOT_JSON, schedule(b",".join([EVENT] * 20_000))[:-1]),
     ("with a bad event at the end of 10,001", "schedule fault 2 at 10001", schedule(b",".join([*[EVENT] * 10_000, b"{}"]))),
 ]
 LONG_LINES = [  # of 65,536 bytes each

@@ -11,7 +11,7 @@ from .talks import Talk, about, first, line
 MB = 2**20
 ROOM = 24 * MB  # of addresses that a process may have over a small store, where it has 14
 FULL_ROOM = 32 * MB  # and over a full one, where it has 18, or 24 where it tells it
-GROWTH = 512  # kilobytes, between a tenth of a stream and its end
+GROWTH = 256  # kilobytes, between a tenth of a stream and its end
 AT_ONCE = 4096  # frames or lines that are written at once
 MILLION = 1_000_000 // AT_ONCE + 1
 
@@ -62,7 +62,7 @@ def sent_again():
     talk.makes()
     talk.uses()
     talk.asks(talk.stop, talk.stop, "NodeUnpublishVolume")
-    for _ in range(20_000):
+    for _ in range(12_000):
         talk.asks(talk.timeout, talk.stop, "NodeUnpublishVolume")
     return [(b"".join(given for given, _ in talk.pairs[at : at + 100]), b"".join(right for _, right in talk.pairs[at : at + 100])) for at in range(1, len(talk.pairs), 100)]
 
@@ -72,10 +72,10 @@ STREAMS = [  # the words, the pieces, and the first line
     ("a million frames, answered", ("answer", "/dev/stdin"), lambda: again(create((1, 1), "v"), reply("CreateVolume", (1, 1), 0, 1))),
     ("80 MB of the longest frames, answered", ("answer", "/dev/stdin"), lambda: again(LONGEST, reply("CreateVolume", (1, 1), 0, 1), 64, 1000)),
     ("a million frames to a controller", ("controller", "db", "config"), lambda: again(create((1, 1), "v"), reply("CreateVolume", (1, 1), 0, 1))),
-    ("a million frames to a node", ("node", "db", "n1"), lambda: again(stage((1, 1), 1), reply("NodeStageVolume", (1, 1)))),
+    ("250,000 frames to a node", ("node", "db", "n1"), lambda: again(stage((1, 1), 1), reply("NodeStageVolume", (1, 1)), times=MILLION // 4)),
     ("a million lines", ("orchestrator", "db", "config"), lambda: again(*REFUSED), first(1)),
     ("65 MB of the longest lines", ("orchestrator", "db", "config"), lambda: again(padded(REFUSED[0], MOST), REFUSED[1], 1, 1000), first(1)),
-    ("a call that is sent again 20,000 times", ("orchestrator", "db", "config"), sent_again, first(1)),
+    ("a call that is sent again 12,000 times", ("orchestrator", "db", "config"), sent_again, first(1)),
 ]
 
 

@@ -95,7 +95,7 @@ func (plugin *Plugin) judge(ctx context.Context, request any, info *grpc.UnarySe
 		}
 	}
 	if isReply {
-		grpc.SetTrailer(ctx, metadata.Pairs(carrying.ReplyKey, number[0]))
+		grpc.SetTrailer(ctx, metadata.Pairs(numbers.ReplyKey, number[0]))
 	}
 	if err != nil {
 		return nil, status.Convert(err).Err()

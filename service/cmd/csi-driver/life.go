@@ -13,6 +13,7 @@ import (
 	"tufayon/service/numbers"
 	"tufayon/service/serving"
 	"tufayon/service/store"
+	"tufayon/service/version"
 )
 
 const (
@@ -38,7 +39,7 @@ type life struct {
 func newLife(options *options) *life {
 	life := &life{options: options, backend: driver.NewBackend(), limits: limiting.New(), served: make(chan error, 1)}
 	life.server = driver.NewServer(life.backend, life.limits)
-	driver.RegisterIdentity(life.server, life.backend, options.name, driver.Version)
+	driver.RegisterIdentity(life.server, life.backend, options.name, version.Number)
 	options.register(life.server, life.backend)
 	return life
 }

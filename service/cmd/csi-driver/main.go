@@ -9,10 +9,10 @@ import (
 	"os/signal"
 	"syscall"
 
-	"tufayon/service/driver"
 	"tufayon/service/numbers"
 	"tufayon/service/plugin"
 	"tufayon/service/store"
+	"tufayon/service/version"
 )
 
 func main() {
@@ -41,7 +41,7 @@ func statusOf(err error) int {
 
 func run(ctx context.Context, words []string) error {
 	if len(words) == 1 && words[0] == "--version" {
-		fmt.Printf("csi-driver %s\n", driver.Version)
+		fmt.Printf("csi-driver %s\n", version.Number)
 		return nil
 	}
 	options, err := parse(words)

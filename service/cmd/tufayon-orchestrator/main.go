@@ -16,9 +16,13 @@ import (
 	"tufayon/service/numbers"
 	"tufayon/service/plugin"
 	"tufayon/service/settings"
+	"tufayon/service/version"
 )
 
 func main() {
+	if version.Told("tufayon-orchestrator", os.Args[1:], os.Stdout) {
+		return
+	}
 	ctx, stop := signal.NotifyContext(context.Background(), syscall.SIGINT, syscall.SIGTERM)
 	err := run(ctx, os.Args[1:], os.Stdout)
 	stop()

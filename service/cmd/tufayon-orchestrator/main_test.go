@@ -24,14 +24,15 @@ const within = 10 * time.Second // what should come soon
 type files struct {
 	t               *testing.T
 	folder, address string
+	process         string // the file
 	plugins         map[string]*carryingtest.Plugin
 }
 
 func newFiles(t *testing.T) *files {
 	folder := t.TempDir()
-	made := &files{t: t, folder: folder, address: "unix://" + filepath.Join(folder, "o.sock"), plugins: map[string]*carryingtest.Plugin{}}
+	made := &files{t: t, folder: folder, address: "unix://" + filepath.Join(folder, "o.sock"), process: "process.json", plugins: map[string]*carryingtest.Plugin{}}
 	made.serve("controller")
-	made.write("process.json", fmt.Sprintf(`{"set": "set.json", "store": "o.db", "listen": %q}`, made.address))
+	made.write(made.process, fmt.Sprintf(`{"set": "set.json", "store": "o.db", "listen": %q}`, made.address))
 	return made
 }
 
@@ -58,14 +59,14 @@ func (made *files) list(ids ...string) {
 		"times": {"answer": 5, "patience": 20, "retry": 0.05, "most_retry": 1}}`, made.path("controller.sock"), strings.Join(nodes, ",")))
 }
 
-// start starts the service, and gives a client and what ends it, which gives its exit status.
-func (made *files) start() (wire.OrchestratorClient, func() int) {
+// start starts the service, waits until it leads where it will, and gives a client and what ends it, which gives its exit status.
+func (made *files) start(leads bool) (wire.OrchestratorClient, func() int) {
 	made.t.Helper()
 	ctx, stop := context.WithCancel(context.Background())
 	ended := make(chan int, 1)
-	go func() { ended <- statusOf(run(ctx, []string{made.path("process.json")}, os.Stdout)) }()
+	go func() { ended <- statusOf(run(ctx, []string{made.path(made.process)}, os.Stdout)) }()
 	for end := time.Now().Add(within); time.Now().Before(end); time.Sleep(5 * time.Millisecond) {
-		if _, err := os.Stat(made.path("o.sock")); err == nil {
+		if _, err := os.Stat(strings.TrimPrefix(made.address, "unix://")); err == nil {
 			break
 		}
 	}
@@ -74,7 +75,13 @@ func (made *files) start() (wire.OrchestratorClient, func() int) {
 		made.t.Fatal(err)
 	}
 	made.t.Cleanup(func() { stop(); connection.Close() })
-	return wire.NewOrchestratorClient(connection), func() int { stop(); return <-ended }
+	client := wire.NewOrchestratorClient(connection)
+	for end := time.Now().Add(within); leads && time.Now().Before(end); time.Sleep(5 * time.Millisecond) {
+		if _, err := client.Nodes(ctx, &wire.NodesRequest{}); err == nil {
+			break // it leads
+		}
+	}
+	return client, func() int { stop(); return <-ended }
 }
 
 var block = &wire.Capability{Mode: 1}
@@ -87,8 +94,8 @@ func TestService(t *testing.T) {
 	made.list("n1")
 	made.serve("n1")
 	made.serve("n2")
-	client, stop := made.start()
-	volume, err := client.Create(ctx, &wire.CreateRequest{Name: "v", Capabilities: []*wire.Capability{block}, Wait: wire.Wait_AT_REST}, grpc.WaitForReady(true))
+	client, stop := made.start(true)
+	volume, err := client.Create(ctx, &wire.CreateRequest{Name: "v", Capabilities: []*wire.Capability{block}, Wait: wire.Wait_AT_REST})
 	if err != nil || !volume.Reached {
 		t.Fatalf("created: %v, %v", volume, err)
 	}
@@ -131,8 +138,8 @@ func TestService(t *testing.T) {
 	if calls := strings.Join(made.plugins["n1"].Calls(), " "); calls != "NodeStageVolume NodePublishVolume NodeUnpublishVolume NodeUnstageVolume" {
 		t.Errorf("n1 got %s", calls)
 	}
-	client, stop = made.start()
-	volume, err = client.Get(ctx, &wire.GetRequest{Name: "v"}, grpc.WaitForReady(true))
+	client, stop = made.start(true)
+	volume, err = client.Get(ctx, &wire.GetRequest{Name: "v"})
 	if err != nil || len(volume.At) != 1 || volume.At[0].Node != "n2" {
 		t.Errorf("after a restart: %v, %v", volume, err)
 	}

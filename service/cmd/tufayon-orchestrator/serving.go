@@ -6,6 +6,7 @@ import (
 	"net"
 	"os"
 	"os/signal"
+	"reflect"
 	"strings"
 	"syscall"
 	"time"
@@ -13,10 +14,10 @@ import (
 	"go.uber.org/zap"
 	"google.golang.org/grpc"
 	"google.golang.org/grpc/credentials"
-	"google.golang.org/grpc/health"
 
 	"tufayon/service/api"
 	"tufayon/service/carrying"
+	"tufayon/service/etcd"
 	"tufayon/service/host"
 	"tufayon/service/secure"
 	"tufayon/service/settings"
@@ -35,59 +36,87 @@ type service struct {
 	carrier  *carrying.Carrier
 	host     *host.Host
 	roles    *api.Roles
+	server   *api.Server
+	grpc     *grpc.Server
 	anew     <-chan os.Signal // says that the files are to be read anew
 }
 
+// serve serves callers at once, and waits until this process has the store: then it leads.
 func serve(ctx context.Context, read *settings.Settings, log *zap.Logger) error {
-	kept, err := store.OpenSQLite(ctx, read.Process.Store)
+	anew := make(chan os.Signal, 1)
+	signal.Notify(anew, syscall.SIGHUP)
+	defer signal.Stop(anew)
+	running := &service{settings: read, log: log, roles: &api.Roles{}, anew: anew}
+	running.roles.Set(read.Roles(os.Geteuid()))
+	if err := running.connect(); err != nil {
+		return err
+	}
+	defer running.carrier.Close()
+	listener, err := listen(read.Process.Listen)
 	if err != nil {
 		return err
 	}
-	err = serveOver(ctx, kept, read, log)
+	defer listener.Close()
+	running.server, running.grpc = api.New(running.carrier, running.roles, running.credentials(), log)
+	defer running.grpc.Stop()
+	served := make(chan error, 1)
+	go func() { served <- running.grpc.Serve(listener) }()
+	log.Info("waits for the store", zap.String("address", read.Process.Listen))
+	kept, err := open(ctx, read.Process)
+	if err != nil {
+		if ctx.Err() != nil {
+			return nil // it was ended while it waited to lead
+		}
+		return err
+	}
+	err = running.lead(ctx, kept, served)
 	if closed := kept.Close(); err == nil {
 		err = closed
 	}
 	return err
 }
 
-func serveOver(ctx context.Context, kept store.Store, read *settings.Settings, log *zap.Logger) error {
-	anew := make(chan os.Signal, 1)
-	signal.Notify(anew, syscall.SIGHUP)
-	defer signal.Stop(anew)
-	running := &service{settings: read, log: log, roles: &api.Roles{}, anew: anew}
-	running.roles.Set(read.Roles(os.Geteuid()))
+// open opens the store, and waits until this process leads where it is in etcd.
+func open(ctx context.Context, process settings.Process) (store.Store, error) {
+	if process.Etcd == nil {
+		return store.OpenSQLite(ctx, process.Store)
+	}
+	its := process.Etcd
+	return etcd.Config{
+		Endpoints: its.Endpoints, Prefix: its.Prefix, CA: its.CA, Certificate: its.Certificate, Key: its.Key, LeaseSeconds: its.Lease,
+	}.Open(ctx)
+}
+
+// connect makes connections to the plugins.
+func (running *service) connect() error {
+	read := running.settings
 	peers := carrying.Peers{Set: read.Set.Name, Files: read.Files(), May: own, Refused: func(plugin string) secure.Refused {
 		return func(_ net.Addr, why error) {
-			log.Warn("a plugin is refused", zap.String("plugin", plugin), zap.Error(why))
+			running.log.Warn("a plugin is refused", zap.String("plugin", plugin), zap.Error(why))
 		}
 	}}
 	limits := carrying.Limits{
 		AtController: read.Process.Calls.Controller, AtNode: read.Process.Calls.Node, Answer: settings.Seconds(read.Set.Times.Answer), Reach: reach,
 	}
 	running.carrier = carrying.New(limits, read.Set.Staging, peers.Dial)
-	defer running.carrier.Close()
-	if err := running.carrier.Set(read.Addresses()); err != nil {
-		return err
-	}
-	listener, err := listen(read.Process.Listen)
-	if err != nil {
-		return err
-	}
-	defer listener.Close()
-	times := read.Set.Times
+	return running.carrier.Set(read.Addresses())
+}
+
+// lead begins the orchestrator's next session over the store, and serves.
+func (running *service) lead(ctx context.Context, kept store.Store, served <-chan error) error {
+	times := running.settings.Set.Times
+	var err error
 	running.host, err = host.Open(ctx, host.Options{
-		Store: kept, Nodes: read.Set.IDs(), Carrier: running.carrier, Log: log,
+		Store: kept, Nodes: running.settings.Set.IDs(), Carrier: running.carrier, Log: running.log,
 		Times: host.Times{Patience: settings.Seconds(times.Patience), Retry: settings.Seconds(times.Retry), MostRetry: settings.Seconds(times.MostRetry)},
 	})
 	if err != nil {
 		return err
 	}
 	defer running.host.Close()
-	server, healthy := api.New(&api.Server{Host: running.host, Plugins: running.carrier}, running.roles, running.credentials(), log)
-	served := make(chan error, 1)
-	go func() { served <- server.Serve(listener) }()
-	log.Info("serves", zap.String("address", read.Process.Listen), zap.Uint64("session", running.host.Session()))
-	return running.wait(ctx, server, healthy, served)
+	running.server.Lead(running.host)
+	running.log.Info("serves", zap.String("address", running.settings.Process.Listen), zap.Uint64("session", running.host.Session()))
+	return running.wait(ctx, served)
 }
 
 // own says whether a user at the other end of a plugin's socket is this one, or root.
@@ -112,7 +141,7 @@ func (running *service) credentials() credentials.TransportCredentials {
 }
 
 // wait serves until the process is to end, or can't go on, and reads the files anew at SIGHUP.
-func (running *service) wait(ctx context.Context, server *grpc.Server, healthy *health.Server, served <-chan error) error {
+func (running *service) wait(ctx context.Context, served <-chan error) error {
 	for {
 		select {
 		case <-running.anew:
@@ -122,14 +151,13 @@ func (running *service) wait(ctx context.Context, server *grpc.Server, healthy *
 		case err := <-served:
 			return err
 		case <-running.host.Done():
-			server.Stop() // each caller gets that it isn't known what became of its command
+			running.grpc.Stop() // each caller gets that it isn't known what became of its command
 			return running.host.Err()
 		case <-ctx.Done():
-			healthy.Shutdown()
-			go server.GracefulStop() // no more callers
+			running.server.Leave()
+			go running.grpc.GracefulStop() // no more callers
 			running.drain()
 			running.host.Close()
-			server.Stop()
 			return running.host.Err()
 		}
 	}
@@ -195,6 +223,7 @@ func (running *service) stays(read *settings.Settings) error {
 		{anew.Process.Set + ": staging", old.Set.Staging != anew.Set.Staging},
 		{anew.Process.Set + ": times", old.Set.Times != anew.Set.Times},
 		{anew.File + ": store", old.Process.Store != anew.Process.Store},
+		{anew.File + ": etcd", !reflect.DeepEqual(old.Process.Etcd, anew.Process.Etcd)},
 		{anew.File + ": listen", old.Process.Listen != anew.Process.Listen},
 		{anew.File + ": calls", old.Process.Calls != anew.Process.Calls},
 		{anew.File + ": certificate, key, authorities", old.Process.Certificate != anew.Process.Certificate || old.Process.Key != anew.Process.Key ||

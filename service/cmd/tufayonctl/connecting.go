@@ -2,6 +2,7 @@ package main
 
 import (
 	"context"
+	"fmt"
 	"os"
 	"path/filepath"
 	"strings"
@@ -11,9 +12,13 @@ import (
 	"google.golang.org/grpc"
 	"google.golang.org/grpc/codes"
 	"google.golang.org/grpc/credentials"
+	_ "google.golang.org/grpc/health" // has connections watch what a server says of its health
 	"google.golang.org/grpc/keepalive"
+	"google.golang.org/grpc/resolver"
+	"google.golang.org/grpc/resolver/manual"
 	"google.golang.org/grpc/status"
 
+	"tufayon/service/api"
 	"tufayon/service/api/wire"
 	"tufayon/service/carrying"
 	"tufayon/service/secure"
@@ -28,9 +33,14 @@ type connecting struct {
 	timeout      time.Duration
 }
 
-// client gives a client of the service, a context for its calls, and what ends both.
+// leading has a connection of several addresses go to the service that leads, by its health.
+const leading = `{"loadBalancingConfig":[{"round_robin":{}}],"healthCheckConfig":{"serviceName":"` + api.Service + `"}}`
+
+// client gives a client of the service, a context for its calls, and what ends both. Of several addresses, with commas between, it is that of the service
+// that leads, which is waited for.
 func (it *connecting) client(ctx context.Context) (wire.OrchestratorClient, context.Context, func(), error) {
-	known, err := it.credentials()
+	addresses := strings.Split(it.address, ",")
+	known, err := it.credentials(addresses)
 	if err != nil {
 		return nil, nil, nil, err
 	}
@@ -38,7 +48,18 @@ func (it *connecting) client(ctx context.Context) (wire.OrchestratorClient, cont
 	if !carrying.IsLocal(it.address) {
 		options = append(options, grpc.WithKeepaliveParams(keepalive.ClientParameters{Time: 10 * time.Second, Timeout: 5 * time.Second}))
 	}
-	connection, err := grpc.Dial(it.address, options...)
+	target := it.address
+	if len(addresses) > 1 {
+		var state resolver.State
+		for _, address := range addresses {
+			state.Addresses = append(state.Addresses, resolver.Address{Addr: address})
+		}
+		all := manual.NewBuilderWithScheme("tufayon")
+		all.InitialState(state)
+		target = "tufayon:///service"
+		options = append(options, grpc.WithResolvers(all), grpc.WithDefaultServiceConfig(leading), grpc.WithDefaultCallOptions(grpc.WaitForReady(true)))
+	}
+	connection, err := grpc.Dial(target, options...)
 	if err != nil {
 		return nil, nil, nil, status.Error(codes.Unavailable, err.Error())
 	}
@@ -49,9 +70,14 @@ func (it *connecting) client(ctx context.Context) (wire.OrchestratorClient, cont
 	return wire.NewOrchestratorClient(connection), ctx, func() { cancel(); connection.Close() }, nil
 }
 
-func (it *connecting) credentials() (credentials.TransportCredentials, error) {
-	if carrying.IsLocal(it.address) {
-		folder := filepath.Dir(strings.TrimPrefix(it.address, "unix://"))
+func (it *connecting) credentials(addresses []string) (credentials.TransportCredentials, error) {
+	for _, address := range addresses {
+		if carrying.IsLocal(address) != carrying.IsLocal(addresses[0]) {
+			return nil, fmt.Errorf("%w: addresses are all of Unix sockets, or none", errUsage)
+		}
+	}
+	if carrying.IsLocal(addresses[0]) {
+		folder := filepath.Dir(strings.TrimPrefix(addresses[0], "unix://"))
 		return secure.Local{May: func(uid uint32) bool { return uid == 0 || int(uid) == os.Geteuid() || isOwner(folder, uid) }}, nil
 	}
 	name := secure.Name{Set: it.set, Role: secure.Orchestrator}

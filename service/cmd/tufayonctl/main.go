@@ -13,9 +13,14 @@ import (
 	"github.com/spf13/cobra"
 	"google.golang.org/grpc/codes"
 	"google.golang.org/grpc/status"
+
+	"tufayon/service/version"
 )
 
 func main() {
+	if version.Told("tufayonctl", os.Args[1:], os.Stdout) {
+		return
+	}
 	ctx, stop := signal.NotifyContext(context.Background(), syscall.SIGINT, syscall.SIGTERM)
 	code := run(ctx, os.Args[1:], os.Stdout, os.Stderr)
 	stop()
@@ -88,7 +93,7 @@ func (ctl *ctl) root() *cobra.Command {
 		SilenceUsage: true, SilenceErrors: true,
 	}
 	flags := root.PersistentFlags()
-	flags.StringVar(&ctl.connecting.address, "address", or(os.Getenv("TUFAYON_ADDRESS"), defaultAddress), "the service: unix://PATH, or HOST:PORT")
+	flags.StringVar(&ctl.connecting.address, "address", or(os.Getenv("TUFAYON_ADDRESS"), defaultAddress), "the service: unix://PATH, or HOST:PORT; of several, with commas between, that which leads")
 	flags.StringVar(&ctl.connecting.set, "set", os.Getenv("TUFAYON_SET"), "over TCP: the set's name")
 	flags.StringVar(&ctl.connecting.files.Certificate, "certificate", os.Getenv("TUFAYON_CERTIFICATE"), "over TCP: this client's certificate")
 	flags.StringVar(&ctl.connecting.files.Key, "key", os.Getenv("TUFAYON_KEY"), "over TCP: its key")

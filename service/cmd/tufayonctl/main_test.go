@@ -42,7 +42,8 @@ func serve(t *testing.T, carrier host.Carrier) string {
 	roles := &api.Roles{}
 	roles.Set(nil, map[uint32]api.Role{uint32(os.Geteuid()): api.Loses})
 	states := plugins{carrying.Controller: {Address: "unix:///c", Connection: "READY"}, "node:n1": {Address: "unix:///n1", Connection: "CONNECTING"}}
-	server, _ := api.New(&api.Server{Host: made, Plugins: states}, roles, secure.Local{May: roles.MayConnect}, zap.NewNop())
+	leading, server := api.New(states, roles, secure.Local{May: roles.MayConnect}, zap.NewNop())
+	leading.Lead(made)
 	go server.Serve(listener)
 	t.Cleanup(func() { server.Stop(); made.Close() })
 	return "unix://" + listener.Addr().String()
@@ -94,6 +95,24 @@ func TestWords(t *testing.T) {
 	says(t, address, "lose|n1", 2, `--promise "off for good, and its store never comes back"`)
 	says(t, address, "lose|n1|--promise|"+api.Promise, 0, "n1 is lost", "session 3")
 	says(t, address, "watch|--current|--timeout|50ms", 3, "DeadlineExceeded")
+}
+
+// Of several services it asks the one that leads.
+func TestLeading(t *testing.T) {
+	listener, err := secure.Listen(filepath.Join(t.TempDir(), "socket"))
+	if err != nil {
+		t.Fatal(err)
+	}
+	roles := &api.Roles{}
+	roles.Set(nil, map[uint32]api.Role{uint32(os.Geteuid()): api.Loses})
+	_, server := api.New(plugins{}, roles, secure.Local{May: roles.MayConnect}, zap.NewNop())
+	go server.Serve(listener)
+	defer server.Stop()
+	waiting, leads, nobody := "unix://"+listener.Addr().String(), serve(t, &hosttest.Carrier{}), "unix://"+filepath.Join(t.TempDir(), "nobody")
+	says(t, waiting, "list", 3, "this service doesn't lead")
+	says(t, strings.Join([]string{nobody, waiting, leads}, ","), "create|v|--block|--wait|--timeout|10s", 0, "yes")
+	says(t, waiting+","+nobody, "list|--timeout|50ms", 3, "DeadlineExceeded")
+	says(t, waiting+",127.0.0.1:1", "list", 2, "all of Unix sockets, or none")
 }
 
 func TestUsage(t *testing.T) {
