@@ -1,10 +1,13 @@
-/* The upserts that a controller makes for so many CreateVolume calls, in plain SQLite: a transaction of two rows for each. And those of an
-   orchestrator for the commands about so many volumes and their replies: a transaction of one row for each. */
+/* commits DB controller|orchestrator COUNT GROUP: the upserts that a controller makes for so many CreateVolume calls, in plain SQLite: two rows for each, and a
+   transaction for a group of so many calls. Or those of an orchestrator for the commands about so many volumes and their replies: one row for each line.
+   It prints the seconds from the end of the first group to the end of the last one. */
+#define _POSIX_C_SOURCE 199309L /* clock_gettime */
 #include <sqlite3.h>
 #include <stdint.h>
 #include <stdio.h>
 #include <stdlib.h>
 #include <string.h>
+#include <time.h>
 
 static sqlite3 *db;
 
@@ -107,13 +110,30 @@ static void transact(int is_begun) {
     must(sqlite3_reset(is_begun ? begin : commit));
 }
 
+static uint64_t group, inside; /* how many make a transaction, and how many are in this one */
+static double begun, now;
+
+static void one_begins(void) {
+    if (inside++ == 0) transact(1);
+}
+
+static void one_ends(int is_last) {
+    struct timespec time;
+    if (inside < group && !is_last) return;
+    transact(0);
+    inside = 0;
+    clock_gettime(CLOCK_MONOTONIC, &time);
+    now = (double)time.tv_sec + (double)time.tv_nsec / 1e9;
+    if (begun == 0) begun = now;
+}
+
 static void serve_controller(uint64_t count) {
     put_head(upsert, 1, 0);
     for (uint64_t id = 1; id <= count; id++) {
-        transact(1);
+        one_begins();
         put_head(upsert, id + 1, 1);
         put_row(upsert, id);
-        transact(0);
+        one_ends(id == count);
     }
 }
 
@@ -124,15 +144,16 @@ static void serve_orchestrator(uint64_t count) {
     for (int pass = 0; pass < 4; pass++)
         for (uint64_t id = 1; id <= count; id++)
             for (int step = passes[pass]; step < passes[pass + 1]; step++) {
-                transact(1);
+                one_begins();
                 put_known(upsert, id, step);
-                transact(0);
+                one_ends(step == 11 && id == count);
             }
 }
 
 int main(int count_of_words, char **words) {
-    if (count_of_words != 4) return 2;
+    if (count_of_words != 5) return 2;
     uint64_t count = strtoull(words[3], NULL, 10);
+    group = strtoull(words[4], NULL, 10);
     must(sqlite3_open(words[1], &db));
     must(sqlite3_exec(db, "PRAGMA locking_mode=EXCLUSIVE; PRAGMA journal_mode=WAL; PRAGMA synchronous=FULL;"
         "CREATE TABLE IF NOT EXISTS parts (key BLOB NOT NULL PRIMARY KEY, value BLOB NOT NULL)", NULL, NULL, NULL));
@@ -145,5 +166,6 @@ int main(int count_of_words, char **words) {
     sqlite3_finalize(commit);
     sqlite3_finalize(upsert);
     must(sqlite3_close(db));
+    printf("%.6f\n", now - begun);
     return 0;
 }

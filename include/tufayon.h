@@ -35,9 +35,32 @@
  *     where a node was lost: tufayon_orchestrator_lose, commit(false), and what is wanted goes on by timeouts as at the start
  *     tufayon_free(&orchestrator);
  *
+ * Several at once. A commit costs more than many answers, so a program to which several frames have come answers them all and commits once. After
+ * each answer it asks for the changes, and keeps them in order, and the reply. Then all changes go into one transaction, in that order: of two under one
+ * key the later one stays. Once it has ended, all replies are sent, in order. Commands, timeouts and frames that come to an orchestrator go together in
+ * the same way.
+ *
+ *     for (;;) {
+ *         wait for a frame;
+ *         for each frame that is there, up to so many as is wished:
+ *             tufayon_answer; behind `changes` put what tufayon_changed says of each place, and behind `replies` the reply's bytes, where there are any
+ *         begin a transaction, put in and take out all `changes`, end it;    send all `replies`;    and both are empty again
+ *     }
+ *
+ *   - A call on which the program itself acts before it replies (it attaches, formats, mounts) is a group alone: what was answered before it is
+ *     committed and sent first.
+ *   - Where a commit is refused, or its outcome isn't known, nothing of the group is sent: the handle is freed, and made again of what the store has.
+ *   - Where a call fails, what was answered before it is committed and sent as if it hadn't come. Who gives up asking for the changes of a frame that was
+ *     answered (TUFAYON_NO_MEMORY) commits and sends what came before it, and then frees the handle and makes it again.
+ *
  * Every call but tufayon_free returns a number, below. Unless it is TUFAYON_DONE, TUFAYON_RENEWED, TUFAYON_TAKE_OUT, TUFAYON_MET or
  * TUFAYON_IGNORED, what the handle has and its changes stay as they were: no call leaves anything half done, and after TUFAYON_NO_MEMORY it may be
  * made again. That this number comes only where an allocation was refused isn't proved: tools/library tests that each call succeeds where none is.
+ *
+ * What a call says beside its number (`used`, `written`, `key`, `fault`, `known`, and the bytes in a room) it writes only with the numbers of which its
+ * text says so. With any other these stay as they were, but for `used` of tufayon_deliver, which says nothing with TUFAYON_NO_MEMORY; and with
+ * TUFAYON_NO_ROOM no byte of a frame was taken. Bytes of a room behind those that were written stay too. That they stay isn't proved: tools/library tests
+ * it at each call.
  *
  * What is proved of each call stands in crates/csi_embedded/src, at its name in the three files *exports.rt, where it is checked. It supposes of the
  * calling program:
@@ -63,6 +86,9 @@
 #ifdef __cplusplus
 extern "C" {
 #endif
+
+/* The version: this header's here, and the library's by tufayon_version. */
+#define TUFAYON_VERSION "1.0.0"
 
 /* The most bytes of a reply, of a frame, of a volume's name, and of what is wanted of a volume. */
 #define TUFAYON_REPLY_ROOM 544
@@ -123,9 +149,9 @@ uint32_t tufayon_node_from_record(const uint8_t *id, size_t id_size, const uint8
  * The node of an id that joins with a session: a new one, to which calls of earlier sessions are stale; and then, at each start, that of its record,
  * where the session is a check, which raises and lowers nothing. The two above are for session 0.
  *
- * The session is the orchestrator's present one when the node joins (csi-replay record tells it), at least the session that began when the id was
- * lost, and not above the present one. It is given unchanged at each start: a live node that lags must not be given a newer word. An emptied store
- * is a lost node: it joins again, with a new word. 0 is right only for an id that was never in an orchestrator's list.
+ * The session is the orchestrator's present one when the node joins (csi-replay record has it), at least the session that began when the id was
+ * lost, and not above the present one. It is given unchanged at each start: a live node that lags must not be given a newer one. A node whose store
+ * was wiped counts as lost: it joins again, with the session of that moment. 0 is right only for an id that was never in an orchestrator's list.
  *
  * Fail as those above; and the second with TUFAYON_EARLIER_SESSION if the record's session, in versions 1 and 2 the greatest of its rows' last calls,
  * is below this one: the store is a lost node's, which must never come back, and stays as it is.
@@ -135,9 +161,9 @@ uint32_t tufayon_node_joined_from_record(const uint8_t *id, size_t id_size, uint
                                          tufayon_plugin *plugin);
 
 /*
- * Answers the frame that the bytes begin with. `used` says how many of them it took, and `written` how many bytes the reply has: 0 where it has
- * none, since the frame is a reply, or another plugin's. The room is at least TUFAYON_REPLY_ROOM. Bytes after the first TUFAYON_FRAME_ROOM aren't
- * looked at: give the whole buffer, and then what is left of it.
+ * Answers the frame that the bytes begin with. TUFAYON_DONE: `used` says how many of them it took, and `written` how many bytes the reply has: 0 where
+ * it has none, since the frame is a reply, or another plugin's. The room is at least TUFAYON_REPLY_ROOM. Bytes after the first TUFAYON_FRAME_ROOM
+ * aren't looked at: give the whole buffer, and then what is left of it.
  * Fails with TUFAYON_NO_MEMORY, TUFAYON_EMPTY, TUFAYON_SHORT, TUFAYON_BAD_FRAME, TUFAYON_NO_ROOM or TUFAYON_OTHER_KIND.
  */
 uint32_t tufayon_answer(tufayon_plugin *plugin, const uint8_t *frame, size_t frame_size, size_t *used, uint8_t *reply, size_t reply_room,
@@ -169,7 +195,8 @@ uint32_t tufayon_orchestrator_from_record(const uint8_t *config, size_t config_s
  * `capabilities` are at most eight, one after another. `required` and `limit` are bytes, and a limit of 0 is none.
  *
  * TUFAYON_DONE: the frame's `written` bytes are to be sent, once the changes are committed. TUFAYON_MET: nothing is to be sent, and `written` is 0.
- * TUFAYON_REFUSED: `fault` is the refusal's number. The room for the frame is at least TUFAYON_FRAME_ROOM, which is asked for before anything is done.
+ * TUFAYON_REFUSED: `fault` is the refusal's number. TUFAYON_FRAME_ROOM bytes are always room enough for the frame; with less, TUFAYON_NO_ROOM may come,
+ * and nothing is done.
  * The plugin that a frame goes to stands at byte 22 of it: 0 for the controller, or 1, and a length byte and the node's id.
  * Fails also with TUFAYON_NO_MEMORY, TUFAYON_EMPTY, TUFAYON_OTHER_KIND, TUFAYON_NO_ROOM, or TUFAYON_BAD_NAME.
  */
@@ -186,16 +213,17 @@ uint32_t tufayon_timeout(tufayon_plugin *orchestrator, const uint8_t *name, size
                          uint32_t *fault);
 
 /*
- * A frame came: the one that the bytes begin with, of which `used` says how many it took. TUFAYON_DONE: it was the reply to an open call, and the
- * `written` bytes are the next frame to be sent, none where nothing is due now. TUFAYON_IGNORED: it was not. Else as a command.
+ * A frame came: the one that the bytes begin with. TUFAYON_DONE: it was the reply to an open call, and the `written` bytes are the next frame to be
+ * sent, none where nothing is due now. TUFAYON_IGNORED: it was not, and `written` is 0. With these and with TUFAYON_REFUSED `used` says how many bytes it
+ * took. Else as a command.
  * Fails with TUFAYON_NO_MEMORY, TUFAYON_EMPTY, TUFAYON_OTHER_KIND, TUFAYON_NO_ROOM, TUFAYON_SHORT, TUFAYON_BAD_FRAME, or TUFAYON_REFUSED.
  */
 uint32_t tufayon_deliver(tufayon_plugin *orchestrator, const uint8_t *came, size_t came_size, size_t *used, uint8_t *frame, size_t frame_room,
                          size_t *written, uint32_t *fault);
 
 /*
- * The node of an id is lost, listed or not. Whoever makes this call promises: the machine is off for good, and its store never comes back; an
- * emptied store is a lost node. A session begins without the node in the list: what was staged and published there is so no more, a use there
+ * The node of an id is lost, listed or not. Make this call only if the machine is off for good and its store will never be used again; a node
+ * whose store was wiped counts as lost too. A session begins without the node in the list: what was staged and published there is so no more, a use there
  * becomes its stop, open calls are given up, and names whose volumes are gone and of which nothing is wanted are free again. What the controller
  * attached to it stays attached until tufayon_stop there, of any target, or tufayon_timeout detached it. Nothing is sent: what is wanted of volumes
  * goes on by a tufayon_timeout of each. Its changes are the whole record; the session that began stands in the value under key 0 (docs/FORMATS.md,
@@ -234,11 +262,11 @@ uint32_t tufayon_volume(tufayon_plugin *orchestrator, size_t place, uint8_t *nam
 
 /*
  * The change of index `place`, from 0, among those of the last call that was carried out: of an answered frame, a command, a timeout, a frame
- * that came, a node that was lost, or of making what the handle has. The program puts all of them into the store, in order, in one commit, before
- * it sends anything.
+ * that came, a node that was lost, or of making what the handle has. The program puts all of them into the store, in order, in one commit, alone or
+ * behind those of calls before it, before it sends what the call gave.
  * TUFAYON_DONE: the `written` bytes of the value are put in under the key, in place of what is there. TUFAYON_TAKE_OUT: what is under the key is
- * taken out. TUFAYON_NO_MORE: there are not so many. They stay until the next such call is carried out, and may be asked for again.
- * Fails with TUFAYON_NO_MEMORY, TUFAYON_EMPTY, or TUFAYON_NO_ROOM: then `written` says how many bytes the value has.
+ * taken out, and `written` is 0. TUFAYON_NO_MORE: there are not so many. They stay until the next such call is carried out, and may be asked for again.
+ * Fails with TUFAYON_NO_MEMORY, TUFAYON_EMPTY, or TUFAYON_NO_ROOM: then `key` is that of the change, and `written` says how many bytes the value has.
  */
 uint32_t tufayon_changed(tufayon_plugin *plugin, size_t place, uint64_t *key, uint8_t *value, size_t value_room, size_t *written);
 
@@ -252,6 +280,12 @@ uint32_t tufayon_record(tufayon_plugin *plugin, uint8_t *record, size_t record_r
 
 /* Frees what the handle has, and leaves it empty. */
 void tufayon_free(tufayon_plugin *plugin);
+
+/*
+ * The library's version, MAJOR.MINOR.PATCH in ASCII, without a byte 0 at its end. It takes no memory.
+ * Fails with TUFAYON_NO_ROOM: then `written` says how many bytes it has.
+ */
+uint32_t tufayon_version(uint8_t *text, size_t text_room, size_t *written);
 
 #ifdef __cplusplus
 }

@@ -4,9 +4,13 @@
  *     create NAME REQUIRED LIMIT CAPABILITIES       use NAME NODE TARGET CAPABILITY ro|rw       stop NAME NODE TARGET
  *     delete NAME        timeout NAME        reply FRAME        lose NODE
  * It answers `sent FRAME`, `met`, `taken`, `taken FRAME`, `ignored`, `lost` or `refused NUMBER`, and first `wanted NAME..`, of which something is wanted.
- * Who types `lose` promises that the node's machine is off for good, and that its store never comes back; an emptied store is a lost node. */
+ * Who types `lose` promises that the node's machine is off for good, and that its store never comes back; an emptied store is a lost node. All lines that
+ * are there together are answered, what they changed is committed in one transaction, and then their answers are written. */
 #include "store.h"
 
+enum { LINE = 32 + 2 * TUFAYON_FRAME_ROOM }; /* room for an answer */
+static char answers[1 << 16];                /* those that wait */
+static size_t waiting;
 static uint8_t frame[TUFAYON_FRAME_ROOM];
 static size_t written;
 static uint32_t fault;
@@ -52,10 +56,29 @@ static uint32_t ask(int count, char words[][2 * sizeof frame + 1]) {
 static void answer(uint32_t ending, const char *asked) {
     const char *done = strcmp(asked, "reply") == 0 ? "taken" : strcmp(asked, "lose") == 0 ? "lost" : "sent";
     must(ending == TUFAYON_DONE || ending == TUFAYON_MET || ending == TUFAYON_IGNORED || ending == TUFAYON_REFUSED, "no request, or no memory");
-    if (ending == TUFAYON_REFUSED) printf("refused %u", (unsigned)fault);
-    else printf("%s", ending == TUFAYON_MET ? "met" : ending == TUFAYON_IGNORED ? "ignored" : done);
-    for (size_t at = 0; ending == TUFAYON_DONE && at < written; at++) printf(at > 0 ? "%02x" : " %02x", frame[at]);
-    must(printf("\n") == 1 && fflush(stdout) == 0, "no output");
+    char *to = answers + waiting;
+    if (ending == TUFAYON_REFUSED) to += sprintf(to, "refused %u", (unsigned)fault);
+    else to += sprintf(to, "%s", ending == TUFAYON_MET ? "met" : ending == TUFAYON_IGNORED ? "ignored" : done);
+    for (size_t at = 0; ending == TUFAYON_DONE && at < written; at++) to += sprintf(to, at > 0 ? "%02x" : " %02x", frame[at]);
+    *to++ = '\n';
+    waiting = (size_t)(to - answers);
+}
+
+/* Commits what waits, and then writes its answers. A refused commit ends the program, and so nothing is written. */
+static void settle(void) {
+    commit();
+    must(fwrite(answers, 1, waiting, stdout) == waiting && fflush(stdout) == 0, "no output");
+    waiting = 0;
+}
+
+/* Answers a line, which waits then. */
+static void answer_line(const char *line) {
+    static char asked[6][2 * sizeof frame + 1];
+    memset(asked, 0, sizeof asked);
+    int given = sscanf(line, "%2568s%2568s%2568s%2568s%2568s%2568s", asked[0], asked[1], asked[2], asked[3], asked[4], asked[5]);
+    uint32_t ending = ask(given, asked);
+    if (ending != TUFAYON_REFUSED) put_changes();
+    answer(ending, asked[0]);
 }
 
 /* The names of which something is wanted: when it begins, their timeouts are due. */
@@ -72,7 +95,8 @@ static void tell_wanted(void) {
 
 int main(int count, char **words) {
     static uint8_t config[1 << 16], *record;
-    static char line[1 << 16], asked[6][2 * sizeof frame + 1];
+    static char lines[1 << 16];
+    size_t have = 0;
     FILE *file = count == 3 ? fopen(words[2], "rb") : NULL;
     must(file != NULL, "DB CONFIG");
     size_t size, config_size = fread(config, 1, sizeof config, file);
@@ -82,14 +106,20 @@ int main(int count, char **words) {
                                 : tufayon_orchestrator_from_record(config, config_size, record, size, &held);
     must(ending != TUFAYON_NODE_IN_USE, "a volume may be attached at a node that CONFIG leaves out");
     must(ending == TUFAYON_DONE, ending == TUFAYON_REFUSED ? "no session is left" : "no record of an orchestrator");
-    commit(""); /* its session, before any frame is sent */
+    put_changes(); /* its session, before any frame is sent */
+    commit();
     tell_wanted();
-    while (fgets(line, sizeof line, stdin) != NULL) {
-        memset(asked, 0, sizeof asked);
-        int given = sscanf(line, "%2568s%2568s%2568s%2568s%2568s%2568s", asked[0], asked[1], asked[2], asked[3], asked[4], asked[5]);
-        ending = ask(given, asked);
-        if (ending != TUFAYON_REFUSED) commit("");
-        answer(ending, asked[0]);
+    for (ssize_t got; (got = read(0, lines + have, sizeof lines - have)) != 0;) {
+        char *at = lines, *end;
+        must(got > 0, "no input");
+        for (have += (size_t)got; (end = memchr(at, '\n', (size_t)(lines + have - at))) != NULL; at = end + 1) {
+            *end = 0;
+            answer_line(at);
+            if (sizeof answers - waiting < LINE) settle();
+        }
+        settle();
+        memmove(lines, at, have = (size_t)(lines + have - at));
+        must(have < sizeof lines, "a line that is too long");
     }
     free(record);
     close_store();

@@ -1,4 +1,5 @@
-// An orchestrator in Go, by cgo: what `orchestrator.c` does, over the same file, asked by the same lines. It is built of this file and `store.go`.
+// An orchestrator in Go, by cgo: what `orchestrator.c` does, over the same file, asked by the same lines, in groups of those that are there together. It
+// is built of this file and `store.go`.
 package main
 
 // #include "tufayon.h"
@@ -9,6 +10,7 @@ package main
 import "C"
 import (
 	"bufio"
+	"bytes"
 	"encoding/hex"
 	"fmt"
 	"os"
@@ -108,15 +110,22 @@ func main() {
 	ending := C.made(in(config), size(config), in(record), size(record), &held)
 	must(ending != C.TUFAYON_NODE_IN_USE, "a volume may be attached at a node that CONFIG leaves out")
 	must(ending == C.TUFAYON_DONE, "no record of an orchestrator, or no session is left")
-	commit("") // its session, before any frame is sent
+	putChanges() // its session, before any frame is sent
+	commit()
 	fmt.Println(wanted())
-	for lines := bufio.NewScanner(os.Stdin); lines.Scan(); {
-		words := strings.Split(lines.Text(), " ")
+	answers, input := "", bufio.NewReaderSize(os.Stdin, 1<<16)
+	for line, err := input.ReadString('\n'); err == nil; line, err = input.ReadString('\n') {
+		words := strings.Split(strings.TrimSuffix(line, "\n"), " ")
 		ending = ask(words)
 		if ending != C.TUFAYON_REFUSED {
-			commit("")
+			putChanges()
 		}
-		fmt.Println(answer(ending, words[0]))
+		answers += answer(ending, words[0]) + "\n"
+		if there, _ := input.Peek(input.Buffered()); !bytes.Contains(there, []byte("\n")) {
+			commit() // if it is refused the program ends, and so nothing is written
+			fmt.Print(answers)
+			answers = ""
+		}
 	}
 	closeStore()
 }

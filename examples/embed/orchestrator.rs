@@ -1,10 +1,10 @@
-// An orchestrator in Rust: what `orchestrator.c` does, over the same file, asked by the same lines.
+// An orchestrator in Rust: what `orchestrator.c` does, over the same file, asked by the same lines, in groups of those that are there together.
 //     orchestrator DB CONFIG < REQUESTS > ANSWERS
 mod store;
 #[allow(dead_code)]
 mod tufayon;
 
-use std::io::{Write, stdin, stdout};
+use std::io::{BufRead, BufReader, Write, stdin, stdout};
 use tufayon::*;
 
 // The frame that is to be sent, and a refusal's number.
@@ -79,14 +79,14 @@ fn wanted(of: &mut Plugin) -> String {
     line
 }
 
-fn tell(line: &str) {
-    stdout().write_all(format!("{line}\n").as_bytes()).and_then(|_| stdout().flush()).unwrap();
+fn tell(lines: &str) {
+    stdout().write_all(lines.as_bytes()).and_then(|_| stdout().flush()).unwrap();
 }
 
 fn main() {
     let words: Vec<String> = std::env::args().collect();
     let config = std::fs::read(&words[2]).unwrap();
-    let store = store::open(&words[1]);
+    let mut store = store::open(&words[1]);
     let (mut held, record) = (Plugin::EMPTY, store::load(&store));
     let (bytes, size, at, count) = (config.as_ptr(), config.len(), record.as_ptr(), record.len());
     let ending = unsafe {
@@ -94,15 +94,22 @@ fn main() {
     };
     assert!(ending != NODE_IN_USE, "a volume may be attached at a node that CONFIG leaves out");
     assert!(ending == DONE, "no record of an orchestrator, or no session is left: {ending}");
-    store::commit(&store, &mut held, ""); // its session, before any frame is sent
-    tell(&wanted(&mut held));
+    store::put_changes(&mut store, &mut held); // its session, before any frame is sent
+    store::commit(&mut store);
+    tell(&format!("{}\n", wanted(&mut held)));
     let mut told = Told { frame: [0; FRAME_ROOM], written: 0, fault: 0 };
-    for line in stdin().lines() {
-        let line = line.unwrap();
-        let asked: Vec<&str> = line.split(' ').collect();
+    let (mut input, mut line, mut answers) = (BufReader::new(stdin()), String::new(), String::new());
+    while input.read_line(&mut line).unwrap() > 0 {
+        let asked: Vec<&str> = line.trim_end_matches('\n').split(' ').collect();
         let ending = ask(&mut held, &asked, &mut told);
-        if ending != REFUSED { store::commit(&store, &mut held, "") }
-        tell(&answer(ending, asked[0], &told));
+        if ending != REFUSED { store::put_changes(&mut store, &mut held) }
+        answers += &format!("{}\n", answer(ending, asked[0], &told));
+        if !input.buffer().contains(&b'\n') {
+            store::commit(&mut store); // if it is refused the program ends, and so nothing is written
+            tell(&answers);
+            answers.clear();
+        }
+        line.clear();
     }
     store::close(store, held);
 }

@@ -1,4 +1,5 @@
-// A plugin in Go, by cgo: what `plugin.c` does, over the same file, with the same words. It is built of this file and `store.go`.
+// A plugin in Go, by cgo: what `plugin.c` does, over the same file, with the same words, in groups of the frames that are there together. It is built of
+// this file and `store.go`.
 package main
 
 // #include "tufayon.h"
@@ -16,6 +17,19 @@ import (
 
 var reply = make([]byte, C.TUFAYON_REPLY_ROOM)
 
+// Answers all whole frames of these bytes, behind which there is one byte more: how many bytes they took, their replies, and why there is no other.
+func answerAll(frames []byte) (at int, replies []byte, ending C.uint32_t) {
+	for used, written := C.size_t(0), C.size_t(0); ; at += int(used) {
+		// Who attaches, stages or mounts something on a call ends the group before and behind it.
+		ending = C.tufayon_answer(&held, out(frames[at:]), C.size_t(len(frames)-1-at), &used, out(reply), C.TUFAYON_REPLY_ROOM, &written)
+		if ending != C.TUFAYON_DONE {
+			return at, replies, ending
+		}
+		putChanges()
+		replies = append(replies, reply[:written]...)
+	}
+}
+
 func main() {
 	runtime.LockOSThread() // one thread makes all calls
 	must(len(os.Args) == 4, "controller DB CONFIG, or node DB ID")
@@ -27,20 +41,24 @@ func main() {
 	record := load()
 	ending := C.made(C.bool(isController), in(name), C.size_t(len(name)), in(record), C.size_t(len(record)), &held)
 	must(ending == C.TUFAYON_DONE || ending == C.TUFAYON_RENEWED, "no record of this plugin")
-	commit(map[C.uint32_t]string{C.TUFAYON_RENEWED: "DELETE FROM parts"}[ending])
-	input, frame, err, used, written := bufio.NewReaderSize(os.Stdin, 1<<16), []byte(nil), error(nil), C.size_t(0), C.size_t(0)
+	if ending == C.TUFAYON_RENEWED {
+		begin()
+		run("DELETE FROM parts")
+	}
+	putChanges()
+	commit()
+	input, left, err := bufio.NewReaderSize(os.Stdin, 1<<16), 0, error(nil)
 	for err == nil {
-		frame, _ = input.Peek(input.Buffered())
-		ending = C.tufayon_answer(&held, in(frame), C.size_t(len(frame)), &used, out(reply), C.TUFAYON_REPLY_ROOM, &written)
-		if ending == C.TUFAYON_SHORT {
-			_, err = input.Peek(len(frame) + 1) // waits for more
-			continue
+		there, _ := input.Peek(input.Buffered())
+		at, replies, ending := answerAll(append(there[:len(there):len(there)], 0))
+		commit() // if it is refused the program ends, and so nothing is sent
+		_, err = os.Stdout.Write(replies)
+		must(ending == C.TUFAYON_SHORT, "no frame, or no memory")
+		input.Discard(at)
+		if left = len(there) - at; err == nil {
+			_, err = input.Peek(left + 1) // waits for more
 		}
-		must(ending == C.TUFAYON_DONE, "no frame, or no memory")
-		commit("")
-		_, err = os.Stdout.Write(reply[:written])
-		input.Discard(int(used))
 	}
 	closeStore()
-	must(err == io.EOF && len(frame) == 0, "the input ends in a frame, or the output")
+	must(err == io.EOF && left == 0, "the input ends in a frame, or the output")
 }

@@ -13,6 +13,7 @@ import (
 var db *C.sqlite3
 var held C.tufayon_plugin // what it is the store of
 var value = make([]byte, 512)
+var isBegun bool // whether a transaction began since the last commit
 
 func must(good bool, why string) {
 	if !good {
@@ -43,19 +44,34 @@ func load() (record []byte) {
 	return record
 }
 
-// Puts all that was changed into the store, in one commit; `first` goes before it.
-func commit(first string) {
-	run("BEGIN; %s", first)
+func begin() {
+	if !isBegun {
+		run("BEGIN")
+	}
+	isBegun = true
+}
+
+// Ends the transaction, if there is one.
+func commit() {
+	if isBegun {
+		run("COMMIT")
+	}
+	isBegun = false
+}
+
+// Puts what the last call changed into the transaction, behind what calls before it changed.
+func putChanges() {
 	for place, key, size := C.size_t(0), C.uint64_t(0), C.size_t(0); ; place++ {
 		switch C.tufayon_changed(&held, place, &key, out(value), C.size_t(len(value)), &size) {
 		case C.TUFAYON_DONE:
+			begin()
 			run("INSERT INTO parts VALUES (x'%016x', x'%x') ON CONFLICT (key) DO UPDATE SET value = excluded.value", key, value[:size])
 		case C.TUFAYON_TAKE_OUT:
+			begin()
 			run("DELETE FROM parts WHERE key = x'%016x'", key)
 		case C.TUFAYON_NO_ROOM:
 			value, place = make([]byte, size), place-1 // once more
 		case C.TUFAYON_NO_MORE:
-			run("COMMIT")
 			return
 		default:
 			must(false, "no memory")

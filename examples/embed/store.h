@@ -23,8 +23,19 @@ static void big(uint8_t *to, uint64_t number, int size) {
     for (; size-- > 0; number >>= 8) to[size] = (uint8_t)number;
 }
 
-/* Puts all that was changed into the store, in one commit; `first` goes before it. */
-static void commit(const char *first) {
+/* The store's transaction, which begins with the first change since the last commit, and where it ends. */
+static int is_begun;
+static void begin(void) {
+    if (!is_begun) run("BEGIN");
+    is_begun = 1;
+}
+static void commit(void) {
+    if (is_begun) run("COMMIT");
+    is_begun = 0;
+}
+
+/* Puts what the last call changed into the transaction, behind what calls before it changed. */
+static void put_changes(void) {
     static uint8_t *value, none[1];
     static size_t room, size;
     size_t place = 0;
@@ -35,13 +46,12 @@ static void commit(const char *first) {
         uint8_t name[8];
         if (ending == TUFAYON_NO_ROOM && (value = realloc(value, room = size)) != NULL) continue; /* once more */
         must(ending == TUFAYON_DONE || ending == TUFAYON_TAKE_OUT, "the change");
-        if (place++ == 0) run("BEGIN"), run(first);
+        if (place++ == 0) begin();
         big(name, key, sizeof name);
         must(sqlite3_bind_blob(change, 1, name, 8, SQLITE_TRANSIENT) == SQLITE_OK, "the store");
         if (ending == TUFAYON_DONE) must(sqlite3_bind_blob(change, 2, value, (int)size, SQLITE_STATIC) == SQLITE_OK, "the store");
         must(sqlite3_step(change) == SQLITE_DONE && sqlite3_reset(change) == SQLITE_OK, "the store");
     }
-    if (place > 0) run("COMMIT");
 }
 
 /* The bytes of the record whose parts the store has, and how many: none where it has no part. */

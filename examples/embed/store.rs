@@ -24,11 +24,12 @@ fn prepared(db: *mut c_void, sql: &str) -> *mut c_void {
     made
 }
 
-// A database, and what changes it.
+// A database, and what changes it; and whether a transaction began since the last commit.
 pub struct Store {
     db: *mut c_void,
     put_in: *mut c_void,
     take_out: *mut c_void,
+    is_begun: bool,
 }
 
 pub fn open(name: &str) -> Store {
@@ -37,7 +38,7 @@ pub fn open(name: &str) -> Store {
     run(db, "PRAGMA journal_mode = WAL; PRAGMA synchronous = FULL; CREATE TABLE IF NOT EXISTS parts (key BLOB NOT NULL PRIMARY KEY, value BLOB NOT NULL)");
     let put_in = prepared(db, "INSERT INTO parts (key, value) VALUES (?1, ?2) ON CONFLICT (key) DO UPDATE SET value = excluded.value");
     let take_out = prepared(db, "DELETE FROM parts WHERE key = ?1");
-    Store { db, put_in, take_out }
+    Store { db, put_in, take_out, is_begun: false }
 }
 
 pub fn close(store: Store, mut plugin: Plugin) {
@@ -59,24 +60,40 @@ pub fn load(store: &Store) -> Vec<u8> {
     bytes
 }
 
-// Puts all that was changed into the store, in one commit; `first` goes before it.
-pub fn commit(store: &Store, plugin: &mut Plugin, first: &str) {
-    let Store { db, put_in, take_out } = *store;
+fn begin(store: &mut Store) {
+    if !store.is_begun { run(store.db, "BEGIN") }
+    store.is_begun = true;
+}
+
+// Ends the transaction, if there is one.
+pub fn commit(store: &mut Store) {
+    if store.is_begun { run(store.db, "COMMIT") }
+    store.is_begun = false;
+}
+
+// Takes out all that the store has, as only a plugin wants it.
+#[allow(dead_code)]
+pub fn clear(store: &mut Store) {
+    begin(store);
+    run(store.db, "DELETE FROM parts");
+}
+
+// Puts what the last call changed into the transaction, behind what calls before it changed.
+pub fn put_changes(store: &mut Store, plugin: &mut Plugin) {
     let (mut value, mut place, mut key, mut size) = (vec![0u8; 512], 0, 0u64, 0);
     loop {
         let ending = unsafe { tufayon_changed(plugin, place, &mut key, value.as_mut_ptr(), value.len(), &mut size) };
         let change = match ending {
-            DONE => put_in,
-            TAKE_OUT => take_out,
+            DONE => store.put_in,
+            TAKE_OUT => store.take_out,
             NO_ROOM => { value.resize(size, 0); continue }
             NO_MORE => break,
             _ => panic!("out of memory"),
         };
-        if place == 0 { run(db, "BEGIN"); run(db, first) }
+        begin(store);
         place += 1;
         assert!(unsafe { sqlite3_bind_blob(change, 1, key.to_be_bytes().as_ptr(), 8, -1) } == 0, "the store");
         assert!(ending == TAKE_OUT || unsafe { sqlite3_bind_blob(change, 2, value.as_ptr(), size as c_int, -1) } == 0, "the store");
         assert!(unsafe { sqlite3_step(change) == 101 && sqlite3_reset(change) == 0 }, "the store");
     }
-    if place > 0 { run(db, "COMMIT") }
 }

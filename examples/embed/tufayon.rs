@@ -70,4 +70,5 @@ unsafe extern "C" {
     pub fn tufayon_changed(plugin: *mut Plugin, place: usize, key: *mut u64, value: *mut u8, value_room: usize, written: *mut usize) -> u32;
     pub fn tufayon_record(plugin: *mut Plugin, record: *mut u8, record_room: usize, written: *mut usize) -> u32;
     pub fn tufayon_free(plugin: *mut Plugin);
+    pub fn tufayon_version(text: *mut u8, text_room: usize, written: *mut usize) -> u32;
 }

@@ -1,4 +1,4 @@
-"""The five clauses of safety (docs/DEFINITIONS.md, `Safe`), each as what it finds in the records of a system, in words."""
+"""The five clauses of safety (docs/PROVED.md, `Safe`), each as what it finds in the records of a system, in words."""
 import itertools
 import json
 

@@ -26,6 +26,7 @@ class Cluster:
         self.goals = {}  # by name: what is wanted, as the orchestrator said it last
         self.session, self.last_number = 0, (0, 0)
         self.numbers = {}  # of each call that was given out: its frame's number
+        self.names = {}  # and the name of its volume
         self.watchers = []
         self.listed = [it["id"] for it in config["nodes"]]  # by the orchestrator
         self.ever_listed = set(self.listed)
@@ -269,6 +270,7 @@ class Cluster:
             self.goals[answer["name"]] = answer["goal"]
         if "send" in answer:
             number = self.give_out(answer["send"])
+            self.names[self.last_number] = answer["name"]
             outcome = f"{outcome}, sent {number}" if outcome == "taken" else f"{outcome} {number}"
         self.history.happened(event, outcome)
         return answer
@@ -306,18 +308,17 @@ class Cluster:
     # ---- parts that are stopped, let go, and killed
 
     def sleep(self, name):
-        part = self.parts[name]
-        part.before = part.record() if name == ORCHESTRATOR else None
-        part.sleep()
+        self.parts[name].sleep()
 
-    def sleep_inside(self, name, item, seconds):
-        """A part is stopped while it carries out what it was given."""
+    def sleep_inside(self, name, items, seconds):
+        """A part is stopped while it carries out what it was given at once."""
         part = self.parts[name]
-        part.before = part.record() if name == ORCHESTRATOR else None
-        part.give(self.content(name, item))
+        part.before = part.record()
+        part.give(b"".join(self.content(name, it) for it in items))
         wait(seconds)
         part.sleep()
-        part.given.append(item)
+        part.given += items
+        part.begun = len(items)
 
     def wake(self, name):
         """It is let go, and answers all that it was given."""
@@ -325,17 +326,18 @@ class Cluster:
         part.wake()
         for item in part.given:
             self.take_down(name, item, part.take())
-        part.given = []
+        part.given, part.begun = [], 0
 
     def kill(self, name, given=(), cut=b"", seconds=0.0, after_log=None, is_ending=False, is_mute=False):
-        """Kills a part, so long after it was given so many calls, or one event, and behind them the beginning of something more, or the end of its
-        input; or earlier, so long after it wrote its log; perhaps it can't say anything. What it was given, and never did, is lost: the answer is those
-        numbers of frames."""
+        """Kills a part, so long after it was given so many calls or events at once, and behind them the beginning of something more, or the end of its
+        input; or earlier, so long after it wrote its log; perhaps it can't say anything. It may have carried out all of them, and said nothing. What it was
+        given, and never did, is lost: the answer is those numbers of frames."""
         part = self.parts[name]
         if part.is_asleep:
-            given = part.given
+            given, begun = part.given, part.begun
         else:
-            part.before = part.record() if name == ORCHESTRATOR else None
+            begun = len(given)
+            part.before = part.record() if given else None
             written = part.log_state()
             if is_mute:
                 part.mute()
@@ -347,9 +349,10 @@ class Cluster:
         answers = part.killed()
         for item, answer in zip(given, answers):
             self.take_down(name, item, answer)
-        left = list(given[len(answers) :])
-        if left and (self.was_handled(name, left[0]) if name != ORCHESTRATOR else not answers and self.was_told(left[0])):
-            del left[0]
+        said, untold = given[: len(answers)], given[len(answers) : begun]
+        left = list(given[max(begun, len(answers)) :])
+        if untold:
+            left[:0] = self.take_down_untold(said, untold) if name == ORCHESTRATOR else self.take_down_unheard(name, said, untold)
         return numbers_of(left)
 
     def kill_starting(self, name, seconds, after_log=None):
@@ -363,36 +366,52 @@ class Cluster:
         if name == ORCHESTRATOR and json.loads(self.orchestrator.record())["session"] > self.session:
             self.began()
 
-    def was_told(self, event):
-        """Whether the orchestrator carried out an event, to which nobody has its answer; then it is taken down. Where its record is what it was,
-        the event may as well not have come."""
-        before, after = (json.loads(it) for it in (self.orchestrator.before, self.orchestrator.record()))
-        if "lose" in event:
-            if after["session"] > before["session"]:
-                self.given_up(event["lose"], {"node": event["lose"], "outcome": "lost", "session": after["session"]})
-            return after["session"] > before["session"]
-        changed = [it for it in after["volumes"] if it not in before["volumes"]]
-        if not changed:
-            return False
-        goal, is_reply = changed[0]["goal"], "deliver" in event
-        self.goals[changed[0]["name"]] = goal
-        sent = None if is_reply and goal is None else self.history.sent(None)
-        self.history.happened(event, f"sent {sent}" if not is_reply else f"taken, sent {sent}" if sent else "taken")
-        return True
+    def name_of(self, event):
+        """Of which volume an event is, by its name; None: of none, or of one that isn't known here."""
+        (kind, it), = event.items()
+        if kind == "deliver":
+            return self.names.get(read(self.history.frame(it)).number)
+        return None if kind == "lose" else it if isinstance(it, str) else it["name"]
 
-    def was_handled(self, name, number):
-        """Whether a plugin carried out a call, of which nobody has the reply; then it is taken down."""
-        call, record = read(self.history.frame(number)), json.loads(self.parts[name].record())
-        rows = [it for it in record["volumes"] if (it["name"] == call.name if call.name else it["id"] == call.volume)]
-        is_last = any((it["last"]["session"], it["last"]["call"]) == call.number for it in rows)
-        heard = max((read(self.history.frame(it)).number[0] for it in self.history.delivered.get(name, ())), default=0)
-        heard = max(heard, *map(int, self.parts[name].words[3:]), 0)
-        if not is_last and not heard < call.number[0] <= record["session"]:
-            return False
-        for watcher in self.watchers:
-            watcher.replied(name, number, None)
-        self.history.answered(name, number, None)
-        return True
+    def take_down_untold(self, said, events):
+        """Takes down those events that the orchestrator carried out, and to which nobody has its answers; each is of another volume, or it is a loss alone. Where
+        a row is what it was, the event may as well not have come. The answer is what is left."""
+        before, after = (json.loads(it) for it in (self.orchestrator.before, self.orchestrator.record()))
+        if "lose" in events[0]:
+            if after["session"] == before["session"]:
+                return events
+            self.given_up(events[0]["lose"], {"node": events[0]["lose"], "outcome": "lost", "session": after["session"]})
+            return []
+        rows, others = ({it["name"]: it for it in record["volumes"]} for record in (after, before))
+        done = [it for it in events if (name := self.name_of(it)) in rows and rows[name] != others.get(name)]
+        for event in done:
+            row = rows[self.name_of(event)]
+            self.goals[row["name"]] = goal = row["goal"]
+            is_reply = "deliver" in event
+            sent = None if is_reply and goal is None else self.history.sent(None)
+            self.history.happened(event, f"sent {sent}" if not is_reply else f"taken, sent {sent}" if sent else "taken")
+        return [it for it in events if it not in done]
+
+    def take_down_unheard(self, name, said, numbers):
+        """Takes down the calls that a plugin carried out, and of which nobody has the replies: those up to the last one that left its mark. What came behind it
+        changed nothing, and may as well not have come. The answer is what is left."""
+        before, after = (json.loads(it) for it in (self.parts[name].before, self.parts[name].record()))
+        lasts, others = ({(it["last"]["session"], it["last"]["call"]) for it in record["volumes"]} for record in (after, before))
+        marks, session, done = lasts - others, after["session"], 0
+        begins = session > before["session"]
+        for at, number in enumerate([*said, *numbers], 1):
+            call = read(self.history.frame(number))
+            if call.number in marks or begins and call.number[0] == session:
+                done = at
+            # The mark is of the first of those that could have left it.
+            marks.discard(call.number)
+            begins = begins and call.number[0] != session
+        done = max(done - len(said), 0)
+        for number in numbers[:done]:
+            for watcher in self.watchers:
+                watcher.replied(name, number, None)
+            self.history.answered(name, number, None)
+        return numbers[done:]
 
     # ---- records
 

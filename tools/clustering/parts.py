@@ -36,6 +36,8 @@ class Part:
         self.came = b""  # what it said that was not taken yet
         self.filled = 0  # how many bytes stand in its pipe that it didn't say
         self.given = []  # what it was given while it was asleep, or before that, and hasn't answered
+        self.begun = 0  # how many of these it was given before
+        self.before = None  # its record before it was given what it may not answer
 
     @property
     def is_up(self):
@@ -48,7 +50,7 @@ class Part:
         with open(self.at(".error"), "wb") as error:
             pipes = {"stdin": subprocess.PIPE, "stdout": subprocess.PIPE, "stderr": error}
             self.process = subprocess.Popen([self.program, *self.words], cwd=self.folder, env={}, bufsize=0, **pipes)
-        self.came, self.given, self.filled, self.is_asleep = b"", [], 0, False
+        self.came, self.given, self.begun, self.filled, self.is_asleep = b"", [], 0, 0, False
 
     def give(self, content):
         while content:
@@ -88,7 +90,7 @@ class Part:
         self.process.wait(LIMIT)
         for pipe in (self.process.stdin, self.process.stdout):
             pipe.close()
-        self.process, self.came, self.given, self.is_asleep = None, b"", [], False
+        self.process, self.came, self.given, self.begun, self.is_asleep = None, b"", [], 0, False
         return rest
 
     def kill(self):

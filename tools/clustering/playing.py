@@ -13,7 +13,8 @@ from .watching import Watch
 
 AUDIT_EVERY, BROKEN_EVERY = 200, 20  # turns between audits, and where something is broken, which may mend itself
 BREAK_EVERY = 10  # a break is tried so often, from the first audit on, until one changed something
-MOST_GIVEN = 8  # what a part that is asleep is given at most, so that its pipe has room
+MOST_GIVEN = 12  # what a part that is asleep is given at most, so that its pipe has room
+TOGETHER = 6  # what is written to a part at once, at most
 MOMENTS = ("idle", "reading", "working", "working", "committing", "committing", "saying", "saying", "ending", "starting")
 
 
@@ -166,14 +167,21 @@ class Run:
         if name not in cluster.parts:
             return cluster.deliver(number)
         numbers = [number]
-        if drawn.random() < 0.1 and len(cluster.parts[name].given) < MOST_GIVEN - 4:
-            more = [it for it in cluster.pending if it != number and cluster.target_of(it) == name][:4]
-            cluster.pending[:] = [it for it in cluster.pending if it not in more]
-            numbers += more
+        if drawn.random() < 0.25:
+            numbers += self.more_of(name, number)
         if name == ORCHESTRATOR:
             cluster.give(name, [{"deliver": it} for it in numbers])
         else:
             cluster.give(name, numbers, self.stray(name) if drawn.random() < 0.05 else b"")
+
+    def more_of(self, name, number=None):
+        """Others that are under way to a part, and come together with what it is given."""
+        cluster = self.cluster
+        if len(cluster.parts[name].given) > MOST_GIVEN - TOGETHER:
+            return []
+        more = [it for it in cluster.pending if it != number and cluster.target_of(it) == name][: TOGETHER - 1]
+        cluster.pending[:] = [it for it in cluster.pending if it not in more]
+        return more
 
     def stray(self, plugin):
         """Some frame that isn't a call of this plugin; it gets no reply there."""
@@ -206,7 +214,8 @@ class Run:
 
     def command(self):
         event = self.commands.draw()
-        answer = self.cluster.tell(event)
+        more = self.more_of(ORCHESTRATOR) if self.drawn.random() < 0.1 else []
+        answer = self.cluster.give(ORCHESTRATOR, [event, *({"deliver": it} for it in more)])[0]
         if answer is None or answer["outcome"] == "sent":
             self.commands.accepted(event)
 
@@ -240,7 +249,7 @@ class Run:
         self.back[name] = self.at + self.drawn.randint(1, 40)
         given = self.given_to(name)
         if given and self.drawn.random() < 0.5:
-            self.cluster.sleep_inside(name, given[0], self.moment())
+            self.cluster.sleep_inside(name, given, self.moment())
         else:
             self.put_back(given)
             self.cluster.sleep(name)
@@ -258,23 +267,33 @@ class Run:
         return self.drawn.uniform(0, 0.0003) if self.drawn.random() < 0.8 else 10 ** self.drawn.uniform(-4, -2.3)
 
     def given_to(self, name):
-        """What a part is given next: of a plugin one to three calls that are under way, which aren't so any more; of the orchestrator an event."""
-        cluster = self.cluster
-        if name == ORCHESTRATOR and (dead := self.changes.dead()) and self.drawn.random() < 0.5:
-            return [{"lose": self.drawn.choice(dead)}]
-        came = [it for it in cluster.pending if cluster.target_of(it) == name]
+        """What a part is given next, at once: of a plugin calls that are under way, which aren't so any more; of the orchestrator a loss, or events of
+        several volumes, one of each."""
+        cluster, drawn = self.cluster, self.drawn
         if name == ORCHESTRATOR:
-            if not came or self.drawn.random() < 0.4:
-                wanted = [it for it, goal in cluster.goals.items() if goal]
-                return [{"timeout": self.drawn.choice(wanted)} if wanted and self.drawn.random() < 0.3 else self.commands.draw()]
-            chosen = [self.drawn.choice(came)]
+            if (dead := self.changes.dead()) and drawn.random() < 0.5:
+                return [{"lose": drawn.choice(dead)}]
+            events = {}
+            for _ in range(drawn.randint(1, TOGETHER)):
+                event = self.event()
+                events.setdefault(cluster.name_of(event), event)
+            chosen = numbers_of(events.values())
         else:
-            chosen = came[: self.drawn.randint(1, 3)]
+            chosen = [it for it in cluster.pending if cluster.target_of(it) == name][: drawn.randint(1, TOGETHER)]
             if not chosen and (calls := list(cluster.history.delivered.get(name, ()))):
-                return [self.drawn.choice(calls)]
+                return [drawn.choice(calls)]
         for it in chosen:
             cluster.pending.remove(it)
-        return [{"deliver": it} for it in chosen] if name == ORCHESTRATOR else chosen
+        return list(events.values()) if name == ORCHESTRATOR else chosen
+
+    def event(self):
+        """Something for the orchestrator: a frame that is under way, a timeout of something that is wanted, or a command."""
+        cluster, drawn = self.cluster, self.drawn
+        came = [it for it in cluster.pending if cluster.target_of(it) == ORCHESTRATOR]
+        if came and drawn.random() < 0.6:
+            return {"deliver": drawn.choice(came)}
+        wanted = list(cluster.wanted())
+        return {"timeout": drawn.choice(wanted)} if wanted and drawn.random() < 0.3 else self.commands.draw()
 
     def put_back(self, given):
         """What was to be given, and wasn't, is under way still."""

@@ -70,14 +70,59 @@ static uint32_t call_it(call *it) {
     return tufayon_record(plugin, it->to, it->room, &it->written);
 }
 
-/* Makes the call, in whose room nothing was written before, and sees that nothing is written behind it. */
+/* ---- what a call says beside its number, which it writes only with the numbers of which the header says so */
+
+#define AMONG(ending, set) ((((set) >> (ending)) & 1) != 0)
+enum {
+    IN_FULL = 1 << TUFAYON_DONE | 1 << TUFAYON_MET | 1 << TUFAYON_IGNORED,
+    ONE_CHANGE = 1 << TUFAYON_DONE | 1 << TUFAYON_TAKE_OUT | 1 << TUFAYON_NO_ROOM,
+    HEARD = 1 << TUFAYON_DONE | 1 << TUFAYON_IGNORED | 1 << TUFAYON_REFUSED | 1 << TUFAYON_NO_MEMORY /* with the last one it says nothing */
+};
+
+static bool is_command(const call *it) { return it->what == ASK && it->asks.kind <= ASK_DELIVER; }
+static bool is_goal(const call *it) { return it->what == ASK && it->asks.kind == ASK_GOAL; }
+
+static bool says_used(const call *it, uint32_t ending) {
+    if (it->what == ASK && it->asks.kind == ASK_DELIVER) return AMONG(ending, HEARD);
+    return it->what == ANSWER && ending == TUFAYON_DONE;
+}
+
+static bool says_written(const call *it, uint32_t ending) {
+    if (is_command(it)) return AMONG(ending, IN_FULL);
+    if (it->what == CHANGED) return AMONG(ending, ONE_CHANGE);
+    if (it->what == RECORD || it->what == VOLUME || is_goal(it)) return ending == TUFAYON_DONE || ending == TUFAYON_NO_ROOM;
+    return it->what == ANSWER && ending == TUFAYON_DONE;
+}
+
+static bool says_number(const call *it, uint32_t ending) {
+    if (it->what != ASK || is_goal(it)) return false;
+    return ending == (it->asks.kind <= ASK_LOSE ? TUFAYON_REFUSED : TUFAYON_DONE);
+}
+
+/* Where in the room nothing may be written from. */
+static size_t written_up_to(const call *it, uint32_t ending) { return ending == TUFAYON_DONE && it->written <= it->room ? it->written : 0; }
+
+static const uint64_t NO_KEY = 0xa5a5a5a5a5a5a5a5; /* no test has a part under it */
+
+static void says_nothing_else(const call *it, uint32_t ending) {
+    must(says_used(it, ending) || it->used == SIZE_MAX, "it says how many bytes it took, and the header says nothing of that");
+    must(says_written(it, ending) || it->written == SIZE_MAX, "it says how many bytes it wrote, and the header says nothing of that");
+    must(says_number(it, ending) || it->number == UINT32_MAX, "it says a refusal, or what is known, and the header says nothing of that");
+    must((it->what == CHANGED && AMONG(ending, ONE_CHANGE)) || it->key == NO_KEY, "it says a key, and the header says nothing of that");
+    must(ending == TUFAYON_DONE || !says_written(it, ending) || ending == TUFAYON_NO_ROOM || it->written == 0, "it wrote something, and there is nothing");
+    const uint8_t *rest = it->to + written_up_to(it, ending), *end = it->to + it->room + GUARD;
+    must(*rest == 0xa5 && memcmp(rest, rest + 1, (size_t)(end - rest) - 1) == 0, "it wrote where nothing is to be written");
+}
+
+/* Makes the call, in whose room nothing was written before, and sees that it writes nothing but what the header says. */
 uint32_t attempt(call *it) {
     it->to = grow(NULL, it->room + GUARD);
     memset(it->to, 0xa5, it->room + GUARD);
     it->used = it->written = SIZE_MAX;
     it->number = UINT32_MAX;
+    it->key = NO_KEY;
     uint32_t ending = call_it(it);
-    for (size_t at = 0; at < GUARD; at++) must(it->to[it->room + at] == 0xa5, "it wrote behind its room");
+    says_nothing_else(it, ending);
     cases++;
     see(row_of(it), ending);
     return ending;

@@ -18,7 +18,7 @@ typedef struct call {
     uint32_t number; /* a refusal's, or of what is known */
 } call;
 
-/* Makes the call, in whose room nothing was written before, and sees that nothing is written behind it. */
+/* Makes the call, in whose room nothing was written before, and sees that it writes nothing but what the header says. */
 uint32_t attempt(call *it);
 void leave(call *it); /* frees the room */
 /* The ending of a call, of which nothing else is looked at. */

@@ -44,7 +44,24 @@ void see(size_t place, uint32_t ending) {
     seen_of[place] |= 1u << ending;
 }
 
+/* The version is the header's. In too little room nothing is written, and how many bytes it has is said. */
+static void version(void) {
+    static const char text[] = TUFAYON_VERSION;
+    enum { COUNT = sizeof text - 1 };
+    for (size_t room = 0; room <= COUNT + 1; room++) {
+        uint8_t bytes[COUNT + 1];
+        size_t written = 77;
+        snprintf(doing, sizeof doing, "the version, in %zu bytes", room);
+        memset(bytes, 0xaa, sizeof bytes);
+        must(tufayon_version(bytes, room, &written) == (room < COUNT ? TUFAYON_NO_ROOM : TUFAYON_DONE), "it ends otherwise");
+        must(written == COUNT, "it has another length");
+        for (size_t at = 0; at < sizeof bytes; at++)
+            must(bytes[at] == (room >= COUNT && at < COUNT ? (uint8_t)text[at] : 0xaa), "it is another text, or more is written");
+    }
+}
+
 void test_endings(void) {
+    version();
     for (size_t at = 0; at < sizeof CALLS / sizeof *CALLS; at++) {
         snprintf(doing, sizeof doing, "%s, with endings %#x", CALLS[at].name, seen_of[at]);
         must((seen_of[at] & ~CALLS[at].endings) == 0, "a call has an ending that the header doesn't say of it");

@@ -46,6 +46,19 @@ static void is_too_long(asked how, const parts *store, const char *head, const c
     stride = 0;
 }
 
+/* A store of which the last row lacks a byte, or has a version that there isn't. */
+static void is_damaged(asked how, const parts *store) {
+    tested of = {0};
+    bytes *last = &store->at[store->count - 1].value;
+    snprintf(doing, sizeof doing, "a record of which the last of %zu parts is damaged", store->count);
+    last->size--;
+    makes(&of, of_record(how, record_of(store, 3)), TUFAYON_BAD_RECORD, NULL, NULL);
+    last->size++;
+    last->at[0]++;
+    makes(&of, of_record(how, record_of(store, 3)), TUFAYON_BAD_RECORD, NULL, NULL);
+    last->at[0]--;
+}
+
 /* ---- a controller */
 
 static const char *holdings(int count) {
@@ -122,6 +135,7 @@ static void controller(void) {
     attach_everywhere(&of);
     opens(how, &of.store);
     compares(&of, how);
+    is_damaged(how, &of.store);
     is_too_long(how, &of.store, "head 9999 1", "5000 live \"w\" 10 block/5 ; ; 1.1 CreateVolume 0 5000 \"\"");
     delete_others(&of);
     compares(&of, how);
@@ -198,6 +212,7 @@ static void node(void) {
     opens(how, &of.store);
     is_refused(&of);
     compares(&of, how);
+    is_damaged(how, &of.store);
     is_too_long(how, &of.store, "head \"n1\" 2", "9999 block/5 ; ; 1.1 NodeStageVolume 0 0 \"\"");
     unstage_others(&of);
     compares(&of, how);

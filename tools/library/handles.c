@@ -33,6 +33,19 @@ static void configs(tested *of, const parts *head) {
     }
 }
 
+/* A megabyte between a front and an end is no configuration either. */
+static void long_configs(tested *of) {
+    static const char *const ROWS[][3] = {{"", "x", ""}, {"{\"greatest\":1000,\"nodes\":[", " ", ""}, {"{\"greatest\":1,", " ", "\"nodes\":[],\"more\":1}"}};
+    for (size_t at = 0; at < sizeof ROWS / sizeof *ROWS; at++) {
+        asked it = {.kind = AS_CONTROLLER};
+        snprintf(doing, sizeof doing, "a long configuration, %s ..", ROWS[at][0]);
+        put(&it.name, ROWS[at][0], strlen(ROWS[at][0]));
+        for (size_t more = 0; more < 1 << 20; more++) put(&it.name, ROWS[at][1], 1);
+        put(&it.name, ROWS[at][2], strlen(ROWS[at][2]));
+        makes(of, it, TUFAYON_BAD_NAME, NULL, NULL);
+    }
+}
+
 /* So many nodes: 64 are the most. */
 static void many_nodes(tested *of, int count, uint32_t ending, const parts *head) {
     static char config[1 << 13];
@@ -87,6 +100,7 @@ void test_handles(void) {
     frees(&of); /* an empty one stays so */
     frees(&of);
     configs(&of, &head);
+    long_configs(&of);
     many_nodes(&of, 64, TUFAYON_DONE, &head);
     is_full(&of, controller_of(CONFIGS[0]));
     makes(&other, node_of("n1"), TUFAYON_DONE, &node_head, &node_head); /* handles have nothing in common */

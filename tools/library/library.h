@@ -159,6 +159,7 @@ void test_controller(void);
 void test_node(void);
 void test_joined(void);
 void test_frames(void);
+void test_groups(void);
 void test_records(void);
 void test_damaged(void);
 void test_full(void);

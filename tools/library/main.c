@@ -14,8 +14,9 @@ int main(void) {
         const char *name;
         void (*run)(void);
     } tests[] = {{"examples", test_examples}, {"handles", test_handles}, {"controller", test_controller}, {"node", test_node},
-                 {"joined", test_joined},     {"frames", test_frames},   {"records", test_records},       {"damaged", test_damaged},
-                 {"full stores", test_full},  {"orchestrator", test_orchestrator}, {"orchestrator's records", test_orchestrator_records},
+                 {"joined", test_joined},     {"frames", test_frames},   {"groups", test_groups},         {"records", test_records},
+                 {"damaged", test_damaged},   {"full stores", test_full}, {"orchestrator", test_orchestrator},
+                 {"orchestrator's records", test_orchestrator_records},
                  {"lost nodes", test_losing}, {"many volumes", test_many}, {"endings", test_endings}};
     for (size_t at = 0; at < sizeof tests / sizeof *tests; at++) {
         unsigned long cases_before = cases, refusals_before = refusals;

@@ -296,6 +296,11 @@ void test_many(void) {
     stride = 997;
     compares(&of, how);
     parts next = next_session(&of.store, how.nodes);
+    snprintf(doing, sizeof doing, "a record of which the last of %zu parts is damaged", next.count);
+    tested damaged = {0};
+    next.at[VOLUMES].value.size--;
+    makes(&damaged, of_record(how, record_of(&next, 3)), TUFAYON_BAD_RECORD, NULL, NULL);
+    next.at[VOLUMES].value.size++;
     add(&next, part_of("4097 volume \"w\" 10 0 block/5 ; - maybe create 1 ;", 3));
     tested other = {0};
     makes(&other, of_record(how, record_of(&next, 3)), TUFAYON_BAD_RECORD, NULL, NULL);

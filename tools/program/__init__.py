@@ -1,5 +1,35 @@
 """The cases of `tools/check_program`, by subject."""
-from . import changes, configs, devices, faults, full, help, hosted, joined, kills, orchestrators, pages, pictures, plugins, records, rows, schedules, script, shown, words, worlds
+from . import (
+    changes,
+    configs,
+    devices,
+    faults,
+    full,
+    groups,
+    help,
+    hosted,
+    joined,
+    kills,
+    largest,
+    orchestrators,
+    pages,
+    pictures,
+    plugins,
+    records,
+    rows,
+    schedules,
+    script,
+    shown,
+    streams,
+    words,
+    worlds,
+)
+
+# Those that draw nothing, the longest first.
+SUBJECTS = (
+    *(hosted, devices, faults, streams, full, largest, groups, worlds, records, rows, plugins, orchestrators, changes, configs, schedules),
+    *(words, help, shown, pages, script),
+)
 
 
 def all_cases(seed):
@@ -7,5 +37,5 @@ def all_cases(seed):
     yield from kills.cases(seed)
     yield from joined.cases(seed)
     yield from pictures.cases(seed)
-    for subject in (hosted, devices, faults, full, worlds, records, rows, plugins, orchestrators, changes, configs, schedules, words, help, shown, pages, script):
+    for subject in SUBJECTS:
         yield from subject.cases()

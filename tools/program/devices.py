@@ -9,9 +9,11 @@ from . import stores
 from .plugins import CALLS, CONFIG, NOT_OPENED, PLUGINS, given_of, replies_of
 from .running import Case, LeftOut, ended, need, of_rows, wanted
 from .talks import first
-from .whole import WHOLES, whole_of
+from .whole import APART, TOGETHER, WHOLES, whole_of
 
 DEVICE = ended(3, "device")
+# In which groups calls come where a device fails, or the program is killed, at each call of the system, by the store that it runs over.
+WAYS = {"new": {"in two groups": [6]}, "used": {"five alone, and the rest": [1] * 5, "all together": TOGETHER}, "log": {"in three groups": [1, 3]}}
 CREATE = b'{"create":{"capabilities":[],"limit":0,"name":"v","required":1}}'
 SCHEDULE = b'{"config":{"greatest":1,"nodes":[]},"events":[%s]}' % CREATE
 # The calls of the system that write, cut or sync; the program is to use the first five alone.
@@ -56,6 +58,8 @@ def output(box, how):
     for words in with_output():
         given = {} if words[0] not in PLUGINS or words[1] == "--help" else {"given": given_of(PLUGINS[words[0]][1])}
         box.wants(DEVICE, *words, **given, **how())
+        if len(words) > 2:
+            box.is_closed(words[1], DEVICE)
     for name, (word, pairs) in PLUGINS.items():
         box.wants(ended(0, out=replies_of(pairs)), name, f"{name[0]}.db", word, given=given_of(pairs))
 
@@ -90,9 +94,11 @@ def input_fails(box):
     for name, (word, _) in PLUGINS.items():
         for at, how in enumerate(({"stdin": folder}, {"stdin": writing}, {"stdin": None, "preexec_fn": lambda: os.close(0)})):
             box.wants(DEVICE, name, f"{name}{at}.db", word, **how)
+            box.is_closed(f"{name}{at}.db", DEVICE)
             told = box.run("record", f"{name}{at}.db")
             wanted("the store", (told.status, b'"session":0' in told.out), (0, True))
     box.wants(ended(3, "device", first(1)), "orchestrator", "o.db", "config", stdin=folder)
+    box.is_closed("o.db", DEVICE)
     wanted("the orchestrator's store", b'"session":1' in box.run("record", "o.db").out, True)
     os.close(folder)
     os.close(writing)
@@ -119,13 +125,14 @@ def all_closed(box):
 
     ran = box.run("controller", "c.db", "config", stdin=None, stdout=None, stderr=None, preexec_fn=close)
     wanted("the status", ran.status, 3)
+    box.is_closed("c.db", ran)
     box.wants(ended(0, out=stores.NEW_CONTROLLER_LINE), "record", "c.db")
 
 
 # ---- a full disk
 
 
-def judged(whole, told, path, ran):
+def judged(whole, told, path, ran, ends):
     """How a run over a failing device may end: with all done, and then the file alone tells the store; or so, with all that was replied."""
     if ran.status == 0:
         wanted(told, ran, ended(0, out=whole.right()))
@@ -140,7 +147,7 @@ def judged(whole, told, path, ran):
     alone = whole.box.run("record", "alone.db")
     is_known = alone.status == 0 or alone in (NOT_OPENED, DEVICE) or alone.error.startswith(b"csi-replay: record fault at ")
     wanted(f"{told}: record of the file alone gave {alone}", is_known and (alone.status == 0) == (alone.out != b""), True)
-    whole.judge(told, path, ran.out)
+    whole.judge(told, path, ran.out, ends)
 
 
 def limited(size):
@@ -156,11 +163,11 @@ def limited(size):
 def by_limit(box, plugin, over):
     """A limit on the size of files, at each size at which a write fails first."""
     whole = whole_of(box, plugin, over)
-    ends = set()
+    groups, ends = whole.ends(TOGETHER), set()
     for size in sorted({0, 31, 4096, *range(4095, whole.largest, 4120 * 2), whole.largest - 1}):
         whole.fresh("db")
-        ran = box.run(plugin, "db", whole.word, given=whole.given(), preexec_fn=limited(size))
-        judged(whole, f"files of {size} bytes", "db", ran)
+        ran = box.run(plugin, "db", whole.word, given=whole.pieces(groups), preexec_fn=limited(size))
+        judged(whole, f"files of {size} bytes", "db", ran, groups)
         ends.add(ran.error)
     # A new store's log is made in one piece, so that it isn't opened without room for that.
     wanted(f"one of the lines seen, {ends}, is wanted", (NOT_OPENED if over == "new" else DEVICE).error in ends, True)
@@ -176,6 +183,7 @@ def by_disk(box, plugin):
         raise LeftOut("no file system may be mounted here")
     try:
         whole = whole_of(box, plugin, "new")
+        groups = whole.ends(APART)
         room = whole.largest // 4096 + 4
         ends = {}
         for pages in sorted({*range(8), *range(8, room, 7), *range(room - 6, room + 6)}):
@@ -184,9 +192,9 @@ def by_disk(box, plugin):
             space = os.statvfs(box.at("disk"))
             with open(box.at("disk/filler"), "wb") as file:
                 file.write(bytes((space.f_bavail - pages) * space.f_frsize))
-            ran = box.run(plugin, "disk/db", whole.word, given=whole.given())
+            ran = box.run(plugin, "disk/db", whole.word, given=whole.pieces(groups))
             os.remove(box.at("disk/filler"))
-            judged(whole, f"{pages} pages left", "disk/db", ran)
+            judged(whole, f"{pages} pages left", "disk/db", ran, groups)
             ends.setdefault((ran.status, ran.error), []).append(pages)
         wanted("the ends seen", sorted(ends), sorted([(0, b""), (3, DEVICE.error), (3, NOT_OPENED.error)]))
     finally:
@@ -214,26 +222,27 @@ def counted(calls):
     return {name: calls.count(name) for name in sorted(set(calls))}
 
 
-def at_each(box, plugin, over):
+def at_each(box, plugin, over, sizes):
     """Each call that writes, cuts or syncs fails, one a run: no room is left, or the device is gone."""
     can_trace(box)
     whole = whole_of(box, plugin, over)
-    ran, calls = traced(box, plugin, whole.word, whole.fresh("db"), whole.given())
+    ends = whole.ends(sizes)
+    ran, calls = traced(box, plugin, whole.word, whole.fresh("db"), whole.pieces(ends))
     wanted("the run that is traced", ran, ended(0, out=whole.right()))
     writing = {"pwrite64": "ENOSPC", "ftruncate": "EIO", "fsync": "EIO", "fdatasync": "EIO"}
     wanted("calls that write otherwise", sorted({*calls} - {*writing, "write"}), [])
     for name, error in writing.items():
         for at in range(1, counted(calls).get(name, 0) + 1):
             inject = f"{name}:error={error}:when={at}"
-            ran, _ = traced(box, plugin, whole.word, whole.fresh("db"), whole.given(), inject)
-            judged(whole, inject, "db", ran)
+            ran, _ = traced(box, plugin, whole.word, whole.fresh("db"), whole.pieces(ends), inject)
+            judged(whole, inject, "db", ran, ends)
             wanted(f"{inject}: it is told", ran.status, 3)
             if at % 3 != 1:
                 continue
             # From there on the device stays full.
             inject = f"{name}:error={error}:when={at}+"
-            ran, _ = traced(box, plugin, whole.word, whole.fresh("db"), whole.given(), inject)
-            judged(whole, inject, "db", ran)
+            ran, _ = traced(box, plugin, whole.word, whole.fresh("db"), whole.pieces(ends), inject)
+            judged(whole, inject, "db", ran, ends)
             wanted(f"{inject}: it is told", ran.status, 3)
 
 
@@ -246,6 +255,7 @@ def cases():
     yield Case("all streams closed", all_closed)
     for plugin in WHOLES:
         yield from of_rows(f"full disk: {plugin}", [("a small file system", by_disk, plugin)])
-        for over in ("new", "used", "log"):
-            rows = [("a limit", by_limit, plugin, over), ("at each call", at_each, plugin, over)]
+        for over, ways in WAYS.items():
+            rows = [("a limit", by_limit, plugin, over)]
+            rows += [(f"at each call, {how}", at_each, plugin, over, sizes) for how, sizes in ways.items()]
             yield from of_rows(f"full disk: {plugin} over a store that is {over}", rows)

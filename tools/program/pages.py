@@ -1,4 +1,4 @@
-"""README and the pages of docs/ that show commands: each command in them, and the output that the page gives."""
+"""README and the pages of docs/ that show commands: each command in them but those that prove, build or install, and the output that the page gives."""
 import os
 import re
 import shutil
@@ -8,7 +8,7 @@ from .running import LIMIT, Case, need, wanted
 
 TOP = os.path.dirname(os.path.dirname(os.path.dirname(os.path.realpath(__file__))))
 PAGES = ("README.md", "docs/OPERATING.md", "docs/PROGRAMS.md", "docs/INTEGRATING.md")
-# What proves or builds, by a word of the line.
+# A line with one of these is left out: it proves, builds or installs.
 LEFT_OUT = ("rt ci", "rt try", "rt lib", ".ci/run", "tools/install", "tools/csi")
 MARK = "-- the next block"
 BLOCK = re.compile(r"^```(\w*)\n(.*?)^```$", re.MULTILINE | re.DOTALL)
@@ -55,8 +55,18 @@ def commands_of(name):
     return every_command
 
 
+def says_by_hand(box):
+    """A page with a line that is left out says that such lines are run by hand."""
+    for name in PAGES:
+        with open(f"{TOP}/{name}", encoding="utf-8") as file:
+            text = file.read()
+        left = [line for language, content in BLOCK.findall(text) if language == "sh" for line in content.splitlines() if any(word in line for word in LEFT_OUT)]
+        wanted(f"by hand, on {name}", not left or "by hand" in text, True)
+
+
 def cases():
     wanted("how many outputs the pages have", sum(output is not None for name in PAGES for _, output in blocks(name)) >= 9, True)
+    yield Case("pages: what is run by hand", says_by_hand)
     for name in PAGES:
         if any(commands for commands, _ in blocks(name)):
             yield Case(f"pages: the commands of {name}", commands_of(name))

@@ -6,6 +6,7 @@ import threading
 from dataclasses import dataclass
 
 LIMIT = 60  # seconds that a run may take
+SERVING = ("controller", "node", "orchestrator")  # what opens a store, and has a log while it is open
 
 
 class Wrong(Exception):
@@ -58,12 +59,58 @@ def ended(status, line=None, out=b""):
     return Ran(status, out, b"" if line is None else f"csi-replay: {line}\n".encode())
 
 
+PIECE = 4096  # the most bytes that a read of a pipe of pieces brings
+
+
+class Pipe:
+    """A pipe to a program, which has its end to read from."""
+
+    def __init__(self, flags=0):
+        self.reading, self.writing = os.pipe2(os.O_CLOEXEC | flags)
+
+    def write(self, content):
+        try:
+            while content:
+                content = content[os.write(self.writing, content) :]
+        except BrokenPipeError:
+            pass  # the program ended, as is seen by what came of it
+
+    def end(self):
+        os.close(self.writing)
+
+    def feed(self, pieces, ends=True):
+        """Writes all of these, beside what else is done, and ends, or stays open."""
+
+        def write_all():
+            for piece in pieces:
+                self.write(piece)
+            if ends:
+                self.end()
+
+        threading.Thread(target=write_all, daemon=True).start()
+
+
+class Pieces(Pipe):
+    """One of which each read brings what one write put in (pipe(7), O_DIRECT): so a test says what is there together."""
+
+    def __init__(self):
+        super().__init__(os.O_DIRECT)
+
+    def write(self, content):
+        if len(content) > PIECE:
+            raise ValueError(f"a piece of {len(content)} bytes")
+        super().write(content)
+
+
 class Running:
     """A program that runs, and is asked. It is killed where it doesn't end in time, and then nothing more comes from it."""
 
-    def __init__(self, words, folder):
-        pipes = {"stdin": subprocess.PIPE, "stdout": subprocess.PIPE, "stderr": subprocess.PIPE}
+    def __init__(self, words, folder, pipe=None):
+        """`pipe`: the one that it reads; else it has one of its own, and is sent something."""
+        pipes = {"stdin": pipe.reading if pipe else subprocess.PIPE, "stdout": subprocess.PIPE, "stderr": subprocess.PIPE}
         self.process = subprocess.Popen(words, cwd=folder, env={}, bufsize=0, **pipes)
+        if pipe:
+            os.close(pipe.reading)
         self.limit = threading.Timer(LIMIT, self.process.kill)
         self.limit.start()
 
@@ -133,19 +180,35 @@ class Box:
         return found
 
     def run(self, *words, given=b"", before=(), env=None, **how):
-        """Runs the program with these words, behind the words `before` of another."""
-        how = {"stdout": subprocess.PIPE, "stderr": subprocess.PIPE, "input": given, **how}
-        if "stdin" in how:
-            del how["input"]
+        """Runs the program with these words, behind the words `before` of another. Of a list that is given each read brings one."""
+        how = {"stdout": subprocess.PIPE, "stderr": subprocess.PIPE, **how}
+        pieces = Pieces() if isinstance(given, list) else None
+        if pieces:
+            how["stdin"] = pieces.reading
+            pieces.feed(given)
+        elif "stdin" not in how:
+            how["input"] = given
         try:
             ran = subprocess.run([*before, self.program, *words], cwd=self.folder, env=env or {}, timeout=LIMIT, **how)
         except subprocess.TimeoutExpired:
             raise Wrong(f"{words} didn't end in {LIMIT} seconds") from None
-        return Ran(ran.returncode, ran.stdout or b"", ran.stderr or b"")
+        finally:
+            if pieces:
+                os.close(pieces.reading)
+        ran = Ran(ran.returncode, ran.stdout or b"", ran.stderr or b"")
+        if words[:1] and words[0] in SERVING and len(words) > 2 and ran.status in (0, 1):
+            self.is_closed(words[1], ran)
+        return ran
 
-    def start(self, *words):
+    def is_closed(self, path, ran):
+        """A store that was opened is closed, however the run ended: then what its log had is in the file, and the log has no page any more."""
+        log = self.at(path) + "-wal"
+        size = os.path.getsize(log) if os.path.exists(log) else 0
+        wanted(f"whether the log of {path!r} has pages, which has {size} bytes, after {ran}", size >= 32 + 24 + 4096, False)
+
+    def start(self, *words, pipe=None):
         """Starts the program with pipes for its streams, and asks it."""
-        return Running([self.program, *words], self.folder)
+        return Running([self.program, *words], self.folder, pipe)
 
     def wants(self, right, *words, told=None, **how):
         """Fails unless a run with these words ends so."""

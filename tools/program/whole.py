@@ -1,7 +1,11 @@
-"""A plugin's calls, or an orchestrator's lines; what a run that nothing stops leaves of them, and what has to hold after one that was stopped."""
+"""A plugin's calls, or an orchestrator's lines; what a run that nothing stops leaves of them, and what has to hold after one that was stopped.
+
+They come in groups, of which each is committed whole, and answered whole, or not at all.
+"""
 import os
 import shutil
 import sqlite3
+from dataclasses import dataclass
 
 from . import stores
 from .frames import attach, block, create, delete, detach, mount, publish, reply, split, stage, unpublish, unstage
@@ -12,46 +16,81 @@ from .talks import Talk, life
 NAME = "v" * 100
 
 
+@dataclass
+class Said:
+    """A call of a volume, its reply, and the one that it gets once a later call of the volume passed."""
+
+    call: bytes
+    right: bytes
+    late: bytes
+    volume: int
+
+
+def said(session, steps):
+    """Calls one after another, each of a kind and a volume, and how it is built of its number; the first of a volume makes it, if it can."""
+    for n, (kind, volume, build) in enumerate(steps, 1):
+        made = volume if kind == "CreateVolume" else 0
+        yield Said(build((session, n)), reply(kind, (session, n), 0, made), reply(kind, (session, n), 10, 0, "stale"), volume)
+
+
 def controller_calls(session, ids):
     """Calls on volumes of these ids, of which the first makes each."""
-    calls = []
-    at = 0
+    steps = []
     for it in ids:
-        for build in (
-            lambda n: (create((session, n), f"{NAME}{it}", capabilities=[block(5), mount("ext4", 1)]), ("CreateVolume", it)),
-            lambda n: (attach((session, n), it, "n1", block(5)), ("ControllerPublishVolume", 0)),
-            lambda n: (attach((session, n), it, "n2", block(5), True), ("ControllerPublishVolume", 0)),
-            lambda n: (detach((session, n), it, "n1"), ("ControllerUnpublishVolume", 0)),
-        ):
-            at += 1
-            call, (kind, made) = build(at)
-            calls.append((call, reply(kind, (session, at), 0, made)))
-    at += 1
-    calls.append((detach((session, at), ids[0], "n2"), reply("ControllerUnpublishVolume", (session, at))))
-    at += 1
-    calls.append((delete((session, at), ids[0]), reply("DeleteVolume", (session, at))))
-    return calls
+        steps += [
+            ("CreateVolume", it, lambda n, it=it: create(n, f"{NAME}{it}", capabilities=[block(5), mount("ext4", 1)])),
+            ("ControllerPublishVolume", it, lambda n, it=it: attach(n, it, "n1", block(5))),
+            ("ControllerPublishVolume", it, lambda n, it=it: attach(n, it, "n2", block(5), True)),
+            ("ControllerUnpublishVolume", it, lambda n, it=it: detach(n, it, "n1")),
+        ]
+    steps.append(("ControllerUnpublishVolume", ids[0], lambda n: detach(n, ids[0], "n2")))
+    steps.append(("DeleteVolume", ids[0], lambda n: delete(n, ids[0])))
+    return list(said(session, steps))
 
 
 def node_calls(session, ids):
-    calls = []
-    at = 0
+    steps, target = [], "/" + "t" * 100
     for it in ids:
-        target = "/" + "t" * 100
-        for build, kind in (
-            (lambda n: stage((session, n), it, block(5)), "NodeStageVolume"),
-            (lambda n: publish((session, n), it, target, block(5)), "NodePublishVolume"),
-            (lambda n: publish((session, n), it, "/b", block(5), True), "NodePublishVolume"),
-            (lambda n: unpublish((session, n), it, target), "NodeUnpublishVolume"),
-        ):
-            at += 1
-            calls.append((build(at), reply(kind, (session, at))))
-    calls.append((unpublish((session, at + 1), ids[0], "/b"), reply("NodeUnpublishVolume", (session, at + 1))))
-    calls.append((unstage((session, at + 2), ids[0]), reply("NodeUnstageVolume", (session, at + 2))))
-    return calls
+        steps += [
+            ("NodeStageVolume", it, lambda n, it=it: stage(n, it, block(5))),
+            ("NodePublishVolume", it, lambda n, it=it: publish(n, it, target, block(5))),
+            ("NodePublishVolume", it, lambda n, it=it: publish(n, it, "/b", block(5), True)),
+            ("NodeUnpublishVolume", it, lambda n, it=it: unpublish(n, it, target)),
+        ]
+    steps.append(("NodeUnpublishVolume", ids[0], lambda n: unpublish(n, ids[0], "/b")))
+    steps.append(("NodeUnstageVolume", ids[0], lambda n: unstage(n, ids[0])))
+    return list(said(session, steps))
+
+
+def ends_of(count, sizes, at=0):
+    """Where groups of these sizes end, from a place on; what is left then is the last one."""
+    ends = []
+    for size in sizes:
+        if (at := at + size) < count:
+            ends.append(at)
+    return [*ends, count]
+
+
+APART, TOGETHER = [1] * 99, []  # each alone; all in one group
 
 
 CONFIG = b'{"greatest":1000,"nodes":[{"id":"n1","slots":9},{"id":"n2","slots":9}]}'
+
+
+def parts_beside(box, path, alone=False):
+    """The parts in a copy of the file and its log, or of the file alone; none where SQLite finds no table there."""
+    for end in ("", "-wal"):
+        copy = box.at("copy.db" + end)
+        if os.path.exists(box.at(path + end)) and not (alone and end):
+            shutil.copy(box.at(path + end), copy)
+        elif os.path.exists(copy):
+            os.remove(copy)
+    if os.path.exists(box.at("copy.db-shm")):
+        os.remove(box.at("copy.db-shm"))
+    try:
+        return stores.parts_of(box.at("copy.db"))
+    except sqlite3.DatabaseError:
+        return []
 
 
 class Whole:
@@ -63,9 +102,10 @@ class Whole:
         box.put("config", CONFIG)
         calls = {"controller": controller_calls, "node": node_calls}[plugin]
         used = over != "new"
-        self.pairs = calls(2 if used else 1, [4] if used else [1])
+        self.calls = calls(2 if used else 1, [4, 5] if used else [1, 2])
+        self.pairs = [(it.call, it.right) for it in self.calls]
         if used:
-            self.prepare(calls(1, [1, 2, 3]))
+            self.prepare([(it.call, it.right) for it in calls(1, [1, 2, 3])])
         self.states = self.follow()
 
     def prepare(self, pairs):
@@ -88,19 +128,7 @@ class Whole:
         return path
 
     def parts(self, path, alone=False):
-        """The parts in a copy of the file and its log, or of the file alone; none where SQLite finds no table there."""
-        for end in ("", "-wal"):
-            copy = self.box.at("copy.db" + end)
-            if os.path.exists(self.box.at(path + end)) and not (alone and end):
-                shutil.copy(self.box.at(path + end), copy)
-            elif os.path.exists(copy):
-                os.remove(copy)
-        if os.path.exists(self.box.at("copy.db-shm")):
-            os.remove(self.box.at("copy.db-shm"))
-        try:
-            return stores.parts_of(self.box.at("copy.db"))
-        except sqlite3.DatabaseError:
-            return []
+        return parts_beside(self.box, path, alone)
 
     def follow(self):
         """The parts before each call, and at the end."""
@@ -127,20 +155,50 @@ class Whole:
     def right(self, at=0, end=None):
         return b"".join(answer for _, answer in self.pairs[at:end])
 
-    def judge(self, told, path, out):
+    # ---- groups
+
+    def ends(self, sizes, at=0):
+        """Where groups of these sizes end, from a call on."""
+        return ends_of(len(self.pairs), sizes, at)
+
+    def pieces(self, ends, at=0):
+        """What is given, a piece for each group."""
+        groups = [b"".join(call for call, _ in self.pairs[since:end]) for since, end in zip([at, *ends], ends)]
+        return [it for it in groups if it]
+
+    def told(self, at, carried):
+        """The replies from a call on where so many were carried out before, and of some of these nobody heard: each of them gets the kept reply, if it is its
+        volume's last one, and else is stale."""
+        heard = [self.calls[it] for it in range(at, carried)]
+        again = [one.late if any(it.volume == one.volume for it in heard[place:]) else one.right for place, one in enumerate(heard, 1)]
+        return b"".join(again) + self.right(max(at, carried))
+
+    def carried_out(self, told, path, answered, ends, before=0):
+        """How many calls the store has after a run that was stopped after so many replies: those of the groups that were replied, or of one group more.
+        `before`: so many it had before the run."""
+        wanted(f"{told}: {answered} replies, so those of whole groups", answered in (0, *ends) or answered <= before, True)
+        found = self.parts(path)
+        places = [max(before, it) for it in [answered, *(it for it in ends if it > answered)][:2]]
+        allowed = [self.states[it] for it in places]
+        if places[0] == 0 and self.head is not None:
+            places, allowed = [*places, 0, 0], [*allowed, [], self.head]
+        wanted(f"{told}: after {answered} replies the store has the commits of these, or of one group more", found in allowed, True)
+        return places[allowed.index(found)], found
+
+    def judge(self, told, path, out, ends):
         """After a run that was stopped: what was replied is committed, and one run more does the rest. The answer is how many replies came."""
         answered = len(split(out)[0])
         wanted(f"{told}: the replies", out[: len(self.right(0, answered))], self.right(0, answered))
-        found = self.parts(path)
-        allowed = [self.states[answered], *self.states[answered + 1 : answered + 2]]
-        if answered == 0:
-            allowed += [[], self.head]
-        wanted(f"{told}: after {answered} replies the store has the commits of these, or of one call more", found in allowed, True)
+        carried, found = self.carried_out(told, path, answered, ends)
         self.record(told, path, found)
-        again = self.box.run(self.plugin, path, self.word, given=self.given(answered))
-        wanted(f"{told}: run again on the rest", again, ended(0, out=self.right(answered)))
-        wanted(f"{told}: the parts then", self.parts(path), self.states[-1])
+        self.finish(told, path, answered, carried)
         return answered
+
+    def finish(self, told, path, answered, carried):
+        """One run more does the rest."""
+        again = self.box.run(self.plugin, path, self.word, given=self.given(answered))
+        wanted(f"{told}: run again on the rest", again, ended(0, out=self.told(answered, carried)))
+        wanted(f"{told}: the parts then", self.parts(path), self.states[-1])
 
     def record(self, told, path, found):
         """`record` tells a store that has parts."""
@@ -167,16 +225,17 @@ class WholeTalk(Whole):
     def parts_opened(self):
         """Not asked for: the first line is one of the answers."""
 
-    def judge(self, told, path, out):
+    def ends(self, sizes, at=0):
+        """The first line comes of itself."""
+        return [1, *ends_of(len(self.pairs), sizes, 1)]
+
+    def judge(self, told, path, out, ends):
         """After a run that was stopped: what was answered is committed, and of what is wanted then a timeout sends the call again, from where all
         goes on. The answer is how many lines came."""
         answered = out.count(b"\n")
         wanted(f"{told}: the answers", out, self.right()[: len(out)])
-        found = self.parts(path)
-        allowed = self.states[answered : answered + 2]
-        wanted(f"{told}: after {answered} lines the store has the commits of these, or of one line more", found in allowed, True)
+        done, found = self.carried_out(told, path, answered, ends)
         self.record(told, path, found)
-        done = answered + allowed.index(found)
         goal, kind = self.talk.due[done - 1] if done else (None, None)
         session = int.from_bytes(found[0][1][2:10], "big") + 1 if found else 1
         rest = Talk(session, NAME, 5, wanted=[NAME] if goal else [])

@@ -26,7 +26,7 @@ use Rattle.csi_driver.specs.Public.State.{State}
 use Rattle.csi_driver.specs.Public.Framing.{Runs, flushed as flushes_more, inner, Reaches, Rests, IsThere, StopsIn}
 use Rattle.csi_driver.specs.Private.Framing.{EndsIn}
 use Rattle.csi_driver.specs.Public.Handled.{AllHandled, IsBehind}
-use Rattle.csi_driver.specs.Public.Frames.{Waits, EndsFrames, ReadsFrames}
+use Rattle.csi_driver.specs.Public.Frames.{Waits, EndsFrames, ReadsFrames, RestsAtFrames}
 use Rattle.csi_driver.proofs.FaultPlaces.{place_within}
 use Rattle.csi_driver.proofs.Streams.{splits_at, front_of, frames_of}
 use Rattle.csi_driver.proofs.Items.{each-push, get-seam, first-within, first-ran, all-handled, first-handled}
@@ -219,6 +219,13 @@ module _ {H S O F : Type 0} (handles : State H S O → ℕ → Frame → State H
         stream = of.2;
         ends = stopped_in d.read [] now (IsAtEnd left') fault (subst AreBytes (sym (append-nil d.read)) d.are) d.ends of.0 of.1 (subst (λ (bytes : List ℕ). FramesOf bytes of.0 of.1) (sym (append-nil d.read)) of.2);
       }
+
+  -- where it rests, all frames of what was fed were handled
+  pub rests_at_frames : (fed : List ℕ) (now : State (Frames H) S O) → Rests handles flushes is_flushed first fed now → RestsAtFrames handles flushes is_flushed (inner first) fed (inner now)
+  rests_at_frames fed now r =
+      let of = frames_of fed r.reached.are in
+      let all = all_handled fed now r of.0 of.1 of.2 in
+      (of.0, of.1, of.2, all.runs, all.flushed)
 
   -- ---- a slice
 

@@ -1,6 +1,6 @@
 -- Lists of items, frames or lines, that were handled.
-use Rattle.std.proofs.Common.{◌≡◌, ◌∙◌, sym, ap, subst, refl, ℕ, ◌≤◌, List, [], ◌∷◌, ◌++◌, length, take, arith, length-append}
-use Rattle.std.specs.Prelude.{slice_get}
+use Rattle.std.proofs.Common.{◌≡◌, ◌∙◌, sym, ap, subst, refl, ℕ, ◌-◌, ◌<◌, ◌≤◌, ◌^◌, min, zero, suc, List, [], ◌∷◌, ◌++◌, length, take, drop, arith, length-append}
+use Rattle.std.specs.Prelude.{◌≢◌, slice_get}
 use Rattle.std.specs.List.{AllByRecursion}
 use Rattle.std.proofs.Math.Seq.{take-append_seam}
 use Rattle.csi_driver.specs.Public.Handled.{AllHandled, FirstHandled}
@@ -27,6 +27,18 @@ first-within items done later count are is = omega (arith, is, ap length are, le
 -- what holds of the items that were handled holds of as many at the front
 pub first-ran : {X : Type 0} (P : List X → Type 0) (items done later : List X) (count : ℕ) → items ≡ done ++ later → count ≡ length done → P done → P (take count items)
 first-ran P items done later count are is ran = subst P (sym (front-taken items done later count are is)) ran
+
+-- a list is its first items, and the others
+pub in-two : {X : Type 0} (xs : List X) (n : ℕ) → xs ≡ take n xs ++ drop n xs
+in-two [] zero = refl
+in-two [] (suc n) = refl
+in-two (x ∷ xs) zero = refl
+in-two {X} (x ∷ xs) (suc n) = ap (λ (ys : List X). x ∷ ys) (in-two xs n)
+
+-- of more than nothing something is there
+pub something : {X : Type 0} (xs : List X) → 0 < min (length xs) (2 ^ 64 - 1) → xs ≢ []
+something [] some is = absurd (omega (arith, some))
+something (x ∷ xs) some is = absurd cc
 
 module _ {H S O X : Type 0} (leads : List X → State H S O → Type 0) (is_flushed : H → Type 0) (now : State H S O) where
   -- the items that were handled are all

@@ -7,3 +7,7 @@ pub mod LineStreams
 pub mod Fronts
 pub mod LineReaching
 pub mod LineEnding
+pub mod StoreCalls
+pub mod GrowingAnswers
+pub mod Groups
+pub mod WaitingStops

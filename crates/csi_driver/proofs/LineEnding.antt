@@ -14,7 +14,7 @@ use Rattle.csi_driver.specs.Public.State.{State}
 use Rattle.csi_driver.specs.Public.LinesOf.{LinesOf, with_newline, IsShort, and_last}
 use Rattle.csi_driver.specs.Public.Lining.{RunsLines, line_handled, lines_flushed, inner_of_lines, ReachesLines, RestsLines, IsLineThere, StopsInLines}
 use Rattle.csi_driver.specs.Public.Handled.{AllHandled, IsBehind}
-use Rattle.csi_driver.specs.Public.Lines.{EndsLines, ReadsLines}
+use Rattle.csi_driver.specs.Public.Lines.{EndsLines, ReadsLines, RestsAtLines}
 use Rattle.csi_driver.specs.Private.Lining.{HandlesLast}
 use Rattle.csi_driver.proofs.Items.{get-seam, first-within, first-ran, all-handled, first-handled}
 use Rattle.csi_driver.proofs.LineStreams.{lines_of, no_lines, behind_lines, first_is_longer}
@@ -191,6 +191,13 @@ module _ {H S O F : Type 0} (handles : State H S O → ℕ → List ℕ → Stat
       is_short : (line : Option (List ℕ)) → IsLineThere s.before.own.buffer line → IfSome line IsShort
       is_short None there = tt
       is_short (Some line) there = there.1.2
+
+  -- where it rests, all lines of what was fed were handled
+  pub rests_at_lines : (fed : List ℕ) (now : State (Lines H) S O) → RestsLines handles flushes is_flushed first fed now → RestsAtLines handles flushes is_flushed (inner_of_lines first) fed (inner_of_lines now)
+  rests_at_lines fed now r =
+      let of = lines_of fed in
+      let all = all_handled fed now r of.0 of.1 of.2 in
+      (of.0, of.1, of.2, all.runs, all.flushed)
 
   -- ---- a reader's stream
 

@@ -6,3 +6,5 @@ pub mod Frames
 pub mod LinesOf
 pub mod Lining
 pub mod Lines
+pub mod Waiting
+pub mod Answering

@@ -2,11 +2,10 @@
 ghost use Rattle.std.specs.Prelude.{◌≡◌, ◌<◌, ◌≤◌, ◌+◌, ◌++◌, ◌^◌, ℕ, List, [], length};
 ghost use Rattle.csi_frames.specs.Public.Bytes.{AreBytes};
 ghost use Rattle.csi_driver.specs.Public.State.{State};
-ghost use Rattle.csi_driver.specs.Public.Driving.{Feeds, Drives, DrivesSlice, TellsReader};
+ghost use Rattle.csi_driver.specs.Public.Driving.{Feeds, Drives, DrivesSlice, TellsReader, IsAskedAtRest};
 
 use crate::consumer::Consumer;
-use csi_stores::Counted;
-use std::io::Read;
+use crate::source::Source;
 
 /// The most bytes of a slice that are taken at once.
 const PIECE: usize = 4096;
@@ -43,24 +42,27 @@ fn take<S, O, C: Consumer<S, O>>(
 }
 
 /// Takes the stream that the reader has to its end: reads a piece, of as many bytes as `piece` has at most, and handles all items that
-/// are there before it reads on. The reader failed at `Input` and at no other end.
-pub fn drive<S, O, C: Consumer<S, O>, R: Read>(
+/// are there before it reads on: so the reader is asked where all that it gave is handled, and nothing waits, and nowhere else. The reader
+/// failed at `Input` and at no other end.
+pub fn drive<S, O, C: Consumer<S, O>, R: Source<S, O>>(
     consumer: &mut C,
     store: &mut S,
     out: &mut O,
-    reader: &mut Counted<R>,
+    reader: &mut R,
     piece: &mut [u8],
 ) -> Result<(), Stop<C::Fault>>
-    ensures drives { C.rests (record { own = consumer.old; store = store.old; out = out.old }) []
-        (record { own = consumer.old; store = store.old; out = out.old }) → 0 < length piece.old →
-        Drives C.rests C.stops (record { own = consumer.old; store = store.old; out = out.old })
+    requires begun { C.rests (record { own = consumer.old; store = store.old; out = out.old }) []
+        (record { own = consumer.old; store = store.old; out = out.old }) }
+    requires room { 0 < length piece.old }
+    requires asks { IsAskedAtRest R.remaining R.may_read C.rests (record { own = consumer.old; store = store.old; out = out.old }) reader.old }
+    ensures drives { Drives C.rests C.stops (record { own = consumer.old; store = store.old; out = out.old })
         (record { own = consumer.new; store = store.new; out = out.new })
-        (R.remaining reader.old.inner) (R.remaining reader.new.inner) result }
-    ensures reader { TellsReader reader.old.faults reader.new.faults result }
+        (R.remaining reader.old) (R.remaining reader.new) result }
+    ensures reader { TellsReader (R.faults reader.old) (R.faults reader.new) result }
 {
     let mut read = 0;
     while read < ENDLESS {
-        match reader.read(piece) {
+        match reader.give(store, out, piece) {
             Ok(0) => return Ok(()),
             Ok(n) => {
                 match take(consumer, store, out, piece.split_at(n).0) {

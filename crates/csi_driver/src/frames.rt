@@ -5,19 +5,18 @@ ghost use Rattle.csi_frames.specs.Public.Bytes.{AreBytes};
 ghost use Rattle.csi_frames.specs.Public.Splitting.{new_splitting};
 ghost use Rattle.csi_frames.specs.Public.Stream.{FramesOf};
 ghost use Rattle.csi_driver.specs.Public.State.{State};
-ghost use Rattle.csi_driver.specs.Public.Driving.{TellsReader};
+ghost use Rattle.csi_driver.specs.Public.Driving.{TellsReader, IsAskedAtRest};
 ghost use Rattle.csi_driver.specs.Public.Framing.{Reaches, Rests, StopsIn};
 ghost use Rattle.csi_driver.specs.Private.Framing.{HandlesNext, EndsIn};
-ghost use Rattle.csi_driver.specs.Public.Frames.{ReadsFrames, EndsFrames};
+ghost use Rattle.csi_driver.specs.Public.Frames.{ReadsFrames, EndsFrames, RestsAtFrames};
 
 use crate::consumer::Consumer;
 use crate::driver::{Stop, drive, drive_slice};
 use crate::handler::FrameHandler;
+use crate::source::Source;
 use csi_frames::{FaultKind, FrameFault, Splitter};
-use csi_stores::Counted;
 use csi_types::NoMemory;
 use std::alloc::Global;
-use std::io::Read;
 
 /// Why no more frames are handled.
 pub enum FramesFault<F> {
@@ -144,22 +143,27 @@ impl<H> Frames<H> {
     }
 
     /// Handles the frames that the reader has, of which it reads as many bytes at a time as `piece` has; all frames that are there are
-    /// handled, and what waits is written, before it reads on. The reader failed at `Input` and at no other end.
-    pub fn read<S, O, R: Read>(
+    /// handled, and what waits is written, before it reads on; the reader is asked nowhere else. The reader failed at `Input` and at no other end.
+    pub fn read<S, O, R: Source<S, O>>(
         &mut self,
         store: &mut S,
         out: &mut O,
-        reader: &mut Counted<R>,
+        reader: &mut R,
         piece: &mut [u8],
     ) -> Result<(), Stop<FramesFault<H::Fault>>>
     where
         H: FrameHandler<S, O>,
-        ensures reads { self.old.splitter ≡ new_splitting → self.old.count ≡ 0 → H.is_flushed self.old.handler → 0 < length piece.old →
-            ReadsFrames H.handles H.flushes H.is_flushed H.stops
+        requires splitter { self.old.splitter ≡ new_splitting }
+        requires count { self.old.count ≡ 0 }
+        requires flushed { H.is_flushed self.old.handler }
+        requires room { 0 < length piece.old }
+        requires asks { IsAskedAtRest R.remaining R.may_read (RestsAtFrames H.handles H.flushes H.is_flushed)
+            (record { own = self.old.handler; store = store.old; out = out.old }) reader.old }
+        ensures reads { ReadsFrames H.handles H.flushes H.is_flushed H.stops
             (record { own = self.old.handler; store = store.old; out = out.old })
             (record { own = self.new.handler; store = store.new; out = out.new })
-            self.new.count (R.remaining reader.old.inner) (R.remaining reader.new.inner) result }
-        ensures reader { TellsReader reader.old.faults reader.new.faults result }
+            self.new.count (R.remaining reader.old) (R.remaining reader.new) result }
+        ensures reader { TellsReader (R.faults reader.old) (R.faults reader.new) result }
     {
         match drive(self, store, out, reader, piece) {
             Ok(()) => match self.end() {

@@ -1,5 +1,6 @@
 //! The one driver of streams: a reader's bytes are taken in pieces, what they are split into is handled item by item, and how that ends
-//! is told. What is split, and what is done with an item, is a type that implements a trait. This profile's own.
+//! is told. What is split, and what is done with an item, is a type that implements a trait. What waits of items that were answered is
+//! committed together. This profile's own.
 #![tactic(auto)]
 
 mod consumer;
@@ -10,6 +11,8 @@ mod laws;
 mod line_buffer;
 mod line_handler;
 mod lines;
+mod source;
+mod waiting;
 
 pub use consumer::Consumer;
 pub use driver::{Stop, drive, drive_slice};
@@ -19,3 +22,5 @@ pub use laws::lines_law;
 pub use line_buffer::LINE_ROOM;
 pub use line_handler::LineHandler;
 pub use lines::{Lines, LinesFault};
+pub use source::Source;
+pub use waiting::{AnswerFault, Waiting};

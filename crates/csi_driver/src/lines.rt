@@ -1,20 +1,19 @@
 //! The lines of a stream, handled one after another.
 ghost use Rattle.std.specs.Prelude.{◌≡◌, ◌<◌, ◌+◌, ◌-◌, ◌^◌, ℕ, min, List, [], length};
 ghost use Rattle.csi_driver.specs.Public.State.{State};
-ghost use Rattle.csi_driver.specs.Public.Driving.{TellsReader};
+ghost use Rattle.csi_driver.specs.Public.Driving.{TellsReader, IsAskedAtRest};
 ghost use Rattle.csi_driver.specs.Public.LinesOf.{LinesOf};
 ghost use Rattle.csi_driver.specs.Public.Lining.{ReachesLines, RestsLines, StopsInLines};
 ghost use Rattle.csi_driver.specs.Private.Lining.{HandlesNextLine, HandlesLast};
-ghost use Rattle.csi_driver.specs.Public.Lines.{ReadsLines, EndsLines};
+ghost use Rattle.csi_driver.specs.Public.Lines.{ReadsLines, EndsLines, RestsAtLines};
 
 use crate::consumer::Consumer;
 use crate::driver::{Stop, drive, drive_slice};
 use crate::line_buffer::{Front, LineBuffer};
 use crate::line_handler::LineHandler;
-use csi_stores::Counted;
+use crate::source::Source;
 use csi_types::NoMemory;
 use std::alloc::Global;
-use std::io::Read;
 
 /// Why no more lines are handled.
 pub enum LinesFault<F> {
@@ -155,23 +154,28 @@ impl<H> Lines<H> {
     }
 
     /// Handles the lines that the reader has, of which it reads as many bytes at a time as `piece` has; all lines that are there are
-    /// handled, and what waits is written, before it reads on. The last line needs no newline, and an empty line is a line. The reader failed
-    /// at `Input` and at no other end.
-    pub fn read<S, O, R: Read>(
+    /// handled, and what waits is written, before it reads on; the reader is asked nowhere else. The last line needs no newline, and an empty line
+    /// is a line. The reader failed at `Input` and at no other end.
+    pub fn read<S, O, R: Source<S, O>>(
         &mut self,
         store: &mut S,
         out: &mut O,
-        reader: &mut Counted<R>,
+        reader: &mut R,
         piece: &mut [u8],
     ) -> Result<(), Stop<LinesFault<H::Fault>>>
     where
         H: LineHandler<S, O>,
-        ensures reads { self.old.buffer ≡ [] → self.old.count ≡ 0 → H.is_flushed self.old.handler → 0 < length piece.old →
-            ReadsLines H.handles H.flushes H.is_flushed H.stops
+        requires buffer { self.old.buffer ≡ [] }
+        requires count { self.old.count ≡ 0 }
+        requires flushed { H.is_flushed self.old.handler }
+        requires room { 0 < length piece.old }
+        requires asks { IsAskedAtRest R.remaining R.may_read (RestsAtLines H.handles H.flushes H.is_flushed)
+            (record { own = self.old.handler; store = store.old; out = out.old }) reader.old }
+        ensures reads { ReadsLines H.handles H.flushes H.is_flushed H.stops
             (record { own = self.old.handler; store = store.old; out = out.old })
             (record { own = self.new.handler; store = store.new; out = out.new })
-            self.new.count (R.remaining reader.old.inner) (R.remaining reader.new.inner) result }
-        ensures reader { TellsReader reader.old.faults reader.new.faults result }
+            self.new.count (R.remaining reader.old) (R.remaining reader.new) result }
+        ensures reader { TellsReader (R.faults reader.old) (R.faults reader.new) result }
     {
         match drive(self, store, out, reader, piece) {
             Ok(()) => match self.end(store, out) {

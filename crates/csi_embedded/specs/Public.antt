@@ -6,3 +6,4 @@ pub mod OrchestratorMaking
 pub mod Asking
 pub mod Knowing
 pub mod Losing
+pub mod Version

@@ -37,8 +37,8 @@ pub(crate) fn know(embedded: &Embedded, thing: &Thing, known: &mut u32) -> Endin
     }
 }
 
-// Copies all bytes, or says how many there are.
-fn fill(bytes: &[u8], room: &mut [u8], written: &mut usize) -> Ending
+/// Copies all bytes, or says how many there are.
+pub(crate) fn fill(bytes: &[u8], room: &mut [u8], written: &mut usize) -> Ending
     ensures { Fills bytes.now (length room.old) written.new (take written.new room.new) result }
 {
     match copy(bytes, room, written) {

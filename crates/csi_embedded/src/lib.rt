@@ -28,3 +28,4 @@ mod sending;
 mod splitting;
 mod texts;
 mod things;
+mod version_exports;

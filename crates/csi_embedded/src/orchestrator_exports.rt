@@ -1,6 +1,6 @@
 //! What a C program calls of an orchestrator, as `include/tufayon.h` declares it. Making, changes, the record and freeing are as a plugin's
 //! (`exports.rt`). No call leaves anything half done: where it isn't done the orchestrator, and what the store has to be given, are as they
-//! were. `TUFAYON_FRAME_ROOM` bytes of room are asked for before anything else is done.
+//! were. `NoRoom` comes only where there is less room than the `TUFAYON_FRAME_ROOM` bytes of the longest frame.
 ghost use Rattle.std.specs.Prelude.{◌≡◌, None, length, take};
 ghost use Rattle.csi_embedded.specs.Public.Asking.{AsksCreate, AsksUse, AsksStop, AsksDelete, AsksTimeout, HasAsked, HasHeard};
 ghost use Rattle.csi_embedded.specs.Public.Losing.{HasLost};

@@ -1,19 +1,12 @@
--- Answers, line after line, that grow by a line; and the first lines of those that there are.
-use Rattle.std.proofs.Common.{◌≡◌, inl, inr, ap, subst, refl, ℕ, zero, suc, ◌+◌, ◌≤◌, List, [], ◌∷◌, ◌++◌, length, take, Some, arith, length-append}
+-- Answers, line after line; and the first lines of those that there are.
+use Rattle.std.proofs.Common.{◌≡◌, inl, inr, ap, ℕ, zero, suc, ◌+◌, ◌≤◌, List, [], ◌∷◌, ◌++◌, length, take, Some, arith, length-append}
 use Rattle.std.specs.Prelude.{slice_get}
 use Rattle.std.specs.List.{flat_map}
 use Rattle.std.proofs.lemmas.Option.{same_Some}
 use Rattle.csi_driver.specs.Public.LinesOf.{LinesOf, with_newline, and_last}
 use Rattle.csi_driver.proofs.LineStreams.{lines_few}
-use Rattle.csi_orchestration.specs.Public.LinesServing.{AnswersEach, AreThere}
-
--- lines that were answered one after another, and one more that is answered, are answered so
-pub answers-push : {C : Type 0} (answers : C → List ℕ → List ℕ → C → Type 0) (responder : C) (lines given : List (List ℕ)) (now : C) (line answer : List ℕ) (next : C)
-    → AnswersEach answers responder lines given now → answers now line answer next → AnswersEach answers responder (lines ++ line ∷ []) (given ++ answer ∷ []) next
-answers-push answers responder [] [] now line answer next runs answered = (next, subst (λ c. answers c line answer next) runs answered, refl)
-answers-push answers responder [] (g ∷ gs) now line answer next runs answered = absurd runs
-answers-push answers responder (l ∷ ls) [] now line answer next runs answered = absurd runs
-answers-push answers responder (l ∷ ls) (g ∷ gs) now line answer next runs answered = (runs.0, runs.1, answers-push answers runs.0 ls gs now line answer next runs.2 answered)
+pub use Rattle.csi_driver.proofs.GrowingAnswers.{answers-append}
+use Rattle.csi_orchestration.specs.Public.LinesServing.{AreThere}
 
 -- the items up to one that is there, and that one
 pub take-next : {X : Type 0} (items : List X) (k : ℕ) (item : X) → slice_get items k ≡ Some item → take (suc k) items ≡ take k items ++ item ∷ []

@@ -1,5 +1,5 @@
 //! What answers lines, with its record.
-ghost use Rattle.std.specs.Prelude.{◌≡◌, ℕ, List, map, IfOk, OnOk};
+ghost use Rattle.std.specs.Prelude.{◌≡◌, ℕ, List, map, IfOk, OnOk, OnErr};
 ghost use Rattle.csi_service.specs.Public.Answering.{AreRecord};
 ghost use Rattle.csi_orchestration.specs.Public.LinesAnswering.{AppendsAnswer};
 ghost use Rattle.csi_stores.specs.Public.Part.{StoredPart, StoredChange, part_change};
@@ -31,12 +31,13 @@ pub trait Responder: Drop {
     /// A line, without its newline, gets this answer, without its own, and leads from one state to another.
     ghost answers: { Self → List ℕ → List ℕ → Self → Type 0 };
 
-    /// Answers a line, without its newline, and appends the answer and a newline. At an `Err` the responder is spent: nothing is known of it, and
-    /// its store is to be opened again.
+    /// Answers a line, without its newline, and appends the answer and a newline. At an `Err` the bytes are as they were, and the responder is
+    /// spent: nothing is known of it, and its store is to be opened again.
     fn answer_into(&mut self, line: &[u8], out: &mut Vec<u8>) -> Result<(), NoMemory>
         ensures answered { OnOk result (AppendsAnswer answers self.old line.now self.new out.old.items out.new.items) }
         ensures parts { OnOk result (parts_of self.new ≡ all_changed (changes self.new) (parts_of self.old)) }
-        ensures fit { OnOk result (is_fit self.old → is_fit_change self.new → is_fit self.new) };
+        ensures fit { OnOk result (is_fit self.old → is_fit_change self.new → is_fit self.new) }
+        ensures err_bytes { OnErr result (out.new.items ≡ out.old.items) };
 
     /// What the last line that was answered changed: the parts to be put in or taken out.
     fn parts(&self) -> Result<Vec<Part>, NoMemory>

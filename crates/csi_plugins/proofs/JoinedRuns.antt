@@ -1,8 +1,7 @@
 -- Two runs over one store are one run.
-use Rattle.std.proofs.Common.{◌≡◌, ◌∙◌, ◌⊎◌, sym, ap, refl, subst, inl, inr, ℕ, zero, suc, ◌+◌, List, [], ◌∷◌, ◌++◌, take, slice_get, Some, Result, Ok, Err, arith}
+use Rattle.std.proofs.Common.{◌≡◌, ◌∙◌, ◌⊎◌, sym, ap, refl, subst, inl, inr, ℕ, ◌+◌, ◌≤◌, List, [], ◌∷◌, ◌++◌, length, take, Result, Ok, Err, arith, length-append}
 use Rattle.std.specs.Prelude.{Option}
-use Rattle.std.proofs.lemmas.List.{append-nil}
-use Rattle.std.proofs.lemmas.Option.{same_Some}
+use Rattle.std.proofs.lemmas.List.{append-nil, length-take}
 use Rattle.csi_types.specs.Model.Frame.{Frame}
 use Rattle.csi_stores.specs.declared.keep.KeepFault.{KeepFault}
 use Rattle.csi_stores.specs.declared.keep.KeepFault.TheVariants as faults
@@ -16,12 +15,12 @@ use Rattle.csi_service.specs.declared.serving.fault.ServeFault.{ServeFault}
 use Rattle.csi_service.specs.declared.serving.fault.ServeFaultKind.{ServeFaultKind}
 use Rattle.csi_service.specs.declared.serving.fault.ServeFaultKind.TheVariants as kinds
 use Rattle.csi_service.specs.Public.Serving.{AnswersEach, Serves, StopsBy, frames_counted}
-use Rattle.csi_service.proofs.GrowingAnswers.{answers-push}
+use Rattle.csi_service.proofs.GrowingAnswers.{answers-append}
 use Rattle.csi_service.specs.Public.Opening.{Records, IsOpeningCommit, OpensTo, IsOpenFault}
 use Rattle.csi_endings.specs.declared.ending.Ending.{Ending}
 use Rattle.csi_plugins.specs.Public.Service.{Streams, setting_of}
 use Rattle.csi_plugins.specs.Public.Running.{IsOpeningRefused, IsOpened, Runs}
-use Rattle.csi_plugins.specs.Public.Joined.{Reopens, AreMadeBy, AreMade, RunsAgain, IsHindrance, IsHindered, AreOneRun, Joins}
+use Rattle.csi_plugins.specs.Public.Joined.{Reopens, AreMade, RunsAgain, IsHindrance, IsHindered, AreOneRun, Joins}
 
 -- ---- runs in which the plugin is opened again
 
@@ -52,12 +51,14 @@ module _ {C : Type 0} (IsAsked : C → Type 0) (answers : C → Frame → Option
 
 -- ---- the frames that left their mark
 
--- the first ones, and one more
-take-next : {X : Type 0} (xs : List X) (k : ℕ) (x : X) → slice_get xs k ≡ Some x → take (suc k) xs ≡ take k xs ++ x ∷ []
-take-next [] zero x e = absurd (cc)
-take-next [] (suc k) x e = absurd (cc)
-take-next {X} (y ∷ ys) zero x e = ap (λ (z : X). z ∷ []) (same_Some y x e)
-take-next {X} (y ∷ ys) (suc k) x e = ap (λ (zs : List X). y ∷ zs) (take-next ys k x e)
+-- the first ones, and those behind them
+take-more : {X : Type 0} (xs front ys behind : List X) (k : ℕ) → xs ≡ front ++ ys ++ behind → k ≡ length front → take (k + length ys) xs ≡ front ++ ys
+take-more {X} xs front ys behind k is counts =
+    ap (λ (n : ℕ). take n xs) (omega (arith, counts, length-append front ys)) ∙ ap (take (length (front ++ ys))) is ∙ take-all (front ++ ys)
+  where
+    take-all : (zs : List X) → take (length zs) (zs ++ behind) ≡ zs
+    take-all [] = refl
+    take-all (z ∷ zs) = ap (λ (others : List X). z ∷ others) (take-all zs)
 
 -- what is found is what some of the frames led to
 record Marked {C : Type 0} (answers : C → Frame → Option Frame → C → Type 0) (parts_of : C → List StoredPart) (core : C) (frames : List Frame) (replies : List (Option Frame)) (IsCount : ℕ → Type 0) (found : Found) : Type 0 where
@@ -70,11 +71,11 @@ record Marked {C : Type 0} (answers : C → Frame → Option Frame → C → Typ
 
 module _ {C : Type 0} (answers : C → Frame → Option Frame → C → Type 0) (parts_of : C → List StoredPart) (core : C) (before after : Store) (io : Streams) (bytes : List ℕ) (honest : after.honest) (only : IsOnly before (Parts (parts_of core))) (found : Found) (left : after.leaves found) where
   -- those that were counted
-  counted-mark : (IsCount : ℕ → Type 0) (frames : List Frame) (replies : List (Option Frame)) (now : C) (counted : ℕ) → IsCount counted → AnswersEach answers core (take counted frames) replies now
-      → found ≡ Parts (parts_of now) → Marked answers parts_of core frames replies IsCount found
-  counted-mark IsCount frames replies now counted are runs is = record {
+  counted-mark : (frames : List Frame) (replies : List (Option Frame)) (now : C) (counted : ℕ) (group : List Frame) → AnswersEach answers core (take counted frames) replies now
+      → found ≡ Parts (parts_of now) → Marked answers parts_of core frames replies (AreMade counted group) found
+  counted-mark frames replies now counted group runs is = record {
     made = counted;
-    are_made = are;
+    are_made = inl refl;
     unwritten = [];
     mid = now;
     runs = subst (λ (rs : List (Option Frame)). AnswersEach answers core (take counted frames) rs now) (sym (append-nil replies)) runs;
@@ -82,34 +83,35 @@ module _ {C : Type 0} (answers : C → Frame → Option Frame → C → Type 0) 
   }
 
   -- by why serving stopped
-  kind-mark : (kind : ServeFaultKind) (frames : List Frame) (rest : List ℕ) (counted : ℕ) (replies : List (Option Frame)) (now : C) → AnswersEach answers core (take counted frames) replies now
-      → StopsBy (setting_of answers parts_of core before after io bytes) frames rest counted replies now kind → Marked answers parts_of core frames replies (AreMadeBy kind counted) found
-  kind-mark kinds.Input frames rest counted replies now runs stop = counted-mark (AreMadeBy kinds.Input counted) frames replies now counted refl runs ((stop.3.kept honest only).alone found left)
-  kind-mark kinds.Output frames rest counted replies now runs stop = counted-mark (AreMadeBy kinds.Output counted) frames replies now counted refl runs ((stop.1.kept honest only).alone found left)
-  kind-mark (kinds.Frame kind place) frames rest counted replies now runs stop = counted-mark (AreMadeBy (kinds.Frame kind place) counted) frames replies now counted refl runs ((stop.3.kept honest only).alone found left)
-  kind-mark kinds.NoMemory frames rest counted replies now runs stop = counted-mark (AreMadeBy kinds.NoMemory counted) frames replies now counted refl runs ((stop.kept honest only).alone found left)
-  kind-mark kinds.Endless frames rest counted replies now runs stop = counted-mark (AreMadeBy kinds.Endless counted) frames replies now counted refl runs ((stop.3.kept honest only).alone found left)
-  kind-mark (kinds.Keep fault) frames rest counted replies now runs stop =
-      let refused = stop.2 in
+  kind-mark : (kind : ServeFaultKind) (frames : List Frame) (rest : List ℕ) (counted : ℕ) (replies : List (Option Frame)) (now : C) (group : List Frame) → counted ≤ length frames → AnswersEach answers core (take counted frames) replies now
+      → StopsBy (setting_of answers parts_of core before after io bytes) frames rest counted replies now group kind → Marked answers parts_of core frames replies (AreMade counted group) found
+  kind-mark kinds.Input frames rest counted replies now group within runs stop = counted-mark frames replies now counted group runs ((stop.4.kept honest only).alone found left)
+  kind-mark kinds.Output frames rest counted replies now group within runs stop = counted-mark frames replies now counted group runs ((stop.2.kept honest only).alone found left)
+  kind-mark (kinds.Frame kind place) frames rest counted replies now group within runs stop = counted-mark frames replies now counted group runs ((stop.4.kept honest only).alone found left)
+  kind-mark kinds.NoMemory frames rest counted replies now group within runs stop = counted-mark frames replies now counted group runs ((stop.1.kept honest only).alone found left)
+  kind-mark kinds.Endless frames rest counted replies now group within runs stop = counted-mark frames replies now counted group runs ((stop.4.kept honest only).alone found left)
+  kind-mark (kinds.Keep fault) frames rest counted replies now group within runs stop =
+      let refused = stop.1 in
       elim ((refused.left honest only).each found left) [
-        | inl old ↦ counted-mark (AreMadeBy (kinds.Keep fault) counted) frames replies now counted (inl refl) runs old
+        | inl old ↦ counted-mark frames replies now counted group runs old
         | inr new ↦
-            let one_more : counted + 1 ≡ suc counted = omega arith in
             record {
-              made = counted + 1;
+              made = counted + length group;
               are_made = inr refl;
-              unwritten = refused.reply ∷ [];
+              unwritten = refused.given;
               mid = refused.next;
-              runs = subst (λ (fs : List Frame). AnswersEach answers core fs (replies ++ refused.reply ∷ []) refused.next) (sym (ap (λ (n : ℕ). take n frames) one_more ∙ take-next frames counted stop.0 stop.1))
-                  (answers-push answers core (take counted frames) replies now stop.0 refused.reply refused.next runs refused.answered);
+              runs =
+                  subst (λ (fs : List Frame). AnswersEach answers core fs (replies ++ refused.given) refused.next)
+                  (sym (take-more frames (take counted frames) group stop.0.behind counted stop.0.here (omega (arith, within, length-take counted frames))))
+                  (answers-append answers core (take counted frames) replies now group refused.given refused.next runs refused.answered);
               is = new;
             }
       ]
 
   -- by what it answered
-  mark : (result : Result Served ServeFault) (s : Serves (setting_of answers parts_of core before after io bytes) bytes result) → Marked answers parts_of core s.frames s.replies (AreMade result) found
-  mark (Ok served) s = counted-mark (AreMade (Ok served)) s.frames s.replies s.now served.frames refl s.runs ((s.ends.4.kept honest only).alone found left)
-  mark (Err fault) s = kind-mark fault.kind s.frames s.rest fault.frames s.replies s.now s.runs s.ends
+  mark : (result : Result Served ServeFault) (s : Serves (setting_of answers parts_of core before after io bytes) bytes result) → Marked answers parts_of core s.frames s.replies (AreMade (frames_counted result) s.group) found
+  mark (Ok served) s = counted-mark s.frames s.replies s.now served.frames s.group s.runs ((s.ends.5.kept honest only).alone found left)
+  mark (Err fault) s = kind-mark fault.kind s.frames s.rest fault.frames s.replies s.now s.group s.within s.runs s.ends
 
 -- ---- two runs
 
@@ -160,7 +162,7 @@ module _ {X C K : Type 0} (seen : K → Store) (records : Records X) (IsAsked : 
       here : OpensTo records head content (parts_of o.core) × records.are present (parts_of o.core) × IsOnly (seen o.opened) (Parts (parts_of o.core))
       here = o.found (o.served.honest honest) content holds
 
-      marked : Marked answers parts_of o.core o.served.serves.frames o.served.serves.replies (AreMade o.served.result) reopens.0
+      marked : Marked answers parts_of o.core o.served.serves.frames o.served.serves.replies (AreMade (frames_counted o.served.result) o.served.serves.group) reopens.0
       marked = mark answers parts_of o.core (seen o.opened) (seen between) first o.served.bytes honest here.2 reopens.0 reopens.1 o.served.result o.served.serves
 
       mid : IsAsked marked.mid × records.are present (parts_of marked.mid)

@@ -1,4 +1,3 @@
-pub mod StoreCalls
 pub mod GrowingAnswers
 pub mod Progress
 pub mod ServingEnds

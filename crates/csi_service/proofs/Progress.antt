@@ -1,86 +1,41 @@
 -- How far serving has come.
-use Rattle.std.proofs.Common.{◌≡◌, ◌∙◌, sym, ap, subst, refl, ℕ, ◌+◌, ◌-◌, ◌^◌, min, Bool, cond, List, [], ◌∷◌, ◌++◌, arith}
+use Rattle.std.proofs.Common.{◌≡◌, sym, subst, ℕ, List}
 use Rattle.std.specs.Prelude.{Option, is_some}
-use Rattle.std.specs.Io.KnownBytes.{Appends}
-use Rattle.std.proofs.KnownBytes.{Appends-nil, Appends-trans}
-use Rattle.std.proofs.lemmas.List.{append-nil}
-use Rattle.std.proofs.lemmas.List.Concat.{flat_map-append}
 use Rattle.csi_types.specs.Model.Frame.{Frame}
-use Rattle.csi_stores.specs.declared.counted.Counted.{Counted}
 use Rattle.csi_driver.specs.Public.Framing.{Runs, begins, handled, flushed}
-use Rattle.csi_driver.specs.Public.State.{State}
+use Rattle.csi_driver.specs.declared.waiting.AnswerFault.{AnswerFault}
+use Rattle.csi_driver.specs.Public.Waiting.{Settling, StopsAt}
+use Rattle.csi_driver.proofs.Groups.{IsFresh, Came, came-begun, came-settles, came-answered, Finished}
 use Rattle.csi_stores.specs.Public.Part.{StoredPart}
-use Rattle.csi_stores.specs.Public.Stores.{Store, FollowsStore, LeavesOnly}
-use Rattle.csi_service.specs.declared.serving.answering.FrameStop.{FrameStop}
-use Rattle.csi_service.specs.declared.serving.handling.Answering.{Answering}
-use Rattle.csi_service.specs.Private.Handling.{IsHandled, StopsAt, one_more_reply}
-use Rattle.csi_service.specs.Public.Serving.{AnswersEach, reply_bytes, output_of, reply_count}
-use Rattle.csi_service.proofs.StoreCalls.{follows-same, follows-more, only-same, only-more}
-use Rattle.csi_service.proofs.GrowingAnswers.{answers-push, count-push}
-
--- what was written, and more of it
-written-more : (a b c : Option (List ℕ)) (earlier later : List (Option Frame)) → Appends a b (output_of earlier) → Appends b c (output_of later) → Appends a c (output_of (earlier ++ later))
-written-more a b c earlier later first second = subst (Appends a c) (sym (flat_map-append reply_bytes earlier later)) (Appends-trans a b c (output_of earlier) (output_of later) first second)
-
--- what was done, and nothing more
-pub same-written : (a b c : Option (List ℕ)) (earlier : List (Option Frame)) → Appends a b (output_of earlier) → Appends b c [] → Appends a c (output_of earlier)
-same-written a b c earlier first second = subst (Appends a c) (append-nil (output_of earlier)) (Appends-trans a b c (output_of earlier) [] first second)
-
--- counts of replies up to the greatest add up
-capped-more : (a b c : ℕ) → a ≡ min b (2 ^ 64 - 1) → min (a + c) (2 ^ 64 - 1) ≡ min (b + c) (2 ^ 64 - 1)
-capped-more a b c is = omega (arith, is)
-
--- a core, the store under it, and its writer
-abbrev pub Serving : Type 0 → Type 0 → Type 0 → Type 0
-Serving C K W = State (Answering C) K (Counted W)
+use Rattle.csi_stores.specs.Public.Stores.{Store}
+use Rattle.csi_service.specs.Private.Handling.{Serving, waiting_of, IsHandled, Flushes}
+use Rattle.csi_service.specs.Public.Serving.{reply_bytes}
 
 module _ {C K W : Type 0} (answers : C → Frame → Option Frame → C → Type 0) (parts_of : C → List StoredPart) (store : K → Store) (contents : W → Option (List ℕ)) where
-  -- this and the next two: a frame was answered; nothing ever waits; or it stops
+  -- this and the next two: a frame was answered; what waits was settled; or it stops
   abbrev pub handles : Serving C K W → ℕ → Frame → Serving C K W → Type 0
-  handles old place frame new = IsHandled answers parts_of old.own.core new.own.core (store old.store) (store new.store) (contents old.out.inner) (contents new.out.inner) old.out.faults new.out.faults old.own.replies new.own.replies frame
+  handles old place frame new = IsHandled answers parts_of store contents old frame new
 
   abbrev pub flushes : Serving C K W → Serving C K W → Type 0
-  flushes old new = new ≡ old
+  flushes = Flushes store contents
 
-  abbrev pub stops : Serving C K W → Option Frame → Serving C K W → FrameStop → Type 0
-  stops old frame new = StopsAt answers parts_of old.own.core new.own.core (store old.store) (store new.store) (contents old.out.inner) (contents new.out.inner) old.out.faults new.out.faults frame
+  abbrev pub stops : Serving C K W → Option Frame → Serving C K W → AnswerFault → Type 0
+  stops old frame new = StopsAt store contents (waiting_of old) (waiting_of new)
 
-  -- these frames were answered
-  pub record Progress (first now : Serving C K W) (frames : List Frame) : Type 0 where
-    pub replies : List (Option Frame)
-    pub runs : AnswersEach answers first.own.core frames replies now.own.core
-    pub replied : now.own.replies ≡ min (reply_count replies) (2 ^ 64 - 1)
-    pub kept : LeavesOnly (store first.store) (store now.store) (parts_of first.own.core) (parts_of now.own.core)
-    pub written : Appends (contents first.out.inner) (contents now.out.inner) (output_of replies)
-    pub follows : FollowsStore (store first.store) (store now.store)
-    pub quiet : now.out.faults ≡ first.out.faults
+  module _ (first : Serving C K W) where
+    -- how far it came, from a first core
+    abbrev pub CameTo : List Frame → C → Settling K W → Type 0
+    CameTo = Came answers parts_of reply_bytes is_some store contents first.own.core (waiting_of first)
 
-  -- frames that were handled were answered
-  pub progress_of : (first now : Serving C K W) (frames : List Frame) → first.own.replies ≡ 0 → Runs handles flushes first frames now → Progress first now frames
-  progress_of first now frames none begins = record {
-    replies = [];
-    runs = refl;
-    replied = none;
-    kept = only-same (store first.store) (parts_of first.own.core);
-    written = Appends-nil (contents first.out.inner);
-    follows = follows-same (store first.store);
-    quiet = refl;
-  }
-  progress_of first now frames none (handled fs before frame _ run did) =
-      let p = progress_of first before fs none run in
-      let call = did.1 in
-      let reply : Option Frame = call.answer.0 in
-      record {
-        replies = p.replies ++ reply ∷ [];
-        runs = answers-push answers first.own.core fs p.replies before.own.core frame reply now.own.core p.runs call.answer.1;
-        replied =
-            did.2
-            ∙ ap (λ (b : Bool). one_more_reply before.own.replies b) call.answer.2
-            ∙ capped-more before.own.replies (reply_count p.replies) (cond (is_some reply) 1 0) p.replied
-            ∙ ap (λ (k : ℕ). min k (2 ^ 64 - 1)) (sym (count-push p.replies reply));
-        kept = only-more (store first.store) (store before.store) (store now.store) (parts_of first.own.core) (parts_of before.own.core) (parts_of now.own.core) call.follows p.kept call.answer.3.kept;
-        written = written-more (contents first.out.inner) (contents before.out.inner) (contents now.out.inner) p.replies (reply ∷ []) p.written call.answer.3.written;
-        follows = follows-more (store first.store) (store before.store) (store now.store) p.follows call.follows;
-        quiet = call.quiet ∙ p.quiet;
-      }
-  progress_of first now frames none (flushed _ before _ run same) = subst (λ (s : Serving C K W). Progress first s frames) (sym same) (progress_of first before frames none run)
+    -- and where nothing waits
+    abbrev pub Done : List Frame → C → Settling K W → Type 0
+    Done = Finished answers parts_of reply_bytes is_some store contents first.own.core (waiting_of first)
+
+    -- frames that were handled were answered
+    pub came_by : (now : Serving C K W) (frames : List Frame) → IsFresh first.own.waiting → Runs handles flushes first frames now → CameTo frames now.own.core (waiting_of now)
+    came_by now frames fresh begins = came-begun answers parts_of reply_bytes is_some store contents first.own.core (waiting_of first) fresh
+    came_by now frames fresh (handled fs before frame _ run did) =
+        came-answered answers parts_of reply_bytes is_some store contents first.own.core (waiting_of first) fs before.own.core (waiting_of before) frame now.own.core (waiting_of now) (came_by before fs fresh run) did
+    came_by now frames fresh (flushed _ before _ run did) =
+        subst (λ (c : C). CameTo frames c (waiting_of now)) (sym did.1)
+        (came-settles answers parts_of reply_bytes is_some store contents first.own.core (waiting_of first) frames before.own.core (waiting_of before) (waiting_of now) (came_by before frames fresh run) did.0)

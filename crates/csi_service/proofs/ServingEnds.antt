@@ -1,63 +1,54 @@
 -- What serving has come to where it ends.
-use Rattle.std.proofs.Common.{◌≡◌, ◌∙◌, sym, ap, subst, refl, inr, ℕ, ◌+◌, ◌-◌, ◌<◌, ◌≤◌, ◌^◌, min, zero, suc, List, [], ◌∷◌, ◌++◌, length, take, take_all, arith, length-append, append_assoc}
-use Rattle.std.proofs.lemmas.List.{length-take}
-use Rattle.std.specs.Prelude.{Option, Some, None, is_some, slice_get, Result, Ok, Err}
+use Rattle.std.proofs.Common.{◌≡◌, ◌∙◌, sym, ap, subst, refl, inr, ℕ, ◌+◌, ◌-◌, ◌<◌, ◌≤◌, ◌^◌, min, List, [], ◌++◌, length, take, drop, arith, length-append, append_assoc}
+use Rattle.std.proofs.lemmas.List.{length-take, append-nil}
+use Rattle.std.specs.Prelude.{Option, is_some, Result, Ok, Err}
 use Rattle.std.specs.List.{flat_map}
-use Rattle.std.specs.Io.KnownBytes.{Appends, IsAtEnd}
-use Rattle.std.proofs.KnownBytes.{Appends-trans}
-use Rattle.std.proofs.lemmas.List.Concat.{flat_map-append}
+use Rattle.std.specs.Io.KnownBytes.{IsAtEnd}
 use Rattle.std.proofs.lemmas.List.Sums.{count_by-le-length}
 use Rattle.csi_types.specs.Model.Frame.{Frame}
 use Rattle.csi_frames.specs.Public.Spelling.{spelling}
 use Rattle.csi_frames.specs.Public.Stream.{FramesOf}
 use Rattle.csi_stores.specs.Public.Counting.{HasRisen}
+use Rattle.csi_stores.specs.declared.counted.Counted.{Counted}
+use Rattle.csi_driver.specs.declared.waiting.AnswerFault.{AnswerFault}
+use Rattle.csi_driver.specs.declared.waiting.AnswerFault.TheVariants as why
+use Rattle.csi_driver.specs.Public.Waiting.{Settling, EndsWaiting}
+use Rattle.csi_driver.proofs.StoreCalls.{follows-more}
+use Rattle.csi_driver.proofs.GrowingAnswers.{answers-length, answers-some}
+use Rattle.csi_driver.proofs.Items.{in-two, something, front-taken}
+use Rattle.csi_driver.proofs.Groups.{IsFresh, came-settles, came-stops, finished, refused-left, refused-cause, refused-written, unwritten-kept, unwritten-runs, unwritten-written}
 use Rattle.csi_driver.specs.declared.driver.Stop.{Stop}
 use Rattle.csi_driver.specs.declared.driver.Stop.TheVariants as stop
 use Rattle.csi_driver.specs.declared.frames.FramesFault.{FramesFault}
 use Rattle.csi_driver.specs.declared.frames.FramesFault.TheVariants as frames_faults
 use Rattle.csi_driver.specs.Public.Driving.{TellsReader}
 use Rattle.csi_driver.specs.Public.Framing.{Runs}
-use Rattle.csi_driver.specs.Public.Frames.{IsBehind, Halts, ReadsFrames, Waits as RestWaits}
+use Rattle.csi_driver.specs.Public.Frames.{Halts, ReadsFrames, RestsAtFrames, Waits as RestWaits}
 use Rattle.csi_driver.proofs.Streams.{frames_few}
 use Rattle.csi_stores.specs.Public.Part.{StoredPart}
 use Rattle.csi_stores.specs.Public.Stores.{Store, FollowsStore}
 use Rattle.csi_service.specs.declared.serving.fault.Served.{Served}
 use Rattle.csi_service.specs.declared.serving.fault.ServeFault.{ServeFault}
-use Rattle.csi_service.specs.declared.serving.answering.FrameStop.{FrameStop}
-use Rattle.csi_service.specs.declared.serving.answering.FrameStop.TheVariants as why
+use Rattle.csi_service.specs.declared.serving.handling.Answering.{Answering}
 use Rattle.csi_service.specs.Public.Failing.{Stays, ReaderStaysAt, WriterStaysAt}
-use Rattle.csi_service.specs.Private.Handling.{call_setting, stopped_by}
-use Rattle.csi_service.specs.Public.Serving.{Setting, AnswersEach, reply_bytes, output_of, reply_count, AllDone, Waits, frames_counted, EndsBy, Serves}
-use Rattle.csi_service.proofs.StoreCalls.{follows-more, only-more, left-more, refusal-more}
-use Rattle.csi_service.proofs.GrowingAnswers.{answers-push, answers-length}
-use Rattle.csi_service.proofs.Progress.{same-written, Serving, handles, flushes, stops, Progress, progress_of}
+use Rattle.csi_service.specs.Private.Handling.{Serving, waiting_of, stopped_by}
+use Rattle.csi_service.specs.Public.Serving.{Setting, AnswersEach, reply_bytes, reply_count, AllDone, Waits, frames_counted, EndsBy, Serves, IsAllAnswered}
+use Rattle.csi_service.proofs.Progress.{handles, flushes, stops, CameTo, Done, came_by}
 
 -- a rest that waits may be the beginning of a frame
 waits_so : (rest : List ℕ) → RestWaits rest → Waits rest
 waits_so rest waits = inr (length rest, waits)
 
--- the frames up to one that is there, and that one
-take-next : (frames : List Frame) (k : ℕ) (frame : Frame) → slice_get frames k ≡ Some frame → take (suc k) frames ≡ take k frames ++ frame ∷ []
-take-next [] k frame there = absurd cc
-take-next (f ∷ fs) zero frame there = let same : f ≡ frame = cc in ap (λ (g : Frame). g ∷ []) same
-take-next (f ∷ fs) (suc k) frame there = ap (λ (gs : List Frame). f ∷ gs) (take-next fs k frame there)
-
--- it is one of them
-next-within : (frames : List Frame) (k : ℕ) (frame : Frame) → slice_get frames k ≡ Some frame → k + 1 ≤ length frames
-next-within [] k frame there = absurd cc
-next-within (f ∷ fs) zero frame there = omega arith
-next-within (f ∷ fs) (suc k) frame there = omega (arith, next-within fs k frame there)
-
 -- ---- counts of failures
 
 -- the reader failed at Input
-pub reader_failed : (before after : ℕ) (s : Stop (FramesFault FrameStop)) → TellsReader {A = Unit {0}} before after (Err s) → s ≡ stop.Input → HasRisen before after
+pub reader_failed : (before after : ℕ) (s : Stop (FramesFault AnswerFault)) → TellsReader {A = Unit {0}} before after (Err s) → s ≡ stop.Input → HasRisen before after
 reader_failed before after stop.Input told is = told
 reader_failed before after stop.Endless told is = absurd cc
 reader_failed before after (stop.Consumer fault) told is = absurd cc
 
 -- and at no other end
-pub reader_stays : (before after frames : ℕ) (s : Stop (FramesFault FrameStop)) → TellsReader {A = Unit {0}} before after (Err s) → Stays {A = Served} ReaderStaysAt before after (Err (stopped_by s frames))
+pub reader_stays : (before after frames : ℕ) (s : Stop (FramesFault AnswerFault)) → TellsReader {A = Unit {0}} before after (Err s) → Stays {A = Served} ReaderStaysAt before after (Err (record { kind = stopped_by s; frames = frames }))
 reader_stays before after frames stop.Input told = tt
 reader_stays before after frames stop.Endless told = told
 reader_stays before after frames (stop.Consumer (frames_faults.Frame kind place)) told = told
@@ -66,84 +57,108 @@ reader_stays before after frames (stop.Consumer (frames_faults.Handler why.NoMem
 reader_stays before after frames (stop.Consumer (frames_faults.Handler (why.Keep fault))) told = told
 reader_stays before after frames (stop.Consumer (frames_faults.Handler why.Output)) told = told
 
-module _ {C K W : Type 0} (answers : C → Frame → Option Frame → C → Type 0) (parts_of : C → List StoredPart) (store : K → Store) (contents : W → Option (List ℕ)) (first now : Serving C K W) (count : ℕ) (left left' : Option (List ℕ)) (none : first.own.replies ≡ 0) where
+-- where nothing waits all that was read is answered
+pub all_answered : {C K W : Type 0} (answers : C → Frame → Option Frame → C → Type 0) (parts_of : C → List StoredPart) (store : K → Store) (contents : W → Option (List ℕ)) (first now : Serving C K W) (read : List ℕ) → IsFresh first.own.waiting
+    → RestsAtFrames (handles answers parts_of store contents) (flushes answers parts_of store contents) (λ (answering : Answering C). answering.waiting.items ≡ 0) first read now
+    → IsAllAnswered answers parts_of first.own.core (store first.store) (store now.store) (contents first.out.inner) (contents now.out.inner) read
+all_answered answers parts_of store contents first now read fresh rests =
+    let p = finished answers parts_of reply_bytes is_some store contents first.own.core (waiting_of first) rests.0 now.own.core (waiting_of now) (came_by answers parts_of store contents first now rests.0 fresh rests.3) rests.4 in
+    record { frames = rests.0; rest = rests.1; stream = rests.2; replies = p.given; now = now.own.core; runs = p.runs; kept = p.kept; written = p.written }
+
+module _ {C K W : Type 0} (answers : C → Frame → Option Frame → C → Type 0) (parts_of : C → List StoredPart) (store : K → Store) (contents : W → Option (List ℕ)) (first now : Serving C K W) (count : ℕ) (left left' : Option (List ℕ)) (fresh : IsFresh first.own.waiting) where
   -- the frames of a reader, handled to its end
-  abbrev pub Read : Result (Unit {0}) (Stop (FramesFault FrameStop)) → Type 0
-  Read = ReadsFrames (handles answers parts_of store contents) (flushes answers parts_of store contents) (λ answering. Unit {0}) (stops answers parts_of store contents) first now count left left'
+  abbrev pub Read : Result (Unit {0}) (Stop (FramesFault AnswerFault)) → Type 0
+  Read = ReadsFrames (handles answers parts_of store contents) (flushes answers parts_of store contents) (λ (answering : Answering C). answering.waiting.items ≡ 0) (stops answers parts_of store contents) first now count left left'
 
-  -- how far serving came
-  abbrev Came : Serving C K W → List Frame → Type 0
-  Came = Progress answers parts_of store contents first
-
-  came : (to : Serving C K W) (frames : List Frame) → Runs (handles answers parts_of store contents) (flushes answers parts_of store contents) first frames to → Came to frames
-  came to frames runs = progress_of answers parts_of store contents first to frames none runs
-
-  -- the same, of as many as are counted, where these are all
-  came_all : (frames : List Frame) → Runs (handles answers parts_of store contents) (flushes answers parts_of store contents) first frames now → count ≡ length frames → Came now (take count frames)
-  came_all frames runs all = subst (Came now) (sym (take_all count frames (omega (arith, all)))) (came now frames runs)
+  -- how many frames were committed
+  abbrev pub k : ℕ
+  k = now.own.waiting.committed
 
   -- what serving is judged by
   abbrev Full : Type 0 → Type 0 → Type 0 → Setting C
-  Full at_end reader_failed endless =
-      record (call_setting answers parts_of first.own.core (store first.store) (store now.store) (contents first.out.inner) (contents now.out.inner) first.out.faults now.out.faults) {
-        at_end = at_end;
-        reader_failed = reader_failed;
-        endless = endless;
-      }
+  Full at_end reader_failed endless = record {
+    answers = answers;
+    parts_of = parts_of;
+    core = first.own.core;
+    before = store first.store;
+    after = store now.store;
+    written_before = contents first.out.inner;
+    written_after = contents now.out.inner;
+    at_end = at_end;
+    reader_failed = reader_failed;
+    writer_failed = HasRisen first.out.faults now.out.faults;
+    endless = endless;
+  }
+
+  -- frames that were handled are done, where nothing waits
+  done_by : (frames : List Frame) → Runs (handles answers parts_of store contents) (flushes answers parts_of store contents) first frames now → now.own.waiting.items ≡ 0 → Done answers parts_of store contents first frames now.own.core (waiting_of now)
+  done_by frames runs none =
+      finished answers parts_of reply_bytes is_some store contents first.own.core (waiting_of first) frames now.own.core (waiting_of now) (came_by answers parts_of store contents first now frames fresh runs) none
 
   module _ (P Q E : Type 0) where
     -- how it served, what calls never change of the store, and the writer's count
     abbrev pub Ended : List ℕ → Result Served ServeFault → Type 0
     Ended bytes result = Serves (Full P Q E) bytes result × FollowsStore (store first.store) (store now.store) × Stays WriterStaysAt first.out.faults now.out.faults result
 
+    -- frames are no more than bytes
+    few : (bytes : List ℕ) (frames : List Frame) (rest : List ℕ) → FramesOf bytes frames rest → length bytes < 2 ^ 64 → length frames < 2 ^ 64
+    few bytes frames rest of small = omega (arith, frames_few frames, small, ap length of.whole, length-append (flat_map spelling frames) rest)
+
     -- all that was handled is done
-    done : {frames : List Frame} (p : Came now frames) → AllDone (Full P Q E) p.replies now.own.core
-    done p = record { kept = p.kept; written = p.written }
+    all_done : {frames : List Frame} {core : C} (p : Done answers parts_of store contents first frames core (waiting_of now)) → AllDone (Full P Q E) p.given core
+    all_done p = record { kept = p.kept; written = p.written }
 
-    -- replies are no more than bytes
-    few_replies : (bytes : List ℕ) (frames : List Frame) (rest : List ℕ) (p : Came now (take count frames)) → FramesOf bytes frames rest → length bytes < 2 ^ 64 → now.own.replies ≡ reply_count p.replies
-    few_replies bytes frames rest p of few =
-        omega (arith, p.replied, count_by-le-length is_some p.replies, answers-length answers first.own.core (take count frames) p.replies now.own.core p.runs, length-take count frames, frames_few frames, ap length of.whole, length-append (flat_map spelling frames) rest)
-
-    -- some frames were handled, as many as are counted, and then it ended so
-    serves : {end : Result (Unit {0}) (Stop (FramesFault FrameStop))} (r : Read end) (to : Serving C K W) (p : Came to (take count r.frames)) (result : Result Served ServeFault) → frames_counted result ≡ count → count ≤ length r.frames
-        → EndsBy (Full P Q E) r.frames r.rest p.replies to.own.core result → Serves (Full P Q E) r.read result
-    serves r to p result counted within ends = record {
-      frames = r.frames;
-      rest = r.rest;
-      stream = r.stream;
-      within = omega (arith, counted, within);
-      replies = p.replies;
-      now = to.own.core;
-      runs = subst (λ (k : ℕ). AnswersEach answers first.own.core (take k r.frames) p.replies to.own.core) (sym counted) p.runs;
+    -- some frames were committed, as many as are counted, and then it ended so
+    serves : (bytes : List ℕ) (frames : List Frame) (rest : List ℕ) → FramesOf bytes frames rest → (committed behind : List Frame) → frames ≡ committed ++ behind → k ≡ length committed → (replies : List (Option Frame)) (to : C)
+        → AnswersEach answers first.own.core committed replies to → (group : List Frame) (result : Result Served ServeFault) → frames_counted result ≡ k → EndsBy (Full P Q E) frames rest replies to group result → Serves (Full P Q E) bytes result
+    serves bytes frames rest of committed behind are counts replies to runs group result told ends = record {
+      frames = frames;
+      rest = rest;
+      stream = of;
+      within = omega (arith, told, counts, ap length are, length-append committed behind);
+      replies = replies;
+      now = to;
+      runs = subst (λ (fs : List Frame). AnswersEach answers first.own.core fs replies to) (sym (front-taken frames committed behind (frames_counted result) are (told ∙ counts))) runs;
+      group = group;
       ends = ends;
     }
 
+    -- all frames were
+    all : {end : Result (Unit {0}) (Stop (FramesFault AnswerFault))} (r : Read end) (p : Done answers parts_of store contents first r.frames now.own.core (waiting_of now)) → k ≡ length r.frames
+    all r p = omega (arith, p.committed, few r.read r.frames r.rest r.stream r.few)
+
+    serves_all : {end : Result (Unit {0}) (Stop (FramesFault AnswerFault))} (r : Read end) (p : Done answers parts_of store contents first r.frames now.own.core (waiting_of now)) (result : Result Served ServeFault) → frames_counted result ≡ k
+        → EndsBy (Full P Q E) r.frames r.rest p.given now.own.core [] result → Serves (Full P Q E) r.read result
+    serves_all r p result told ends = serves r.read r.frames r.rest r.stream r.frames [] (sym (append-nil r.frames)) (all r p) p.given now.own.core p.runs [] result told ends
+
     -- the reader has ended
-    pub served : (done : Unit {0}) (r : Read (Ok done)) → (IsAtEnd left' → P) → Ended r.read (Ok (record { frames = count; replies = now.own.replies }))
+    pub served : (done : Unit {0}) (r : Read (Ok done)) → (IsAtEnd left' → P) → Ended r.read (Ok (record { frames = k; replies = now.own.waiting.answers }))
     served _ r at_end =
-        let all = r.ends.2 in
-        let p = came_all r.frames all.runs all.counted in
-        (serves r now p (Ok (record { frames = count; replies = now.own.replies })) refl (omega (arith, all.counted)) (all.counted, r.ends.1, few_replies r.read r.frames r.rest p r.stream r.few, at_end r.ends.0, done p), p.follows, p.quiet)
+        let p = done_by r.frames r.ends.2.runs r.ends.2.flushed in
+        let told : now.own.waiting.answers ≡ reply_count p.given =
+        omega (arith, p.counted, count_by-le-length is_some p.given, answers-length answers first.own.core r.frames p.given now.own.core p.runs, few r.read r.frames r.rest r.stream r.few) in
+        (serves_all r p (Ok (record { frames = k; replies = now.own.waiting.answers })) refl (refl, all r p, r.ends.1, told, at_end r.ends.0, all_done p), p.follows, p.quiet)
 
     -- it stopped before
-    pub halted : (s : Stop (FramesFault FrameStop)) (r : Read (Err s)) → (IsAtEnd left' → P) → (s ≡ stop.Input → Q) → (2 ^ 63 ≤ length r.read → E) → Ended r.read (Err (stopped_by s count))
+    pub halted : (s : Stop (FramesFault AnswerFault)) (r : Read (Err s)) → (IsAtEnd left' → P) → (s ≡ stop.Input → Q) → (2 ^ 63 ≤ length r.read → E) → Ended r.read (Err (record { kind = stopped_by s; frames = k }))
     halted stop.Input r at_end failed endless =
-        let all = r.ends.1 in
-        let p = came_all r.frames all.runs all.counted in
-        (serves r now p (Err (stopped_by stop.Input count)) refl (omega (arith, all.counted)) (all.counted, failed refl, waits_so r.rest r.ends.0, done p), p.follows, p.quiet)
+        let p = done_by r.frames r.ends.1.runs r.ends.1.flushed in
+        (serves_all r p (Err (record { kind = stopped_by stop.Input; frames = k })) refl (refl, all r p, failed refl, waits_so r.rest r.ends.0, all_done p), p.follows, p.quiet)
     halted stop.Endless r at_end failed endless =
-        let all = r.ends.2 in
-        let p = came_all r.frames all.runs all.counted in
-        (serves r now p (Err (stopped_by stop.Endless count)) refl (omega (arith, all.counted)) (all.counted, endless r.ends.0, waits_so r.rest r.ends.1, done p), p.follows, p.quiet)
+        let p = done_by r.frames r.ends.2.runs r.ends.2.flushed in
+        (serves_all r p (Err (record { kind = stopped_by stop.Endless; frames = k })) refl (refl, all r p, endless r.ends.0, waits_so r.rest r.ends.1, all_done p), p.follows, p.quiet)
     halted (stop.Consumer (frames_faults.Frame kind place)) r at_end failed endless =
-        let all = r.ends.2 in
-        let p = came_all r.frames all.runs all.counted in
-        (serves r now p (Err (stopped_by (stop.Consumer (frames_faults.Frame kind place)) count)) refl (omega (arith, all.counted)) (all.counted, r.ends.1, λ short. at_end (r.ends.0 short), done p), p.follows, p.quiet)
+        let p = done_by r.frames r.ends.2.runs r.ends.2.flushed in
+        (serves_all r p (Err (record { kind = stopped_by (stop.Consumer (frames_faults.Frame kind place)); frames = k })) refl (refl, all r p, r.ends.1, λ short. at_end (r.ends.0 short), all_done p), p.follows, p.quiet)
     halted (stop.Consumer frames_faults.NoMemory) r at_end failed endless =
-        let p = came now (take count r.frames) r.ends.runs in
-        (serves r now p (Err (stopped_by (stop.Consumer frames_faults.NoMemory) count)) refl r.ends.within (done p), p.follows, p.quiet)
-    halted (stop.Consumer (frames_faults.Handler fault)) r at_end failed endless = at_frame fault r.ends.frame r.ends.behind r.ends.stopped
+        let p = done_by (take count r.frames) r.ends.runs r.ends.flushed in
+        let counts : k ≡ length (take count r.frames) = omega (arith, p.committed, few r.read r.frames r.rest r.stream r.few, length-take count r.frames) in (
+          serves r.read r.frames r.rest r.stream (take count r.frames) (drop count r.frames) (in-two r.frames count) counts p.given now.own.core p.runs []
+              (Err (record { kind = stopped_by (stop.Consumer frames_faults.NoMemory); frames = k })) refl (refl, all_done p),
+          p.follows,
+          p.quiet,
+        )
+    halted (stop.Consumer (frames_faults.Handler fault)) r at_end failed endless = by fault ends
       where
         e : Halts (handles answers parts_of store contents) (flushes answers parts_of store contents) (stops answers parts_of store contents) first now r.frames count fault
         e = r.ends
@@ -151,71 +166,89 @@ module _ {C K W : Type 0} (answers : C → Frame → Option Frame → C → Type
         before : Serving C K W
         before = e.before
 
-        p : Came before (take count r.frames)
-        p = came before (take count r.frames) e.runs
+        -- the frames that were handled
+        front : List Frame
+        front = take count r.frames
 
-        follows : FollowsStore (store before.store) (store now.store) → FollowsStore (store first.store) (store now.store)
-        follows more = follows-more (store first.store) (store before.store) (store now.store) p.follows more
+        behind : List Frame
+        behind = drop count r.frames
 
-        at_frame : (fault : FrameStop) (next : Option Frame) → IsBehind r.frames count next → stops answers parts_of store contents before next now fault
-            → Ended r.read (Err (stopped_by (stop.Consumer (frames_faults.Handler fault)) count))
-        at_frame fault None behind stopped = absurd stopped
-        at_frame why.NoMemory (Some frame) behind stopped = (
-          serves r before p (Err (stopped_by (stop.Consumer (frames_faults.Handler why.NoMemory)) count)) refl e.within
-              (record {
-                kept = only-more (store first.store) (store before.store) (store now.store) (parts_of first.own.core) (parts_of before.own.core) (parts_of before.own.core) stopped.follows p.kept stopped.answer.kept;
-                written = same-written (contents first.out.inner) (contents before.out.inner) (contents now.out.inner) p.replies p.written stopped.answer.written;
-              }),
-          follows stopped.follows,
-          stopped.quiet ∙ p.quiet,
-        )
-        at_frame (why.Keep fault) (Some frame) behind stopped =
-            let refused = stopped.answer in (
-              serves r before p (Err (stopped_by (stop.Consumer (frames_faults.Handler (why.Keep fault))) count)) refl e.within (
-                frame,
-                behind,
+        small : length r.frames < 2 ^ 64
+        small = few r.read r.frames r.rest r.stream r.few
+
+        came : (two : Settling K W) × CameTo answers parts_of store contents first front before.own.core two × EndsWaiting store contents two (waiting_of now) fault
+        came =
+            came-stops answers parts_of reply_bytes is_some store contents first.own.core (waiting_of first) front before.own.core (waiting_of before) (waiting_of now) fault
+            (came_by answers parts_of store contents first before front fresh e.runs) e.stopped
+
+        two : Settling K W
+        two = came.0
+
+        p : CameTo answers parts_of store contents first front before.own.core two
+        p = came.1
+
+        ends : EndsWaiting store contents two (waiting_of now) fault
+        ends = came.2
+
+        -- the frames of the stream: those that were committed, those that waited, and others
+        in-three : r.frames ≡ p.earlier ++ p.group ++ behind
+        in-three = in-two r.frames count ∙ ap (λ (fs : List Frame). fs ++ behind) p.are
+
+        in-parts : r.frames ≡ p.earlier ++ (p.group ++ behind)
+        in-parts = in-three ∙ append_assoc p.earlier p.group behind
+
+        within : length p.earlier + length p.group ≤ length r.frames
+        within = omega (arith, ap length p.are, length-append p.earlier p.group, length-take count r.frames)
+
+        by : (fault : AnswerFault) → EndsWaiting store contents two (waiting_of now) fault → Ended r.read (Err (record { kind = stopped_by (stop.Consumer (frames_faults.Handler fault)); frames = k }))
+        by why.NoMemory w =
+            let q = finished answers parts_of reply_bytes is_some store contents first.own.core (waiting_of first) front before.own.core (waiting_of now)
+            (came-settles answers parts_of reply_bytes is_some store contents first.own.core (waiting_of first) front before.own.core two (waiting_of now) p w.0) w.1 in
+            let counts : k ≡ length front = omega (arith, q.committed, small, length-take count r.frames) in (
+              serves r.read r.frames r.rest r.stream front behind (in-two r.frames count) counts q.given before.own.core q.runs [] (Err (record { kind = stopped_by (stop.Consumer (frames_faults.Handler why.NoMemory)); frames = k })) refl
+                  (refl, record { kept = q.kept; written = q.written }),
+              q.follows,
+              q.quiet,
+            )
+        by (why.Keep fault) w =
+            let counts : k ≡ length p.earlier = omega (arith, w.committed, p.committed, small, within) in (
+              serves r.read r.frames r.rest r.stream p.earlier (p.group ++ behind) in-parts counts p.given p.mid p.runs p.group (Err (record { kind = stopped_by (stop.Consumer (frames_faults.Handler (why.Keep fault))); frames = k })) refl (
                 record {
-                  reply = refused.reply;
-                  next = refused.next;
-                  answered = refused.answered;
-                  left = left-more (store first.store) (store before.store) (store now.store) (parts_of first.own.core) (parts_of before.own.core) (parts_of before.own.core) (parts_of refused.next) stopped.follows p.kept refused.left;
-                  cause = refusal-more (store first.store) (store before.store) (store now.store) (parts_of first.own.core) (parts_of before.own.core) (parts_of refused.next) fault p.follows stopped.follows p.kept refused.cause;
-                  written = same-written (contents first.out.inner) (contents before.out.inner) (contents now.out.inner) p.replies p.written refused.written;
+                  some = something p.group (omega (arith, w.some, p.waiting));
+                  behind = behind;
+                  here = in-three ∙ ap (λ (fs : List Frame). fs ++ p.group ++ behind) (sym (front-taken r.frames p.earlier (p.group ++ behind) k in-parts counts));
+                },
+                record {
+                  given = p.more;
+                  next = before.own.core;
+                  answered = p.waits;
+                  left = refused-left answers parts_of reply_bytes is_some store contents first.own.core (waiting_of first) front before.own.core two (waiting_of now) fault p w;
+                  cause = refused-cause answers parts_of reply_bytes is_some store contents first.own.core (waiting_of first) front before.own.core two (waiting_of now) fault p w;
+                  written = refused-written answers parts_of reply_bytes is_some store contents first.own.core (waiting_of first) front before.own.core two (waiting_of now) fault p w;
                 },
               ),
-              follows stopped.follows,
-              stopped.quiet ∙ p.quiet,
+              follows-more (store first.store) (store two.store) (store now.store) p.follows w.follows,
+              ap (λ (o : Counted W). o.faults) w.unwritten ∙ p.quiet,
             )
-        at_frame why.Output (Some frame) behind stopped =
-            let reply : Option Frame = stopped.answer.0 in
-            let last = stopped.answer.3 in
-            let small : count + 1 < 2 ^ 64 = omega (arith, next-within r.frames count frame behind, frames_few r.frames, r.few, ap length r.stream.whole, length-append (flat_map spelling r.frames) r.rest) in
-            let sum : min (count + 1) (2 ^ 64 - 1) ≡ suc count = omega (arith, small) in (
-              record {
-                frames = r.frames;
-                rest = r.rest;
-                stream = r.stream;
-                within = omega (arith, sum, next-within r.frames count frame behind);
-                replies = p.replies ++ reply ∷ [];
-                now = now.own.core;
-                runs =
-                    subst (λ (fs : List Frame). AnswersEach answers first.own.core fs (p.replies ++ reply ∷ []) now.own.core) (sym (ap (λ (k : ℕ). take k r.frames) sum ∙ take-next r.frames count frame behind))
-                    (answers-push answers first.own.core (take count r.frames) p.replies before.own.core frame reply now.own.core p.runs stopped.answer.1);
-                ends = (
-                  subst (λ (faults : ℕ). HasRisen faults now.out.faults) p.quiet stopped.answer.2,
-                  record {
-                    kept = only-more (store first.store) (store before.store) (store now.store) (parts_of first.own.core) (parts_of before.own.core) (parts_of now.own.core) stopped.follows p.kept last.kept;
-                    earlier = p.replies ++ last.earlier;
-                    last = last.last;
-                    are = ap (λ rs. p.replies ++ rs) last.are ∙ sym (append_assoc p.replies last.earlier (last.last ∷ []));
-                    front = last.front;
-                    more = last.more;
-                    parts = last.parts;
-                    written = subst (Appends (contents first.out.inner) (contents now.out.inner)) (sym (append_assoc (output_of p.replies) (output_of last.earlier) last.front) ∙ ap (λ bytes. bytes ++ last.front) (sym (flat_map-append reply_bytes p.replies last.earlier)))
-                        (Appends-trans (contents first.out.inner) (contents before.out.inner) (contents now.out.inner) (output_of p.replies) (output_of last.earlier ++ last.front) p.written last.written);
-                  },
-                );
-              },
-              follows stopped.follows,
+        by why.Output w =
+            let counts : k ≡ length front = omega (arith, w.committed, p.committed, p.waiting, small, within, ap length p.are, length-append p.earlier p.group) in (
+              serves r.read r.frames r.rest r.stream front behind (in-two r.frames count) counts (p.given ++ p.more) before.own.core
+                  (unwritten-runs answers parts_of reply_bytes is_some store contents first.own.core (waiting_of first) front before.own.core two p) []
+                  (Err (record { kind = stopped_by (stop.Consumer (frames_faults.Handler why.Output)); frames = k })) refl (
+                    refl,
+                    subst (λ (faults : ℕ). HasRisen faults now.out.faults) p.quiet w.risen,
+                    record {
+                      kept = unwritten-kept answers parts_of reply_bytes is_some store contents first.own.core (waiting_of first) front before.own.core two (waiting_of now) p w;
+                      earlier = p.given;
+                      group = p.more;
+                      some = answers-some answers p.mid p.group p.more before.own.core p.waits (something p.group (omega (arith, w.some, p.waiting)));
+                      are = refl;
+                      front = w.written.front;
+                      more = w.written.more;
+                      parts = sym p.out ∙ w.written.parts;
+                      written = unwritten-written answers parts_of reply_bytes is_some store contents first.own.core (waiting_of first) front before.own.core two (waiting_of now) p w;
+                    },
+                  ),
+              follows-more (store first.store) (store two.store) (store now.store) p.follows w.follows,
               tt,
             )

@@ -13,6 +13,7 @@ use Rattle.csi_types.specs.Public.VolumeId.{IsVolumeId}
 use Rattle.csi_stores.specs.Public.Part.{StoredPart, StoredChange, take_all}
 use Rattle.csi_stores.specs.Public.Content.{take_out, changed_to, all_changed, AreRisingParts}
 use Rattle.csi_stores.proofs.RisingChanges.{AreAbove}
+pub use Rattle.csi_driver.proofs.StoreCalls.{all-append}
 use Rattle.csi_service.specs.Public.Plugins.{head_change}
 use Rattle.csi_service.proofs.RisingParts.{part_at, put-head, put-row, take-at}
 
@@ -34,11 +35,6 @@ behind-first first (change ∷ changes) parts above =
     by : (value : Option (List ℕ)) → changed_to change.key value (first ∷ parts) ≡ first ∷ changed_to change.key value parts
     by None = grind (arith, nat_tests, above.0)
     by (Some value) = put-row first (record { key = change.key; value = value }) parts above.0
-
--- some changes and then others are the others after the first
-pub all-append : (first second : List StoredChange) (parts : List StoredPart) → all_changed (first ++ second) parts ≡ all_changed second (all_changed first parts)
-all-append [] second parts = refl
-all-append (change ∷ changes) second parts = all-append changes second _
 
 -- a key among others is one of them
 is-any : (key : ℕ) (keys : List ℕ) → IsAmong key keys → list_any (λ (k : ℕ). k == key) keys ≡ true

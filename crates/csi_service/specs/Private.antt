@@ -1,6 +1,4 @@
-pub mod Answering
 pub mod Handling
-pub mod Failing
 pub mod Opening
 pub mod Calls
 pub mod Plugins

@@ -32,7 +32,7 @@ More: man csi-replay, and FORMATS.md in share/doc/tufayon
 ";
 
 const VERSION: &str = "\
-csi-replay 3
+csi-replay 1.0.0
 frames: versions 1 and 2
 records: version 3; versions 1 and 2 are read
 ";

@@ -24,12 +24,16 @@ import (
 	"google.golang.org/grpc/status"
 
 	"tufayon/service/numbers"
+	"tufayon/service/version"
 	_ "tufayon/service/wire" // the messages
 )
 
 const badUse = 64 // no status of gRPC's
 
 func main() {
+	if version.Told("csi-client", os.Args[1:], os.Stdout) {
+		return
+	}
 	flags := flag.NewFlagSet("csi-client", flag.ContinueOnError)
 	flags.SetOutput(io.Discard)
 	endpoint := flags.String("endpoint", os.Getenv("CSI_ENDPOINT"), "the driver's socket")

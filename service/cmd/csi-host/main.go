@@ -13,9 +13,13 @@ import (
 	"syscall"
 
 	"tufayon/service/hosting"
+	"tufayon/service/version"
 )
 
 func main() {
+	if version.Told("csi-host", os.Args[1:], os.Stdout) {
+		return
+	}
 	flags := flag.NewFlagSet("csi-host", flag.ContinueOnError)
 	flags.SetOutput(io.Discard)
 	program := flags.String("program", "", "csi-replay, where the orchestrator is to run beside the host")

@@ -9,11 +9,15 @@ import (
 
 	"tufayon/service/hosting"
 	"tufayon/service/lines"
+	"tufayon/service/version"
 )
 
 var errUsage = errors.New("usage: csi-orchestrator DB CONFIG")
 
 func main() {
+	if version.Told("csi-orchestrator", os.Args[1:], os.Stdout) {
+		return
+	}
 	err := run(os.Args[1:])
 	if err == nil {
 		return

@@ -43,3 +43,7 @@ abbrev pub TellsReader : {A F : Type 0} → ℕ → ℕ → Result A (Stop F) �
 TellsReader before after (Ok a) = after ≡ before
 TellsReader before after (Err stop.Input) = HasRisen before after
 TellsReader before after (Err _) = after ≡ before
+
+-- The reader may be asked for more wherever all that it gave was handled, and nothing waits.
+abbrev pub IsAskedAtRest : {A S O R : Type 0} → (R → Option (List ℕ)) → (R → S → O → Type 0) → (State A S O → List ℕ → State A S O → Type 0) → State A S O → R → Type 0
+IsAskedAtRest {A} {S} {O} {R} remaining may_read rests first reader = (gone : R) (read : List ℕ) (now : State A S O) → Consumes (remaining reader) (remaining gone) read → rests first read now → may_read gone now.store now.out

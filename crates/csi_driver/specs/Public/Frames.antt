@@ -53,3 +53,7 @@ pub record ReadsFrames {H S O F : Type 0} (handles : State H S O → ℕ → Fra
   pub rest : List ℕ
   pub stream : FramesOf read frames rest
   pub ends : EndsReading (EndsFrames handles flushes is_flushed stops first now count frames rest (IsAtEnd left_after)) (Waits rest) (AllHandled (Runs handles flushes first) is_flushed now frames count) read result
+
+-- all frames of what was read were handled, and nothing waits to be written
+abbrev pub RestsAtFrames : {H S O : Type 0} → (State H S O → ℕ → Frame → State H S O → Type 0) → (State H S O → State H S O → Type 0) → (H → Type 0) → State H S O → List ℕ → State H S O → Type 0
+RestsAtFrames handles flushes is_flushed first read now = (frames : List Frame) × (rest : List ℕ) × FramesOf read frames rest × Runs handles flushes first frames now × is_flushed now.own

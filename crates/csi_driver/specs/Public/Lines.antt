@@ -44,3 +44,7 @@ pub record ReadsLines {H S O F : Type 0} (handles : State H S O → ℕ → List
   pub rest : List ℕ
   pub stream : LinesOf read lines rest
   pub ends : EndsReading (EndsLines handles flushes is_flushed stops first now count lines rest (IsAtEnd left_after)) (IsShort rest) (AllHandled (RunsLines handles flushes first) is_flushed now lines count) read result
+
+-- all lines of what was read were handled, and nothing waits to be written
+abbrev pub RestsAtLines : {H S O : Type 0} → (State H S O → ℕ → List ℕ → State H S O → Type 0) → (State H S O → State H S O → Type 0) → (H → Type 0) → State H S O → List ℕ → State H S O → Type 0
+RestsAtLines handles flushes is_flushed first read now = (lines : List (List ℕ)) × (rest : List ℕ) × LinesOf read lines rest × RunsLines handles flushes first lines now × is_flushed now.own

@@ -1,5 +1,5 @@
 -- Two runs over one store, one after another, however each ended, as one run. This profile's own.
-use Rattle.std.specs.Prelude.{◌≡◌, ◌⊎◌, ℕ, ◌+◌, ◌≤◌, ◌^◌, List, ◌++◌, length, take, Option, Result, Ok, Err}
+use Rattle.std.specs.Prelude.{◌≡◌, ◌⊎◌, ℕ, ◌+◌, ◌≤◌, ◌^◌, List, ◌++◌, length, take, Option, Result}
 use Rattle.std.specs.Io.KnownBytes.{Consumes, IsAtEnd}
 use Rattle.csi_stores.specs.Public.Counting.{HasRisen}
 use Rattle.csi_stores.specs.declared.counted.Counted.{Counted}
@@ -7,8 +7,6 @@ use Rattle.csi_stores.specs.Public.Part.{StoredPart}
 use Rattle.csi_stores.specs.Public.Stores.{Store, Found, Parts, Has, IsOnly}
 use Rattle.csi_orchestration.specs.declared.lines_serving.fault.ServedLines.{ServedLines}
 use Rattle.csi_orchestration.specs.declared.lines_serving.fault.LinesServeFault.{LinesServeFault}
-use Rattle.csi_orchestration.specs.declared.lines_serving.fault.LinesServeFaultKind.{LinesServeFaultKind}
-use Rattle.csi_orchestration.specs.declared.lines_serving.fault.LinesServeFaultKind.TheVariants as kinds
 use Rattle.csi_orchestration.specs.Public.LinesServing.{Setting, AnswersEach, lines_counted, ServesLines}
 
 -- What runs are judged by: what opening makes of a store's content, how that answers and which parts it has; and how a store, a reader
@@ -59,24 +57,19 @@ pub record Ran {C K R W : Type 0} (setting : RunSetting C K R W) (before after :
 abbrev pub Reopens : Store → Store → Type 0
 Reopens left now = (found : Found) × left.leaves found × Has now found
 
--- How many lines left their mark in the store: those that are counted; or one more, where its commit was refused.
-abbrev pub AreMadeBy : LinesServeFaultKind → ℕ → ℕ → Type 0
-AreMadeBy (kinds.Keep fault) counted made = (made ≡ counted) ⊎ (made ≡ counted + 1)
-AreMadeBy _ counted made = made ≡ counted
-
--- by what serving answered
-abbrev pub AreMade : Result ServedLines LinesServeFault → ℕ → Type 0
-AreMade (Ok served) made = made ≡ served.lines
-AreMade (Err fault) made = AreMadeBy fault.kind fault.lines made
+-- How many lines left their mark in the store: those that are counted; or also those that were answered behind them, all of them, where
+-- their commit was refused.
+abbrev pub AreMade : ℕ → List (List ℕ) → ℕ → Type 0
+AreMade counted group made = (made ≡ counted) ⊎ (made ≡ counted + length group)
 
 -- Two runs are one, from a store with this content: the first lines of the first input, as many as left their mark, led to some responder;
 -- of its parts opening made the second run's, which went on with the lines that are counted of the second input. The answers are those of
--- both runs, but of a line whose commit was refused.
+-- both runs, and of lines whose commit was refused.
 pub record AreOneRun {C K R W : Type 0} (setting : RunSetting C K R W) (content : List StoredPart) (before between again after : K) (r r_read s s_read : Counted R) (w w_written v v_written : Counted W) (result result_too : Result ServedLines LinesServeFault)
     (one : Ran setting before between r r_read w w_written result) (two : Ran setting again after s s_read v v_written result_too) : Type 0 where
   pub opened : setting.opens content one.responder
   pub made : ℕ
-  pub are_made : AreMade result made
+  pub are_made : AreMade (lines_counted result) one.served.serves.group made
   pub unwritten : List (List ℕ)
   pub left : C
   pub runs : AnswersEach setting.answers one.responder (take made one.served.serves.there) (one.served.serves.given ++ unwritten) left

@@ -1,36 +1,71 @@
-//! A responder over a store, which answers the lines of a stream.
-ghost use Rattle.std.specs.Prelude.{◌≡◌};
+//! A responder over a store, which answers the lines of a stream; those that are there together are committed together.
+ghost use Rattle.std.specs.Prelude.{◌≡◌, ◌++◌, map, OnOk, OnErr};
+ghost use Rattle.csi_stores.specs.Public.Part.{part_change};
+ghost use Rattle.csi_driver.specs.Public.Answering.{Adds};
+ghost use Rattle.csi_driver.specs.Public.LinesOf.{with_newline};
+ghost use Rattle.csi_driver.specs.Public.Waiting.{WaitsSame, StopsAt};
 ghost use Rattle.csi_orchestration.specs.Public.LinesAnswering.{AnswersInRecord};
-ghost use Rattle.csi_orchestration.specs.Private.LinesHandling.{IsHandled, StopsAt, stopped_by};
+ghost use Rattle.csi_orchestration.specs.Private.LinesHandling.{always, waiting_of, IsHandled, Flushes, stopped_by};
 
-use crate::lines_serving::answering::{LineStop, answer_line};
 use crate::lines_serving::fault::{LinesServeFault, LinesServeFaultKind};
 use crate::responder::Responder;
-use csi_driver::{LineHandler, LinesFault, Stop};
-use csi_stores::{Counted, Keep};
+use csi_driver::{AnswerFault, LineHandler, LinesFault, Stop, Waiting};
+use csi_stores::{Counted, Keep, Part};
+use csi_types::NoMemory;
 use std::io::Write;
 
-/// What answers the lines, and the bytes of its last answer.
+/// What answers the lines, and what waits of those that it answered.
 #[derive(Drop)]
 pub(crate) struct Answering<C> {
     pub responder: C,
-    pub out: Vec<u8>,
+    pub waiting: Waiting,
+}
+
+// Puts what the last line changed behind the parts. An `Err` leaves them as they were.
+fn push_changed<C: Responder>(responder: &C, parts: &mut Vec<Part>) -> Result<(), NoMemory>
+    ensures ok { OnOk result (map part_change parts.new.items ≡ map part_change parts.old.items ++ C.changes responder.now) }
+    ensures fit { OnOk result (C.is_fit_change responder.now) }
+    ensures err { OnErr result (parts.new.items ≡ parts.old.items) }
+{
+    let mut more = responder.parts()?;
+    parts.append(&mut more)?;
+    Ok(())
+}
+
+impl<C: Responder> Answering<C> {
+    // Answers a line, whose answer and changed parts wait then. An `Err` leaves what waits, and nothing is known of the responder then.
+    fn add(&mut self, line: &[u8]) -> Result<(), NoMemory>
+        ensures ok { OnOk result (Adds (AnswersInRecord C.is_fit C.spells C.parts_of C.answers) C.parts_of with_newline always
+            self.old.responder self.old.waiting line.now self.new.responder self.new.waiting) }
+        ensures err { OnErr result (WaitsSame self.old.waiting self.new.waiting) }
+    {
+        let len = self.waiting.out.len();
+        self.responder.answer_into(line, &mut self.waiting.out)?;
+        self.responder.record_law();
+        match push_changed(&self.responder, &mut self.waiting.parts) {
+            Ok(()) => {
+                self.waiting.items = self.waiting.items.saturating_add(1);
+                self.waiting.answers = self.waiting.answers.saturating_add(1);
+                Ok(())
+            }
+            Err(NoMemory) => {
+                self.waiting.out.truncate(len);
+                Err(NoMemory)
+            }
+        }
+    }
 }
 
 impl<C: Responder, K: Keep, W: Write> LineHandler<K, Counted<W>> for Answering<C> {
-    type Fault = LineStop;
+    type Fault = AnswerFault;
 
-    ghost handles = { λ old number line new.
-        IsHandled (AnswersInRecord C.is_fit C.spells C.parts_of C.answers) C.parts_of old.own.responder new.own.responder (K.store old.store)
-        (K.store new.store) (W.contents old.out.inner) (W.contents new.out.inner) old.out.faults new.out.faults line };
+    ghost handles = { λ old number line new. IsHandled (AnswersInRecord C.is_fit C.spells C.parts_of C.answers) C.parts_of K.store W.contents old line new };
 
-    ghost flushes = { λ old new. new ≡ old };
+    ghost flushes = { Flushes K.store W.contents };
 
-    ghost is_flushed = { λ answering. Unit {0} };
+    ghost is_flushed = { λ answering. answering.waiting.items ≡ 0 };
 
-    ghost stops = { λ old line new.
-        StopsAt (AnswersInRecord C.is_fit C.spells C.parts_of C.answers) C.parts_of old.own.responder new.own.responder (K.store old.store)
-        (K.store new.store) (W.contents old.out.inner) (W.contents new.out.inner) old.out.faults new.out.faults line };
+    ghost stops = { λ old line new. StopsAt K.store W.contents (waiting_of old) (waiting_of new) };
 
     fn handle(
         &mut self,
@@ -38,37 +73,42 @@ impl<C: Responder, K: Keep, W: Write> LineHandler<K, Counted<W>> for Answering<C
         writer: &mut Counted<W>,
         _number: u64,
         line: &[u8],
-    ) -> Result<(), LineStop> {
-        match answer_line(&mut self.responder, keep, writer, line, &mut self.out) {
+    ) -> Result<(), AnswerFault> {
+        match self.waiting.settle_many(keep, writer) {
+            Ok(()) => {}
+            Err(stop) => return Err(stop),
+        }
+        match self.add(line) {
+            Ok(()) => Ok(()),
+            Err(NoMemory) => match self.waiting.settle(keep, writer) {
+                Ok(()) => Err(AnswerFault::NoMemory),
+                Err(stop) => Err(stop),
+            },
+        }
+    }
+
+    fn flush(&mut self, keep: &mut K, writer: &mut Counted<W>) -> Result<(), AnswerFault> {
+        match self.waiting.settle(keep, writer) {
             Ok(()) => Ok(()),
             Err(stop) => Err(stop),
         }
     }
-
-    fn flush(&mut self, _keep: &mut K, _writer: &mut Counted<W>) -> Result<(), LineStop> {
-        Ok(())
-    }
 }
 
-/// Why serving stopped, after so many lines whose answers were written.
-pub(crate) fn stopped(stop: Stop<LinesFault<LineStop>>, lines: u64) -> LinesServeFault
-    ensures { result ≡ stopped_by stop lines }
+/// Why serving stopped, after so many lines that were committed.
+pub(crate) fn stopped(stop: Stop<LinesFault<AnswerFault>>, lines: u64) -> LinesServeFault
+    ensures { result ≡ record { kind = stopped_by stop; lines = lines } }
 {
     let kind = match stop {
         Stop::Input => LinesServeFaultKind::Input,
         Stop::Endless => LinesServeFaultKind::Endless,
         Stop::Consumer(LinesFault::Long(number)) => LinesServeFaultKind::Long(number),
         Stop::Consumer(LinesFault::NoMemory) => LinesServeFaultKind::NoMemory,
-        Stop::Consumer(LinesFault::Handler(LineStop::NoMemory)) => LinesServeFaultKind::NoMemory,
-        Stop::Consumer(LinesFault::Handler(LineStop::Keep(fault))) => LinesServeFaultKind::Keep(
+        Stop::Consumer(LinesFault::Handler(AnswerFault::NoMemory)) => LinesServeFaultKind::NoMemory,
+        Stop::Consumer(LinesFault::Handler(AnswerFault::Keep(fault))) => LinesServeFaultKind::Keep(
             fault,
         ),
-        Stop::Consumer(LinesFault::Handler(LineStop::Output)) => {
-            return LinesServeFault {
-                kind: LinesServeFaultKind::Output,
-                lines: lines.saturating_add(1),
-            };
-        }
+        Stop::Consumer(LinesFault::Handler(AnswerFault::Output)) => LinesServeFaultKind::Output,
     };
     LinesServeFault { kind, lines }
 }

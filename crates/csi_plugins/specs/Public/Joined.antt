@@ -1,5 +1,5 @@
 -- Two runs of a plugin over one store, one after another, however each ended, as one run. This profile's own.
-use Rattle.std.specs.Prelude.{◌≡◌, ◌⊎◌, ℕ, ◌+◌, List, [], ◌∷◌, ◌++◌, take, Option, Some, Result, Ok, Err}
+use Rattle.std.specs.Prelude.{◌≡◌, ◌⊎◌, ℕ, ◌+◌, List, [], ◌∷◌, ◌++◌, length, take, Option, Some}
 use Rattle.csi_types.specs.Model.Frame.{Frame}
 use Rattle.csi_stores.specs.Public.Counting.{HasRisen}
 use Rattle.csi_stores.specs.declared.counted.Counted.{Counted}
@@ -8,10 +8,6 @@ use Rattle.csi_stores.specs.declared.keep.KeepFault.TheVariants as faults
 use Rattle.csi_stores.specs.Public.Part.{StoredPart}
 use Rattle.csi_stores.specs.Public.Stores.{Store, Found, Parts, Has, IsOnly}
 use Rattle.csi_records.specs.Public.Spelling.{present, controller_head}
-use Rattle.csi_service.specs.declared.serving.fault.Served.{Served}
-use Rattle.csi_service.specs.declared.serving.fault.ServeFault.{ServeFault}
-use Rattle.csi_service.specs.declared.serving.fault.ServeFaultKind.{ServeFaultKind}
-use Rattle.csi_service.specs.declared.serving.fault.ServeFaultKind.TheVariants as kinds
 use Rattle.csi_service.specs.Public.Serving.{frames_counted}
 use Rattle.csi_service.specs.Public.Opening.{Records, controller_records, node_records, OpensTo}
 use Rattle.csi_service.specs.Public.NodeOpening.{joined_head}
@@ -30,15 +26,10 @@ use Rattle.csi_plugins.specs.Public.Running.{IsOpeningRefused, IsEarlierRefused,
 abbrev pub Reopens : Store → Store → Type 0
 Reopens left now = (found : Found) × left.leaves found × Has now found
 
--- How many frames left their mark in the store: those that are counted; or one more, where its commit was refused.
-abbrev pub AreMadeBy : ServeFaultKind → ℕ → ℕ → Type 0
-AreMadeBy (kinds.Keep fault) counted made = (made ≡ counted) ⊎ (made ≡ counted + 1)
-AreMadeBy _ counted made = made ≡ counted
-
--- by what serving answered
-abbrev pub AreMade : Result Served ServeFault → ℕ → Type 0
-AreMade (Ok served) made = made ≡ served.frames
-AreMade (Err fault) made = AreMadeBy fault.kind fault.frames made
+-- How many frames left their mark in the store: those that are counted; or also those that were answered behind them, all of them, where
+-- their commit was refused.
+abbrev pub AreMade : ℕ → List Frame → ℕ → Type 0
+AreMade counted group made = (made ≡ counted) ⊎ (made ≡ counted + length group)
 
 -- From one core to another, frame after frame, where before each frame the plugin may have been opened again: the core that answers
 -- is one as it was asked for, with the parts of the core before.
@@ -59,7 +50,7 @@ pub record Ran {C K : Type 0} (seen : K → Store) (IsAsked : C → Type 0) (ans
 
 -- Both are one run, from a store with this content, in which a head is put first where it has no part, and a record in an earlier
 -- version is put in the present one: of the first frames of the first input, as many as left their mark, and then of those that are counted
--- of the second. The replies are those of both runs, but of a frame whose commit was refused.
+-- of the second. The replies are those of both runs, and of frames whose commit was refused.
 pub record AreOneRun {X C K : Type 0} (seen : K → Store) (records : Records X) (IsAsked : C → Type 0) (answers : C → Frame → Option Frame → C → Type 0) (parts_of : C → List StoredPart) (head : StoredPart) (content : List StoredPart) (between after : K)
     (first second : Streams) (ending ending_too : Ending) : Type 0 where
   pub one : Ran seen IsAsked answers parts_of between first ending
@@ -67,7 +58,7 @@ pub record AreOneRun {X C K : Type 0} (seen : K → Store) (records : Records X)
   pub opened : OpensTo records head content (parts_of one.core)
   pub is_record : records.are present (parts_of one.core)
   pub made : ℕ
-  pub are_made : AreMade one.served.result made
+  pub are_made : AreMade (frames_counted one.served.result) one.served.serves.group made
   pub unwritten : List (Option Frame)
   pub runs : RunsAgain IsAsked answers parts_of one.core (take made one.served.serves.frames ++ take (frames_counted two.served.result) two.served.serves.frames)
       ((one.served.serves.replies ++ unwritten) ++ two.served.serves.replies) two.served.serves.now

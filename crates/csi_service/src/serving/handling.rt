@@ -1,38 +1,74 @@
-//! A core over a store, which answers the frames of a stream.
-ghost use Rattle.std.specs.Prelude.{◌≡◌};
+//! A core over a store, which answers the frames of a stream; those that are there together are committed together.
+ghost use Rattle.std.specs.Prelude.{◌≡◌, ◌++◌, map, is_some, OnOk, OnErr};
+ghost use Rattle.csi_frames.specs.Public.Lent.{lent_frame};
+ghost use Rattle.csi_stores.specs.Public.Part.{part_change};
+ghost use Rattle.csi_driver.specs.Public.Answering.{Adds};
+ghost use Rattle.csi_driver.specs.Public.Waiting.{WaitsSame, StopsAt};
 ghost use Rattle.csi_service.specs.Public.Answering.{AnswersInRecord};
-ghost use Rattle.csi_service.specs.Private.Handling.{IsHandled, StopsAt, stopped_by};
+ghost use Rattle.csi_service.specs.Public.Serving.{reply_bytes};
+ghost use Rattle.csi_service.specs.Private.Handling.{waiting_of, IsHandled, Flushes, stopped_by};
 
 use crate::plugin_core::Core;
-use crate::serving::answering::{FrameStop, answer_frame};
 use crate::serving::fault::{ServeFault, ServeFaultKind};
-use csi_driver::{FrameHandler, FramesFault, Stop};
+use csi_driver::{AnswerFault, FrameHandler, FramesFault, Stop, Waiting};
 use csi_frames::FrameRef;
-use csi_stores::{Counted, Keep};
+use csi_stores::{Counted, Keep, Part};
+use csi_types::NoMemory;
 use std::io::Write;
 
-/// A core, the bytes of its last reply, and how many replies it gave, up to 2^64 - 1.
+/// A core, and what waits of the frames that it answered.
 #[derive(Drop)]
 pub(crate) struct Answering<C> {
     pub core: C,
-    pub out: Vec<u8>,
-    pub replies: u64,
+    pub waiting: Waiting,
+}
+
+// Puts what the last frame changed behind the parts. An `Err` leaves them as they were.
+fn push_changed<C: Core>(core: &C, parts: &mut Vec<Part>) -> Result<(), NoMemory>
+    ensures ok { OnOk result (map part_change parts.new.items ≡ map part_change parts.old.items ++ C.changes core.now) }
+    ensures fit { OnOk result (C.is_fit_change core.now) }
+    ensures err { OnErr result (parts.new.items ≡ parts.old.items) }
+{
+    let mut more = core.parts()?;
+    parts.append(&mut more)?;
+    Ok(())
+}
+
+impl<C: Core> Answering<C> {
+    // Answers a frame, whose reply and changed parts wait then. An `Err` leaves what waits, and nothing is known of the core then.
+    fn add(&mut self, frame: &FrameRef<'_>) -> Result<(), NoMemory>
+        ensures ok { OnOk result (Adds (AnswersInRecord C.is_fit C.spells C.parts_of C.answers) C.parts_of reply_bytes is_some
+            self.old.core self.old.waiting (lent_frame frame.now) self.new.core self.new.waiting) }
+        ensures err { OnErr result (WaitsSame self.old.waiting self.new.waiting) }
+    {
+        let len = self.waiting.out.len();
+        let replied = self.core.answer_into(frame, &mut self.waiting.out)?;
+        self.core.record_law();
+        match push_changed(&self.core, &mut self.waiting.parts) {
+            Ok(()) => {
+                let more = if replied { 1 } else { 0 };
+                self.waiting.items = self.waiting.items.saturating_add(1);
+                self.waiting.answers = self.waiting.answers.saturating_add(more);
+                Ok(())
+            }
+            Err(NoMemory) => {
+                self.waiting.out.truncate(len);
+                Err(NoMemory)
+            }
+        }
+    }
 }
 
 impl<C: Core, K: Keep, W: Write> FrameHandler<K, Counted<W>> for Answering<C> {
-    type Fault = FrameStop;
+    type Fault = AnswerFault;
 
-    ghost handles = { λ old place frame new. IsHandled (AnswersInRecord C.is_fit C.spells C.parts_of C.answers) C.parts_of
-        old.own.core new.own.core (K.store old.store) (K.store new.store)
-        (W.contents old.out.inner) (W.contents new.out.inner) old.out.faults new.out.faults old.own.replies new.own.replies frame };
+    ghost handles = { λ old place frame new. IsHandled (AnswersInRecord C.is_fit C.spells C.parts_of C.answers) C.parts_of K.store W.contents old frame new };
 
-    ghost flushes = { λ old new. new ≡ old };
+    ghost flushes = { Flushes K.store W.contents };
 
-    ghost is_flushed = { λ answering. Unit {0} };
+    ghost is_flushed = { λ answering. answering.waiting.items ≡ 0 };
 
-    ghost stops = { λ old frame new. StopsAt (AnswersInRecord C.is_fit C.spells C.parts_of C.answers) C.parts_of
-        old.own.core new.own.core (K.store old.store) (K.store new.store)
-        (W.contents old.out.inner) (W.contents new.out.inner) old.out.faults new.out.faults frame };
+    ghost stops = { λ old frame new. StopsAt K.store W.contents (waiting_of old) (waiting_of new) };
 
     fn handle(
         &mut self,
@@ -40,38 +76,42 @@ impl<C: Core, K: Keep, W: Write> FrameHandler<K, Counted<W>> for Answering<C> {
         writer: &mut Counted<W>,
         _place: u64,
         frame: &FrameRef<'_>,
-    ) -> Result<(), FrameStop> {
-        match answer_frame(&mut self.core, keep, writer, frame, &mut self.out) {
-            Ok(replied) => {
-                self.replies = self.replies.saturating_add(if replied { 1 } else { 0 });
-                Ok(())
-            }
-            Err(stop) => Err(stop),
+    ) -> Result<(), AnswerFault> {
+        match self.waiting.settle_many(keep, writer) {
+            Ok(()) => {}
+            Err(stop) => return Err(stop),
+        }
+        match self.add(frame) {
+            Ok(()) => Ok(()),
+            Err(NoMemory) => match self.waiting.settle(keep, writer) {
+                Ok(()) => Err(AnswerFault::NoMemory),
+                Err(stop) => Err(stop),
+            },
         }
     }
 
-    fn flush(&mut self, _keep: &mut K, _writer: &mut Counted<W>) -> Result<(), FrameStop> {
-        Ok(())
+    fn flush(&mut self, keep: &mut K, writer: &mut Counted<W>) -> Result<(), AnswerFault> {
+        match self.waiting.settle(keep, writer) {
+            Ok(()) => Ok(()),
+            Err(stop) => Err(stop),
+        }
     }
 }
 
-/// Why serving stopped, after so many frames whose replies were written.
-pub(crate) fn stopped(stop: Stop<FramesFault<FrameStop>>, frames: u64) -> ServeFault
-    ensures { result ≡ stopped_by stop frames }
+/// Why serving stopped, after so many frames that were committed.
+pub(crate) fn stopped(stop: Stop<FramesFault<AnswerFault>>, frames: u64) -> ServeFault
+    ensures { result ≡ record { kind = stopped_by stop; frames = frames } }
 {
     let kind = match stop {
         Stop::Input => ServeFaultKind::Input,
         Stop::Endless => ServeFaultKind::Endless,
         Stop::Consumer(FramesFault::Frame(kind, place)) => ServeFaultKind::Frame(kind, place),
         Stop::Consumer(FramesFault::NoMemory) => ServeFaultKind::NoMemory,
-        Stop::Consumer(FramesFault::Handler(FrameStop::NoMemory)) => ServeFaultKind::NoMemory,
-        Stop::Consumer(FramesFault::Handler(FrameStop::Keep(fault))) => ServeFaultKind::Keep(fault),
-        Stop::Consumer(FramesFault::Handler(FrameStop::Output)) => {
-            return ServeFault {
-                kind: ServeFaultKind::Output,
-                frames: frames.saturating_add(1),
-            };
-        }
+        Stop::Consumer(FramesFault::Handler(AnswerFault::NoMemory)) => ServeFaultKind::NoMemory,
+        Stop::Consumer(FramesFault::Handler(AnswerFault::Keep(fault))) => ServeFaultKind::Keep(
+            fault,
+        ),
+        Stop::Consumer(FramesFault::Handler(AnswerFault::Output)) => ServeFaultKind::Output,
     };
     ServeFault { kind, frames }
 }

@@ -9,10 +9,10 @@ abbrev pub invariant-loop-read : goal.invariant-loop-read
 invariant-loop-read g l =
     let first : State g.row.C.Denot g.row.S.Denot g.row.O.Denot = record { own = l.fn.consumer; store = l.fn.store; out = l.fn.out } in
     record {
-      taken : g.C.Consumer.rests first [] first → (bytes : List ℕ) × AreBytes bytes × Consumes (g.R.Read.remaining l.fn.reader.inner) (g.R.Read.remaining l.reader.inner) bytes × (l.read ≡ length bytes) × (length bytes < 2 ^ 64)
+      taken : (bytes : List ℕ) × AreBytes bytes × Consumes (g.R.Source.remaining l.fn.reader) (g.R.Source.remaining l.reader) bytes × (l.read ≡ length bytes) × (length bytes < 2 ^ 64)
           × g.C.Consumer.rests first bytes (record { own = l.consumer; store = l.store; out = l.out });
       room : length l.piece ≡ length l.fn.piece;
-      quiet : l.reader.faults ≡ l.fn.reader.faults;
+      quiet : g.R.Source.faults l.reader ≡ g.R.Source.faults l.fn.reader;
     }
 
 abbrev pub decreases-loop-read : goal.decreases-loop-read

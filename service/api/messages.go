@@ -1,0 +1,144 @@
+package api
+
+import (
+	"context"
+	"errors"
+	"strings"
+
+	"google.golang.org/grpc/codes"
+	"google.golang.org/grpc/status"
+
+	"tufayon/service/api/wire"
+	"tufayon/service/frames"
+	"tufayon/service/host"
+	"tufayon/service/numbers"
+	"tufayon/service/plugin"
+	"tufayon/service/records"
+)
+
+const (
+	maxName   = frames.MaxName
+	maxNode   = frames.MaxNode
+	maxTarget = frames.MaxTarget
+)
+
+// refusals are the orchestrator's, by their numbers: docs/OPERATING.md, "Refusals".
+var refusals = map[host.Refusal]struct {
+	code codes.Code
+	name string
+}{
+	1: {codes.AlreadyExists, "NameUsed"}, 2: {codes.NotFound, "NoSuchVolume"}, 3: {codes.FailedPrecondition, "NotCreated"},
+	4: {codes.FailedPrecondition, "Busy"}, 5: {codes.NotFound, "NoSuchNode"}, 6: {codes.FailedPrecondition, "NotCapable"},
+	7: {codes.FailedPrecondition, "HeldElsewhere"}, 8: {codes.FailedPrecondition, "WriterElsewhere"},
+	9: {codes.FailedPrecondition, "HeldOtherwise"}, 10: {codes.FailedPrecondition, "TargetTaken"}, 11: {codes.NotFound, "NoSuchTarget"},
+	12: {codes.FailedPrecondition, "InUse"}, 13: {codes.FailedPrecondition, "Idle"}, 14: {codes.ResourceExhausted, "NumbersSpent"},
+	15: {codes.ResourceExhausted, "Full"}, 16: {codes.ResourceExhausted, "NoMemory"}, 17: {codes.FailedPrecondition, "NodeInUse"},
+}
+
+// statusOf is the status of an error of a host's.
+func statusOf(err error) error {
+	var refusal host.Refusal
+	switch {
+	case errors.As(err, &refusal):
+		if its, isKnown := refusals[refusal]; isKnown {
+			return status.Error(its.code, its.name)
+		}
+		return status.Error(codes.FailedPrecondition, refusal.Error())
+	case errors.Is(err, host.ErrInvalid):
+		return status.Error(codes.InvalidArgument, err.Error())
+	case errors.Is(err, host.ErrBusy):
+		return status.Error(codes.ResourceExhausted, err.Error())
+	case errors.Is(err, host.ErrEnded):
+		return status.Error(codes.Unavailable, err.Error())
+	case errors.Is(err, host.ErrSlow):
+		return status.Error(codes.OutOfRange, err.Error())
+	case errors.Is(err, plugin.NodeInUse):
+		return status.Error(codes.FailedPrecondition, "NodeInUse")
+	case errors.Is(err, numbers.ErrSpent):
+		return status.Error(codes.ResourceExhausted, "NumbersSpent")
+	case errors.Is(err, plugin.NoMemory):
+		return status.Error(codes.ResourceExhausted, "NoMemory")
+	case errors.Is(err, context.Canceled), errors.Is(err, context.DeadlineExceeded):
+		return status.FromContextError(err).Err()
+	}
+	return status.Error(codes.Unknown, err.Error())
+}
+
+// judge judges a request's fields one after another, and remembers the first fault.
+type judge struct {
+	err error
+}
+
+func (judged *judge) refuse(field string) {
+	if judged.err == nil {
+		judged.err = status.Error(codes.InvalidArgument, field)
+	}
+}
+
+func (judged *judge) text(field, value string, most int) {
+	if value == "" || len(value) > most || strings.ContainsRune(value, 0) {
+		judged.refuse(field)
+	}
+}
+
+func (judged *judge) capability(field string, value *wire.Capability) frames.Capability {
+	fsType := value.GetFsType()
+	if value == nil || value.Mode < 1 || value.Mode > 7 || !value.Mount && fsType != "" || len(fsType) > frames.MaxFsType || strings.ContainsRune(fsType, 0) {
+		judged.refuse(field)
+		return frames.Capability{}
+	}
+	return frames.Capability{Mount: value.Mount, FsType: fsType, Mode: uint8(value.Mode)}
+}
+
+func (judged *judge) capabilities(values []*wire.Capability) []frames.Capability {
+	if len(values) == 0 || len(values) > frames.MaxCapabilities {
+		judged.refuse("capabilities")
+	}
+	var capabilities []frames.Capability
+	for _, value := range values {
+		capabilities = append(capabilities, judged.capability("capabilities", value))
+	}
+	return capabilities
+}
+
+var goals = map[records.Goal]string{records.ToCreate: "create", records.ToUse: "use", records.ToStop: "stop", records.ToDelete: "delete"}
+
+func volumeOf(volume host.Volume) *wire.Volume {
+	message := &wire.Volume{
+		Name: volume.Name, Id: volume.ID, Exists: wire.Known(volume.Exists), Goal: goals[volume.Goal], GoalNode: volume.Node, GoalTarget: volume.Target,
+		Tries: uint32(volume.Tries), HeldUpBy: volume.HeldUpBy, Trouble: volume.Trouble, Required: volume.Required, Limit: volume.Limit,
+	}
+	if !volume.Since.IsZero() {
+		message.WantedSince = volume.Since.UnixNano() / 1e6
+	}
+	for _, it := range volume.Capabilities {
+		message.Capabilities = append(message.Capabilities, capabilityOf(it))
+	}
+	for _, it := range volume.At {
+		at := &wire.At{
+			Node: it.Node, Attached: wire.Known(it.Attached), Staged: wire.Known(it.Staged), Capability: capabilityOf(it.Capability), Readonly: it.Readonly,
+		}
+		for _, target := range it.Targets {
+			at.Targets = append(at.Targets, &wire.Target{Path: target.Path, Published: wire.Known(target.Published)})
+		}
+		message.At = append(message.At, at)
+	}
+	return message
+}
+
+func capabilityOf(it frames.Capability) *wire.Capability {
+	return &wire.Capability{Mode: uint32(it.Mode), Mount: it.Mount, FsType: it.FsType}
+}
+
+func eventOf(event host.Event) *wire.Event {
+	message := &wire.Event{Session: event.Session, Count: event.Count}
+	switch {
+	case event.Forgotten != "":
+		message.Of = &wire.Event_Forgotten{Forgotten: event.Forgotten}
+	case event.Lost != "":
+		message.Of = &wire.Event_Lost{Lost: event.Lost}
+	default:
+		message.Of = &wire.Event_Volume{Volume: volumeOf(event.Volume)}
+	}
+	return message
+}

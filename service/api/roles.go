@@ -1,0 +1,154 @@
+package api
+
+import (
+	"context"
+	"fmt"
+	"strings"
+	"sync"
+	"time"
+
+	"go.uber.org/zap"
+	"google.golang.org/grpc"
+	"google.golang.org/grpc/codes"
+	"google.golang.org/grpc/status"
+
+	"tufayon/service/api/wire"
+	"tufayon/service/secure"
+)
+
+// A Role says what a caller may do. Each has what those before it have.
+type Role uint8
+
+// The roles.
+const (
+	Nobody   Role = iota
+	Reads         // sees volumes and nodes
+	Operates      // creates, uses, stops and deletes volumes
+	Loses         // declares nodes lost
+)
+
+var roleNames = map[string]Role{"read": Reads, "operate": Operates, "lose": Loses}
+
+// ParseRole reads a role's name: read, operate or lose.
+func ParseRole(name string) (Role, bool) {
+	role, isOne := roleNames[name]
+	return role, isOne
+}
+
+// needed is the role that each call needs. What isn't listed, health and reflection, any peer may call.
+var needed = map[string]Role{
+	"Create": Operates, "Use": Operates, "Stop": Operates, "Delete": Operates, "Restart": Operates, "Lose": Loses,
+	"Get": Reads, "List": Reads, "Watch": Reads, "Nodes": Reads,
+}
+
+// Roles say which role a caller has: a client of the set by its name, and a user at a Unix socket by its number. They may be set anew at any time.
+type Roles struct {
+	mutex   sync.RWMutex
+	clients map[string]Role
+	users   map[uint32]Role
+}
+
+// Set sets the roles.
+func (roles *Roles) Set(clients map[string]Role, users map[uint32]Role) {
+	roles.mutex.Lock()
+	defer roles.mutex.Unlock()
+	roles.clients, roles.users = clients, users
+}
+
+// Of is the role of a peer.
+func (roles *Roles) Of(peer secure.Peer) Role {
+	roles.mutex.RLock()
+	defer roles.mutex.RUnlock()
+	if peer.IsLocal {
+		return roles.users[peer.UID]
+	}
+	if peer.Name.Role != secure.Client {
+		return Nobody
+	}
+	return roles.clients[peer.Name.ID]
+}
+
+// MayConnect says whether a user has any role.
+func (roles *Roles) MayConnect(uid uint32) bool {
+	return roles.Of(secure.Peer{IsLocal: true, UID: uid}) != Nobody
+}
+
+// guard lets each call through that its caller may make, and tells of it.
+type guard struct {
+	roles *Roles
+	log   *zap.Logger
+}
+
+// admit gives who calls, unless it may not.
+func (guard *guard) admit(ctx context.Context, path string) (string, error) {
+	peer, err := secure.From(ctx)
+	if err != nil {
+		return "nobody", status.Error(codes.Unauthenticated, err.Error())
+	}
+	service, method, _ := strings.Cut(strings.TrimPrefix(path, "/"), "/")
+	role, isOurs := needed[method]
+	if service != Service || !isOurs {
+		return peer.String(), nil
+	}
+	if guard.roles.Of(peer) < role {
+		return peer.String(), status.Errorf(codes.PermissionDenied, "%v may not call %s", peer, method)
+	}
+	return peer.String(), nil
+}
+
+func (guard *guard) unary(ctx context.Context, request any, info *grpc.UnaryServerInfo, handle grpc.UnaryHandler) (response any, err error) {
+	began := time.Now()
+	who, err := guard.admit(ctx, info.FullMethod)
+	if err == nil {
+		err = guard.safely(info.FullMethod, func() (err error) {
+			response, err = handle(ctx, request)
+			return err
+		})
+	}
+	guard.tell(who, info.FullMethod, request, began, err)
+	if err != nil {
+		return nil, err
+	}
+	return response, nil
+}
+
+func (guard *guard) stream(server any, stream grpc.ServerStream, info *grpc.StreamServerInfo, handle grpc.StreamHandler) error {
+	began := time.Now()
+	who, err := guard.admit(stream.Context(), info.FullMethod)
+	if err == nil {
+		err = guard.safely(info.FullMethod, func() error { return handle(server, stream) })
+	}
+	guard.tell(who, info.FullMethod, nil, began, err)
+	return err
+}
+
+// safely has a call handled. A fault of the code ends that call, and not the service.
+func (guard *guard) safely(path string, handle func() error) (err error) {
+	defer func() {
+		if caught := recover(); caught != nil {
+			guard.log.Error("a panic", zap.String("call", path), zap.Any("panic", caught), zap.Stack("stack"))
+			err = status.Error(codes.Internal, "a fault of the service")
+		}
+	}()
+	return handle()
+}
+
+// tell has a line of the log for each command, and for each call that was refused to its caller.
+func (guard *guard) tell(who, path string, request any, began time.Time, err error) {
+	isCommand := needed[path[strings.LastIndex(path, "/")+1:]] >= Operates
+	if !isCommand && status.Code(err) != codes.PermissionDenied && status.Code(err) != codes.Unauthenticated {
+		return
+	}
+	fields := []zap.Field{
+		zap.String("who", who), zap.String("call", path), zap.Stringer("status", status.Code(err)), zap.Duration("took", time.Since(began)),
+	}
+	if text, ok := request.(fmt.Stringer); ok {
+		fields = append(fields, zap.String("request", text.String()))
+	}
+	if err != nil {
+		fields = append(fields, zap.String("why", status.Convert(err).Message()))
+	}
+	guard.log.Info("a command", fields...)
+}
+
+var _ wire.OrchestratorServer = (*Server)(nil)

@@ -1,0 +1,300 @@
+// Package api serves tufayon.v1.Orchestrator: what programs ask of an orchestrator that runs as a service, each by its role.
+package api
+
+import (
+	"context"
+	"sync"
+	"time"
+
+	"go.uber.org/zap"
+	"google.golang.org/grpc"
+	"google.golang.org/grpc/codes"
+	"google.golang.org/grpc/credentials"
+	"google.golang.org/grpc/health"
+	"google.golang.org/grpc/health/grpc_health_v1"
+	"google.golang.org/grpc/keepalive"
+	"google.golang.org/grpc/metadata"
+	"google.golang.org/grpc/reflection"
+	"google.golang.org/grpc/status"
+
+	"tufayon/service/api/wire"
+	"tufayon/service/carrying"
+	"tufayon/service/host"
+	"tufayon/service/records"
+)
+
+// Service is the name under which the service says whether it serves.
+const Service = "tufayon.v1.Orchestrator"
+
+// Promise is what a LoseRequest has to say, word by word.
+const Promise = "off for good, and its store never comes back"
+
+// mostListed is how many volumes a page of a list has at most.
+const mostListed = 1000
+
+// Plugins says how it stands with the plugins: carrying.Carrier is one.
+type Plugins interface {
+	States() map[string]carrying.State
+}
+
+// Server serves an orchestrator, once this process leads.
+type Server struct {
+	plugins Plugins
+	health  *health.Server
+	mutex   sync.RWMutex
+	leads   *host.Host // nil while this process doesn't lead
+}
+
+// New makes a server, which doesn't lead, and a gRPC server of its service, its health and its reflection. Who may call what, the roles say.
+func New(plugins Plugins, roles *Roles, known credentials.TransportCredentials, log *zap.Logger) (*Server, *grpc.Server) {
+	guard := &guard{roles: roles, log: log}
+	made := grpc.NewServer(
+		grpc.Creds(known), grpc.UnaryInterceptor(guard.unary), grpc.StreamInterceptor(guard.stream),
+		grpc.KeepaliveEnforcementPolicy(keepalive.EnforcementPolicy{MinTime: 5 * time.Second, PermitWithoutStream: true}),
+		grpc.KeepaliveParams(keepalive.ServerParameters{Time: 30 * time.Second, Timeout: 10 * time.Second}),
+	)
+	server := &Server{plugins: plugins, health: health.NewServer()}
+	server.tell(grpc_health_v1.HealthCheckResponse_NOT_SERVING)
+	wire.RegisterOrchestratorServer(made, server)
+	grpc_health_v1.RegisterHealthServer(made, server.health)
+	reflection.Register(made)
+	return server, made
+}
+
+func (server *Server) tell(how grpc_health_v1.HealthCheckResponse_ServingStatus) {
+	server.health.SetServingStatus("", how)
+	server.health.SetServingStatus(Service, how)
+}
+
+// Lead has the server serve an orchestrator from now on.
+func (server *Server) Lead(leads *host.Host) {
+	server.mutex.Lock()
+	defer server.mutex.Unlock()
+	server.leads = leads
+	server.tell(grpc_health_v1.HealthCheckResponse_SERVING)
+}
+
+// Leave has its health say that it serves no more. What came is answered.
+func (server *Server) Leave() { server.tell(grpc_health_v1.HealthCheckResponse_NOT_SERVING) }
+
+// errWaits is what callers get while this process doesn't lead: nothing was done.
+var errWaits = status.Error(codes.Unavailable, "this service doesn't lead")
+
+// host is the orchestrator, if this process leads.
+func (server *Server) host() (*host.Host, error) {
+	server.mutex.RLock()
+	defer server.mutex.RUnlock()
+	if server.leads == nil {
+		return nil, errWaits
+	}
+	return server.leads, nil
+}
+
+// do has a command carried out.
+func (server *Server) do(ctx context.Context, command host.Command) (*wire.Volume, error) {
+	leads, err := server.host()
+	if err != nil {
+		return nil, err
+	}
+	answer, err := leads.Do(ctx, command)
+	if err != nil {
+		return nil, statusOf(err)
+	}
+	volume := volumeOf(answer.Volume)
+	volume.Met, volume.Reached = answer.Met, answer.Reached
+	return volume, nil
+}
+
+// Create asks for a volume of a name.
+func (server *Server) Create(ctx context.Context, request *wire.CreateRequest) (*wire.Volume, error) {
+	judged := judge{}
+	judged.text("name", request.Name, maxName)
+	command := host.Command{
+		Kind: host.Create, Name: request.Name, Required: request.Required, Limit: request.Limit,
+		Capabilities: judged.capabilities(request.Capabilities), AtRest: request.Wait == wire.Wait_AT_REST,
+	}
+	if judged.err != nil {
+		return nil, judged.err
+	}
+	return server.do(ctx, command)
+}
+
+// Use asks that a volume is published at a target of a node.
+func (server *Server) Use(ctx context.Context, request *wire.UseRequest) (*wire.Volume, error) {
+	judged := judge{}
+	judged.text("name", request.Name, maxName)
+	judged.text("node", request.Node, maxNode)
+	judged.text("target", request.Target, maxTarget)
+	command := host.Command{
+		Kind: host.Use, Name: request.Name, Node: request.Node, Target: request.Target,
+		Capability: judged.capability("capability", request.Capability), Readonly: request.Readonly, AtRest: request.Wait == wire.Wait_AT_REST,
+	}
+	if judged.err != nil {
+		return nil, judged.err
+	}
+	return server.do(ctx, command)
+}
+
+// Stop asks that it is used there no more.
+func (server *Server) Stop(ctx context.Context, request *wire.StopRequest) (*wire.Volume, error) {
+	judged := judge{}
+	judged.text("name", request.Name, maxName)
+	judged.text("node", request.Node, maxNode)
+	judged.text("target", request.Target, maxTarget)
+	if judged.err != nil {
+		return nil, judged.err
+	}
+	return server.do(ctx, host.Command{
+		Kind: host.Stop, Name: request.Name, Node: request.Node, Target: request.Target, AtRest: request.Wait == wire.Wait_AT_REST,
+	})
+}
+
+// Delete asks that a volume is deleted.
+func (server *Server) Delete(ctx context.Context, request *wire.DeleteRequest) (*wire.Volume, error) {
+	judged := judge{}
+	judged.text("name", request.Name, maxName)
+	if judged.err != nil {
+		return nil, judged.err
+	}
+	return server.do(ctx, host.Command{Kind: host.Delete, Name: request.Name, AtRest: request.Wait == wire.Wait_AT_REST})
+}
+
+// Restart has the next session begin, with the same nodes.
+func (server *Server) Restart(ctx context.Context, _ *wire.RestartRequest) (*wire.RestartResponse, error) {
+	leads, err := server.host()
+	if err != nil {
+		return nil, err
+	}
+	session, err := leads.Begin(ctx, nil, "a caller asked for it")
+	if err != nil {
+		return nil, statusOf(err)
+	}
+	return &wire.RestartResponse{Session: session}, nil
+}
+
+// Lose declares a node lost. The request has to have the promise that this is.
+func (server *Server) Lose(ctx context.Context, request *wire.LoseRequest) (*wire.LoseResponse, error) {
+	judged := judge{}
+	judged.text("node", request.Node, maxNode)
+	if request.Promise != Promise {
+		judged.refuse("promise")
+	}
+	if judged.err != nil {
+		return nil, judged.err
+	}
+	leads, err := server.host()
+	if err != nil {
+		return nil, err
+	}
+	session, err := leads.Lose(ctx, request.Node)
+	if err != nil {
+		return nil, statusOf(err)
+	}
+	return &wire.LoseResponse{Session: session}, nil
+}
+
+// Get gives a volume as it is, or once nothing is wanted of it any more.
+func (server *Server) Get(ctx context.Context, request *wire.GetRequest) (*wire.Volume, error) {
+	leads, err := server.host()
+	if err != nil {
+		return nil, err
+	}
+	if request.Wait == wire.Wait_AT_REST {
+		answer, err := leads.AtRest(ctx, request.Name)
+		if err != nil {
+			return nil, statusOf(err)
+		}
+		return volumeOf(answer.Volume), nil
+	}
+	volume, isThere := leads.Get(request.Name)
+	if !isThere {
+		return nil, status.Error(codes.NotFound, "NoSuchVolume")
+	}
+	return volumeOf(volume), nil
+}
+
+// List gives a page of volumes.
+func (server *Server) List(_ context.Context, request *wire.ListRequest) (*wire.ListResponse, error) {
+	leads, err := server.host()
+	if err != nil {
+		return nil, err
+	}
+	most := int(request.Most)
+	if most == 0 || most > mostListed {
+		most = mostListed
+	}
+	volumes, more := leads.List(request.After, most, func(volume host.Volume) bool {
+		if request.Wanted && volume.Goal == records.None {
+			return false
+		}
+		_, isThere := volume.Where(request.Node)
+		return request.Node == "" || isThere || volume.Goal != records.None && volume.Row.Node == request.Node
+	})
+	response := &wire.ListResponse{}
+	for _, volume := range volumes {
+		response.Volumes = append(response.Volumes, volumeOf(volume))
+	}
+	if more {
+		response.Next = volumes[len(volumes)-1].Name
+	}
+	return response, nil
+}
+
+// Watch gives what happens, until the caller goes.
+func (server *Server) Watch(request *wire.WatchRequest, stream wire.Orchestrator_WatchServer) error {
+	leads, err := server.host()
+	if err != nil {
+		return err
+	}
+	watching := leads.Watch(request.Current, request.Name)
+	defer watching.End()
+	if err := stream.SendHeader(metadata.MD{}); err != nil { // so that a caller knows from when on it sees all
+		return err
+	}
+	for _, event := range watching.Current {
+		if err := stream.Send(eventOf(event)); err != nil {
+			return err
+		}
+	}
+	watching.Current = nil
+	for {
+		event, err := watching.Next(stream.Context())
+		if err != nil {
+			return statusOf(err)
+		}
+		if err := stream.Send(eventOf(event)); err != nil {
+			return err
+		}
+	}
+}
+
+// Nodes says how it stands with the controller and the nodes.
+func (server *Server) Nodes(context.Context, *wire.NodesRequest) (*wire.NodesResponse, error) {
+	leads, err := server.host()
+	if err != nil {
+		return nil, err
+	}
+	attached := map[string]uint32{}
+	leads.List("", 0, func(volume host.Volume) bool {
+		for _, at := range volume.At {
+			if at.Attached != records.No {
+				attached[at.Node]++
+			}
+		}
+		return false
+	})
+	states := server.plugins.States()
+	response := &wire.NodesResponse{Session: leads.Session()}
+	add := func(id, plugin string) {
+		state := states[plugin]
+		response.Nodes = append(response.Nodes, &wire.Node{
+			Id: id, Address: state.Address, Connection: state.Connection, UnderWay: uint32(state.UnderWay), Queued: uint32(state.Queued),
+			Attached: attached[id], Trouble: state.Trouble,
+		})
+	}
+	add("", carrying.Controller)
+	for _, id := range leads.Nodes() {
+		add(id, carrying.NodeName(id))
+	}
+	return response, nil
+}

@@ -1,0 +1,285 @@
+package carrying_test
+
+import (
+	"context"
+	"errors"
+	"fmt"
+	"net"
+	"os"
+	"path/filepath"
+	"sync"
+	"sync/atomic"
+	"testing"
+	"time"
+
+	"google.golang.org/grpc/codes"
+	"google.golang.org/grpc/health/grpc_health_v1"
+	"google.golang.org/grpc/status"
+
+	"tufayon/service/carrying"
+	"tufayon/service/carrying/carryingtest"
+	"tufayon/service/frames"
+	"tufayon/service/secure"
+	"tufayon/service/secure/securetest"
+)
+
+var ctx = context.Background()
+
+const within = 10 * time.Second // what should come soon
+
+func own(uid uint32) bool { return int(uid) == os.Geteuid() }
+
+// carry makes a carrier of plugins at their sockets.
+func carry(t *testing.T, peers carrying.Peers, limits carrying.Limits, plugins map[string]string) *carrying.Carrier {
+	t.Helper()
+	if peers.May == nil {
+		peers.May = own
+	}
+	if peers.Refused == nil {
+		peers.Refused = func(string) secure.Refused { return nil }
+	}
+	if limits.Answer == 0 {
+		limits.Answer = within
+	}
+	if limits.AtNode == 0 {
+		limits.AtController, limits.AtNode = 8, 8
+	}
+	limits.Reach = within
+	carrier := carrying.New(limits, "/staging/", peers.Dial)
+	t.Cleanup(carrier.Close)
+	if err := carrier.Set(plugins); err != nil {
+		t.Fatal(err)
+	}
+	return carrier
+}
+
+// socket is an address that nobody serves yet.
+func socket(t *testing.T, name string) string {
+	return "unix://" + filepath.Join(t.TempDir(), name)
+}
+
+var calls uint64
+
+func stage(node string) frames.Call {
+	number := frames.Number{Session: 3, Call: atomic.AddUint64(&calls, 1)}
+	return frames.Call{Number: number, Node: node, Body: frames.NodeStageVolume{ID: 7, Capability: frames.Capability{Mode: 1}}}
+}
+
+// What a plugin answers is its reply where it says so, and whatever gRPC makes by itself is none.
+func TestReplies(t *testing.T) {
+	plugin := &carryingtest.Plugin{Node: "n1"}
+	carrier := carry(t, carrying.Peers{}, carrying.Limits{}, map[string]string{"node:n1": socket(t, "n1"), carrying.Controller: socket(t, "c")})
+	for name, state := range carrier.States() {
+		(&carryingtest.Plugin{Node: "n1"}).Serve(t, state.Address, nil)
+		if name != carrying.Controller {
+			continue
+		}
+		reply, err := carrier.Carry(ctx, frames.Call{Number: frames.Number{Session: 1, Call: 9}, Body: frames.CreateVolume{Name: "v"}}, time.Time{})
+		if err != nil || reply.Volume != 1 || reply.Number.Call != 9 {
+			t.Errorf("created: %+v, %v", reply, err)
+		}
+	}
+	plugin.Serve(t, socket(t, "n2"), nil)
+	if err := carrier.Set(map[string]string{"node:n1": plugin.Address}); err != nil {
+		t.Fatal(err)
+	}
+	for code := codes.Code(0); code <= 16; code++ {
+		for _, isReply := range []bool{true, false} {
+			plugin.Judge = func(context.Context, string) (error, bool) { return status.Error(code, "why"), isReply }
+			call := stage("n1")
+			reply, err := carrier.Carry(ctx, call, time.Time{})
+			switch {
+			case code == codes.OK:
+				if err != nil || reply.Status != 0 {
+					t.Errorf("%v, its own %v: %+v, %v", code, isReply, reply, err)
+				}
+			case !isReply && (code == 3 || code == 5 || code == 6 || code >= 9 && code <= 11):
+				if !errors.Is(err, carrying.ErrRefused) {
+					t.Errorf("%v, its driver's: %+v, %v", code, reply, err)
+				}
+			case !isReply, code == codes.Canceled, code == codes.Unknown, code == codes.DeadlineExceeded, code == codes.Unavailable:
+				if !errors.Is(err, carrying.ErrNoReply) {
+					t.Errorf("%v, its own %v: %+v, %v", code, isReply, reply, err)
+				}
+			case err != nil || reply.Status != uint8(code) || reply.Detail != "why" || reply.Number != call.Number || reply.Node != "n1":
+				t.Errorf("%v: %+v, %v", code, reply, err)
+			}
+		}
+	}
+	if _, err := carrier.Carry(ctx, stage("n9"), time.Time{}); !errors.Is(err, carrying.ErrNoAddress) {
+		t.Errorf("a node without an address: %v", err)
+	}
+}
+
+// A node that is slow has only so many calls under way, and holds up no other one; a call that waits for its place loses no time.
+func TestLimits(t *testing.T) {
+	var now, most int64
+	slow := &carryingtest.Plugin{Node: "n1", Judge: func(context.Context, string) (error, bool) {
+		if count := atomic.AddInt64(&now, 1); count > atomic.LoadInt64(&most) {
+			atomic.StoreInt64(&most, count)
+		}
+		time.Sleep(60 * time.Millisecond)
+		atomic.AddInt64(&now, -1)
+		return nil, true
+	}}
+	slow.Serve(t, socket(t, "n1"), nil)
+	quick := (&carryingtest.Plugin{Node: "n2"}).Serve(t, socket(t, "n2"), nil)
+	limits := carrying.Limits{AtController: 1, AtNode: 2, Answer: 150 * time.Millisecond}
+	carrier := carry(t, carrying.Peers{}, limits, map[string]string{"node:n1": slow.Address, "node:n2": quick.Address})
+	var group sync.WaitGroup
+	for at := 0; at < 8; at++ {
+		group.Add(1)
+		go func() {
+			defer group.Done()
+			if _, err := carrier.Carry(ctx, stage("n1"), time.Time{}); err != nil {
+				t.Error(err)
+			}
+		}()
+	}
+	for end := time.Now().Add(within); carrier.States()["node:n1"].UnderWay < 2 && time.Now().Before(end); {
+		time.Sleep(time.Millisecond)
+	}
+	if _, err := carrier.Carry(ctx, stage("n2"), time.Time{}); err != nil || carrier.States()["node:n1"].Queued == 0 {
+		t.Errorf("the quick one: %v, %+v", err, carrier.States())
+	}
+	group.Wait()
+	if most != 2 {
+		t.Errorf("%d calls at once", most)
+	}
+	answers := make(chan struct{})
+	defer close(answers)
+	late := &carryingtest.Plugin{Node: "n3", Judge: func(context.Context, string) (error, bool) { <-answers; return nil, true }}
+	late.Serve(t, socket(t, "n3"), nil)
+	if err := carrier.Set(map[string]string{"node:n3": late.Address}); err != nil {
+		t.Fatal(err)
+	}
+	if _, err := carrier.Carry(ctx, stage("n3"), time.Time{}); !errors.Is(err, carrying.ErrNoReply) {
+		t.Errorf("one that answers late: %v", err)
+	}
+}
+
+// A call waits until its plugin is there and serves, for ever or until a time, and isn't sent before.
+func TestReached(t *testing.T) {
+	address := socket(t, "n1")
+	carrier := carry(t, carrying.Peers{}, carrying.Limits{}, map[string]string{"node:n1": address})
+	if _, err := carrier.Carry(ctx, stage("n1"), time.Now().Add(20*time.Millisecond)); !errors.Is(err, carrying.ErrNotReached) {
+		t.Errorf("nobody is there: %v", err)
+	}
+	if state := carrier.States()["node:n1"]; state.Trouble == "" || state.Queued != 0 {
+		t.Errorf("%+v", state)
+	}
+	waits := make(chan error, 1)
+	go func() {
+		_, err := carrier.Carry(ctx, stage("n1"), time.Time{})
+		waits <- err
+	}()
+	plugin := &carryingtest.Plugin{Node: "n1"}
+	plugin.Serve(t, address, nil)
+	if err := <-waits; err != nil {
+		t.Errorf("it came: %v", err)
+	}
+	plugin.Health.SetServingStatus("", grpc_health_v1.HealthCheckResponse_NOT_SERVING)
+	for end := time.Now().Add(within); carrier.States()["node:n1"].Connection == "READY" && time.Now().Before(end); {
+		time.Sleep(time.Millisecond)
+	}
+	if _, err := carrier.Carry(ctx, stage("n1"), time.Now().Add(20*time.Millisecond)); !errors.Is(err, carrying.ErrNotReached) {
+		t.Errorf("it doesn't serve: %v", err)
+	}
+	if count := len(plugin.Calls()); count != 1 {
+		t.Errorf("%d calls", count)
+	}
+	go func() {
+		_, err := carrier.Carry(ctx, stage("n1"), time.Time{})
+		waits <- err
+	}()
+	for end := time.Now().Add(within); carrier.States()["node:n1"].Queued == 0 && time.Now().Before(end); {
+		time.Sleep(time.Millisecond)
+	}
+	if err := carrier.Set(map[string]string{"node:n1": socket(t, "n1")}); err != nil {
+		t.Fatal(err)
+	}
+	if err := <-waits; !errors.Is(err, carrying.ErrMoved) {
+		t.Errorf("it moved: %v", err)
+	}
+	limited, cancel := context.WithCancel(ctx)
+	cancel()
+	if _, err := carrier.Carry(limited, stage("n1"), time.Time{}); !errors.Is(err, context.Canceled) {
+		t.Errorf("given up: %v", err)
+	}
+}
+
+// With two nodes' addresses exchanged, or another user's socket, nothing is sent to the wrong one.
+func TestExchanged(t *testing.T) {
+	other := (&carryingtest.Plugin{Node: "n2"}).Serve(t, socket(t, "n1"), nil)
+	carrier := carry(t, carrying.Peers{}, carrying.Limits{}, map[string]string{"node:n1": other.Address})
+	if _, err := carrier.Carry(ctx, stage("n1"), time.Now().Add(50*time.Millisecond)); !errors.Is(err, carrying.ErrOther) {
+		t.Errorf("another node is there: %v", err)
+	}
+	if state := carrier.States()["node:n1"]; state.Trouble != `another plugin is there: "n2"` {
+		t.Errorf("%+v", state)
+	}
+	nobody := carrying.Peers{May: func(uint32) bool { return false }}
+	carrier = carry(t, nobody, carrying.Limits{}, map[string]string{"node:n2": other.Address})
+	if _, err := carrier.Carry(ctx, stage("n2"), time.Now().Add(50*time.Millisecond)); !errors.Is(err, carrying.ErrNotReached) {
+		t.Errorf("another user's socket: %v", err)
+	}
+	if count := len(other.Calls()); count != 0 {
+		t.Errorf("%d calls", count)
+	}
+	right := (&carryingtest.Plugin{Node: "n3"}).Serve(t, socket(t, "n3"), nil)
+	carrier = carry(t, carrying.Peers{}, carrying.Limits{}, map[string]string{"node:n3": right.Address})
+	if _, err := carrier.Carry(ctx, stage("n3"), time.Time{}); err != nil {
+		t.Error(err)
+	}
+	right.Stop()
+	later := (&carryingtest.Plugin{Node: "n4"}).Serve(t, right.Address, nil)
+	for _, want := range []error{nil, carrying.ErrOther} { // the first may still find the connection that ends
+		_, err := carrier.Carry(ctx, stage("n3"), time.Now().Add(500*time.Millisecond))
+		if err == nil || want != nil && !errors.Is(err, want) || len(later.Calls()) != 0 {
+			t.Errorf("another node came to the address: %v, %v", err, later.Calls())
+		}
+	}
+}
+
+// Over TCP a plugin is who its certificate names.
+func TestTLS(t *testing.T) {
+	authority := securetest.NewAuthority(t)
+	end := time.Now().Add(time.Hour)
+	files := authority.Issue(t, t.TempDir(), end, "tufayon://s1/orchestrator")
+	serve := func(node, name string) *carryingtest.Plugin {
+		its := authority.Issue(t, t.TempDir(), end, name)
+		known := its.Server(secure.Those("s1", secure.Orchestrator), nil)
+		return (&carryingtest.Plugin{Node: node}).Serve(t, "127.0.0.1:0", known)
+	}
+	n1, n2 := serve("n1", "tufayon://s1/node/n1"), serve("n2", "tufayon://s1/node/n2")
+	var mutex sync.Mutex
+	told := map[string]error{}
+	peers := carrying.Peers{Set: "s1", Files: &files, Refused: func(plugin string) secure.Refused {
+		return func(_ net.Addr, why error) {
+			mutex.Lock()
+			defer mutex.Unlock()
+			told[plugin] = why
+		}
+	}}
+	carrier := carry(t, peers, carrying.Limits{}, map[string]string{"node:n1": n1.Address, "node:n2": n2.Address})
+	for _, node := range []string{"n1", "n2"} {
+		if _, err := carrier.Carry(ctx, stage(node), time.Time{}); err != nil {
+			t.Errorf("%s: %v", node, err)
+		}
+	}
+	exchanged := carry(t, peers, carrying.Limits{}, map[string]string{"node:n1": n2.Address})
+	if _, err := exchanged.Carry(ctx, stage("n1"), time.Now().Add(100*time.Millisecond)); !errors.Is(err, carrying.ErrNotReached) {
+		t.Errorf("another's address: %v", err)
+	}
+	mutex.Lock()
+	defer mutex.Unlock()
+	if why := fmt.Sprint(told["node:n1"]); why != "the peer is somebody else: tufayon://s1/node/n2, not tufayon://s1/node/n1" {
+		t.Errorf("it was told %s", why)
+	}
+	if count := len(n2.Calls()); count != 1 {
+		t.Errorf("%d calls", count)
+	}
+	if err := carry(t, carrying.Peers{Set: "s1"}, carrying.Limits{}, nil).Set(map[string]string{"node:n1": n1.Address}); !errors.Is(err, secure.ErrNone) {
+		t.Errorf("TCP without certificates: %v", err)
+	}
+}

@@ -1,0 +1,252 @@
+package main
+
+import (
+	"context"
+	"fmt"
+	"net"
+	"os"
+	"os/signal"
+	"reflect"
+	"strings"
+	"syscall"
+	"time"
+
+	"go.uber.org/zap"
+	"google.golang.org/grpc"
+	"google.golang.org/grpc/credentials"
+
+	"tufayon/service/api"
+	"tufayon/service/carrying"
+	"tufayon/service/etcd"
+	"tufayon/service/host"
+	"tufayon/service/secure"
+	"tufayon/service/settings"
+	"tufayon/service/store"
+)
+
+const (
+	reach  = 10 * time.Second // how long a node may take to say which one it is
+	finish = 10 * time.Second // how long calls that are under way may take, once the process is to end
+)
+
+// service is what runs.
+type service struct {
+	settings *settings.Settings
+	log      *zap.Logger
+	carrier  *carrying.Carrier
+	host     *host.Host
+	roles    *api.Roles
+	server   *api.Server
+	grpc     *grpc.Server
+	anew     <-chan os.Signal // says that the files are to be read anew
+}
+
+// serve serves callers at once, and waits until this process has the store: then it leads.
+func serve(ctx context.Context, read *settings.Settings, log *zap.Logger) error {
+	anew := make(chan os.Signal, 1)
+	signal.Notify(anew, syscall.SIGHUP)
+	defer signal.Stop(anew)
+	running := &service{settings: read, log: log, roles: &api.Roles{}, anew: anew}
+	running.roles.Set(read.Roles(os.Geteuid()))
+	if err := running.connect(); err != nil {
+		return err
+	}
+	defer running.carrier.Close()
+	listener, err := listen(read.Process.Listen)
+	if err != nil {
+		return err
+	}
+	defer listener.Close()
+	running.server, running.grpc = api.New(running.carrier, running.roles, running.credentials(), log)
+	defer running.grpc.Stop()
+	served := make(chan error, 1)
+	go func() { served <- running.grpc.Serve(listener) }()
+	log.Info("waits for the store", zap.String("address", read.Process.Listen))
+	kept, err := open(ctx, read.Process)
+	if err != nil {
+		if ctx.Err() != nil {
+			return nil // it was ended while it waited to lead
+		}
+		return err
+	}
+	err = running.lead(ctx, kept, served)
+	if closed := kept.Close(); err == nil {
+		err = closed
+	}
+	return err
+}
+
+// open opens the store, and waits until this process leads where it is in etcd.
+func open(ctx context.Context, process settings.Process) (store.Store, error) {
+	if process.Etcd == nil {
+		return store.OpenSQLite(ctx, process.Store)
+	}
+	its := process.Etcd
+	return etcd.Config{
+		Endpoints: its.Endpoints, Prefix: its.Prefix, CA: its.CA, Certificate: its.Certificate, Key: its.Key, LeaseSeconds: its.Lease,
+	}.Open(ctx)
+}
+
+// connect makes connections to the plugins.
+func (running *service) connect() error {
+	read := running.settings
+	peers := carrying.Peers{Set: read.Set.Name, Files: read.Files(), May: own, Refused: func(plugin string) secure.Refused {
+		return func(_ net.Addr, why error) {
+			running.log.Warn("a plugin is refused", zap.String("plugin", plugin), zap.Error(why))
+		}
+	}}
+	limits := carrying.Limits{
+		AtController: read.Process.Calls.Controller, AtNode: read.Process.Calls.Node, Answer: settings.Seconds(read.Set.Times.Answer), Reach: reach,
+	}
+	running.carrier = carrying.New(limits, read.Set.Staging, peers.Dial)
+	return running.carrier.Set(read.Addresses())
+}
+
+// lead begins the orchestrator's next session over the store, and serves.
+func (running *service) lead(ctx context.Context, kept store.Store, served <-chan error) error {
+	times := running.settings.Set.Times
+	var err error
+	running.host, err = host.Open(ctx, host.Options{
+		Store: kept, Nodes: running.settings.Set.IDs(), Carrier: running.carrier, Log: running.log,
+		Times: host.Times{Patience: settings.Seconds(times.Patience), Retry: settings.Seconds(times.Retry), MostRetry: settings.Seconds(times.MostRetry)},
+	})
+	if err != nil {
+		return err
+	}
+	defer running.host.Close()
+	running.server.Lead(running.host)
+	running.log.Info("serves", zap.String("address", running.settings.Process.Listen), zap.Uint64("session", running.host.Session()))
+	return running.wait(ctx, served)
+}
+
+// own says whether a user at the other end of a plugin's socket is this one, or root.
+func own(uid uint32) bool { return uid == 0 || int(uid) == os.Geteuid() }
+
+func listen(address string) (net.Listener, error) {
+	if carrying.IsLocal(address) {
+		return secure.Listen(strings.TrimPrefix(address, "unix://"))
+	}
+	return net.Listen("tcp", address)
+}
+
+// credentials are those by which callers are known.
+func (running *service) credentials() credentials.TransportCredentials {
+	refused := func(from net.Addr, why error) {
+		running.log.Warn("a caller is refused", zap.Stringer("from", from), zap.Error(why))
+	}
+	if carrying.IsLocal(running.settings.Process.Listen) {
+		return secure.Local{May: running.roles.MayConnect, Refused: refused}
+	}
+	return running.settings.Files().Server(secure.Those(running.settings.Set.Name, secure.Client), refused)
+}
+
+// wait serves until the process is to end, or can't go on, and reads the files anew at SIGHUP.
+func (running *service) wait(ctx context.Context, served <-chan error) error {
+	for {
+		select {
+		case <-running.anew:
+			if err := running.readAnew(ctx); err != nil {
+				running.log.Error("all stays as it was", zap.Error(err))
+			}
+		case err := <-served:
+			return err
+		case <-running.host.Done():
+			running.grpc.Stop() // each caller gets that it isn't known what became of its command
+			return running.host.Err()
+		case <-ctx.Done():
+			running.server.Leave()
+			go running.grpc.GracefulStop() // no more callers
+			running.drain()
+			running.host.Close()
+			return running.host.Err()
+		}
+	}
+}
+
+// drain waits a while for the calls that are under way.
+func (running *service) drain() {
+	for until := time.Now().Add(finish); time.Now().Before(until); time.Sleep(20 * time.Millisecond) {
+		underWay := 0
+		for _, state := range running.carrier.States() {
+			underWay += state.UnderWay
+		}
+		if underWay == 0 {
+			return
+		}
+	}
+}
+
+// readAnew reads the files anew. Other addresses and roles count at once, and other nodes are a session of the orchestrator, which refuses to leave out one
+// where a volume may be attached.
+func (running *service) readAnew(ctx context.Context) error {
+	read, err := settings.Read(running.settings.File)
+	if err != nil {
+		return err
+	}
+	if _, err := read.Check(ctx); err != nil {
+		return err
+	}
+	if err := running.stays(read); err != nil {
+		return err
+	}
+	both := running.settings.Addresses()
+	for plugin, address := range read.Addresses() {
+		both[plugin] = address
+	}
+	if err := running.carrier.Set(both); err != nil {
+		return err
+	}
+	if !same(read.Set.IDs(), running.host.Nodes()) {
+		if _, err := running.host.Begin(ctx, read.Set.IDs(), "the list of nodes is another one"); err != nil {
+			running.carrier.Set(running.settings.Addresses())
+			return settings.Faults{fmt.Sprintf("%s: nodes: %v", read.Process.Set, err)}
+		}
+	}
+	if err := running.carrier.Set(read.Addresses()); err != nil {
+		return err
+	}
+	running.roles.Set(read.Roles(os.Geteuid()))
+	running.settings = read
+	running.log.Info("the files were read anew", zap.Strings("nodes", read.Set.IDs()))
+	return nil
+}
+
+// stays says what isn't changed without a restart of the process.
+func (running *service) stays(read *settings.Settings) error {
+	old, anew := running.settings, read
+	var faults settings.Faults
+	for _, it := range []struct {
+		place     string
+		isAnother bool
+	}{
+		{anew.Process.Set + ": set", old.Set.Name != anew.Set.Name},
+		{anew.Process.Set + ": staging", old.Set.Staging != anew.Set.Staging},
+		{anew.Process.Set + ": times", old.Set.Times != anew.Set.Times},
+		{anew.File + ": store", old.Process.Store != anew.Process.Store},
+		{anew.File + ": etcd", !reflect.DeepEqual(old.Process.Etcd, anew.Process.Etcd)},
+		{anew.File + ": listen", old.Process.Listen != anew.Process.Listen},
+		{anew.File + ": calls", old.Process.Calls != anew.Process.Calls},
+		{anew.File + ": certificate, key, authorities", old.Process.Certificate != anew.Process.Certificate || old.Process.Key != anew.Process.Key ||
+			old.Process.Authorities != anew.Process.Authorities},
+	} {
+		if it.isAnother {
+			faults = append(faults, it.place+": it changes at a restart only")
+		}
+	}
+	if len(faults) > 0 {
+		return faults
+	}
+	return nil
+}
+
+func same(some, others []string) bool {
+	if len(some) != len(others) {
+		return false
+	}
+	for at := range some {
+		if some[at] != others[at] {
+			return false
+		}
+	}
+	return true
+}

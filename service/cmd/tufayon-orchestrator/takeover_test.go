@@ -1,0 +1,80 @@
+package main
+
+import (
+	"context"
+	"fmt"
+	"net"
+	"os"
+	"os/exec"
+	"testing"
+	"time"
+
+	"google.golang.org/grpc/codes"
+	"google.golang.org/grpc/status"
+
+	"tufayon/service/api/wire"
+)
+
+// startEtcd starts a server of etcd on loopback, until the test ends, and gives its endpoint.
+func startEtcd(t *testing.T) string {
+	t.Helper()
+	var urls []string
+	for range "12" {
+		listener, err := net.Listen("tcp", "127.0.0.1:0")
+		if err != nil {
+			t.Fatal(err)
+		}
+		urls = append(urls, "http://"+listener.Addr().String())
+		listener.Close()
+	}
+	command := exec.Command("etcd", "--data-dir", t.TempDir(), "--listen-client-urls", urls[0], "--advertise-client-urls", urls[0],
+		"--listen-peer-urls", urls[1], "--initial-advertise-peer-urls", urls[1], "--initial-cluster", "default="+urls[1], "--max-txn-ops", "8500")
+	if err := command.Start(); err != nil {
+		t.Fatal(err)
+	}
+	t.Cleanup(func() { command.Process.Kill(); command.Wait() })
+	return urls[0]
+}
+
+// Over etcd one service leads and another waits: when the first ends, the second goes on with what is wanted.
+func TestTakeover(t *testing.T) {
+	if os.Getenv("TUFAYON_TEST_ETCD") == "" {
+		t.Skip("it starts etcd only where it is asked to")
+	}
+	ctx, cancel := context.WithTimeout(context.Background(), 6*within)
+	defer cancel()
+	endpoint, made := startEtcd(t), newFiles(t)
+	made.list("n1") // which isn't there yet
+	second := &files{t: t, folder: made.folder, address: "unix://" + made.path("second.sock"), process: "second.json", plugins: made.plugins}
+	made.process = "first.json"
+	for _, it := range []*files{made, second} {
+		made.write(it.process, fmt.Sprintf(`{"set": "set.json", "listen": %q, "etcd": {"endpoints": [%q], "prefix": "/tufayon/s1/orchestrator", "lease": 2}}`,
+			it.address, endpoint))
+	}
+	client, stop := made.start(true)
+	if _, err := client.Create(ctx, &wire.CreateRequest{Name: "v", Capabilities: []*wire.Capability{block}, Wait: wire.Wait_AT_REST}); err != nil {
+		t.Fatal(err)
+	}
+	if _, err := client.Use(ctx, &wire.UseRequest{Name: "v", Node: "n1", Target: "/a", Capability: block}); err != nil {
+		t.Fatal(err)
+	}
+	waiting, _ := second.start(false)
+	_, err := waiting.Get(ctx, &wire.GetRequest{Name: "v"})
+	if its := status.Convert(err); its.Code() != codes.Unavailable || its.Message() != "this service doesn't lead" {
+		t.Errorf("the second: %v", err)
+	}
+	if status := stop(); status != 0 {
+		t.Errorf("the first ended with %d", status)
+	}
+	made.serve("n1")
+	for err = error(nil); ctx.Err() == nil; time.Sleep(10 * time.Millisecond) {
+		var volume *wire.Volume
+		if volume, err = waiting.Get(ctx, &wire.GetRequest{Name: "v", Wait: wire.Wait_AT_REST}); err == nil {
+			if len(volume.At) != 1 || volume.At[0].Targets[0].Published != wire.Known_YES {
+				t.Errorf("what was wanted: %v", volume)
+			}
+			return
+		}
+	}
+	t.Errorf("the second doesn't lead: %v", err)
+}

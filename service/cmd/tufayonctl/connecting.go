@@ -1,0 +1,98 @@
+package main
+
+import (
+	"context"
+	"fmt"
+	"os"
+	"path/filepath"
+	"strings"
+	"syscall"
+	"time"
+
+	"google.golang.org/grpc"
+	"google.golang.org/grpc/codes"
+	"google.golang.org/grpc/credentials"
+	_ "google.golang.org/grpc/health" // has connections watch what a server says of its health
+	"google.golang.org/grpc/keepalive"
+	"google.golang.org/grpc/resolver"
+	"google.golang.org/grpc/resolver/manual"
+	"google.golang.org/grpc/status"
+
+	"tufayon/service/api"
+	"tufayon/service/api/wire"
+	"tufayon/service/carrying"
+	"tufayon/service/secure"
+)
+
+const defaultAddress = "unix:///run/tufayon/orchestrator.sock"
+
+// connecting is how the service is reached.
+type connecting struct {
+	address, set string
+	files        secure.Files
+	timeout      time.Duration
+}
+
+// leading has a connection of several addresses go to the service that leads, by its health.
+const leading = `{"loadBalancingConfig":[{"round_robin":{}}],"healthCheckConfig":{"serviceName":"` + api.Service + `"}}`
+
+// client gives a client of the service, a context for its calls, and what ends both. Of several addresses, with commas between, it is that of the service
+// that leads, which is waited for.
+func (it *connecting) client(ctx context.Context) (wire.OrchestratorClient, context.Context, func(), error) {
+	addresses := strings.Split(it.address, ",")
+	known, err := it.credentials(addresses)
+	if err != nil {
+		return nil, nil, nil, err
+	}
+	options := []grpc.DialOption{grpc.WithTransportCredentials(known)}
+	if !carrying.IsLocal(it.address) {
+		options = append(options, grpc.WithKeepaliveParams(keepalive.ClientParameters{Time: 10 * time.Second, Timeout: 5 * time.Second}))
+	}
+	target := it.address
+	if len(addresses) > 1 {
+		var state resolver.State
+		for _, address := range addresses {
+			state.Addresses = append(state.Addresses, resolver.Address{Addr: address})
+		}
+		all := manual.NewBuilderWithScheme("tufayon")
+		all.InitialState(state)
+		target = "tufayon:///service"
+		options = append(options, grpc.WithResolvers(all), grpc.WithDefaultServiceConfig(leading), grpc.WithDefaultCallOptions(grpc.WaitForReady(true)))
+	}
+	connection, err := grpc.Dial(target, options...)
+	if err != nil {
+		return nil, nil, nil, status.Error(codes.Unavailable, err.Error())
+	}
+	cancel := context.CancelFunc(func() {})
+	if it.timeout > 0 {
+		ctx, cancel = context.WithTimeout(ctx, it.timeout)
+	}
+	return wire.NewOrchestratorClient(connection), ctx, func() { cancel(); connection.Close() }, nil
+}
+
+func (it *connecting) credentials(addresses []string) (credentials.TransportCredentials, error) {
+	for _, address := range addresses {
+		if carrying.IsLocal(address) != carrying.IsLocal(addresses[0]) {
+			return nil, fmt.Errorf("%w: addresses are all of Unix sockets, or none", errUsage)
+		}
+	}
+	if carrying.IsLocal(addresses[0]) {
+		folder := filepath.Dir(strings.TrimPrefix(addresses[0], "unix://"))
+		return secure.Local{May: func(uid uint32) bool { return uid == 0 || int(uid) == os.Geteuid() || isOwner(folder, uid) }}, nil
+	}
+	name := secure.Name{Set: it.set, Role: secure.Orchestrator}
+	if it.set == "" || it.files.Certificate == "" || it.files.Key == "" || it.files.Authorities == "" {
+		return nil, errTLS
+	}
+	return it.files.Client(name, nil), nil
+}
+
+// isOwner says whether a folder is a user's: who can put a socket there.
+func isOwner(folder string, uid uint32) bool {
+	found, err := os.Stat(folder)
+	if err != nil {
+		return false
+	}
+	owner, ok := found.Sys().(*syscall.Stat_t)
+	return ok && owner.Uid == uid
+}

@@ -1,0 +1,133 @@
+package main
+
+import (
+	"bytes"
+	"context"
+	"errors"
+	"os"
+	"path/filepath"
+	"strings"
+	"sync/atomic"
+	"testing"
+	"time"
+
+	"go.uber.org/zap"
+
+	"tufayon/service/api"
+	"tufayon/service/carrying"
+	"tufayon/service/frames"
+	"tufayon/service/host"
+	"tufayon/service/host/hosttest"
+	"tufayon/service/secure"
+)
+
+type plugins map[string]carrying.State
+
+func (it plugins) States() map[string]carrying.State { return it }
+
+// serve serves a new orchestrator of a node, of which a carrier answers the calls, and gives its address.
+func serve(t *testing.T, carrier host.Carrier) string {
+	t.Helper()
+	made, err := host.Open(context.Background(), host.Options{
+		Store: hosttest.NewStore(), Nodes: []string{"n1"}, Carrier: carrier, Log: zap.NewNop(),
+		Times: host.Times{Patience: 20 * time.Millisecond, Retry: time.Millisecond, MostRetry: time.Millisecond},
+	})
+	if err != nil {
+		t.Fatal(err)
+	}
+	listener, err := secure.Listen(filepath.Join(t.TempDir(), "socket"))
+	if err != nil {
+		t.Fatal(err)
+	}
+	roles := &api.Roles{}
+	roles.Set(nil, map[uint32]api.Role{uint32(os.Geteuid()): api.Loses})
+	states := plugins{carrying.Controller: {Address: "unix:///c", Connection: "READY"}, "node:n1": {Address: "unix:///n1", Connection: "CONNECTING"}}
+	leading, server := api.New(states, roles, secure.Local{May: roles.MayConnect}, zap.NewNop())
+	leading.Lead(made)
+	go server.Serve(listener)
+	t.Cleanup(func() { server.Stop(); made.Close() })
+	return "unix://" + listener.Addr().String()
+}
+
+// says runs the program, and wants its exit status, and that what it prints has these words.
+func says(t *testing.T, address, line string, code int, words ...string) {
+	t.Helper()
+	var output, errors bytes.Buffer
+	got := run(context.Background(), append([]string{"--address", address}, strings.Split(line, "|")...), &output, &errors)
+	all := output.String() + errors.String()
+	if got != code {
+		t.Errorf("%s: %d, not %d: %s", line, got, code, all)
+	}
+	for _, it := range words {
+		if !strings.Contains(all, it) {
+			t.Errorf("%s: it doesn't say %q: %s", line, it, all)
+		}
+	}
+}
+
+func TestWords(t *testing.T) {
+	var refusing int32
+	carrier := &hosttest.Carrier{Answer: func(_ context.Context, call frames.Call, _ time.Time) (frames.Reply, error, bool) {
+		if call.Kind() != frames.NodeStageVolumeKind || atomic.LoadInt32(&refusing) == 0 {
+			return frames.Reply{}, nil, false
+		}
+		return frames.Reply{}, errors.New("nobody is there"), true
+	}}
+	address := serve(t, carrier)
+	says(t, address, "create|v|--size|2K|--limit|1M|--block|--mode|SINGLE_NODE_WRITER|--wait", 0, "NAME", "v ", "yes")
+	says(t, address, "create|v|--block", 1, "AlreadyExists: NameUsed")
+	says(t, address, "use|v|n1|/a|--block|--wait", 0, "n1:/a")
+	says(t, address, "publish|v|n1|/a|--block|--wait|--json", 0, `"met":true`, `"reached":true`, `"path":"/a"`, `"required":"2048"`)
+	says(t, address, "list", 0, "WANTED", "n1:/a")
+	says(t, address, "list|--node|n9|--json", 0, `{"volumes":[],"next":""}`)
+	says(t, address, "nodes", 0, "PLUGIN", "controller", "node:n1", "CONNECTING")
+	says(t, address, "get|v", 0, "n1:/a")
+	says(t, address, "get|w", 1, "NotFound: NoSuchVolume")
+	says(t, address, "unpublish|v|n1|/a|--wait", 0, "yes")
+	atomic.StoreInt32(&refusing, 1)
+	says(t, address, "use|v|n1|/a|--block|--wait", 1, "it was given up: node:n1: nobody is there", "v: use n1 /a")
+	atomic.StoreInt32(&refusing, 0)
+	says(t, address, "__complete|get|", 0, "v\n")
+	says(t, address, "__complete|use|v|", 0, "n1\n")
+	says(t, address, "completion|bash", 0, "tufayonctl")
+	says(t, address, "delete|v|--wait", 0, "no")
+	says(t, address, "restart", 0, "session 2")
+	says(t, address, "lose|n1", 2, `--promise "off for good, and its store never comes back"`)
+	says(t, address, "lose|n1|--promise|"+api.Promise, 0, "n1 is lost", "session 3")
+	says(t, address, "watch|--current|--timeout|50ms", 3, "DeadlineExceeded")
+}
+
+// Of several services it asks the one that leads.
+func TestLeading(t *testing.T) {
+	listener, err := secure.Listen(filepath.Join(t.TempDir(), "socket"))
+	if err != nil {
+		t.Fatal(err)
+	}
+	roles := &api.Roles{}
+	roles.Set(nil, map[uint32]api.Role{uint32(os.Geteuid()): api.Loses})
+	_, server := api.New(plugins{}, roles, secure.Local{May: roles.MayConnect}, zap.NewNop())
+	go server.Serve(listener)
+	defer server.Stop()
+	waiting, leads, nobody := "unix://"+listener.Addr().String(), serve(t, &hosttest.Carrier{}), "unix://"+filepath.Join(t.TempDir(), "nobody")
+	says(t, waiting, "list", 3, "this service doesn't lead")
+	says(t, strings.Join([]string{nobody, waiting, leads}, ","), "create|v|--block|--wait|--timeout|10s", 0, "yes")
+	says(t, waiting+","+nobody, "list|--timeout|50ms", 3, "DeadlineExceeded")
+	says(t, waiting+",127.0.0.1:1", "list", 2, "all of Unix sockets, or none")
+}
+
+func TestUsage(t *testing.T) {
+	nobody := "unix://" + filepath.Join(t.TempDir(), "nobody")
+	says(t, nobody, "list", 3, "Unavailable")
+	says(t, nobody, "create", 2, "accepts 1 arg(s)")
+	says(t, nobody, "create|v|--mode|9", 2, "--mode")
+	says(t, nobody, "create|v|--block|--fs|ext4", 2, "--block or --fs")
+	says(t, nobody, "create|v|--size|10X", 2, "--size")
+	says(t, nobody, "create|v|--size|99999999999T", 2, "--size")
+	says(t, nobody, "king", 2, "unknown command")
+	says(t, "127.0.0.1:1", "list", 2, "--certificate")
+	for text, want := range map[string]uint64{"0": 0, "10": 10, "3K": 3072, "1M": 1 << 20, "2G": 2 << 30, "1T": 1 << 40} {
+		if got, err := bytesOf("size", text); err != nil || got != want {
+			t.Errorf("%s: %d, %v", text, got, err)
+		}
+	}
+}

@@ -1,0 +1,177 @@
+package host
+
+import (
+	"context"
+	"errors"
+	"sort"
+	"sync"
+)
+
+// ErrSlow says that a watcher was too slow to get all that happened.
+var ErrSlow = errors.New("the watcher is too slow")
+
+// watched is how many events a watcher may be behind.
+const watched = 1024
+
+// A board has what was committed last, for all who want to read it.
+type board struct {
+	mutex    sync.RWMutex
+	session  uint64
+	count    uint64 // of the events since this process serves
+	nodes    []string
+	volumes  map[string]Volume
+	watchers map[*Watching]bool
+	isClosed bool
+}
+
+func newBoard() *board { return &board{volumes: map[string]Volume{}, watchers: map[*Watching]bool{}} }
+
+// An Event is what became of a volume, or of a node. One of the last three fields counts.
+type Event struct {
+	Session, Count uint64
+	Volume         Volume // as it is now, if it has a row
+	Forgotten      string // a name that is free again
+	Lost           string // a node
+}
+
+// publish shows what was committed.
+func (host *Host) publish(work *work) {
+	board := host.board
+	board.mutex.Lock()
+	defer board.mutex.Unlock()
+	board.session, board.nodes = host.core.session, host.core.nodes
+	for _, name := range work.forgotten {
+		delete(board.volumes, name)
+		board.tell(name, Event{Forgotten: name})
+	}
+	for name, it := range work.changed {
+		board.volumes[name] = it.shown()
+		board.tell(name, Event{Volume: board.volumes[name]})
+	}
+	if work.lost != "" {
+		board.tell("", Event{Lost: work.lost})
+	}
+}
+
+// tell tells the watchers an event about a name. The lock is held.
+func (board *board) tell(name string, event Event) {
+	board.count++
+	event.Session, event.Count = board.session, board.count
+	for it := range board.watchers {
+		if it.name != "" && it.name != name {
+			continue
+		}
+		select {
+		case it.events <- event:
+		default:
+			board.drop(it, ErrSlow)
+		}
+	}
+}
+
+// drop ends a watcher. The lock is held.
+func (board *board) drop(it *Watching, why error) {
+	if board.watchers[it] {
+		delete(board.watchers, it)
+		it.err = why
+		close(it.events)
+	}
+}
+
+// close ends all watchers: the host serves no more.
+func (board *board) close() {
+	board.mutex.Lock()
+	defer board.mutex.Unlock()
+	board.isClosed = true
+	for it := range board.watchers {
+		board.drop(it, ErrEnded)
+	}
+}
+
+// Session is the present session.
+func (host *Host) Session() uint64 {
+	host.board.mutex.RLock()
+	defer host.board.mutex.RUnlock()
+	return host.board.session
+}
+
+// Nodes are those that the orchestrator lists.
+func (host *Host) Nodes() []string {
+	host.board.mutex.RLock()
+	defer host.board.mutex.RUnlock()
+	return host.board.nodes
+}
+
+// Get gives a volume, if there is one of that name.
+func (host *Host) Get(name string) (Volume, bool) {
+	host.board.mutex.RLock()
+	defer host.board.mutex.RUnlock()
+	volume, isThere := host.board.volumes[name]
+	return volume, isThere
+}
+
+// List gives at most so many volumes behind a name, by their names, byte by byte, that are wanted. `more` says whether there are others behind them.
+func (host *Host) List(after string, most int, isWanted func(Volume) bool) (volumes []Volume, more bool) {
+	host.board.mutex.RLock()
+	for name, volume := range host.board.volumes {
+		if name > after && isWanted(volume) {
+			volumes = append(volumes, volume)
+		}
+	}
+	host.board.mutex.RUnlock()
+	sort.Slice(volumes, func(i, j int) bool { return volumes[i].Row.Name < volumes[j].Row.Name })
+	if len(volumes) > most {
+		return volumes[:most], true
+	}
+	return volumes, false
+}
+
+// A Watching gets events, from a moment on.
+type Watching struct {
+	Current []Event // the volumes as they were at that moment, by their names, if they are wanted
+	board   *board
+	name    string
+	events  chan Event
+	err     error // why it ended, once the events are closed
+}
+
+// Watch begins to watch all that happens, or what happens to the volume of a name. Its end has to be asked for.
+func (host *Host) Watch(current bool, name string) *Watching {
+	it := &Watching{board: host.board, name: name, events: make(chan Event, watched)}
+	board := host.board
+	board.mutex.Lock()
+	defer board.mutex.Unlock()
+	if current {
+		for its, volume := range board.volumes {
+			if name == "" || name == its {
+				it.Current = append(it.Current, Event{Session: board.session, Count: board.count, Volume: volume})
+			}
+		}
+		sort.Slice(it.Current, func(i, j int) bool { return it.Current[i].Volume.Name < it.Current[j].Volume.Name })
+	}
+	board.watchers[it] = true
+	if board.isClosed {
+		board.drop(it, ErrEnded)
+	}
+	return it
+}
+
+// Next waits for the next event. It fails with ErrSlow, ErrEnded, or the context's error.
+func (it *Watching) Next(ctx context.Context) (Event, error) {
+	select {
+	case event, more := <-it.events:
+		if !more {
+			return Event{}, it.err
+		}
+		return event, nil
+	case <-ctx.Done():
+		return Event{}, ctx.Err()
+	}
+}
+
+// End ends it.
+func (it *Watching) End() {
+	it.board.mutex.Lock()
+	defer it.board.mutex.Unlock()
+	it.board.drop(it, ErrEnded)
+}

@@ -1,0 +1,191 @@
+package host
+
+import (
+	"context"
+	"encoding/json"
+	"errors"
+	"fmt"
+
+	"tufayon/service/numbers"
+	"tufayon/service/plugin"
+	"tufayon/service/records"
+	"tufayon/service/store"
+)
+
+// core is the library's orchestrator over its store. The goroutine that made it makes all its calls.
+type core struct {
+	store   store.Store
+	nodes   []string // those that it lists
+	library *plugin.Orchestrator
+	session uint64
+	rows    map[uint64]*records.Row // by their keys; what was asked since the last commit is in them
+	names   map[string]uint64       // the rows' keys
+	counts  counts                  // of the rows
+	changes []store.Change          // what was asked since the last commit
+}
+
+// counts are how many rows there are of some sorts.
+type counts struct {
+	wanted    int // something is wanted of the volume
+	gone      int // the volume is gone, and nothing is wanted: the next session forgets the name
+	onLastTry int // one timeout more, as a session that begins tells it, undoes the use
+}
+
+// add counts a row that came, or with -1 one that went.
+func (counts *counts) add(row *records.Row, count int) {
+	switch {
+	case row == nil:
+	case row.Goal != records.None:
+		counts.wanted += count
+		if row.Goal == records.ToUse && row.Tries >= lastTry {
+			counts.onLastTry += count
+		}
+	case row.Exists == records.No:
+		counts.gone += count
+	}
+}
+
+// configOf is CONFIG's JSON, of which only the nodes' ids count to an orchestrator.
+func configOf(nodes []string) []byte {
+	type node struct {
+		ID    string `json:"id"`
+		Slots int    `json:"slots"`
+	}
+	config := struct {
+		Greatest int    `json:"greatest"`
+		Nodes    []node `json:"nodes"`
+	}{1, []node{}}
+	for _, id := range nodes {
+		config.Nodes = append(config.Nodes, node{id, 1})
+	}
+	bytes, _ := json.Marshal(config) // texts and numbers always can be
+	return bytes
+}
+
+// isRefusal says whether a session that didn't begin left everything as it was: else the store failed, or has no record.
+func isRefusal(err error) bool {
+	return errors.Is(err, plugin.NodeInUse) || errors.Is(err, plugin.BadName) || errors.Is(err, plugin.NoMemory) || errors.Is(err, numbers.ErrSpent)
+}
+
+// begin begins the next session with these nodes, and commits it. It forgets the names of volumes that are gone. Where it fails with isRefusal, nothing
+// is changed.
+func (core *core) begin(ctx context.Context, nodes []string) error {
+	parts, err := core.store.Load(ctx)
+	if err != nil {
+		return err
+	}
+	made, err := plugin.MakeOrchestrator(configOf(nodes), store.Record(parts))
+	if err != nil {
+		return fmt.Errorf("a session of %d nodes: %w", len(nodes), err)
+	}
+	changes, err := made.Changes()
+	if err == nil {
+		err = core.store.Commit(ctx, false, changes)
+	}
+	if err != nil {
+		made.Free()
+		return fmt.Errorf("the session's commit: %w", err)
+	}
+	core.free()
+	core.library, core.nodes, core.changes = made, nodes, nil
+	core.rows, core.names, core.counts = map[uint64]*records.Row{}, map[string]uint64{}, counts{}
+	for _, part := range parts {
+		if _, err := core.take(store.Change{Key: part.Key, Value: part.Value}); err != nil {
+			return err
+		}
+	}
+	return core.takeAll(changes)
+}
+
+// take takes over what a part says: the row, if it is one.
+func (core *core) take(change store.Change) (*records.Row, error) {
+	if change.Out {
+		core.counts.add(core.rows[change.Key], -1)
+		delete(core.rows, change.Key)
+		return nil, nil
+	}
+	if change.Key == records.HeadKey {
+		session, err := records.OrchestratorSession(change.Value)
+		core.session = session
+		return nil, err
+	}
+	row, err := records.ReadRow(change.Value)
+	if err != nil {
+		return nil, fmt.Errorf("row %d: %w", change.Key, err)
+	}
+	core.counts.add(core.rows[change.Key], -1)
+	core.counts.add(&row, 1)
+	core.rows[change.Key], core.names[row.Name] = &row, change.Key
+	return &row, nil
+}
+
+// takeAll takes over the changes of a session that began: rows may have other keys then, and names may be gone.
+func (core *core) takeAll(changes []store.Change) error {
+	for _, change := range changes {
+		if _, err := core.take(change); err != nil {
+			return err
+		}
+	}
+	core.names = make(map[string]uint64, len(core.rows))
+	for key, row := range core.rows {
+		core.names[row.Name] = key
+	}
+	return nil
+}
+
+// note takes over what the last call of the library changed, which is to be committed with all else: the row, if it changed one.
+func (core *core) note() (*records.Row, error) {
+	changes, err := core.library.Changes()
+	if err != nil {
+		return nil, err
+	}
+	core.changes = append(core.changes, changes...)
+	var row *records.Row
+	for _, change := range changes {
+		if row, err = core.take(change); err != nil {
+			return nil, err
+		}
+	}
+	return row, nil
+}
+
+// lose asks the library for a node's loss. Its changes are the whole record.
+func (core *core) lose(node string) (plugin.Outcome, error) {
+	outcome, err := core.library.Lose(node)
+	if err != nil || outcome.Refusal != 0 {
+		return outcome, err
+	}
+	changes, err := core.library.Changes()
+	if err != nil {
+		return outcome, err
+	}
+	core.changes = append(core.changes, changes...)
+	var left []string
+	for _, id := range core.nodes {
+		if id != node {
+			left = append(left, id)
+		}
+	}
+	core.nodes = left
+	return outcome, core.takeAll(changes)
+}
+
+// commit commits what was asked since the last commit.
+func (core *core) commit(ctx context.Context) error {
+	changes := core.changes
+	core.changes = nil
+	if len(changes) == 0 {
+		return nil
+	}
+	return core.store.Commit(ctx, false, changes)
+}
+
+// row is the row of a name, nil where there is none.
+func (core *core) row(name string) *records.Row { return core.rows[core.names[name]] } // no row has the key 0
+
+func (core *core) free() {
+	if core.library != nil {
+		core.library.Free()
+		core.library = nil
+	}
+}

@@ -1,0 +1,236 @@
+// Package host has the proved orchestrator run as a service: many callers ask it at once, and its calls are made at the plugins side by side.
+//
+// One goroutine, bound to its thread, owns the orchestrator. It takes what has come, commands of callers and replies of plugins, asks the orchestrator
+// each of it, at most 64 at a time, and commits all that changed together; only then calls are sent and callers answered. So who has an answer has it of
+// what is committed, and a process that ends at any moment loses only calls and answers, which any network may lose.
+package host
+
+import (
+	"context"
+	"errors"
+	"runtime"
+	"sync"
+	"time"
+
+	"go.uber.org/zap"
+
+	"tufayon/service/carrying"
+	"tufayon/service/frames"
+	"tufayon/service/store"
+)
+
+const (
+	mostEvents   = 64   // that one commit has
+	mostCommands = 1000 // that wait
+	enoughGone   = 1024 // names of deleted volumes: in a quiet moment a session begins, which forgets them
+)
+
+var (
+	errSession = errors.New("a session has to begin first")
+	errIgnored = errors.New("the orchestrator ignores the reply")
+)
+
+// A Carrier makes calls at plugins, side by side: carrying.Carrier is one.
+type Carrier interface {
+	// Carry makes a call, and gives the reply. It fails where none came, for a reason that is told. Where a time is given, it fails too if the plugin
+	// isn't reached until then.
+	Carry(ctx context.Context, call frames.Call, until time.Time) (frames.Reply, error)
+}
+
+// Options are what a host needs.
+type Options struct {
+	Store   store.Store // it stays open
+	Nodes   []string    // the list of nodes
+	Carrier Carrier
+	Times   Times
+	Log     *zap.Logger
+}
+
+// A Host is an orchestrator that runs. Its methods may be called side by side.
+type Host struct {
+	carrier Carrier
+	times   Times
+	log     *zap.Logger
+
+	commands chan event // of callers
+	happened chan event // what came of calls, and timeouts
+	stop     chan struct{}
+	once     sync.Once
+	done     chan struct{}
+	err      error // why it ended, read once done is closed
+
+	waiters *waiters
+	board   *board
+
+	// What only the loop uses.
+	core    *core
+	volumes map[string]*volume
+	queue   []event // what is asked before anything that comes
+	epoch   uint64  // counts the sessions that this process began
+	isLast  bool    // no session begins any more
+	calls   context.Context
+	giveUp  context.CancelFunc // gives up the calls of the present session
+}
+
+// Open begins the next session over a store, commits it, and begins to serve.
+func Open(ctx context.Context, options Options) (*Host, error) {
+	host := &Host{
+		carrier: options.Carrier, times: options.Times, log: options.Log,
+		commands: make(chan event, mostCommands), happened: make(chan event), stop: make(chan struct{}), done: make(chan struct{}),
+		waiters: newWaiters(), board: newBoard(),
+		core: &core{store: options.Store}, volumes: map[string]*volume{},
+	}
+	host.calls, host.giveUp = context.WithCancel(context.Background())
+	opened := make(chan error)
+	go host.run(ctx, options.Nodes, opened)
+	if err := <-opened; err != nil {
+		<-host.done
+		return nil, err
+	}
+	return host, nil
+}
+
+// Done is closed when the host serves no more, and then Err says why.
+func (host *Host) Done() <-chan struct{} { return host.done }
+
+// Err says why the host ended, or nil where it was closed.
+func (host *Host) Err() error { return host.err }
+
+// Close ends the host. What is asked now is committed and answered; calls that are under way are given up.
+func (host *Host) Close() {
+	host.once.Do(func() { close(host.stop) })
+	<-host.done
+}
+
+func (host *Host) run(ctx context.Context, nodes []string, opened chan<- error) {
+	runtime.LockOSThread() // for good: the thread ends with the goroutine
+	defer close(host.done)
+	defer func() { host.giveUp() }()
+	defer host.core.free()
+	if err := host.core.begin(ctx, nodes); err != nil {
+		opened <- err
+		return
+	}
+	work := newWork()
+	host.began(work)
+	host.publish(work)
+	opened <- nil
+	for host.err == nil {
+		batch := host.gather()
+		if batch == nil {
+			break
+		}
+		host.err = host.carryOut(batch)
+	}
+	host.board.close()
+}
+
+// gather waits until something has come, and gives it, at most 64 events; or one alone that goes with no other. It gives nothing once the host is to end.
+func (host *Host) gather() []event {
+	batch := host.fromQueue()
+	if len(batch) == 0 {
+		select {
+		case it := <-host.happened:
+			batch = append(batch, it)
+		case it := <-host.commands:
+			batch = append(batch, it)
+		case <-host.core.store.Lost():
+			host.err = store.ErrLost
+			return nil
+		case <-host.stop:
+			return nil
+		}
+	}
+	for len(batch) < mostEvents && !batch[len(batch)-1].alone() {
+		select {
+		case it := <-host.happened:
+			batch = append(batch, it)
+			continue
+		default:
+		}
+		select {
+		case it := <-host.commands:
+			batch = append(batch, it)
+			continue
+		default:
+		}
+		break
+	}
+	if last := len(batch) - 1; last > 0 && batch[last].alone() {
+		host.queue = append([]event{batch[last]}, host.queue...)
+		batch = batch[:last]
+	}
+	return batch
+}
+
+// fromQueue takes at most 64 events of the queue, or one alone.
+func (host *Host) fromQueue() []event {
+	count := 0
+	for count < len(host.queue) && count < mostEvents && !host.queue[count].alone() {
+		count++
+	}
+	if count == 0 && len(host.queue) > 0 {
+		count = 1
+	}
+	batch := append([]event(nil), host.queue[:count]...)
+	host.queue = host.queue[count:]
+	return batch
+}
+
+// carryOut asks a batch's events, commits what they changed, and then has calls made and callers answered. Where it fails nothing may be answered any more.
+func (host *Host) carryOut(batch []event) error {
+	work := newWork()
+	for at, it := range batch {
+		err := it.ask(host, work)
+		if err == errSession {
+			_, isCommand := it.(*asking) // which is refused where no session begins
+			rest := append([]event{&beginning{why: "there is no room for names or numbers", isNeeded: !isCommand}}, batch[at:]...)
+			host.queue = append(rest, host.queue...)
+			break
+		}
+		if err != nil {
+			return err
+		}
+	}
+	if err := host.core.commit(context.Background()); err != nil {
+		return err
+	}
+	host.publish(work)
+	for _, it := range work.sends {
+		go host.call(host.calls, host.epoch, it)
+	}
+	for _, answer := range work.after {
+		answer()
+	}
+	if host.core.counts.gone >= enoughGone && host.core.counts.wanted == 0 && len(host.queue) == 0 && !host.isLast {
+		host.queue = append(host.queue, &beginning{why: "names of deleted volumes are forgotten"})
+	}
+	return nil
+}
+
+// call makes a call, and tells what came of it.
+func (host *Host) call(ctx context.Context, epoch uint64, it sending) {
+	began := time.Now()
+	reply, err := host.carrier.Carry(ctx, it.call, it.until)
+	if ctx.Err() != nil {
+		return // it was given up
+	}
+	fields := []zap.Field{
+		zap.String("volume", it.name), zap.Stringer("kind", it.call.Kind()), zap.String("plugin", carrying.PluginOf(it.call)),
+		zap.Uint64("session", it.call.Number.Session), zap.Uint64("call", it.call.Number.Call), zap.Duration("took", time.Since(began)),
+	}
+	if err != nil {
+		host.log.Warn("a call got no reply", append(fields, zap.Error(err))...)
+	} else {
+		host.log.Info("a call", append(fields, zap.Uint8("status", reply.Status), zap.String("detail", reply.Detail))...)
+	}
+	host.tell(&heard{name: it.name, epoch: epoch, call: it.call, reply: reply, err: err})
+}
+
+// tell hands an event to the loop.
+func (host *Host) tell(it event) {
+	select {
+	case host.happened <- it:
+	case <-host.done:
+	}
+}

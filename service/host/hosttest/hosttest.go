@@ -1,0 +1,123 @@
+// Package hosttest has a store in memory and plugins that answer in the same process, for tests of who runs an orchestrator.
+package hosttest
+
+import (
+	"context"
+	"sort"
+	"sync"
+	"time"
+
+	"tufayon/service/frames"
+	"tufayon/service/store"
+)
+
+// A Store outlives its hosts, counts its commits, and may fail.
+type Store struct {
+	mutex   sync.Mutex
+	parts   map[uint64][]byte
+	commits int
+	fault   error
+	lost    chan struct{}
+}
+
+// NewStore makes an empty one.
+func NewStore() *Store { return &Store{parts: map[uint64][]byte{}, lost: make(chan struct{})} }
+
+// Load gives all parts, by rising key.
+func (kept *Store) Load(context.Context) ([]store.Part, error) {
+	kept.mutex.Lock()
+	defer kept.mutex.Unlock()
+	var parts []store.Part
+	for key, value := range kept.parts {
+		parts = append(parts, store.Part{Key: key, Value: value})
+	}
+	sort.Slice(parts, func(i, j int) bool { return parts[i].Key < parts[j].Key })
+	return parts, nil
+}
+
+// Commit makes the changes, unless the store fails.
+func (kept *Store) Commit(_ context.Context, _ bool, changes []store.Change) error {
+	kept.mutex.Lock()
+	defer kept.mutex.Unlock()
+	if kept.fault != nil {
+		return kept.fault
+	}
+	kept.commits++
+	for _, change := range changes {
+		if change.Out {
+			delete(kept.parts, change.Key)
+		} else {
+			kept.parts[change.Key] = change.Value
+		}
+	}
+	return nil
+}
+
+// Lost says that the store is another's.
+func (kept *Store) Lost() <-chan struct{} { return kept.lost }
+
+// Close does nothing.
+func (kept *Store) Close() error { return nil }
+
+// Fail has commits fail from now on.
+func (kept *Store) Fail(fault error) {
+	kept.mutex.Lock()
+	defer kept.mutex.Unlock()
+	kept.fault = fault
+}
+
+// Lose says that the store is another's now.
+func (kept *Store) Lose() { close(kept.lost) }
+
+// Commits counts the commits.
+func (kept *Store) Commits() int {
+	kept.mutex.Lock()
+	defer kept.mutex.Unlock()
+	return kept.commits
+}
+
+// A Carrier answers calls itself. It gives each volume an id, and says OK, unless Answer, if there is one, does otherwise: it says whether it answers.
+type Carrier struct {
+	Answer func(ctx context.Context, call frames.Call, until time.Time) (reply frames.Reply, err error, answers bool)
+
+	mutex sync.Mutex
+	calls []frames.Call
+	last  uint64
+}
+
+// Carry answers a call.
+func (carrier *Carrier) Carry(ctx context.Context, call frames.Call, until time.Time) (frames.Reply, error) {
+	carrier.mutex.Lock()
+	carrier.calls = append(carrier.calls, call)
+	carrier.mutex.Unlock()
+	if carrier.Answer != nil {
+		if reply, err, answers := carrier.Answer(ctx, call, until); answers {
+			return reply, err
+		}
+	}
+	return carrier.OK(call), nil
+}
+
+// OK is the reply that says that a call was carried out.
+func (carrier *Carrier) OK(call frames.Call) frames.Reply {
+	reply := frames.Reply{Number: call.Number, Node: call.Node, Kind: call.Kind()}
+	if call.Kind() == frames.CreateVolumeKind {
+		carrier.mutex.Lock()
+		defer carrier.mutex.Unlock()
+		carrier.last++
+		reply.Volume = carrier.last
+	}
+	return reply
+}
+
+// Refused is the reply that refuses a call.
+func Refused(call frames.Call, status uint8, detail string) frames.Reply {
+	return frames.Reply{Number: call.Number, Node: call.Node, Kind: call.Kind(), Status: status, Detail: detail}
+}
+
+// Calls are those that came, in order.
+func (carrier *Carrier) Calls() []frames.Call {
+	carrier.mutex.Lock()
+	defer carrier.mutex.Unlock()
+	return append([]frames.Call(nil), carrier.calls...)
+}

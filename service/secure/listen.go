@@ -1,0 +1,32 @@
+package secure
+
+import (
+	"fmt"
+	"net"
+	"os"
+	"path/filepath"
+)
+
+// Listen makes a Unix socket that every user may connect to: the kernel says who does, and Local refuses those who may not. A socket that an earlier
+// process left there goes, unless somebody serves it. The folder is made where it is missing.
+func Listen(path string) (net.Listener, error) {
+	if err := os.MkdirAll(filepath.Dir(path), 0o755); err != nil {
+		return nil, err
+	}
+	if other, err := net.Dial("unix", path); err == nil {
+		other.Close()
+		return nil, fmt.Errorf("%s is served by another process", path)
+	}
+	if left, err := os.Lstat(path); err == nil && left.Mode()&os.ModeSocket != 0 {
+		os.Remove(path)
+	}
+	listener, err := net.Listen("unix", path)
+	if err != nil {
+		return nil, err
+	}
+	if err := os.Chmod(path, 0o666); err != nil {
+		listener.Close()
+		return nil, err
+	}
+	return listener, nil
+}

@@ -1,0 +1,113 @@
+package secure
+
+import (
+	"context"
+	"crypto/tls"
+	"crypto/x509"
+	"net"
+	"sync"
+	"time"
+
+	"google.golang.org/grpc/credentials"
+)
+
+// Refused is told of each peer that was refused, and why. By TLS 1.3 a client that is refused sees only a closed connection, so the server has to tell.
+// It may be nil.
+type Refused func(from net.Addr, why error)
+
+// Server gives the credentials of a server that these peers may call.
+func (files Files) Server(admit Admit, refused Refused) credentials.TransportCredentials {
+	return named{refused: refused, TransportCredentials: credentials.NewTLS(&tls.Config{
+		MinVersion: tls.VersionTLS13,
+		GetConfigForClient: func(*tls.ClientHelloInfo) (*tls.Config, error) {
+			own, err := files.own()
+			if err != nil {
+				return nil, err
+			}
+			return &tls.Config{
+				Certificates: []tls.Certificate{*own}, MinVersion: tls.VersionTLS13, ClientAuth: tls.RequestClientCert,
+				SessionTicketsDisabled: true, NextProtos: []string{"h2"}, // gRPC adds that only to the outer configuration
+				VerifyConnection: files.verify(x509.ExtKeyUsageClientAuth, admit),
+			}, nil
+		},
+	})}
+}
+
+// Client gives the credentials of a client that speaks to one peer, whatever its address.
+func (files Files) Client(wanted Name, refused Refused) credentials.TransportCredentials {
+	return named{refused: refused, TransportCredentials: credentials.NewTLS(&tls.Config{
+		MinVersion:         tls.VersionTLS13,
+		InsecureSkipVerify: true, // addresses and DNS names prove nothing here: VerifyConnection judges all
+		GetClientCertificate: func(*tls.CertificateRequestInfo) (*tls.Certificate, error) {
+			return files.own()
+		},
+		VerifyConnection: files.verify(x509.ExtKeyUsageServerAuth, Only(wanted)),
+	})}
+}
+
+func (files Files) verify(usage x509.ExtKeyUsage, admit Admit) func(tls.ConnectionState) error {
+	return func(state tls.ConnectionState) error {
+		pool, err := files.believed()
+		if err != nil {
+			return err
+		}
+		return judge(state.PeerCertificates, pool, usage, admit)
+	}
+}
+
+// named are TLS's credentials, which tell who is refused, and whose connections end with the peer's certificate.
+type named struct {
+	credentials.TransportCredentials
+	refused Refused
+}
+
+func (it named) ServerHandshake(raw net.Conn) (net.Conn, credentials.AuthInfo, error) {
+	secured, info, err := it.TransportCredentials.ServerHandshake(raw)
+	return it.shaken(raw, secured, info, err)
+}
+
+func (it named) ClientHandshake(ctx context.Context, authority string, raw net.Conn) (net.Conn, credentials.AuthInfo, error) {
+	secured, info, err := it.TransportCredentials.ClientHandshake(ctx, authority, raw)
+	return it.shaken(raw, secured, info, err)
+}
+
+func (it named) Clone() credentials.TransportCredentials {
+	return named{refused: it.refused, TransportCredentials: it.TransportCredentials.Clone()}
+}
+
+func (it named) shaken(raw, secured net.Conn, info credentials.AuthInfo, err error) (net.Conn, credentials.AuthInfo, error) {
+	if err != nil {
+		if it.refused != nil {
+			it.refused(raw.RemoteAddr(), err)
+		}
+		return nil, nil, err
+	}
+	if by, ok := info.(credentials.TLSInfo); ok {
+		secured = endingAt(secured, endOf(by.State.PeerCertificates))
+	}
+	return secured, info, nil
+}
+
+// ending is a connection that closes when the peer's certificate ends: so a call, also a long one, has a peer whose certificate is valid.
+type ending struct {
+	net.Conn
+	timer *time.Timer
+	once  sync.Once
+	err   error
+}
+
+func endingAt(connection net.Conn, end time.Time) net.Conn {
+	it := &ending{Conn: connection}
+	it.timer = time.AfterFunc(time.Until(end), func() { it.close() })
+	return it
+}
+
+func (it *ending) close() {
+	it.once.Do(func() { it.err = it.Conn.Close() })
+}
+
+func (it *ending) Close() error {
+	it.timer.Stop()
+	it.close()
+	return it.err
+}

@@ -1,0 +1,242 @@
+package settings
+
+import (
+	"context"
+	"fmt"
+	"net"
+	"path/filepath"
+	"regexp"
+	"sort"
+	"strconv"
+	"strings"
+	"time"
+
+	"tufayon/service/api"
+	"tufayon/service/carrying"
+	"tufayon/service/frames"
+	"tufayon/service/secure"
+)
+
+// setName is what a set may be called: a label of a domain, since it stands where a URI has its host.
+var setName = regexp.MustCompile(`^[a-z0-9]([-a-z0-9]{0,61}[a-z0-9])?$`)
+
+const (
+	mostNodes    = 64
+	mostSlots    = 4096
+	mostGreatest = 1<<63 - 1
+)
+
+// checking gathers faults, each with its place.
+type checking struct {
+	file   string
+	faults Faults
+}
+
+func (it *checking) refuse(place, why string, values ...any) {
+	it.faults = append(it.faults, it.file+": "+place+": "+fmt.Sprintf(why, values...))
+}
+
+// faults are those of the two files in themselves.
+func (settings *Settings) faults() Faults {
+	set := &checking{file: settings.Process.Set}
+	settings.Set.check(set)
+	process := &checking{file: settings.File}
+	settings.Process.check(process)
+	faults := append(set.faults, process.faults...)
+	if settings.Process.IsTLS() {
+		return faults
+	}
+	var open Faults
+	for place, address := range settings.addresses() {
+		if _, _, err := net.SplitHostPort(address); err == nil && !carrying.IsLocal(address) {
+			open = append(open, fmt.Sprintf("%s: over TCP there have to be a certificate, its key and authorities in %s", place, settings.File))
+		}
+	}
+	sort.Strings(open)
+	return append(faults, open...)
+}
+
+// addresses are all addresses, by their places.
+func (settings *Settings) addresses() map[string]string {
+	addresses := map[string]string{settings.File + ": listen": settings.Process.Listen, settings.Process.Set + ": controller": settings.Set.Controller}
+	for at, it := range settings.Set.Nodes {
+		addresses[fmt.Sprintf("%s: nodes[%d].address", settings.Process.Set, at)] = it.Address
+	}
+	return addresses
+}
+
+func (set *Set) check(to *checking) {
+	if !setName.MatchString(set.Name) {
+		to.refuse("set", "%q is no name of a set: small letters, digits, and dashes between them", set.Name)
+	}
+	if set.Greatest < 1 || set.Greatest > mostGreatest {
+		to.refuse("greatest", "%d isn't from 1 to %d", set.Greatest, uint64(mostGreatest))
+	}
+	if !filepath.IsAbs(set.Staging) {
+		to.refuse("staging", "%q is no absolute path", set.Staging)
+	}
+	checkAddress(to, "controller", set.Controller)
+	if len(set.Nodes) > mostNodes {
+		to.refuse("nodes", "%d are more than %d", len(set.Nodes), mostNodes)
+	}
+	ids, addresses := map[string]int{}, map[string]string{set.Controller: "controller"}
+	for at, it := range set.Nodes {
+		place := fmt.Sprintf("nodes[%d]", at)
+		if it.ID == "" || len(it.ID) > frames.MaxNode || strings.ContainsRune(it.ID, 0) {
+			to.refuse(place+".id", "%q isn't of 1 to %d bytes", it.ID, frames.MaxNode)
+		}
+		if other, isThere := ids[it.ID]; isThere {
+			to.refuse(place+".id", "%q is that of nodes[%d] too", it.ID, other)
+		}
+		if it.Slots > mostSlots {
+			to.refuse(place+".slots", "%d are more than %d", it.Slots, mostSlots)
+		}
+		if other, isThere := addresses[it.Address]; isThere {
+			to.refuse(place+".address", "%q is that of %s too", it.Address, other)
+		}
+		checkAddress(to, place+".address", it.Address)
+		ids[it.ID], addresses[it.Address] = at, place
+	}
+	set.Times.check(to)
+}
+
+func (times Times) check(to *checking) {
+	if times.Answer <= 0 {
+		to.refuse("times.answer", "%v isn't above 0", times.Answer)
+	}
+	if times.Retry <= 0 {
+		to.refuse("times.retry", "%v isn't above 0", times.Retry)
+	}
+	if times.MostRetry < times.Retry {
+		to.refuse("times.most_retry", "%v is below times.retry, %v", times.MostRetry, times.Retry)
+	}
+	if times.Patience < times.Answer {
+		to.refuse("times.patience", "%v is below times.answer, %v: a use would be undone while its first call may be answered", times.Patience, times.Answer)
+	}
+}
+
+func (process *Process) check(to *checking) {
+	if (process.Store == "") == (process.Etcd == nil) {
+		to.refuse("store", "either this file is there, or etcd")
+	}
+	if etcd := process.Etcd; etcd != nil {
+		etcd.check(to)
+	}
+	checkAddress(to, "listen", process.Listen)
+	if process.IsTLS() && (process.Certificate == "" || process.Key == "" || process.Authorities == "") {
+		to.refuse("certificate", "certificate, key and authorities are there together, or none of them")
+	}
+	if process.Calls.Controller < 1 {
+		to.refuse("calls.controller", "%d isn't above 0", process.Calls.Controller)
+	}
+	if process.Calls.Node < 1 {
+		to.refuse("calls.node", "%d isn't above 0", process.Calls.Node)
+	}
+	for name, role := range process.Clients {
+		if _, isOne := api.ParseRole(role); !isOne || name == "" {
+			to.refuse("clients."+name, "%q is no role: read, operate or lose", role)
+		}
+	}
+	for user, role := range process.Users {
+		if _, err := strconv.ParseUint(user, 10, 32); err != nil {
+			to.refuse("users."+user, "it is no user's number")
+		}
+		if _, isOne := api.ParseRole(role); !isOne {
+			to.refuse("users."+user, "%q is no role: read, operate or lose", role)
+		}
+	}
+}
+
+func (etcd *Etcd) check(to *checking) {
+	if len(etcd.Endpoints) == 0 {
+		to.refuse("etcd.endpoints", "there are none")
+	}
+	if etcd.Prefix == "" {
+		to.refuse("etcd.prefix", "it is missing")
+	}
+	if all := etcd.CA != "" && etcd.Certificate != "" && etcd.Key != ""; !all && etcd.CA+etcd.Certificate+etcd.Key != "" {
+		to.refuse("etcd.certificate", "ca, certificate and key are there together, or none of them")
+	}
+	if etcd.Lease < 1 {
+		to.refuse("etcd.lease", "%d isn't above 0", etcd.Lease)
+	}
+}
+
+func checkAddress(to *checking, place, address string) {
+	if carrying.IsLocal(address) {
+		if !filepath.IsAbs(strings.TrimPrefix(address, "unix://")) {
+			to.refuse(place, "%q has no absolute path", address)
+		}
+		return
+	}
+	host, port, err := net.SplitHostPort(address)
+	if number, bad := strconv.ParseUint(port, 10, 16); err != nil || bad != nil || number == 0 || host == "" && place != "listen" {
+		to.refuse(place, "%q is neither unix://PATH nor HOST:PORT", address)
+	}
+}
+
+// Name is this process's in its certificate.
+func (settings *Settings) Name() secure.Name {
+	return secure.Name{Set: settings.Set.Name, Role: secure.Orchestrator}
+}
+
+// Files are those of this process's certificate, nil where it has none.
+func (settings *Settings) Files() *secure.Files {
+	process := settings.Process
+	if !process.IsTLS() {
+		return nil
+	}
+	return &secure.Files{Certificate: process.Certificate, Key: process.Key, Authorities: process.Authorities}
+}
+
+// Roles are those of clients and users. Where the file lists no users, root and the process's own may do all.
+func (settings *Settings) Roles(own int) (clients map[string]api.Role, users map[uint32]api.Role) {
+	clients, users = map[string]api.Role{}, map[uint32]api.Role{}
+	for name, role := range settings.Process.Clients {
+		clients[name], _ = api.ParseRole(role)
+	}
+	if settings.Process.Users == nil {
+		users[0], users[uint32(own)] = api.Loses, api.Loses
+	}
+	for user, role := range settings.Process.Users {
+		number, _ := strconv.ParseUint(user, 10, 32)
+		users[uint32(number)], _ = api.ParseRole(role)
+	}
+	return clients, users
+}
+
+// Addresses are the plugins', by their names.
+func (settings *Settings) Addresses() map[string]string {
+	addresses := map[string]string{carrying.Controller: settings.Set.Controller}
+	for _, it := range settings.Set.Nodes {
+		addresses[carrying.NodeName(it.ID)] = it.Address
+	}
+	return addresses
+}
+
+// Check checks what is outside of the files: that addresses of machines can be looked up, and that the certificate names this process and is valid. It
+// tells until when that is, if there is one.
+func (settings *Settings) Check(ctx context.Context) (until time.Time, err error) {
+	var faults Faults
+	for place, address := range settings.addresses() {
+		host, _, err := net.SplitHostPort(address)
+		if carrying.IsLocal(address) || err != nil || host == "" {
+			continue
+		}
+		looking, cancel := context.WithTimeout(ctx, 5*time.Second)
+		if _, err := net.DefaultResolver.LookupHost(looking, host); err != nil {
+			faults = append(faults, fmt.Sprintf("%s: %v", place, err))
+		}
+		cancel()
+	}
+	if files := settings.Files(); files != nil {
+		if until, err = files.Check(settings.Name()); err != nil {
+			faults = append(faults, fmt.Sprintf("%s: certificate: %v", settings.File, err))
+		}
+	}
+	if len(faults) > 0 {
+		sort.Strings(faults)
+		return time.Time{}, faults
+	}
+	return until, nil
+}

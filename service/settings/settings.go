@@ -1,0 +1,177 @@
+// Package settings reads and checks the two files of the orchestrator's service, and tells each fault with its place: the file of the set, which is the
+// same for all of its processes, and the file of this process. docs/SERVICE.md has their keys.
+package settings
+
+import (
+	"bytes"
+	"encoding/json"
+	"errors"
+	"fmt"
+	"os"
+	"path/filepath"
+	"strings"
+	"time"
+)
+
+// A Set is the file of a set.
+type Set struct {
+	Name       string `json:"set"`
+	Greatest   uint64 `json:"greatest"` // bytes of a volume
+	Controller string `json:"controller"`
+	Nodes      []Node `json:"nodes"`
+	Staging    string `json:"staging"`
+	Times      Times  `json:"times"`
+}
+
+// A Node is one of the set's.
+type Node struct {
+	ID      string `json:"id"`
+	Slots   uint64 `json:"slots"`
+	Address string `json:"address"`
+}
+
+// Times are in seconds.
+type Times struct {
+	Patience  float64 `json:"patience"`   // over how long the three tries of a use are spread
+	Answer    float64 `json:"answer"`     // how long a plugin may take to answer a call
+	Retry     float64 `json:"retry"`      // how long it takes until another call is tried again at first
+	MostRetry float64 `json:"most_retry"` // and at most
+}
+
+// A Process is the file of a process.
+type Process struct {
+	Set         string            `json:"set"`   // the set's file
+	Store       string            `json:"store"` // the orchestrator's file of SQLite; or
+	Etcd        *Etcd             `json:"etcd"`
+	Listen      string            `json:"listen"` // unix://PATH, or HOST:PORT
+	Certificate string            `json:"certificate"`
+	Key         string            `json:"key"`
+	Authorities string            `json:"authorities"`
+	Clients     map[string]string `json:"clients"` // the role of each client of the set, by its name
+	Users       map[string]string `json:"users"`   // the role of each user of this machine, by its number
+	Calls       Calls             `json:"calls"`
+}
+
+// Etcd says where the orchestrator's store is in etcd, and how this process leads.
+type Etcd struct {
+	Endpoints   []string `json:"endpoints"`
+	Prefix      string   `json:"prefix"`
+	CA          string   `json:"ca"` // files of TLS, all three unless all endpoints are on loopback
+	Certificate string   `json:"certificate"`
+	Key         string   `json:"key"`
+	Lease       int      `json:"lease"` // seconds
+}
+
+// Calls are how many are made at once.
+type Calls struct {
+	Controller int `json:"controller"`
+	Node       int `json:"node"` // at each
+}
+
+// Settings are both files.
+type Settings struct {
+	Set     Set
+	Process Process
+	File    string // of the process
+}
+
+// Seconds is a time of so many seconds.
+func Seconds(count float64) time.Duration { return time.Duration(count * float64(time.Second)) }
+
+// IsTLS says whether there are certificates.
+func (process *Process) IsTLS() bool {
+	return process.Certificate != "" || process.Key != "" || process.Authorities != ""
+}
+
+// Faults are all that is wrong, each with its place.
+type Faults []string
+
+func (faults Faults) Error() string { return strings.Join(faults, "\n") }
+
+// Read reads both files. What is wrong with them in themselves is told, each fault with its place: Faults.
+func Read(file string) (*Settings, error) {
+	settings := &Settings{
+		File:    file,
+		Set:     Set{Times: Times{Patience: 300, Answer: 150, Retry: 1, MostRetry: 60}},
+		Process: Process{Calls: Calls{Controller: 64, Node: 32}},
+	}
+	if err := readJSON(file, &settings.Process); err != nil {
+		return nil, Faults{err.Error()}
+	}
+	if settings.Process.Set == "" {
+		return nil, Faults{file + ": set: the set's file is missing"}
+	}
+	paths := []*string{
+		&settings.Process.Set, &settings.Process.Store, &settings.Process.Certificate, &settings.Process.Key, &settings.Process.Authorities,
+	}
+	if etcd := settings.Process.Etcd; etcd != nil {
+		paths = append(paths, &etcd.CA, &etcd.Certificate, &etcd.Key)
+	}
+	for _, path := range paths {
+		if *path != "" && !filepath.IsAbs(*path) {
+			*path = filepath.Join(filepath.Dir(file), *path)
+		}
+	}
+	if err := readJSON(settings.Process.Set, &settings.Set); err != nil {
+		return nil, Faults{err.Error()}
+	}
+	if faults := settings.faults(); len(faults) > 0 {
+		return nil, faults
+	}
+	return settings, nil
+}
+
+// readJSON reads the one object that a file has, which has no key that isn't known.
+func readJSON(file string, into any) error {
+	content, err := os.ReadFile(file)
+	if err != nil {
+		return err // which names the file
+	}
+	decoder := json.NewDecoder(bytes.NewReader(content))
+	decoder.DisallowUnknownFields()
+	if err = decoder.Decode(into); err == nil && len(bytes.TrimSpace(content[decoder.InputOffset():])) > 0 {
+		err = errors.New("something stands behind the object")
+	}
+	if err == nil {
+		return nil
+	}
+	at := decoder.InputOffset()
+	var syntax *json.SyntaxError
+	var kind *json.UnmarshalTypeError
+	switch {
+	case errors.As(err, &syntax):
+		at = syntax.Offset
+	case errors.As(err, &kind):
+		at, err = kind.Offset, fmt.Errorf("%s: a %s where there has to be a %v", kind.Field, kind.Value, kind.Type)
+	}
+	if at > int64(len(content)) {
+		at = int64(len(content))
+	}
+	return fmt.Errorf("%s:%d: %w", file, 1+bytes.Count(content[:at], []byte("\n")), err)
+}
+
+// Config is the CONFIG of the set's controller and orchestrator.
+func (set *Set) Config() []byte {
+	type node struct {
+		ID    string `json:"id"`
+		Slots uint64 `json:"slots"`
+	}
+	config := struct {
+		Greatest uint64 `json:"greatest"`
+		Nodes    []node `json:"nodes"`
+	}{set.Greatest, []node{}}
+	for _, it := range set.Nodes {
+		config.Nodes = append(config.Nodes, node{it.ID, it.Slots})
+	}
+	bytes, _ := json.Marshal(config) // texts and numbers always can be
+	return append(bytes, '\n')
+}
+
+// IDs are the nodes' ids, in order.
+func (set *Set) IDs() []string {
+	ids := make([]string, 0, len(set.Nodes))
+	for _, it := range set.Nodes {
+		ids = append(ids, it.ID)
+	}
+	return ids
+}

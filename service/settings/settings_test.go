@@ -1,0 +1,120 @@
+package settings_test
+
+import (
+	"context"
+	"errors"
+	"os"
+	"path/filepath"
+	"strings"
+	"testing"
+	"time"
+
+	"tufayon/service/api"
+	"tufayon/service/secure/securetest"
+	"tufayon/service/settings"
+)
+
+const (
+	set = `{"set": "s1", "greatest": 1000, "controller": "unix:///run/c.sock", "staging": "/staging",
+ "nodes": [{"id": "n1", "slots": 3, "address": "unix:///run/n1.sock"}, {"id": "n2", "slots": 4, "address": "unix:///run/n2.sock"}]}`
+	process = `{"set": "set.json", "store": "orchestrator.db", "listen": "unix:///run/o.sock"}`
+)
+
+// write writes both files, and gives that of the process.
+func write(t *testing.T, set, process string) string {
+	t.Helper()
+	folder := t.TempDir()
+	for name, text := range map[string]string{"set.json": set, "process.json": process} {
+		if err := os.WriteFile(filepath.Join(folder, name), []byte(text), 0o600); err != nil {
+			t.Fatal(err)
+		}
+	}
+	return filepath.Join(folder, "process.json")
+}
+
+func TestRead(t *testing.T) {
+	file := write(t, set, process)
+	read, err := settings.Read(file)
+	if err != nil {
+		t.Fatal(err)
+	}
+	if config := string(read.Set.Config()); config != `{"greatest":1000,"nodes":[{"id":"n1","slots":3},{"id":"n2","slots":4}]}`+"\n" {
+		t.Errorf("CONFIG is %s", config)
+	}
+	if read.Process.Store != filepath.Join(filepath.Dir(file), "orchestrator.db") || read.Set.Times.Patience != 300 || read.Process.Calls.Node != 32 {
+		t.Errorf("%+v", read)
+	}
+	if addresses := read.Addresses(); len(addresses) != 3 || addresses["node:n2"] != "unix:///run/n2.sock" || addresses["controller"] != "unix:///run/c.sock" {
+		t.Errorf("%v", addresses)
+	}
+	if _, users := read.Roles(7); len(users) != 2 || users[7] != api.Loses || users[0] != api.Loses {
+		t.Errorf("%v", users)
+	}
+	if until, err := read.Check(context.Background()); err != nil || !until.IsZero() {
+		t.Errorf("until %v, %v", until, err)
+	}
+}
+
+// Each fault is told with its place.
+func TestFaults(t *testing.T) {
+	for _, it := range []struct {
+		set, process string
+		want         []string
+	}{
+		{set, `{`, []string{"process.json:1: unexpected EOF"}},
+		{set, process + "{}", []string{"process.json:1: something stands behind the object"}},
+		{set, `{"set": "set.json", "stor": ""}`, []string{`process.json:1: json: unknown field "stor"`}},
+		{set, "{\"set\": \"set.json\",\n \"store\": 3}", []string{"process.json:2: store: a number where there has to be a string"}},
+		{set, `{"set": "other.json"}`, []string{"other.json: no such file"}},
+		{set, `{}`, []string{"process.json: set: "}},
+		{`{"nodes": [{"slots": -1}]}`, process, []string{"set.json:1: nodes.slots: a number -1 where"}},
+		{`{"times": {"patience": 1, "retry": 0, "most_retry": 1}}`, process, []string{
+			"set.json: set: ", "set.json: greatest: 0 ", "set.json: staging: ", "set.json: controller: ", "set.json: times.retry: 0", "set.json: times.patience: 1 is below",
+		}},
+		{strings.Replace(set, `"n2"`, `"n1"`, 1), process, []string{`set.json: nodes[1].id: "n1" is that of nodes[0] too`}},
+		{strings.Replace(set, `/run/n2`, `/run/n1`, 1), process, []string{`set.json: nodes[1].address: "unix:///run/n1.sock" is that of nodes[0] too`}},
+		{strings.Replace(set, `unix:///run/n2.sock`, `unix://n2.sock`, 1), process, []string{"set.json: nodes[1].address: \"unix://n2.sock\" has no absolute path"}},
+		{strings.Replace(set, `unix:///run/n2.sock`, `n2`, 1), process, []string{"set.json: nodes[1].address: \"n2\" is neither"}},
+		{strings.Replace(set, `unix:///run/n2.sock`, `n2:7102`, 1), process, []string{"set.json: nodes[1].address: over TCP"}},
+		{strings.Replace(set, `"slots": 4`, `"slots": 5000`, 1), process, []string{"set.json: nodes[1].slots: 5000 are more than 4096"}},
+		{set, `{"set": "set.json", "store": "o.db", "listen": ":7", "key": "k", "users": {"ann": "read", "7": "king"}, "clients": {"bob": ""}, "calls": {"node": 0}}`,
+			[]string{"certificate: certificate, key", "users.ann: it is no", `users.7: "king" is no role`, `clients.bob: "" is no role`, "calls.node: 0"}},
+		{set, `{"set": "set.json", "listen": "unix:///o"}`, []string{"process.json: store: either this file is there, or etcd"}},
+		{set, `{"set": "set.json", "listen": "unix:///o", "store": "s", "etcd": {"ca": "ca.pem"}}`, []string{
+			"store: either", "etcd.endpoints: there are none", "etcd.prefix: it is missing", "etcd.certificate: ca, certificate and key", "etcd.lease: 0 isn't above 0",
+		}},
+	} {
+		_, err := settings.Read(write(t, it.set, it.process))
+		var faults settings.Faults
+		if !errors.As(err, &faults) || len(faults) != len(it.want) {
+			t.Errorf("%s %s: %v", it.set, it.process, err)
+			continue
+		}
+		for _, want := range it.want {
+			if !strings.Contains(err.Error(), want) {
+				t.Errorf("%v doesn't say %s", err, want)
+			}
+		}
+	}
+}
+
+// What is outside of the files: machines that aren't known, and the certificate.
+func TestCheck(t *testing.T) {
+	authority, folder := securetest.NewAuthority(t), t.TempDir()
+	files := authority.Issue(t, folder, time.Now().Add(time.Hour), "tufayon://s1/orchestrator")
+	text := `{"set": "set.json", "store": "o.db", "listen": "127.0.0.1:7101", "certificate": "` + files.Certificate + `", "key": "` + files.Key +
+		`", "authorities": "` + files.Authorities + `", "clients": {"ann": "operate"}}`
+	file := write(t, set, text)
+	read, err := settings.Read(file)
+	if err != nil {
+		t.Fatal(err)
+	}
+	if until, err := read.Check(context.Background()); err != nil || until.IsZero() {
+		t.Errorf("until %v, %v", until, err)
+	}
+	authority.Issue(t, folder, time.Now().Add(time.Hour), "tufayon://s2/orchestrator")
+	want := file + ": certificate: " + files.Certificate + ": the peer is of another set: tufayon://s2/orchestrator, not tufayon://s1/orchestrator"
+	if _, err := read.Check(context.Background()); err == nil || err.Error() != want {
+		t.Errorf("%v, not %s", err, want)
+	}
+}
