@@ -198,7 +198,7 @@ func TestPatience(t *testing.T) {
 		isUse := call.Kind() == frames.ControllerPublishVolumeKind || call.Kind() == frames.NodeStageVolumeKind || call.Kind() == frames.NodePublishVolumeKind
 		if left := time.Until(until); isUse == until.IsZero() || isUse && left > patience {
 			t.Errorf("%v is to be reached within %v", call.Kind(), left)
-		} else if isUse && atomic.CompareAndSwapInt32(&tries, 0, 1) && left < patience/2 {
+		} else if isUse && atomic.CompareAndSwapInt32(&tries, 0, 1) && left < patience/10 {
 			t.Errorf("the first %v is to be reached within %v", call.Kind(), left)
 		}
 		return frames.Reply{}, errors.New("nobody is there"), atomic.LoadInt32(&down) == 1
