@@ -418,6 +418,58 @@ func TestFull(t *testing.T) {
 	}
 }
 
+// In a quiet moment a session begins by itself, once many names of deleted volumes are there.
+func TestForgets(t *testing.T) {
+	made := open(t, hosttest.NewStore(), &hosttest.Carrier{}, quick)
+	var group sync.WaitGroup
+	for worker := 0; worker < 32; worker++ {
+		group.Add(1)
+		go func(worker int) {
+			defer group.Done()
+			for at := worker; at < 1024; at += 32 {
+				name := fmt.Sprint("v", at)
+				for _, command := range []host.Command{create(name), remove(name)} {
+					if answer, err := made.Do(ctx, command); err != nil || !answer.Reached {
+						t.Errorf("%+v: %+v, %v", command, answer, err)
+					}
+				}
+			}
+		}(worker)
+	}
+	group.Wait()
+	soon(t, "the names are free", func() bool { _, isThere := made.Get("v0"); return !isThere && made.Session() == 2 })
+}
+
+// A thousand commands may wait; more are refused at once.
+func TestBusy(t *testing.T) {
+	const most = 1000 + 64 + 1 // that wait, that are asked together, and one more
+	kept := hosttest.NewStore()
+	made := open(t, kept, &hosttest.Carrier{}, quick)
+	letGo := kept.Hold()
+	var group sync.WaitGroup
+	var busy, done int32
+	for at := 0; at < most+50; at++ {
+		group.Add(1)
+		go func(at int) {
+			defer group.Done()
+			switch _, err := made.Do(ctx, create(fmt.Sprint("v", at))); {
+			case err == nil:
+				atomic.AddInt32(&done, 1)
+			case errors.Is(err, host.ErrBusy):
+				atomic.AddInt32(&busy, 1)
+			default:
+				t.Error(err)
+			}
+		}(at)
+	}
+	soon(t, "some are refused", func() bool { return atomic.LoadInt32(&busy) >= 50 })
+	letGo()
+	group.Wait()
+	if int(busy+done) != most+50 || done < 1000 {
+		t.Errorf("%d are refused, and %d done", busy, done)
+	}
+}
+
 // A watcher sees what is committed, in order; one that is too slow is told so.
 func TestWatch(t *testing.T) {
 	made := open(t, hosttest.NewStore(), &hosttest.Carrier{}, quick, "n1")
