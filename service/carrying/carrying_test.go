@@ -118,13 +118,13 @@ func TestLimits(t *testing.T) {
 		if count := atomic.AddInt64(&now, 1); count > atomic.LoadInt64(&most) {
 			atomic.StoreInt64(&most, count)
 		}
-		time.Sleep(60 * time.Millisecond)
+		time.Sleep(150 * time.Millisecond)
 		atomic.AddInt64(&now, -1)
 		return nil, true
 	}}
 	slow.Serve(t, socket(t, "n1"), nil)
 	quick := (&carryingtest.Plugin{Node: "n2"}).Serve(t, socket(t, "n2"), nil)
-	limits := carrying.Limits{AtController: 1, AtNode: 2, Answer: 150 * time.Millisecond}
+	limits := carrying.Limits{AtController: 1, AtNode: 2, Answer: 500 * time.Millisecond}
 	carrier := carry(t, carrying.Peers{}, limits, map[string]string{"node:n1": slow.Address, "node:n2": quick.Address})
 	var group sync.WaitGroup
 	for at := 0; at < 8; at++ {

@@ -140,7 +140,7 @@ def beside(count, seconds):
             if slow and took[-1] < slow - 1:
                 wanted("what is of the slow one's volume waits", (first.done(), next_one.done()), (False, False))
             wanted("the slow one, and the next", (first.code().value[0], next_one.code().value[0]), (0, 0))
-        wanted(f"that {took[1]:.2f} s is about {took[0]:.2f} s", took[1] < 1.5 * took[0] + 0.5, True)
+        wanted(f"that {took[1]:.2f} s isn't the hook's time, but about {took[0]:.2f} s", took[1] < max(seconds - 1, 3 * took[0]), True)
         return f"{count} stages: {took[0]:.2f} s alone, {took[1]:.2f} s behind a hook of {seconds} s"
 
     return body

@@ -66,6 +66,12 @@ func (kept *Store) Fail(fault error) {
 	kept.fault = fault
 }
 
+// Hold has commits wait until they are let go.
+func (kept *Store) Hold() (letGo func()) {
+	kept.mutex.Lock()
+	return kept.mutex.Unlock
+}
+
 // Lose says that the store is another's now.
 func (kept *Store) Lose() { close(kept.lost) }
 
