@@ -1,25 +1,10 @@
--- Answers, line after line; and the first lines of those that there are.
-use Rattle.std.proofs.Common.{◌≡◌, inl, inr, ap, ℕ, zero, suc, ◌+◌, ◌≤◌, List, [], ◌∷◌, ◌++◌, length, take, Some, arith, length-append}
-use Rattle.std.specs.Prelude.{slice_get}
+-- Answers, line after line; and how many lines there may be.
+use Rattle.std.proofs.Common.{inl, inr, ap, ℕ, ◌≤◌, List, [], ◌∷◌, ◌++◌, length, arith, length-append}
 use Rattle.std.specs.List.{flat_map}
-use Rattle.std.proofs.lemmas.Option.{same_Some}
 use Rattle.csi_driver.specs.Public.LinesOf.{LinesOf, with_newline, and_last}
 use Rattle.csi_driver.proofs.LineStreams.{lines_few}
 pub use Rattle.csi_driver.proofs.GrowingAnswers.{answers-append}
 use Rattle.csi_orchestration.specs.Public.LinesServing.{AreThere}
-
--- the items up to one that is there, and that one
-pub take-next : {X : Type 0} (items : List X) (k : ℕ) (item : X) → slice_get items k ≡ Some item → take (suc k) items ≡ take k items ++ item ∷ []
-take-next [] zero item there = absurd (cc)
-take-next [] (suc k) item there = absurd (cc)
-take-next {X} (i ∷ items) zero item there = ap (λ (j : X). j ∷ []) (same_Some i item there)
-take-next {X} (i ∷ items) (suc k) item there = ap (λ (js : List X). i ∷ js) (take-next items k item there)
-
--- it is one of them
-pub next-within : {X : Type 0} (items : List X) (k : ℕ) (item : X) → slice_get items k ≡ Some item → k + 1 ≤ length items
-next-within [] k item there = absurd (cc)
-next-within (i ∷ items) zero item there = omega arith
-next-within (i ∷ items) (suc k) item there = omega (arith, next-within items k item there)
 
 -- there are no more lines than bytes, the last one too
 pub all-few : (bytes : List ℕ) (lines : List (List ℕ)) (rest : List ℕ) → LinesOf bytes lines rest → length (and_last lines rest) ≤ length bytes
