@@ -1,4 +1,4 @@
-//! Serving lines: each line of the input is answered, what it changed is committed, and then its answer is written.
+//! Serving lines: the lines of the input that are there are answered, what they changed is committed, and then their answers are written.
 ghost use Rattle.std.specs.Prelude.{◌≤◌, ◌^◌, ℕ, List, length};
 ghost use Rattle.std.specs.Io.KnownBytes.{Consumes, IsAtEnd};
 ghost use Rattle.csi_stores.specs.Public.Counting.{HasRisen};
@@ -22,13 +22,14 @@ use std::io::{Read, Write};
 use waiting::Waiting;
 
 /// The most bytes that are read at once.
-const PIECE: usize = 4096;
+const PIECE: usize = 16384;
 
-/// Serves the lines that the reader has: each is answered, without its newline, what it changed is committed, and then its answer is
-/// written, with a newline, and flushed. The last line needs no newline, if it isn't empty; an empty line is a line. At most 4,096 bytes
-/// are read at once, and all lines that are there are answered before more is read; nothing is read once serving stops. What is kept of the
-/// input is at most a line and a piece, so memory doesn't grow with the number of lines. The responder is spent at an `Err`: the store
-/// is opened again.
+/// Serves the lines that the reader has, without their newlines. The last line needs no newline, if it isn't empty; an empty line is a line.
+/// At most 16,384 bytes are read at once, and all lines that are there are answered before more is read: one after another by the responder,
+/// then what they changed is committed, in one transaction, and then their answers are written, each with a newline, and flushed. Where 1,024
+/// parts wait, or there is no memory for a line, the lines before are committed and written first. Nothing is read once serving stops. What is
+/// kept of the input is at most a line and a piece, so memory doesn't grow with the number of lines. The responder is spent at an `Err`: the
+/// store is opened again.
 ///
 /// Some bytes were read, which are lines and a rest; as many of the first lines were answered, one after another, as the result counts,
 /// none of them longer than 65,536 bytes, and each led to the parts of a record, where all in the first responder was within its
@@ -38,9 +39,9 @@ const PIECE: usize = 4096;
 /// - at `Input` and `Endless` too all lines are answered, committed and written, but for the rest, which is not too long; the reader
 ///   failed in this call, or 2^63 bytes were read;
 /// - at `Long` all lines before that one;
-/// - at `Output` the lines that are counted are committed, and of the last one's answer a front is written;
-/// - at `Keep` opening the store again finds the parts of the last responder or those that the next line would have led to, whose
-///   answer isn't written, and nothing else; the device failed in this call, or those parts don't fit;
+/// - at `Output` the lines that are counted are committed, and of the answers to those that were committed last a front is written;
+/// - at `Keep` opening the store again finds the parts of the last responder, or those that the next lines would have led to, all of them,
+///   whose answers aren't written, and nothing else; the device failed in this call, or those parts don't fit;
 /// - at `NoMemory` what is counted is committed and written, and nothing of the next line.
 ///
 /// The reader failed at no end but `Input`, the writer at none but `Output`. A store that is honest after the call was before. This

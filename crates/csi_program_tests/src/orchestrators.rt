@@ -158,25 +158,54 @@ fn is_front(rt: &(impl Abort + AllocGlobal), (session, from): Start, written: &[
     is_front
 }
 
-// Whether such a session that was stopped once this was written left what was there, or what was answered, or one line more; and whether the life goes
-// on from there.
+// How many of these lines, of which so many bytes are read at a time, were answered with the line behind so many, and how many were before it: all that one
+// read brings are committed together.
+fn group_of(given: &[u8], most: usize, answered: usize) -> (usize, usize) {
+    let mut before = 0usize;
+    let mut read = 0usize;
+    for _ in 0..given.len() {
+        read = read.saturating_add(most).min(given.len());
+        let after = count(given.get(..read).unwrap_or(given));
+        if after > answered {
+            return (before, after);
+        }
+        before = after;
+    }
+    (before, before)
+}
+
+// How many lines left their mark, either so many or so many, where a device stopped a session that was given these lines, so many bytes at a time, and
+// had written this: all that were read together, or none of them. Where one of them was answered, all are there.
+fn marked(given: &[u8], most: usize, written: &[u8]) -> (usize, usize) {
+    let said = count(written);
+    if said == 0 {
+        return (0, 0);
+    }
+    let answered = said.saturating_sub(1);
+    let (before, after) = group_of(given, most, answered);
+    let least = if before == answered { before } else { after };
+    (least, after)
+}
+
+// Whether such a session that was stopped once this was written left what was there, if it said nothing, or what so many or so many lines came to; and
+// whether the life goes on from there.
 fn goes_on<K: Keep>(
     rt: &(impl Abort + AllocGlobal),
     keep: &mut K,
     start: Start,
     written: &[u8],
+    (least, most): (usize, usize),
 ) -> bool {
     let (session, from) = start;
     let before = session.saturating_sub(1);
-    let said = count(written);
     if !is_front(rt, start, written) {
         return false;
     }
-    if said == 0 && has_after(rt, keep, before, (from, 0)) {
+    if written.is_empty() && has_after(rt, keep, before, (from, 0)) {
         return lives(rt, keep, start);
     }
-    for answered in said.saturating_sub(1)..=said {
-        let state = state_after(kept(from), answered);
+    for lines in [least, most] {
+        let state = state_after(kept(from), lines);
         if has_after(rt, keep, session, state) {
             return lives(rt, keep, (session.saturating_add(1), state.0));
         }

@@ -1,7 +1,7 @@
 //! A controller that is opened and served over a store, a reader and a writer that fail at one call, at each in turn, or give and take few bytes: how
 //! that ends, after how many frames, and what is counted, written and kept.
 use crate::contents::{CONTROLLER_HEAD, Content, NOTHING, has};
-use crate::script::{MADE, ONE_MADE, SCRIPT};
+use crate::script::{CUTS, Cut, MADE, ONE_MADE, SCRIPT, replied, whole_frames};
 use crate::serving::{End, Plugin, run, stream};
 use crate::turns::Turn;
 use csi_frames::FaultKind;
@@ -140,12 +140,12 @@ const FAILURES: &[(Devices, Outcome)] = &[
             write: (0, None),
             ..SOUND
         },
-        (End::Ended(1, OUTPUT), 0, 2, 1),
+        (End::Ended(6, OUTPUT), 0, 7, 1),
     ),
     (
         Devices {
-            commit: Some(7),
-            flush: Some(6),
+            commit: Some(2),
+            flush: Some(1),
             ..SOUND
         },
         WHOLE,
@@ -159,60 +159,43 @@ fn a_device_that_fails_ends_a_plugin(rt: HostRuntime) {
     }
 }
 
-// Where the replies to the script's frames end.
-const ENDS: &[usize] = &[0, 33, 66, 101, 134, 167, 200];
-
-// The frame whose commit fails isn't replied; what it puts in is kept, or isn't.
+// The frames whose commit fails aren't replied, none of them; what they put in is kept, all of it, or nothing is.
 #[test]
 fn each_commit_that_fails_ends_a_plugin(rt: HostRuntime) {
-    for (frames, written) in ENDS.iter().copied().enumerate().take(6) {
-        let next = frames.saturating_add(1);
-        for (left, kept) in [(Left::Old, next), (Left::New, next.saturating_add(1))] {
-            let devices = Devices {
-                commit: Some(next as u64),
-                left,
-                ..SOUND
-            };
-            comes_to(
-                &rt,
-                SCRIPT,
-                devices,
-                (End::Ended(frames, COMMIT), written, kept, 1),
-            );
+    for (most, together, reads) in CUTS {
+        for (commits, read) in reads.iter().copied().enumerate() {
+            let frames = commits.saturating_mul(*together);
+            let old = frames.saturating_add(1);
+            for (left, kept) in [(Left::Old, old), (Left::New, old.saturating_add(*together))] {
+                let devices = Devices {
+                    commit: Some(commits.saturating_add(1) as u64),
+                    left,
+                    read: (*most, None),
+                    ..SOUND
+                };
+                let end = End::Ended(frames, COMMIT);
+                comes_to(&rt, SCRIPT, devices, (end, replied(frames), kept, read));
+            }
         }
     }
 }
 
-// The frame whose reply isn't flushed is committed, and counted.
+// The frames whose replies aren't flushed are committed, and counted.
 #[test]
 fn each_flush_that_fails_ends_a_plugin(rt: HostRuntime) {
-    for (frames, written) in ENDS.iter().copied().enumerate().skip(1) {
-        let devices = Devices {
-            flush: Some(frames.saturating_sub(1) as u64),
-            ..SOUND
-        };
-        let kept = frames.saturating_add(1);
-        comes_to(
-            &rt,
-            SCRIPT,
-            devices,
-            (End::Ended(frames, OUTPUT), written, kept, 1),
-        );
-    }
-}
-
-// Where the script's frames end.
-const FRAMES: &[usize] = &[44, 81, 118, 152, 183, 227];
-
-// How many frames end within so many bytes.
-fn whole_frames(size: usize) -> usize {
-    let mut frames = 0usize;
-    for end in FRAMES {
-        if *end <= size {
-            frames = frames.saturating_add(1);
+    for (most, together, reads) in CUTS {
+        for (flushes, read) in reads.iter().copied().enumerate() {
+            let devices = Devices {
+                flush: Some(flushes as u64),
+                read: (*most, None),
+                ..SOUND
+            };
+            let frames = flushes.saturating_add(1).saturating_mul(*together);
+            let kept = frames.saturating_add(1);
+            let end = End::Ended(frames, OUTPUT);
+            comes_to(&rt, SCRIPT, devices, (end, replied(frames), kept, read));
         }
     }
-    frames
 }
 
 // Each read ends a plugin where it fails, that which finds the end too, where each gives so many bytes; none comes behind.
@@ -225,14 +208,9 @@ fn each_read(rt: &(impl Abort + AllocGlobal), most: usize) {
         };
         let reads = passing.saturating_add(1);
         let frames = whole_frames(given);
-        let written = *ENDS.get(frames).expect(rt, "replies");
         let kept = frames.saturating_add(1);
-        comes_to(
-            rt,
-            SCRIPT,
-            devices,
-            (End::Ended(frames, INPUT), written, kept, reads),
-        );
+        let end = End::Ended(frames, INPUT);
+        comes_to(rt, SCRIPT, devices, (end, replied(frames), kept, reads));
         if given == 227 {
             let none_fails = Devices {
                 read: (most, None),
@@ -252,28 +230,28 @@ fn each_read_that_fails_ends_a_plugin(rt: HostRuntime) {
     }
 }
 
-// Each write ends a plugin where it fails, and each takes so many bytes; none comes behind the last reply.
-fn each_write(rt: &(impl Abort + AllocGlobal), most: usize) {
-    let mut frames = 1usize;
+// Each write ends a plugin where it fails, where frames are read so, and each takes so many bytes; none comes behind the last reply.
+fn each_write(rt: &(impl Abort + AllocGlobal), (most, together, reads): Cut, taken: usize) {
+    let mut group = 0usize;
     let mut written = 0usize;
+    let mut read = 0u64;
     for passing in 0..201 {
         let devices = Devices {
-            write: (most, Some(passing)),
+            read: (most, None),
+            write: (taken, Some(passing)),
             ..SOUND
         };
-        let Some(end) = ENDS.get(frames) else {
-            return comes_to(rt, SCRIPT, devices, WHOLE);
+        let Some(next) = reads.get(group) else {
+            return comes_to(rt, SCRIPT, devices, (End::Served(6), 200, 7, read.saturating_add(1)));
         };
+        read = *next;
+        let frames = group.saturating_add(1).saturating_mul(together);
         let kept = frames.saturating_add(1);
-        comes_to(
-            rt,
-            SCRIPT,
-            devices,
-            (End::Ended(frames, OUTPUT), written, kept, 1),
-        );
-        written = written.saturating_add(most).min(*end);
-        if written == *end {
-            frames = kept;
+        let end = End::Ended(frames, OUTPUT);
+        comes_to(rt, SCRIPT, devices, (end, written, kept, read));
+        written = written.saturating_add(taken).min(replied(frames));
+        if written == replied(frames) {
+            group = group.saturating_add(1);
         }
     }
     assert!(rt; false);
@@ -281,8 +259,10 @@ fn each_write(rt: &(impl Abort + AllocGlobal), most: usize) {
 
 #[test]
 fn each_write_that_fails_ends_a_plugin(rt: HostRuntime) {
-    for most in [1, 20, 4096] {
-        each_write(&rt, most);
+    for cut in CUTS {
+        for taken in [1, 20, 4096] {
+            each_write(&rt, *cut, taken);
+        }
     }
 }
 
@@ -319,6 +299,27 @@ fn nothing_is_read_once_a_reply_is_not_written(rt: HostRuntime) {
         ..SOUND
     };
     comes_to(&rt, DELETES, devices, (End::Ended(1, OUTPUT), 0, 2, 1));
+}
+
+// 140 deletions, of which 132 are in the first piece of 4,096 bytes.
+const MANY: &Turn = &Turn {
+    plugin: Plugin::Controller,
+    steps: &[(DELETE, DELETED); 140],
+    contents: &[NOTHING, NEW, BEGUN],
+};
+
+#[test]
+fn the_frames_of_4096_bytes_are_committed_at_once(rt: HostRuntime) {
+    let sound = Devices {
+        read: (100_000, None),
+        ..SOUND
+    };
+    comes_to(&rt, MANY, sound, (End::Served(140), 4620, 2, 3));
+    let failing = Devices {
+        commit: Some(2),
+        ..sound
+    };
+    comes_to(&rt, MANY, failing, (End::Ended(132, COMMIT), 4356, 2, 2));
 }
 
 const CREATE: &[u8] = &[

@@ -2,7 +2,7 @@
 //! turn (`tools/refusals`), the run that sees it ends in want of memory, where the store has what was committed before, and goes on once it is opened
 //! again.
 use crate::contents::{NOTHING, has, puts};
-use crate::script::SCRIPT;
+use crate::script::{AT_ONCE, CUTS, Cut, SCRIPT};
 use crate::serving::{End, config, take};
 use crate::turns::{BEGUN, IN_SESSION_0, REWRITTEN, Turn};
 use csi_service::{KeepFault, MemoryKeep, ServeFaultKind};
@@ -35,16 +35,17 @@ fn served(
     count
 }
 
-// The turn, and where it ended in want of memory its rest.
-fn lives(rt: &(impl Abort + AllocGlobal), turn: &Turn) {
+// The turn, read so, and where it ended in want of memory its rest. Of frames that are read at once those before the one that wanted memory are
+// committed and replied.
+fn lives(rt: &(impl Abort + AllocGlobal), turn: &Turn, (most, _, _): Cut) {
     let mut keep = MemoryKeep::new(rt.alloc(), 1000);
     let before = turn.contents.first().expect(rt, "a content");
     puts(rt, &mut keep, *before);
-    let end = take(rt, &mut keep, turn, 0);
+    let end = take(rt, &mut keep, turn, (0, most));
     let count = served(rt, &mut keep, turn, (end, 0));
     let all = turn.steps.len();
     if end != End::Served(all) {
-        assert!(rt; take(rt, &mut keep, turn, count) == End::Served(all));
+        assert!(rt; take(rt, &mut keep, turn, (count, most)) == End::Served(all));
     }
     let after = turn.contents.last().expect(rt, "a content");
     assert!(rt; has(&mut keep, *after));
@@ -53,27 +54,29 @@ fn lives(rt: &(impl Abort + AllocGlobal), turn: &Turn) {
 
 #[test]
 fn the_script_is_served_in_want_of_memory(rt: HostRuntime) {
-    lives(&rt, SCRIPT);
+    for cut in CUTS {
+        lives(&rt, SCRIPT, *cut);
+    }
 }
 
 #[test]
 fn stores_of_earlier_versions_are_rewritten_in_want_of_memory(rt: HostRuntime) {
     for turn in REWRITTEN {
-        lives(&rt, turn);
+        lives(&rt, turn, AT_ONCE);
     }
 }
 
 #[test]
 fn sessions_begin_in_want_of_memory(rt: HostRuntime) {
     for turn in BEGUN {
-        lives(&rt, turn);
+        lives(&rt, turn, AT_ONCE);
     }
 }
 
 #[test]
 fn calls_of_session_0_are_served_in_want_of_memory(rt: HostRuntime) {
     for turn in IN_SESSION_0 {
-        lives(&rt, turn);
+        lives(&rt, turn, AT_ONCE);
     }
 }
 

@@ -74,7 +74,7 @@ fn a_store_of_an_earlier_version_is_served(rt: HostRuntime) {
     for before in [FIRST, SECOND] {
         let mut keep = store(&rt, before);
         let last = SCRIPT.steps.len().saturating_sub(1);
-        assert!(&rt; take(&rt, &mut keep, SCRIPT, last) == End::Served(6));
+        assert!(&rt; take(&rt, &mut keep, SCRIPT, (last, 4096)) == End::Served(6));
         assert!(&rt; has(&mut keep, PLAYED));
         drop(keep);
     }

@@ -112,6 +112,43 @@ pub(crate) const OTHER: &[u8] = &[
 /// What a store has after the script.
 pub(crate) const PLAYED: Content = (TWO_MADE, GONE, OTHER);
 
+/// How the script is read: so many bytes at a time, so many frames in each piece that ends one, and the reads that bring these pieces, counted from 1.
+pub(crate) type Cut = (usize, usize, &'static [u64]);
+
+/// All of it at once.
+pub(crate) const AT_ONCE: Cut = (4096, 6, &[1]);
+
+/// That, by two frames, and frame by frame.
+pub(crate) const CUTS: &[Cut] = &[
+    AT_ONCE,
+    (81, 2, &[1, 2, 3]),
+    (31, 1, &[2, 3, 4, 5, 6, 8]),
+];
+
+/// Where the script's frames end, and the replies to them.
+const FRAMES: &[usize] = &[44, 81, 118, 152, 183, 227];
+
+const ENDS: &[usize] = &[0, 33, 66, 101, 134, 167, 200];
+
+/// How many frames end within so many bytes.
+pub(crate) fn whole_frames(size: usize) -> usize {
+    let mut frames = 0usize;
+    for end in FRAMES {
+        if *end <= size {
+            frames = frames.saturating_add(1);
+        }
+    }
+    frames
+}
+
+/// How many bytes the replies to so many frames are; to more than there are, none.
+pub(crate) fn replied(frames: usize) -> usize {
+    match ENDS.get(frames) {
+        Some(end) => *end,
+        None => 0,
+    }
+}
+
 /// The script over a new store.
 pub(crate) const SCRIPT: &Turn = &Turn {
     plugin: Plugin::Controller,

@@ -5,6 +5,7 @@ use csi_service::{
     ControllerService, Counted, Keep, KeepFault, NodeService, NodeUnopened, ServeFault,
     ServeFaultKind, Served, serve,
 };
+use csi_stores::FailingReader;
 use csi_types::{Config, NodeId};
 use std::io::{Read, Write};
 use std::process::Abort;
@@ -103,16 +104,21 @@ pub(crate) fn stream(
     (frames, replies)
 }
 
-/// Opens the turn's plugin of this store, and serves its frames from one on; how that ended, where each frame that was served is counted, also those
-/// before. What they are replied is written, and nothing else.
+/// A reader of these bytes, which gives so many at a time.
+pub(crate) fn input(bytes: &[u8], most: usize) -> Counted<FailingReader<&[u8]>> {
+    Counted::new(FailingReader::new(bytes, most, None))
+}
+
+/// Opens the turn's plugin of this store, and serves its frames from one on, of which so many bytes are read at a time; how that ended, where each frame
+/// that was served is counted, also those before. What they are replied is written, and nothing else.
 pub(crate) fn take<K: Keep>(
     rt: &(impl Abort + AllocGlobal),
     keep: &mut K,
     turn: &Turn,
-    from: usize,
+    (from, most): (usize, usize),
 ) -> End {
     let (frames, _replies) = stream(rt, turn, (from, turn.steps.len()));
-    let mut reader = Counted::new(frames.as_slice());
+    let mut reader = input(&frames, most);
     let mut writer = Counted::new(room(rt, 512));
     let end = run(rt, turn.plugin, keep, &mut reader, &mut writer);
     let (end, to) = match end {
@@ -136,9 +142,8 @@ pub(crate) fn fault<K: Keep>(
     plugin: Plugin,
     keep: &mut K,
 ) -> Option<KeepFault> {
-    let none: &[u8] = &[];
     let mut writer = Counted::new(Vec::new(rt.alloc()));
-    let mut reader = Counted::new(none);
+    let mut reader = input(&[], 1);
     let end = run(rt, plugin, keep, &mut reader, &mut writer);
     match end {
         End::Unopened(fault) => Some(fault),

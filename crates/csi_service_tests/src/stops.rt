@@ -2,8 +2,8 @@
 //! store is opened again, and what serving the same frames once more comes to. (By `rt try --test` these take minutes, so it needs `--seconds 900`;
 //! once they are built they take a second each.)
 use crate::contents::{has, puts};
-use crate::script::SCRIPT;
-use crate::serving::{End, run, stream, take};
+use crate::script::{AT_ONCE, CUTS, Cut, SCRIPT};
+use crate::serving::{End, input, run, stream, take};
 use crate::turns::{BEGUN, REWRITTEN, Turn};
 use csi_service::{Counted, Keep, KeepFault, ServeFaultKind};
 use csi_test_disks::{DiskKeep, Image, NO_STOP, Opened, Stop, Stopping};
@@ -41,11 +41,11 @@ struct Run {
     image: Image,
 }
 
-// Serves the turn over such files that stop so; then the store is closed, or isn't.
+// Serves the turn, which is read so, over such files that stop so; then the store is closed, or isn't.
 fn stopped(
     rt: &(impl Abort + AllocGlobal),
     image: &Image,
-    turn: &Turn,
+    (turn, (most, _, _)): (&Turn, Cut),
     (stop, is_closed): (Stop, bool),
 ) -> Run {
     let mut keep = match DiskKeep::open(rt.alloc(), image, stop).expect(rt, "memory") {
@@ -58,7 +58,7 @@ fn stopped(
             };
         }
     };
-    let end = take(rt, &mut keep, turn, 0);
+    let end = take(rt, &mut keep, turn, (0, most));
     let is_served = end == End::Served(turn.steps.len());
     assert!(rt; (keep.faults() == 0) == is_served);
     let (is_put_back, image) = if is_closed {
@@ -73,35 +73,40 @@ fn stopped(
     }
 }
 
-// From which of the turn's contents on, and up to which, such a run may leave one: where it stopped in a commit, the one before it, or the one that
-// it puts in.
-fn left_by(rt: &impl Abort, end: End) -> (usize, usize) {
+// Which of the turn's contents such a run may leave: where it stopped in a commit, the one before it, or the one that it puts in, and none of those
+// between, where the commit is one of several frames.
+fn left_by(rt: &impl Abort, (turn, (_, frames, _)): (&Turn, Cut), end: End) -> (usize, usize) {
     match end {
         End::Unopened(fault) => {
             assert!(rt; fault == KeepFault::Device);
-            (0, 2)
+            (0, 1)
         }
         End::Ended(count, kind) => {
             assert!(rt; kind == DEVICE);
-            (count.saturating_add(1), count.saturating_add(3))
+            let together = count.saturating_add(frames).min(turn.steps.len());
+            (count.saturating_add(1), together.saturating_add(1))
         }
-        End::Served(count) => (count.saturating_add(1), count.saturating_add(2)),
+        End::Served(count) => (count.saturating_add(1), count.saturating_add(1)),
     }
 }
 
 // Whether these files have what such a run may leave, and come to what the turn leaves when it is served again: its last frame gets its reply then,
 // and what was answered before gets that it is stale, or the reply that is kept.
-fn goes_on(rt: &(impl Abort + AllocGlobal), image: &Image, turn: &Turn, end: End) -> bool {
+fn goes_on(
+    rt: &(impl Abort + AllocGlobal),
+    image: &Image,
+    (turn, cut): (&Turn, Cut),
+    end: End,
+) -> bool {
     let mut keep = opened(rt, image);
-    let (first, last) = left_by(rt, end);
-    let mut is_left = false;
-    for content in turn.contents.get(first..last).expect(rt, "contents") {
-        is_left = is_left || has(&mut keep, *content);
-    }
+    let (old, new) = left_by(rt, (turn, cut), end);
+    let old = *turn.contents.get(old).expect(rt, "a content");
+    let new = *turn.contents.get(new).expect(rt, "a content");
+    let is_left = has(&mut keep, old) || has(&mut keep, new);
     let all = turn.steps.len();
     let (frames, replies) = stream(rt, turn, (0, all));
     drop(replies);
-    let mut reader = Counted::new(frames.as_slice());
+    let mut reader = input(&frames, cut.0);
     let mut writer = Counted::new(Vec::new(rt.alloc()));
     let again = run(rt, turn.plugin, &mut keep, &mut reader, &mut writer);
     let after = turn.contents.last().expect(rt, "a content");
@@ -118,10 +123,10 @@ fn stage(end: End) -> usize {
     }
 }
 
-// Serves the turn over files of which one stops so; whether none did. The turn goes on, and came at least so far.
+// Serves the turn, which is read so, over files of which one stops so; whether none did. The turn goes on, and came at least so far.
 fn runs(
     rt: &(impl Abort + AllocGlobal),
-    (image, turn): (&Image, &Turn),
+    (image, turn): (&Image, (&Turn, Cut)),
     how: (Stop, bool),
     far: &mut usize,
 ) -> bool {
@@ -143,11 +148,11 @@ const MANY: u64 = 1000;
 // ends with no stop; whether it did.
 fn ends(
     rt: &(impl Abort + AllocGlobal),
-    turn: &Turn,
+    turn: (&Turn, Cut),
     stopping: Stopping,
     power_fails: bool,
 ) -> bool {
-    let image = image_before(rt, turn);
+    let image = image_before(rt, turn.0);
     let mut far = 0;
     let mut is_served = false;
     for calls in 0..MANY {
@@ -163,7 +168,7 @@ fn ends(
 }
 
 // That, where either file stops, and where the power fails then too.
-fn all_end(rt: &(impl Abort + AllocGlobal), turn: &Turn) {
+fn all_end(rt: &(impl Abort + AllocGlobal), turn: (&Turn, Cut)) {
     for stopping in [Stopping::Log, Stopping::Database] {
         for power_fails in [false, true] {
             assert!(rt; ends(rt, turn, stopping, power_fails));
@@ -173,20 +178,22 @@ fn all_end(rt: &(impl Abort + AllocGlobal), turn: &Turn) {
 
 #[test]
 fn stops_leave_a_record(rt: HostRuntime) {
-    all_end(&rt, SCRIPT);
+    for cut in CUTS {
+        all_end(&rt, (SCRIPT, *cut));
+    }
 }
 
 #[test]
 fn stops_leave_an_earlier_version_or_version_3(rt: HostRuntime) {
     for turn in REWRITTEN {
-        all_end(&rt, turn);
+        all_end(&rt, (turn, AT_ONCE));
     }
 }
 
 #[test]
 fn stops_leave_one_session_or_the_next(rt: HostRuntime) {
     for turn in BEGUN {
-        all_end(&rt, turn);
+        all_end(&rt, (turn, AT_ONCE));
     }
 }
 
@@ -199,7 +206,7 @@ fn a_store_that_stopped_may_be_closed(rt: HostRuntime) {
     for calls in COUNTS {
         for power_fails in [false, true] {
             let stop = Stopping::Log.after(*calls, power_fails);
-            let _is_whole = runs(&rt, (&image, SCRIPT), (stop, true), &mut 0);
+            let _is_whole = runs(&rt, (&image, (SCRIPT, AT_ONCE)), (stop, true), &mut 0);
         }
     }
     drop(image);
@@ -213,8 +220,8 @@ fn sqlite_keep_works_with_no_stop(rt: HostRuntime) {
         end,
         is_whole,
         image: left,
-    } = stopped(&rt, &image, SCRIPT, (NO_STOP, true));
+    } = stopped(&rt, &image, (SCRIPT, AT_ONCE), (NO_STOP, true));
     let alone = left.without_log(rt.alloc());
-    assert!(&rt; is_whole && goes_on(&rt, &alone, SCRIPT, end));
+    assert!(&rt; is_whole && goes_on(&rt, &alone, (SCRIPT, AT_ONCE), end));
     drop((image, alone));
 }

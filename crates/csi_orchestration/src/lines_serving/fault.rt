@@ -15,13 +15,13 @@ pub enum LinesServeFaultKind {
     /// The reader failed; all lines before that are answered.
     #[error("the input can't be read")]
     Input,
-    /// The writer failed at the last line's answer.
+    /// The writer failed at the answers to the lines that were committed last.
     #[error("the output can't be written")]
     Output,
     /// The line with this number, from 1, has more than 65,536 bytes.
     #[error("line {0} of the input is too long")]
     Long(u64),
-    /// The store refused what a line changed, whose answer is not written.
+    /// The store refused what the next lines changed, whose answers are not written.
     #[error("{0}")]
     Keep(KeepFault),
     /// An allocation was refused.

@@ -1,8 +1,8 @@
 //! Refused growths of the orchestrator's program over a store, as it is opened and as it serves. With memory to spare each run compares all answers.
 //! Run with one allocation refused, each in turn (`tools/refusals`), the run that sees it ends in want of memory, and the life goes on where the
-//! store is opened again.
+//! store is opened again: of lines that are read at once those before the one that wanted memory are committed and answered.
 use super::script::{Side, WHOLE, lines};
-use super::{Start, answers, goes_on, is_whole, kept, puts};
+use super::{Start, answers, count, goes_on, is_whole, kept, puts};
 use crate::devices::{SOUND, new_store};
 use csi_endings::Ending;
 use std::alloc::Global;
@@ -17,7 +17,10 @@ fn lives_on(rt: &(impl Abort + AllocGlobal), start: Start) -> bool {
     let (written, ending) = answers(rt, &mut keep, &given, SOUND);
     drop(given);
     let is_so = match ending {
-        Ending::Memory => goes_on(rt, &mut keep, start, &written),
+        Ending::Memory => {
+            let answered = count(&written).saturating_sub(1);
+            goes_on(rt, &mut keep, start, &written, (answered, answered))
+        }
         _ => ending == Ending::Done && is_whole(rt, &mut keep, start, &written),
     };
     drop((written, keep));

@@ -1,28 +1,28 @@
 //! The orchestrator's program over SQLite in files that stop to answer, at each call of both: what is found when the store is opened again, and that the
 //! volume's life goes on from there to its end, in the next session. And writes of a row that are torn: the older row is read, or the newer.
 use super::script::{Side, WHOLE, lines};
-use super::{Start, answers, count, goes_on, has_after, kept, puts};
-use crate::devices::SOUND;
+use super::{Start, answers, count, goes_on, has_after, kept, marked, puts};
+use crate::devices::{Devices, SOUND};
 use csi_endings::Ending;
 use csi_test_disks::Stopping::{Database, Log};
 use csi_test_disks::{DiskKeep, Image, NO_STOP, Opened, Stop, Stopping};
 use std::alloc::Global;
 use std::process::Abort;
 
-// What the files hold once the program was given these lines over a store in them that stops so, and whether none stopped. The store is closed
-// then, or isn't.
+// What the files hold once the program was given these lines, so many bytes at a time, over a store in them that stops so, and whether none stopped. The
+// store is closed then, or isn't.
 fn left_by(
     rt: &(impl Abort + AllocGlobal),
     image: &Image,
     (stop, is_closed): (Stop, bool),
-    given: &[u8],
+    (given, most): (&[u8], usize),
     written: &mut Vec<u8>,
 ) -> (bool, Image) {
     let mut keep = match DiskKeep::open(rt.alloc(), image, stop).expect(rt, "memory") {
         Opened::Open(keep) => keep,
         Opened::Stopped(left) => return (false, left),
     };
-    let (out, ending) = answers(rt, &mut keep, given, SOUND);
+    let (out, ending) = answers(rt, &mut keep, given, Devices { most, ..SOUND });
     *written = out;
     let is_done = ending == Ending::Done;
     assert!(rt; is_done || ending == Ending::Device);
@@ -41,12 +41,13 @@ fn disk(rt: &(impl Abort + AllocGlobal), image: &Image) -> DiskKeep {
     }
 }
 
-// A session over files, and how many steps it comes to.
+// A session over files, how many steps it comes to, and how many bytes of its lines are read at a time.
 #[derive(Drop)]
 struct Session<'a> {
     image: &'a Image,
     start: Start,
     to: usize,
+    most: usize,
 }
 
 // Plays it over files that stop so; whether none did. What is left goes on, and the session answered no fewer lines than before.
@@ -59,10 +60,12 @@ fn runs(
     let (number, from) = session.start;
     let given = lines(rt, Side::Given, number, (kept(from), session.to));
     let mut written = Vec::new(rt.alloc());
-    let (is_whole, image) = left_by(rt, session.image, stop, &given, &mut written);
+    let asked = (given.as_slice(), session.most);
+    let (is_whole, image) = left_by(rt, session.image, stop, asked, &mut written);
+    let left = marked(&given, session.most, &written);
     drop(given);
     let mut keep = disk(rt, &image);
-    assert!(rt; goes_on(rt, &mut keep, session.start, &written));
+    assert!(rt; goes_on(rt, &mut keep, session.start, &written, left));
     drop((keep, image));
     let now = count(&written);
     drop(written);
@@ -109,17 +112,21 @@ const MANY: u64 = 1000;
 // How many steps are played over new files that stop: the head is put in, a row is, and it is changed.
 const STEPS: usize = 4;
 
-// The same over new files, with some of the calls: the time of a test is bounded.
+// The same over new files, with some of the calls: the time of a test is bounded. The lines are read one by one, and all at once.
 fn ends_anew(rt: &(impl Abort + AllocGlobal), way: Way, calls: (u64, u64)) -> bool {
     let image = Image::new(rt.alloc());
-    let session = Session {
-        image: &image,
-        start: (1, 0),
-        to: STEPS,
-    };
-    let ends = ends(rt, &session, way, calls);
+    let mut do_end = true;
+    for most in [15, 4096] {
+        let session = Session {
+            image: &image,
+            start: (1, 0),
+            to: STEPS,
+            most,
+        };
+        do_end = ends(rt, &session, way, calls) && do_end;
+    }
     drop(image);
-    ends
+    do_end
 }
 
 #[test]
@@ -194,6 +201,7 @@ fn begins_at_each(rt: &(impl Abort + AllocGlobal), steps: usize) -> bool {
         image: &image,
         start: (6, steps),
         to: kept(steps),
+        most: 4096,
     };
     let mut are_whole = true;
     for way in WAYS {

@@ -18,13 +18,13 @@ pub enum ServeFaultKind {
     /// The reader failed; all frames before that are answered.
     #[error("the input can't be read")]
     Input,
-    /// The writer failed at the last frame's reply.
+    /// The writer failed at the replies to the frames that were committed last.
     #[error("the output can't be written")]
     Output,
     /// The bytes after the last frame are no frame: the kind of their first fault, and its place from the front of the input.
     #[error("{0}, at byte {1} of the input")]
     Frame(FaultKind, u64),
-    /// The store refused what a frame changed, whose reply is not written.
+    /// The store refused what the next frames changed, whose replies are not written.
     #[error("{0}")]
     Keep(KeepFault),
     /// An allocation was refused.
