@@ -361,8 +361,8 @@ line-comes world line may = by (line_request line) refl may
         let event = events.Deliver sent.number in (
           event ∷ [],
           by-one world line event
-          (subst (λ (request : Result RequestShown RequestFault). ComesBy world request event) (sym is)
-          (record { number = sent.number; frame = sent.frame; spelled = sent.spelled; reply = sent.reply; sent = sent.sent; is = refl })),
+              (subst (λ (request : Result RequestShown RequestFault). ComesBy world request event) (sym is)
+              (record { number = sent.number; frame = sent.frame; spelled = sent.spelled; reply = sent.reply; sent = sent.sent; is = refl })),
         )
     by (Err fault) is may_come = idle (subst AsksNothing (sym is) tt)
 
