@@ -4,7 +4,7 @@ use Rattle.std.proofs.lemmas.List.{append-nil, length-take}
 use Rattle.csi_driver.proofs.Items.{front-taken}
 use Rattle.csi_stores.specs.declared.counted.Counted.{Counted}
 use Rattle.csi_stores.specs.Public.Part.{StoredPart}
-use Rattle.csi_stores.specs.Public.Stores.{Found, Parts, Has, IsOnly}
+use Rattle.csi_stores.specs.Public.Stores.{Store, Found, Parts, Has, IsOnly}
 use Rattle.csi_orchestration.specs.declared.lines_serving.fault.ServedLines.{ServedLines}
 use Rattle.csi_orchestration.specs.declared.lines_serving.fault.LinesServeFault.{LinesServeFault}
 use Rattle.csi_orchestration.specs.declared.lines_serving.fault.LinesServeFaultKind.{LinesServeFaultKind}
@@ -70,11 +70,11 @@ module _ {C K R W : Type 0} (setting : RunSetting C K R W) (responder : C) (befo
   mark (Err fault) s = kind-mark fault.kind s.lines s.rest s.there fault.lines s.given s.now s.group s.within s.runs s.ends
 
 -- the second began with what opening again found
-pub one-run : {C K R W : Type 0} (setting : RunSetting C K R W) → LinesRunsLaw setting
-one-run setting before between again after content r r_read s s_read w w_written v v_written result result_too honest honest_too holds one reopens two =
+pub one-run : {C K L R W : Type 0} (setting : RunSetting C K R W) (seen_too : L → Store) → LinesRunsLaw setting seen_too
+one-run setting seen_too before between again after content r r_read s s_read w w_written v v_written result result_too honest honest_too holds one reopens two =
     let here = one.is_opened (one.served.honest honest) content holds in
     let marked = mark setting one.responder one.opened between r r_read w w_written one.served.bytes honest here.1 reopens.0 reopens.1 result one.served.serves in
-    let there = subst (Has (setting.seen again)) marked.is reopens.2 in
+    let there = subst (Has (seen_too again)) marked.is reopens.2.there in
     let here_too = two.is_opened (two.served.honest honest_too) (setting.parts_of marked.left) there in
     record {
       opened = here.0;
@@ -83,6 +83,7 @@ one-run setting before between again after content r r_read s s_read w w_written
       unwritten = marked.unwritten;
       left = marked.left;
       runs = marked.runs;
+      found = there;
       reopened = here_too.0;
       goes_on = two.served.serves.runs;
     }

@@ -1,4 +1,4 @@
--- Two runs of an orchestrator are one run of the stated machine, with a restart between.
+-- Two runs of an orchestrator are one run of the stated machine, with a restart between, and so are three.
 use Rattle.std.proofs.Common.{◌≡◌, ◌∙◌, sym, ap, subst, inl, inr, refl, ℕ, List, [], ◌∷◌, arith}
 use Rattle.std.specs.Prelude.{Option, None}
 use Rattle.csi_orchestrator.specs.Model.History.{new_history}
@@ -18,7 +18,7 @@ use Rattle.csi_service.specs.Public.OrchestratorOpening.{new_record, opening_ref
 use Rattle.csi_service.specs.Public.OrchestratorServices.{kept_of}
 use Rattle.csi_orchestration.specs.declared.orchestrator_responder.OrchestratorResponder.{OrchestratorResponder}
 use Rattle.csi_orchestration.specs.Public.LinesRuns.{LinesRunsLaw}
-use Rattle.csi_orchestration.specs.Public.OrchestratorHistories.{OrchestratorRunsLaw}
+use Rattle.csi_orchestration.specs.Public.OrchestratorHistories.{OrchestratorRunsLaw, OrchestratorThreeRunsLaw}
 use Rattle.csi_orchestration.specs.Public.OrchestratorResponding.{HasItsRecord, OpensResponder, responder_parts}
 use Rattle.csi_orchestration.specs.Public.Running.{orchestrator_setting}
 use Rattle.csi_orchestration.proofs.OrchestratorHistories.{each-goes, restart-goes}
@@ -98,9 +98,9 @@ shows-new content responder opens none = by opens.opened.from
     by (inr read) = absurd (not-empty _ _ (sym read.are ∙ none))
 
 -- by the law of two runs
-pub one-history : {K R W : Type 0} (seen : K → Store) (remaining : R → Option (List ℕ)) (contents : W → Option (List ℕ)) → MovesKeepForm → RecordsLaw → LinesRunsLaw (orchestrator_setting seen remaining contents)
-    → OrchestratorRunsLaw seen remaining contents
-one-history seen remaining contents keeps reached law before between again after content r r_read s s_read w w_written v v_written result result_too honest honest_too holds one reopens two =
+pub one-history : {K L R W : Type 0} (seen : K → Store) (seen_too : L → Store) (remaining : R → Option (List ℕ)) (contents : W → Option (List ℕ)) → MovesKeepForm → RecordsLaw
+    → LinesRunsLaw (orchestrator_setting seen remaining contents) seen_too → OrchestratorRunsLaw seen seen_too remaining contents
+one-history seen seen_too remaining contents keeps reached law before between again after content r r_read s s_read w w_written v v_written result result_too honest honest_too holds one reopens two =
     let run = law before between again after content r r_read s s_read w w_written v v_written result result_too honest honest_too holds one reopens two in (
       run,
       has-history reached content one.responder run.opened,
@@ -118,8 +118,26 @@ one-history seen remaining contents keeps reached law before between again after
             first = first.are;
             begun = on.next;
             restarts = on.is;
+            begun_form = on.form;
+            begun_shown = begun_shown;
             last = second.next;
             second = second.are;
             shown = second.shown;
           },
+    )
+
+-- and twice by that: the third run goes on from the history with which the second began
+pub three-histories : {K L M R W : Type 0} (seen : K → Store) (seen_too : L → Store) (seen_last : M → Store) (remaining : R → Option (List ℕ)) (contents : W → Option (List ℕ))
+    → OrchestratorRunsLaw seen seen_too remaining contents → OrchestratorRunsLaw seen_too seen_last remaining contents → OrchestratorThreeRunsLaw seen seen_too seen_last remaining contents
+three-histories seen seen_too seen_last remaining contents law later before between again left anew after content r r_read s s_read t t_read w w_written v v_written u u_written result result_too result_last honest honest_too honest_last holds one reopens two
+    reopens_too three =
+    let first = law before between again left content r r_read s s_read w w_written v v_written result result_too honest honest_too holds one reopens two in
+    let second = later again left anew after (responder_parts first.0.left) s s_read t t_read v v_written u u_written result_too result_last honest_too honest_last first.0.found two reopens_too three in (
+      first.0,
+      second.0,
+      first.1,
+      first.2,
+      λ history form shown.
+          let begins = first.3 history form shown in
+          (begins, second.3 begins.begun begins.begun_form begins.begun_shown),
     )

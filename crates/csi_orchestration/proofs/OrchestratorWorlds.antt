@@ -1,7 +1,8 @@
 -- A world's orchestrator goes on as the lines that come to it lead its history.
-use Rattle.std.proofs.Common.{◌≡◌, ◌∙◌, inl, inr, sym, ap, subst, refl, ℕ, List, [], ◌∷◌, ◌++◌, length, Bool, true, cond}
+use Rattle.std.proofs.Common.{◌≡◌, ◌∙◌, inl, inr, sym, ap, subst, refl, ℕ, List, [], ◌∷◌, ◌++◌, length, Bool, true, false, cond, ◌||◌, is_some}
+use Rattle.std.proofs.lemmas.List.{append_assoc}
 use Rattle.std.specs.Prelude.{Option, Some, None, Result, Ok, Err}
-use Rattle.std.specs.List.{AllByRecursion}
+use Rattle.std.specs.List.{AllByRecursion, list_any}
 use Rattle.csi_types.specs.declared.call.Party.{Party}
 use Rattle.csi_types.specs.declared.call.Party.TheVariants as parties
 use Rattle.csi_types.specs.declared.event.Event.{Event}
@@ -9,6 +10,7 @@ use Rattle.csi_types.specs.declared.event.Event.TheVariants as events
 use Rattle.csi_types.specs.declared.frame.Body.{Body}
 use Rattle.csi_types.specs.declared.frame.Body.TheVariants as bodies
 use Rattle.csi_types.specs.Model.Frame.{Frame}
+use Rattle.csi_types.specs.Model.Same.{same_text}
 use Rattle.csi_frames.specs.declared.fault.FrameFault.{FrameFault}
 use Rattle.csi_frames.specs.Public.Spelling.{Spells}
 use Rattle.csi_frames.proofs.Front.{first_frame-begins}
@@ -16,17 +18,18 @@ use Rattle.csi_orchestrator.specs.declared.fault.Heard.{Heard}
 use Rattle.csi_orchestrator.specs.declared.fault.Heard.TheVariants as heards
 use Rattle.csi_orchestrator.specs.declared.fault.OrchFault.{OrchFault}
 use Rattle.csi_orchestrator.specs.Model.History.{History, Item, with_items}
+use Rattle.csi_orchestrator.specs.Model.Readings.{last_number, nodes_of}
 use Rattle.csi_orchestrator.specs.Model.Moves.{Input, ToCreate, ToUse, ToStop, ToDelete, TimesOut, Comes, Restarts, Loses, Answer, Sends, Hears, Restarted, GivenUp, Moved, deliver, moves}
 use Rattle.csi_world.specs.declared.outcomes.Outcome.TheVariants as outcomes
 use Rattle.csi_world.specs.Model.World.{World, node_state, with_history}
 use Rattle.csi_world.specs.Model.After.{Occurred, by_answer, by_result, orchestrated, called_at, called, delivered_body, delivered, frame_numbered, restarted_at, joined_at, lost_by, is_node_of, occurs, after_from}
-use Rattle.csi_world.proofs.PluginsReached.{answered-history}
+use Rattle.csi_world.proofs.PluginsReached.{answered-history, joined-same}
 use Rattle.csi_json.specs.declared.request_fault.RequestFault.{RequestFault}
 use Rattle.csi_json.specs.Public.Requests.{RequestShown, Command, Reply, IsCommand, line_request}
 use Rattle.csi_orchestration.specs.Public.LinesServing.{AnswersEach}
 use Rattle.csi_orchestration.specs.Public.OrchestratorLines.{EventBy, ReplyBy, RequestBy}
 use Rattle.csi_orchestration.specs.Public.OrchestratorHistories.{IsMoved, MovesFrame, moved_lines, MovesLine}
-use Rattle.csi_orchestration.specs.Public.OrchestratorWorlds.{IsCallBody, DeliversReply, IsOfNode, ComesBy, AsksNothing, IsIdle, IsNoReply, IsElsewhere, Brings, WorldsLaw}
+use Rattle.csi_orchestration.specs.Public.OrchestratorWorlds.{IsCallBody, DeliversReply, IsOfNode, ComesBy, AsksNothing, IsIdle, IsNoReply, IsElsewhere, Brings, MayCome, WorldsLaw}
 use Rattle.csi_orchestration.proofs.OrchestratorResponding.{whole}
 
 -- ---- the orchestrator's part
@@ -247,9 +250,127 @@ run-history world (event ∷ others) lines given next (inr brings) each =
     let moved = asked-history world (line_request comes.line) event on.answer on.after comes.comes on.moved in
     run-history (occurs world event).world others comes.rest on.given next brings.1 (subst (λ (h : History). AnswersEach MovesLine h comes.rest on.given next) (sym moved) on.each)
 
+-- ---- lines that come about
+
+-- what is so of all of two lists is so of both together
+both-all : {X : Type 0} (P : X → Type 0) (xs ys : List X) → AllByRecursion P xs → AllByRecursion P ys → AllByRecursion P (xs ++ ys)
+both-all P [] ys all also = also
+both-all P (x ∷ xs) ys all also = (all.0, both-all P xs ys all.1 also)
+
+-- lines that ask nothing may stand in front
+idle-front : (world : World) (more : List Event) (idle rest : List (List ℕ)) → AllByRecursion IsIdle idle → Brings world more rest → Brings world more (idle ++ rest)
+idle-front world [] idle rest quiet brings = both-all IsIdle idle rest quiet brings
+idle-front world (event ∷ others) idle rest quiet (inl brings) = inl (brings.0, idle-front (occurs world event).world others idle rest quiet brings.1)
+idle-front world (event ∷ others) idle rest quiet (inr brings) =
+    let comes = brings.0 in
+    inr (
+      record {
+        idle = idle ++ comes.idle;
+        line = comes.line;
+        rest = comes.rest;
+        are = ap (λ (ls : List (List ℕ)). idle ++ ls) comes.are ∙ sym (append_assoc idle comes.idle (comes.line ∷ comes.rest));
+        quiet = both-all IsIdle idle comes.idle quiet comes.quiet;
+        comes = comes.comes;
+      },
+      brings.1,
+    )
+
+-- events behind events bring lines behind lines
+joined-lines : (world : World) (others more : List Event) (lines rest : List (List ℕ)) → Brings world others lines → Brings (after_from world others).world more rest
+    → Brings world (others ++ more) (lines ++ rest)
+joined-lines world [] more lines rest brings also = idle-front world more lines rest brings also
+joined-lines world (event ∷ others) more lines rest (inl brings) also = inl (brings.0, joined-lines (occurs world event).world others more lines rest brings.1 also)
+joined-lines world (event ∷ others) more lines rest (inr brings) also =
+    let comes = brings.0 in
+    inr (
+      record {
+        idle = comes.idle;
+        line = comes.line;
+        rest = comes.rest ++ rest;
+        are = ap (λ (ls : List (List ℕ)). ls ++ rest) comes.are ∙ append_assoc comes.idle (comes.line ∷ comes.rest) rest;
+        quiet = comes.quiet;
+        comes = comes.comes;
+      },
+      joined-lines (occurs world event).world others more comes.rest rest brings.1 also,
+    )
+
+-- a line comes about by one event
+by-one : (world : World) (line : List ℕ) (event : Event) → ComesBy world (line_request line) event → Brings world (event ∷ []) (line ∷ [])
+by-one world line event comes = inr (record { idle = []; line = line; rest = []; are = refl; quiet = tt; comes = comes }, tt)
+
+-- a node that neither is there nor is listed is there once it joined
+no-state : {X : Type 0} (o : Option X) (listed : Bool) → (is_some o || listed) ≡ false → o ≡ None
+no-state None listed e = refl
+no-state (Some state) listed e = absurd (cc)
+
+joined-node : (world : World) (node : List ℕ) → is_node_of world node ≡ false → is_node_of (occurs world (events.Join node)).world node ≡ true
+joined-node world node unknown =
+    let none = no-state (node_state node world) (list_any (same_text node) (nodes_of world.history)) unknown in
+    let session = (last_number world.history).session in
+    ap (λ o. is_node_of (joined_at world node o).world node) none ∙ ap (λ o. is_some o || list_any (same_text node) (nodes_of world.history)) (joined-same session node world none)
+
+-- a loss comes about, behind a join where it has to
+lost-comes : (world : World) (line node : List ℕ) → line_request line ≡ Ok (Command (events.Lose node)) → (others : List Event) × Brings world others (line ∷ [])
+lost-comes world line node asks = by (is_node_of world node) refl
+  where
+    comes : (here : World) → is_node_of here node ≡ true → Brings here (events.Lose node ∷ []) (line ∷ [])
+    comes here known = by-one here line (events.Lose node) (subst (λ (request : Result RequestShown RequestFault). ComesBy here request (events.Lose node)) (sym asks) (tt, known, refl))
+
+    by : (b : Bool) → is_node_of world node ≡ b → (others : List Event) × Brings world others (line ∷ [])
+    by true known = (events.Lose node ∷ [], comes world known)
+    by false unknown = (events.Join node ∷ events.Lose node ∷ [], inl (tt, comes (occurs world (events.Join node)).world (joined-node world node unknown)))
+
+-- so does what is asked by a command, a timeout or a loss; what is none of these asks nothing
+command-comes : (world : World) (line : List ℕ) (asked : Event) → line_request line ≡ Ok (Command asked) → (others : List Event) × Brings world others (line ∷ [])
+command-comes world line asked asks = by asked asks
+  where
+    one : (event : Event) → line_request line ≡ Ok (Command event) → IsCommand event → IsOfNode world event → (others : List Event) × Brings world others (line ∷ [])
+    one event is command node =
+        (event ∷ [], by-one world line event (subst (λ (request : Result RequestShown RequestFault). ComesBy world request event) (sym is) (command, node, refl)))
+
+    idle : (event : Event) → line_request line ≡ Ok (Command event) → (IsCommand event → ⊥) → (others : List Event) × Brings world others (line ∷ [])
+    idle event is none = ([], (subst AsksNothing (sym is) none, tt))
+
+    by : (event : Event) → line_request line ≡ Ok (Command event) → (others : List Event) × Brings world others (line ∷ [])
+    by (events.Create name required limit capabilities) is = one (events.Create name required limit capabilities) is tt tt
+    by (events.Use name node target capability readonly) is = one (events.Use name node target capability readonly) is tt tt
+    by (events.Stop name node target) is = one (events.Stop name node target) is tt tt
+    by (events.Delete name) is = one (events.Delete name) is tt tt
+    by (events.Timeout name) is = one (events.Timeout name) is tt tt
+    by (events.Deliver number) is = idle (events.Deliver number) is (λ none. absurd none)
+    by events.RestartOrchestrator is = idle events.RestartOrchestrator is (λ none. absurd none)
+    by (events.RestartOrchestratorWith nodes) is = idle (events.RestartOrchestratorWith nodes) is (λ none. absurd none)
+    by events.RestartController is = idle events.RestartController is (λ none. absurd none)
+    by (events.RestartControllerWith config) is = idle (events.RestartControllerWith config) is (λ none. absurd none)
+    by (events.RestartNode node) is = idle (events.RestartNode node) is (λ none. absurd none)
+    by (events.Join node) is = idle (events.Join node) is (λ none. absurd none)
+    by (events.Lose node) is = lost-comes world line node is
+    by (events.Settle name) is = idle (events.Settle name) is (λ none. absurd none)
+
+-- and each line that may come
+line-comes : (world : World) (line : List ℕ) → MayCome world (line_request line) → (others : List Event) × Brings world others (line ∷ [])
+line-comes world line may = by (line_request line) refl may
+  where
+    idle : AsksNothing (line_request line) → (others : List Event) × Brings world others (line ∷ [])
+    idle quiet = ([], (quiet, tt))
+
+    by : (request : Result RequestShown RequestFault) → line_request line ≡ request → MayCome world request → (others : List Event) × Brings world others (line ∷ [])
+    by (Ok (Command asked)) is may_come = command-comes world line asked is
+    by (Ok (Reply bytes)) is (inl quiet) = idle (subst AsksNothing (sym is) quiet)
+    by (Ok (Reply bytes)) is (inr sent) =
+        let event = events.Deliver sent.number in (
+          event ∷ [],
+          by-one world line event
+              (subst (λ (request : Result RequestShown RequestFault). ComesBy world request event) (sym is)
+              (record { number = sent.number; frame = sent.frame; spelled = sent.spelled; reply = sent.reply; sent = sent.sent; is = refl })),
+        )
+    by (Err fault) is may_come = idle (subst AsksNothing (sym is) tt)
+
 -- and where it restarts
 pub world-goes : WorldsLaw
 world-goes = record {
   lines = run-history;
   restart = λ world nodes next is. orchestrated-history {A = Unit {0}} (λ done. Restarted) world (Restarts nodes) (Ok tt) next is;
+  each = line-comes;
+  joined = joined-lines;
 }

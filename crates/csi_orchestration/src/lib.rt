@@ -17,4 +17,4 @@ pub use lines_serving::{LinesServeFault, LinesServeFaultKind, ServedLines, serve
 pub use nodes::asked_nodes;
 pub use orchestrator_responder::OrchestratorResponder;
 pub use responder::Responder;
-pub use running::{orchestrator, orchestrator_runs_law, worlds_law};
+pub use running::{orchestrator, orchestrator_runs_law, orchestrator_three_runs_law, worlds_law};

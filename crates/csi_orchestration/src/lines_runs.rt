@@ -14,11 +14,13 @@ pub trait StoredResponder: Responder {
     ghost opens: { List StoredPart → Self → Type 0 };
 }
 
-/// A law, and nothing that runs: two runs over one store, one after another, however each ended, are one run, in which the responder was
-/// opened again between: as many of the first run's lines as were committed, or one more where its commit was refused, led to some parts, and
-/// the second run's responder is what opening makes of these. It asks that the store had a content, and is honest after each run, and
-/// that the responder was opened for each. This profile's own.
-pub fn lines_runs_law<C: StoredResponder, K: Keep, R: Read, W: Write>()
+/// A law, and nothing that runs: two runs over one store, one after another, each by a process of its own and so over a keeper of its own,
+/// however each ended, are one run, in which the responder was opened again between: as many of the first run's lines as were committed, or
+/// those too that were answered behind them, where their commit was refused, led to some parts, and the second run's responder is what
+/// opening makes of these. It asks that the store had a content, and is honest after each run, and that the responder was opened for each;
+/// and of the file system, that between the two the second process finds one of the contents that the first may have left (`Reopens`).
+/// This profile's own.
+pub fn lines_runs_law<C: StoredResponder, K: Keep, L: Keep, R: Read, W: Write>()
     ensures { LinesRunsLaw (record {
       opens = C.opens;
       answers = AnswersInRecord C.is_fit C.spells C.parts_of C.answers;
@@ -26,5 +28,5 @@ pub fn lines_runs_law<C: StoredResponder, K: Keep, R: Read, W: Write>()
       seen = K.store;
       remaining = R.remaining;
       contents = W.contents;
-    }) }
+    }) L.store }
 {}

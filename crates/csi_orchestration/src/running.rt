@@ -1,7 +1,7 @@
 //! An orchestrator's process, but for what it asks of the system.
 ghost use Rattle.std.specs.Prelude.{ℕ, IfOk, string_bytes};
 ghost use Rattle.csi_orchestration.specs.Public.Ending.{EndsAt};
-ghost use Rattle.csi_orchestration.specs.Public.OrchestratorHistories.{OrchestratorRunsLaw};
+ghost use Rattle.csi_orchestration.specs.Public.OrchestratorHistories.{OrchestratorRunsLaw, OrchestratorThreeRunsLaw};
 ghost use Rattle.csi_orchestration.specs.Public.OrchestratorWorlds.{WorldsLaw};
 ghost use Rattle.csi_orchestration.specs.Public.Running.{orchestrator_setting, IsFirstLine, WritesFirst, OrchestratorRuns};
 ghost use Rattle.csi_orchestration.specs.Private.Running.{Begins};
@@ -96,22 +96,34 @@ pub fn orchestrator<K: Keep, R: Read, W: Write>(
     }
 }
 
-/// A law, and nothing that runs: two runs of an orchestrator over one store, one after another, however each ended, are one run, in which
-/// the orchestrator was opened again between, in the next session (`lines_runs_law`). From each history that the first one's orchestrator
-/// shows, and it shows one, this is a run of the stated machine with a restart between: each answer tells what `moves` says, and the frame
-/// that is sent then. This profile's own.
-pub fn orchestrator_runs_law<K: Keep, R: Read, W: Write>()
-    ensures { OrchestratorRunsLaw K.store R.remaining W.contents }
+/// A law, and nothing that runs: two runs of an orchestrator over one store, one after another, each by a process of its own and so over a
+/// keeper of its own, however each ended, are one run, in which the orchestrator was opened again between, in the next session
+/// (`lines_runs_law`, which says what it asks). From each history that the first one's orchestrator shows, and it shows one, this is a run of
+/// the stated machine with a restart between: each answer tells what `moves` says, and the frame that is sent then. The second one's
+/// orchestrator shows a history too: so a third run goes on from there. This profile's own.
+pub fn orchestrator_runs_law<K: Keep, L: Keep, R: Read, W: Write>()
+    ensures { OrchestratorRunsLaw K.store L.store R.remaining W.contents }
 {
     form_law();
     records_law();
-    lines_runs_law::<OrchestratorResponder, K, R, W>();
+    lines_runs_law::<OrchestratorResponder, K, L, R, W>();
+}
+
+/// The same law of three runs, by the law of two, twice; so it goes on to any number. This profile's own.
+pub fn orchestrator_three_runs_law<K: Keep, L: Keep, M: Keep, R: Read, W: Write>()
+    ensures { OrchestratorThreeRunsLaw K.store L.store M.store R.remaining W.contents }
+{
+    orchestrator_runs_law::<K, L, R, W>();
+    orchestrator_runs_law::<L, M, R, W>();
 }
 
 /// A law, and nothing that runs: a run of the stated machines of which the orchestrator gets what lines ask, whatever else happens in it,
 /// leads its orchestrator's history as the lines lead it, and a restart there is the one between two runs (`orchestrator_runs_law`). So what
-/// is proved of all such runs, as that they are safe, is so of two runs of an orchestrator that is served, where each reply that came was
-/// sent; what was committed and not written is a frame that is sent and never delivered. This profile's own.
+/// is proved of all such runs, as that they are safe, is so of the runs of an orchestrator that is served, where each reply that came was
+/// sent; what was committed and not written is a frame that is sent and never delivered. Lines come about one after another (`joined`), and
+/// each of them may in any world (`each`), unless it is a reply that no plugin of that world sent: a command or a timeout by itself, a loss
+/// behind a join where the node is neither there nor listed, and a line that is no request, or a call under `reply`, by nothing. So the law
+/// speaks of all runs in which each reply that came was sent before. This profile's own.
 pub fn worlds_law()
     ensures { WorldsLaw }
 {}

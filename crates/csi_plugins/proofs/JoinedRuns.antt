@@ -1,4 +1,4 @@
--- Two runs over one store are one run.
+-- Two runs over one store are one run, and so are three.
 use Rattle.std.proofs.Common.{◌≡◌, ◌∙◌, ◌⊎◌, sym, ap, refl, subst, inl, inr, ℕ, ◌+◌, ◌≤◌, List, [], ◌∷◌, ◌++◌, length, take, Result, Ok, Err, arith, length-append}
 use Rattle.std.specs.Prelude.{Option}
 use Rattle.std.proofs.lemmas.List.{append-nil, length-take}
@@ -16,11 +16,11 @@ use Rattle.csi_service.specs.declared.serving.fault.ServeFaultKind.{ServeFaultKi
 use Rattle.csi_service.specs.declared.serving.fault.ServeFaultKind.TheVariants as kinds
 use Rattle.csi_service.specs.Public.Serving.{AnswersEach, Serves, StopsBy, frames_counted}
 use Rattle.csi_service.proofs.GrowingAnswers.{answers-append}
-use Rattle.csi_service.specs.Public.Opening.{Records, IsOpeningCommit, OpensTo, IsOpenFault}
+use Rattle.csi_service.specs.Public.Opening.{IsOpeningCommit, OpensTo, IsOpenFault}
 use Rattle.csi_endings.specs.declared.ending.Ending.{Ending}
 use Rattle.csi_plugins.specs.Public.Service.{Streams, setting_of}
-use Rattle.csi_plugins.specs.Public.Running.{IsOpeningRefused, IsOpened, Runs}
-use Rattle.csi_plugins.specs.Public.Joined.{Reopens, AreMade, RunsAgain, IsHindrance, IsHindered, AreOneRun, Joins}
+use Rattle.csi_plugins.specs.Public.Running.{IsOpeningRefused, Runs}
+use Rattle.csi_plugins.specs.Public.Joined.{Process, Sight, io_of, Way, Opened, Reopens, AreMade, RunsAgain, IsHindrance, IsHindered, Hindered, AreOneRun, Joins, AreThreeRuns, JoinsThree}
 
 -- ---- runs in which the plugin is opened again
 
@@ -115,39 +115,43 @@ module _ {C : Type 0} (answers : C → Frame → Option Frame → C → Type 0) 
 
 -- ---- two runs
 
-module _ {X C K : Type 0} (seen : K → Store) (records : Records X) (IsAsked : C → Type 0) (answers : C → Frame → Option Frame → C → Type 0) (parts_of : C → List StoredPart) (head : StoredPart)
-    (keeps : (old new : C) (frame : Frame) (reply : Option Frame) → answers old frame reply new → IsAsked old → IsAsked new × records.are present (parts_of new))
-    (told : (parts : List StoredPart) (version : RecordVersion) → records.are present parts → records.are version parts → version ≡ present)
-    (some : (parts : List StoredPart) → records.are present parts → parts ≡ [] → ⊥)
-    (whole : (parts : List StoredPart) (place : ℕ) → records.are present parts → IsRefusedAt (IsInSome records.are) parts place → ⊥) where
+-- What a plugin's records keep: a core as it was asked for answers as such a one, to a record in the present version; and such a record is in
+-- no other version, isn't empty and has no part that is refused.
+pub record IsSteady {X C : Type 0} (way : Way X C) : Type 0 where
+  pub keeps : (old new : C) (frame : Frame) (reply : Option Frame) → way.answers old frame reply new → way.is_asked old → way.is_asked new × way.records.are present (way.parts_of new)
+  pub told : (parts : List StoredPart) (version : RecordVersion) → way.records.are present parts → way.records.are version parts → version ≡ present
+  pub some : (parts : List StoredPart) → way.records.are present parts → parts ≡ [] → ⊥
+  pub whole : (parts : List StoredPart) (place : ℕ) → way.records.are present parts → IsRefusedAt (IsInSome way.records.are) parts place → ⊥
+
+module _ {X C : Type 0} (way : Way X C) (steady : IsSteady way) where
   -- each core on the way is as it was asked for, and has a record in the present version
-  along : (core : C) (frames : List Frame) (replies : List (Option Frame)) (now : C) → AnswersEach answers core frames replies now → IsAsked core → records.are present (parts_of core)
-      → IsAsked now × records.are present (parts_of now)
-  along core [] [] now is asked here = subst (λ (c : C). IsAsked c × records.are present (parts_of c)) (sym is) (asked, here)
+  along : (core : C) (frames : List Frame) (replies : List (Option Frame)) (now : C) → AnswersEach way.answers core frames replies now → way.is_asked core → way.records.are present (way.parts_of core)
+      → way.is_asked now × way.records.are present (way.parts_of now)
+  along core [] [] now is asked here = subst (λ (c : C). way.is_asked c × way.records.are present (way.parts_of c)) (sym is) (asked, here)
   along core [] (r ∷ rs) now is asked here = absurd is
   along core (f ∷ fs) [] now is asked here = absurd is
-  along core (f ∷ fs) (r ∷ rs) now is asked here = let next = keeps core is.0 f r is.1 asked in along is.0 fs rs now is.2 next.0 next.1
+  along core (f ∷ fs) (r ∷ rs) now is asked here = let next = steady.keeps core is.0 f r is.1 asked in along is.0 fs rs now is.2 next.0 next.1
 
   -- opening commits nothing over such a record
-  no-becomes : (parts new : List StoredPart) → records.are present parts → IsOpeningCommit records head parts new → ⊥
-  no-becomes parts new is (inl none) = some parts is none.0
-  no-becomes parts new is (inr renewed) = renewed.earlier (told parts renewed.version is renewed.stored)
+  no-becomes : (parts new : List StoredPart) → way.records.are present parts → IsOpeningCommit way.records way.head parts new → ⊥
+  no-becomes parts new is (inl none) = steady.some parts is none.0
+  no-becomes parts new is (inr renewed) = renewed.earlier (steady.told parts renewed.version is renewed.stored)
 
   -- and leaves it
-  opens-same : (parts new : List StoredPart) → records.are present parts → OpensTo records head parts new → new ≡ parts
+  opens-same : (parts new : List StoredPart) → way.records.are present parts → OpensTo way.records way.head parts new → new ≡ parts
   opens-same parts new is (inl same) = same.1
   opens-same parts new is (inr becomes) = absurd (no-becomes parts new is becomes)
 
-  module _ (before after : Store) (io : Streams) (ending : Ending) (parts : List StoredPart) (is : records.are present parts) (honest : after.honest) (holds : before.holds parts) where
+  module _ (before after : Store) (io : Streams) (ending : Ending) (parts : List StoredPart) (is : way.records.are present parts) (honest : after.honest) (holds : before.holds parts) where
     -- only want of memory and a failing device keep it from being opened
-    hindrance : (fault : KeepFault) → IsOpenFault records before after head fault → IsHindrance before after fault
+    hindrance : (fault : KeepFault) → IsOpenFault way.records before after way.head fault → IsHindrance before after fault
     hindrance faults.Device cause = cause
     hindrance faults.NoMemory cause = tt
-    hindrance (faults.BadRecord place) cause = whole parts place is (cause honest parts holds)
+    hindrance (faults.BadRecord place) cause = steady.whole parts place is (cause honest parts holds)
     hindrance faults.Full cause = let full = cause honest parts holds in no-becomes parts full.0 is full.1
 
     -- where a plugin isn't opened again, it was hindered
-    hindered : IsOpeningRefused records before after head io ending → IsHindered before after io ending
+    hindered : IsOpeningRefused way.records before after way.head io ending → IsHindered before after io ending
     hindered refused = record {
       fault = refused.fault;
       cause = hindrance refused.fault refused.cause;
@@ -156,53 +160,78 @@ module _ {X C K : Type 0} (seen : K → Store) (records : Records X) (IsAsked : 
       ends = refused.ends;
     }
 
-  module _ (before between again after : K) (content : List StoredPart) (first second : Streams) (ending ending_too : Ending) (honest : (seen between).honest) (honest_too : (seen after).honest) (holds : (seen before).holds content) (reopens : Reopens (seen between) (seen again)) where
-    -- the first was opened
-    module _ (o : IsOpened seen records IsAsked answers parts_of before between head first ending) where
-      here : OpensTo records head content (parts_of o.core) × records.are present (parts_of o.core) × IsOnly (seen o.opened) (Parts (parts_of o.core))
-      here = o.found (o.served.honest honest) content holds
+  -- where the first run was opened
+  module _ {K L R W : Type 0} (sight : Sight K R W) (sight_too : Sight L R W) (content : List StoredPart) (first : Process K R W) (second : Process L R W) (honest : (sight.seen first.after).honest) (honest_too : (sight_too.seen second.after).honest)
+      (holds : (sight.seen first.before).holds content) (o : Opened way sight first) (reopens : Reopens (sight.seen first.after) (sight_too.seen second.before)) where
+    here : OpensTo way.records way.head content (way.parts_of o.core) × way.records.are present (way.parts_of o.core) × IsOnly (sight.seen o.opened) (Parts (way.parts_of o.core))
+    here = o.found (o.served.honest honest) content holds
 
-      marked : Marked answers parts_of o.core o.served.serves.frames o.served.serves.replies (AreMade (frames_counted o.served.result) o.served.serves.group) reopens.0
-      marked = mark answers parts_of o.core (seen o.opened) (seen between) first o.served.bytes honest here.2 reopens.0 reopens.1 o.served.result o.served.serves
+    marked : Marked way.answers way.parts_of o.core o.served.serves.frames o.served.serves.replies (AreMade (frames_counted o.served.result) o.served.serves.group) reopens.0
+    marked = mark way.answers way.parts_of o.core (sight.seen o.opened) (sight.seen first.after) (io_of sight first) o.served.bytes honest here.2 reopens.0 reopens.1 o.served.result o.served.serves
 
-      mid : IsAsked marked.mid × records.are present (parts_of marked.mid)
-      mid = along o.core (take marked.made o.served.serves.frames) (o.served.serves.replies ++ marked.unwritten) marked.mid marked.runs o.asked here.1
+    mid : way.is_asked marked.mid × way.records.are present (way.parts_of marked.mid)
+    mid = along o.core (take marked.made o.served.serves.frames) (o.served.serves.replies ++ marked.unwritten) marked.mid marked.runs o.asked here.1
 
-      is_record : records.are present (parts_of marked.mid)
-      is_record = mid.1
+    there : (sight_too.seen second.before).holds (way.parts_of marked.mid)
+    there = subst (Has (sight_too.seen second.before)) marked.is reopens.2.there
 
-      there : (seen again).holds (parts_of marked.mid)
-      there = subst (Has (seen again)) marked.is reopens.2
+    both : (p : Opened way sight_too second) → AreOneRun way sight sight_too content first second o p
+    both p =
+        let here_too = p.found (p.served.honest honest_too) (way.parts_of marked.mid) there in
+        let asks = λ (old new : C) (frame : Frame) (reply : Option Frame) (answered : way.answers old frame reply new) (asked : way.is_asked old). (steady.keeps old new frame reply answered asked).0 in
+        let led = again-of way.is_asked way.answers way.parts_of asks o.core (take marked.made o.served.serves.frames) (o.served.serves.replies ++ marked.unwritten) marked.mid o.asked marked.runs in
+        let same = opens-same (way.parts_of marked.mid) (way.parts_of p.core) mid.1 here_too.0 in
+        record {
+          opened = here.0;
+          is_record = here.1;
+          made = marked.made;
+          are_made = marked.are_made;
+          unwritten = marked.unwritten;
+          left = marked.mid;
+          led = led;
+          found = there;
+          same = same;
+          runs = joined way.is_asked way.answers way.parts_of o.core marked.mid p.core p.served.serves.now (take marked.made o.served.serves.frames) (take (frames_counted p.served.result) p.served.serves.frames) (o.served.serves.replies ++ marked.unwritten) p.served.serves.replies
+              led same
+              (again-of way.is_asked way.answers way.parts_of asks p.core (take (frames_counted p.served.result) p.served.serves.frames) p.served.serves.replies p.served.serves.now p.asked p.served.serves.runs);
+        }
 
-      both : IsOpened seen records IsAsked answers parts_of again after head second ending_too → AreOneRun seen records IsAsked answers parts_of head content between after first second ending ending_too
-      both p =
-          let here_too = p.found (p.served.honest honest_too) (parts_of marked.mid) there in
-          let asks = λ (old new : C) (frame : Frame) (reply : Option Frame) (answered : answers old frame reply new) (asked : IsAsked old). (keeps old new frame reply answered asked).0 in
+    -- the second finds the parts of a core as it was asked for
+    pub found-again : (core : C) × way.is_asked core × way.records.are present (way.parts_of core) × (sight_too.seen second.before).holds (way.parts_of core)
+    found-again = (marked.mid, mid.0, mid.1, there)
+
+    -- and was hindered, or goes on from there
+    pub onward : Runs sight_too.seen way.records way.is_asked way.answers way.parts_of way.head second.before second.after (io_of sight_too second) second.ending → Joins way sight sight_too content first second o
+    onward (inl refused) = inl (hindered (sight_too.seen second.before) (sight_too.seen second.after) (io_of sight_too second) second.ending (way.parts_of marked.mid) mid.1 honest_too there refused)
+    onward (inr p) = inr (p, both p)
+
+-- ---- three runs
+
+-- what was found of a store that was hindered meanwhile is what was found before
+pub found-past : (left between after now : Store) → Reopens left between → ((found : Found) → after.leaves found → between.leaves found) → Reopens after now → Reopens left now
+found-past left between after now first stays second =
+    let same = first.2.alone second.0 (stays second.0 second.1) in
+    (second.0, subst left.leaves (sym same) first.1, second.2)
+
+-- by the law of two runs: of the first two, of the last two, and of the first and the last
+pub three-joined : {X C K L M R W : Type 0} (way : Way X C) (sight : Sight K R W) (sight_too : Sight L R W) (sight_last : Sight M R W) (content : List StoredPart) (first : Process K R W) (second : Process L R W) (third : Process M R W) (one : Opened way sight first)
+    → Joins way sight sight_too content first second one
+    → (Hindered sight_too second → Joins way sight sight_last content first third one)
+    → ((two : Opened way sight_too second) (run : AreOneRun way sight sight_too content first second one two) → Joins way sight_too sight_last (way.parts_of run.left) second third two)
+    → JoinsThree way sight sight_too sight_last content first second third one
+three-joined way sight sight_too sight_last content first second third one (inl hindered) past later = inl (hindered, past hindered)
+three-joined way sight sight_too sight_last content first second third one (inr both) past later = inr (both.0, both.1, by (later both.0 both.1))
+  where
+    by : Joins way sight_too sight_last (way.parts_of both.1.left) second third both.0
+        → Hindered sight_last third ⊎ ((three : Opened way sight_last third) × AreThreeRuns way sight sight_too sight_last content first second third one both.0 both.1 three)
+    by (inl hindered) = inl hindered
+    by (inr all) =
+        inr (
+          all.0,
           record {
-            one = record { core = o.core; asked = o.asked; before = o.opened; only = here.2; served = o.served };
-            two = record { core = p.core; asked = p.asked; before = p.opened; only = here_too.2; served = p.served };
-            opened = here.0;
-            is_record = here.1;
-            made = marked.made;
-            are_made = marked.are_made;
-            unwritten = marked.unwritten;
-            runs = joined IsAsked answers parts_of o.core marked.mid p.core p.served.serves.now (take marked.made o.served.serves.frames) (take (frames_counted p.served.result) p.served.serves.frames) (o.served.serves.replies ++ marked.unwritten) p.served.serves.replies
-                (again-of IsAsked answers parts_of asks o.core (take marked.made o.served.serves.frames) (o.served.serves.replies ++ marked.unwritten) marked.mid o.asked marked.runs)
-                (opens-same (parts_of marked.mid) (parts_of p.core) is_record here_too.0)
-                (again-of IsAsked answers parts_of asks p.core (take (frames_counted p.served.result) p.served.serves.frames) p.served.serves.replies p.served.serves.now p.asked p.served.serves.runs);
-          }
-
-      -- the second finds the parts of a core as it was asked for
-      pub found-again : (core : C) × IsAsked core × records.are present (parts_of core) × (seen again).holds (parts_of core)
-      found-again = (marked.mid, mid.0, is_record, there)
-
-      onward : Runs seen records IsAsked answers parts_of head again after second ending_too
-          → IsHindered (seen again) (seen after) second ending_too ⊎ AreOneRun seen records IsAsked answers parts_of head content between after first second ending ending_too
-      onward (inl refused) = inl (hindered (seen again) (seen after) second ending_too (parts_of marked.mid) is_record honest_too there refused)
-      onward (inr p) = inr (both p)
-
-    -- the second began with what opening again found
-    pub one-run : Runs seen records IsAsked answers parts_of head before between first ending → Runs seen records IsAsked answers parts_of head again after second ending_too
-        → Joins seen records IsAsked answers parts_of head content before between again after first second ending ending_too
-    one-run (inl refused) ran_too = inl refused
-    one-run (inr o) ran_too = inr (onward o ran_too)
+            later = all.1;
+            runs = joined way.is_asked way.answers way.parts_of one.core both.1.left both.0.core all.0.served.serves.now (take both.1.made one.served.serves.frames)
+                (take all.1.made both.0.served.serves.frames ++ take (frames_counted all.0.served.result) all.0.served.serves.frames) (one.served.serves.replies ++ both.1.unwritten)
+                ((both.0.served.serves.replies ++ all.1.unwritten) ++ all.0.served.serves.replies) both.1.led both.1.same all.1.runs;
+          },
+        )

@@ -9,7 +9,7 @@ mod running;
 mod service;
 
 pub use ending::ending_unopened;
-pub use joined::{memory_runs_law, runs_law};
+pub use joined::{memory_runs_law, runs_law, three_runs_law};
 pub use kind::Plugin;
 pub use recording::record;
 pub use running::plugin;

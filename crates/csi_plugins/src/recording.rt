@@ -2,6 +2,7 @@
 ghost use Rattle.std.specs.Prelude.{◌≡◌, ◌++◌, ℕ, List, codes, map, IfOk, IfErr, OnOk, string_bytes};
 ghost use Rattle.serde_json.specs.Written.{compact_text};
 ghost use Rattle.csi_stores.specs.Public.Part.{StoredPart, all_stored_in};
+ghost use Rattle.csi_stores.specs.Public.Stores.{Found, IsOnly, FindsSome};
 ghost use Rattle.csi_reports.specs.Public.Records.{controller_entry, node_entry};
 ghost use Rattle.csi_plugins.specs.Public.Ending.{EndsAt};
 ghost use Rattle.csi_plugins.specs.Public.Recording.{IsLineOf, IsOrchestratorRecord, IsNodeOrOrchestrator, IsSomeRecord};
@@ -101,6 +102,8 @@ fn recorded<K: Keep>(alloc: Global, keep: &mut K) -> Result<String, Ending>
     ensures line { IfOk result (λ text. IsRecordTold (K.store keep.old) (K.store keep.new) (string_bytes text)) }
     ensures refused { IfErr result (IsNotTold (K.store keep.old) (K.store keep.new)) }
     ensures foreign { (K.store keep.new).honest → (place : ℕ) → (K.store keep.old).foreign place → IsNotGivenAt place result }
+    ensures left { (K.store keep.new).honest → (found : Found) → (K.store keep.new).leaves found → (K.store keep.old).leaves found }
+    ensures some { (K.store keep.new).honest → (found : Found) → IsOnly (K.store keep.old) found → FindsSome (K.store keep.new) }
 {
     match keep.load() {
         Ok(parts) => line_of(alloc, &parts),
@@ -109,12 +112,15 @@ fn recorded<K: Keep>(alloc: Global, keep: &mut K) -> Result<String, Ending>
 }
 
 /// Writes what the store has, and flushes: the record of a controller, of a node or of an orchestrator, in any version, as one line of
-/// JSON, with a newline. Nothing is put into the store. `RecordFault` says that its parts are the record of none of these, with the place of
-/// the first that is refused, and 0 where there are none; `Device` that the store's device or the writer failed, which is counted, and then a front of the line
+/// JSON, with a newline. Nothing is committed: opening the store again finds nothing that it wouldn't have found before, and something,
+/// where it had found one thing. `RecordFault` says that its parts are the record of none of these, with the place of the first that is
+/// refused, and 0 where there are none; `Device` that the store's device or the writer failed, which is counted, and then a front of the line
 /// is written; `Memory` that an allocation was refused. This profile's own.
 pub fn record<K: Keep, W: Write>(alloc: Global, keep: &mut K, out: &mut Counted<W>) -> Ending
     ensures records { WritesRecordLine (K.store keep.old) (K.store keep.new) (written_by W.contents out.old) (written_by W.contents out.new) result }
     ensures foreign { (K.store keep.new).honest → (place : ℕ) → (K.store keep.old).foreign place → EndsAt place result }
+    ensures left { (K.store keep.new).honest → (found : Found) → (K.store keep.new).leaves found → (K.store keep.old).leaves found }
+    ensures some { (K.store keep.new).honest → (found : Found) → IsOnly (K.store keep.old) found → FindsSome (K.store keep.new) }
 {
     let line = match recorded(alloc, keep) {
         Ok(line) => line,

@@ -8,7 +8,7 @@ ghost use Rattle.csi_stores.specs.Public.Part.{part_change, take_all};
 ghost use Rattle.csi_records.specs.Public.OrchestratorRows.{IsOrchestratorRow};
 ghost use Rattle.csi_records.specs.Public.Spelling.{present};
 ghost use Rattle.csi_service.specs.Private.OrchestratorServices.{changed_at, heard_at};
-ghost use Rattle.csi_service.specs.Public.OrchestratorServices.{orchestrator_row_change, keys_from, session_change as changed_by_session};
+ghost use Rattle.csi_service.specs.Public.OrchestratorServices.{orchestrator_row_change, keys_from, session_change as changed_by_session, IsOneRow};
 
 use csi_orchestrator::{Heard, Orchestrator};
 use csi_records::push_orchestrator_row;
@@ -42,7 +42,8 @@ pub(crate) fn session_change(before: usize, now: usize) -> OrchestratorChanged
 
 /// The row at this place, if one was found.
 fn row_at(place: Option<usize>) -> OrchestratorChanged
-    ensures { result ≡ changed_at place }
+    ensures value { result ≡ changed_at place }
+    ensures one { IsOneRow result }
 {
     match place {
         Some(place) => OrchestratorChanged::Row(place),
@@ -56,7 +57,8 @@ pub(crate) fn row_named(
     name: &Name,
     is_changed: bool,
 ) -> OrchestratorChanged
-    ensures { result ≡ (if is_changed then changed_at (place_by_name name.now orchestrator.now.rows) else OrchestratorChanged.Nothing) }
+    ensures value { result ≡ (if is_changed then changed_at (place_by_name name.now orchestrator.now.rows) else OrchestratorChanged.Nothing) }
+    ensures one { IsOneRow result }
 {
     if is_changed {
         row_at(orchestrator.place_of(name))
@@ -67,7 +69,8 @@ pub(crate) fn row_named(
 
 /// The row at this place, unless the frame was ignored.
 pub(crate) fn row_heard(place: Option<usize>, heard: &Heard) -> OrchestratorChanged
-    ensures { result ≡ heard_at place heard.now }
+    ensures value { result ≡ heard_at place heard.now }
+    ensures one { IsOneRow result }
 {
     match heard {
         Heard::Ignored => OrchestratorChanged::Nothing,

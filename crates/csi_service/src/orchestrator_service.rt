@@ -58,7 +58,7 @@ impl OrchestratorService {
     ghost use Rattle.csi_service.specs.Public.OrchestratorServices.{kept_of, orchestrator_service_parts, orchestrator_service_changes, whole_change};
     ghost use Rattle.csi_service.specs.Public.OrchestratorServices.{session_change as changed_by_session, session_changes, OrchestratorLoses};
     ghost use Rattle.csi_service.specs.declared.orchestrator_changes.OrchestratorChanged.{OrchestratorChanged as Changed};
-    ghost use Rattle.csi_service.specs.Public.OrchestratorServices.{AreFitOrchestratorRows, IsChangedRowFit, OrchestratorAnswers, TellsChanges};
+    ghost use Rattle.csi_service.specs.Public.OrchestratorServices.{AreFitOrchestratorRows, IsChangedRowFit, OrchestratorAnswers, TellsChanges, IsOneRow};
     ghost use Rattle.csi_service.specs.Public.StoreOpening.{LeavesOpening};
 
     /// An orchestrator of these nodes that did nothing, in session 1, which no store has yet: its head is told as changed. Refused with
@@ -190,6 +190,7 @@ impl OrchestratorService {
           capabilities = capabilities;
         })) result self.new }
         ensures changed { TellsChanges self.old result self.new }
+        ensures one { IsOneRow self.new.changed }
     {
         self.changed = OrchestratorChanged::Nothing;
         let place = place_for(&self.orchestrator, &name);
@@ -224,6 +225,7 @@ impl OrchestratorService {
               readonly = readonly;
             }))) → IsOk result }
         ensures changed { TellsChanges self.old result self.new }
+        ensures one { IsOneRow self.new.changed }
         ensures rests { IfOk result (λ sent. sent ≡ None → orchestrator_service_changes self.new ≡ []) }
     {
         self.changed = OrchestratorChanged::Nothing;
@@ -243,6 +245,7 @@ impl OrchestratorService {
     ) -> Result<Option<Frame>, OrchFault>
         ensures answered { OrchestratorAnswers Sends self.old (ToStop name.now node target) result self.new }
         ensures changed { TellsChanges self.old result self.new }
+        ensures one { IsOneRow self.new.changed }
     {
         self.changed = OrchestratorChanged::Nothing;
         let sent = self.orchestrator.stop(name, node, target)?;
@@ -256,6 +259,7 @@ impl OrchestratorService {
         ensures answered { OrchestratorAnswers Sends self.old (ToDelete name.now) result self.new }
         ensures memory { IfErr result (λ fault. fault ≡ Fault.NoMemory → ⊥) }
         ensures changed { TellsChanges self.old result self.new }
+        ensures one { IsOneRow self.new.changed }
         ensures rests { IfOk result (λ sent. sent ≡ None → orchestrator_service_changes self.new ≡ []) }
     {
         self.changed = OrchestratorChanged::Nothing;
@@ -268,6 +272,7 @@ impl OrchestratorService {
     pub fn timeout(&mut self, name: &Name) -> Result<Option<Frame>, OrchFault>
         ensures answered { OrchestratorAnswers Sends self.old (TimesOut name.now) result self.new }
         ensures changed { TellsChanges self.old result self.new }
+        ensures one { IsOneRow self.new.changed }
     {
         self.changed = OrchestratorChanged::Nothing;
         let sent = self.orchestrator.timeout(name)?;
@@ -284,6 +289,7 @@ impl OrchestratorService {
             IsHeardAs (HeardShown.Taken None) (moves history (Comes frame.now)) → IsOk result }
         ensures row { IfOk result (λ heard. ChangesAsHeard frame.now.number heard self.old.orchestrator self.new.orchestrator) }
         ensures changed { TellsChanges self.old result self.new }
+        ensures one { IsOneRow self.new.changed }
         ensures rests { IfOk result (λ heard. heard ≡ HeardShown.Ignored → orchestrator_service_changes self.new ≡ []) }
     {
         self.changed = OrchestratorChanged::Nothing;

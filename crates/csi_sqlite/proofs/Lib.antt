@@ -16,3 +16,4 @@ pub mod ForeignRows
 pub mod Closed
 pub mod Refusals
 pub mod FoundAgain
+pub mod Blank

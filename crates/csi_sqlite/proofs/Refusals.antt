@@ -1,5 +1,5 @@
 -- Why SQLite refused: as what an error is told, and changes of which one is refused.
-use Rattle.std.proofs.Common.{◌≡◌, ℕ, zero, suc, ◌<◌, IsTrue, Option, Some, None, List, [], ◌∷◌, ◌↔◌, length, drop, get_or, Result, Ok, Err, IfErr, refl, sym, ap, subst, arith}
+use Rattle.std.proofs.Common.{◌≡◌, ◌∙◌, ◌⊎◌, inl, inr, ℕ, zero, suc, ◌<◌, IsTrue, Option, Some, None, List, [], ◌∷◌, ◌↔◌, length, drop, get_or, Result, Ok, Err, IfErr, refl, sym, ap, subst, arith}
 use Rattle.sqlite.specs.declared.error.Error.{Error}
 use Rattle.sqlite.specs.declared.error.Error.TheVariants.{SqliteFailure}
 use Rattle.sqlite.specs.declared.error.ErrorCode.TheVariants.{OutOfMemory}
@@ -15,6 +15,11 @@ told P before after error Device counted memory refuses = (error, λ is. absurd 
 told P before after error NoMemory counted memory refuses = subst P (memory.0 refl) refuses
 told P before after error (BadRecord place) counted memory refuses = absurd counted
 told P before after error Full counted memory refuses = absurd counted
+
+-- the same, where it is known to be one or the other
+pub told_so : (P : Error → Type 0) (error : Error) (fault : KeepFault) → ((fault ≡ NoMemory) ↔ (error ≡ SqliteFailure OutOfMemory)) → (fault ≡ Device) ⊎ (fault ≡ NoMemory) → P error → IsToldFault P fault
+told_so P error fault memory (inl device) refuses = subst (IsToldFault P) (sym device) (error, λ is. absurd (let e = sym device ∙ memory.1 is in cc), refuses)
+told_so P error fault memory (inr wanting) refuses = subst (IsToldFault P) (sym wanting) (subst P (memory.0 wanting) refuses)
 
 -- a change that is made in a transaction leaves it open
 pub still_inside : (key : ℕ) (value : Option (List ℕ)) (old new : State) → MakesChange key value old new → IsTrue new.in_transaction

@@ -7,3 +7,5 @@ pub mod Refusals
 pub mod Tables
 pub mod Closing
 pub mod Kept
+pub mod Opening
+pub mod HalfMade

@@ -4,6 +4,7 @@ ghost use Rattle.sqlite.specs.Held.{Held, state};
 ghost use Rattle.sqlite.specs.State.{HasCleanDisk};
 ghost use Rattle.sqlite.specs.Order.{Row};
 ghost use Rattle.sqlite.specs.Tree.{Trees};
+ghost use Rattle.sqlite_wal.specs.Recovery.{Image};
 ghost use Rattle.csi_sqlite.specs.Public.Declared.{parts_schema};
 ghost use Rattle.csi_sqlite.specs.Public.Listed.{ListsOther};
 ghost use Rattle.csi_sqlite.specs.Public.Rows.{IsBlank, HasColumns};
@@ -14,6 +15,7 @@ ghost use Rattle.csi_stores.specs.Public.Stores.{Found, IsOnly, IsSettled, Finds
 ghost use Rattle.csi_stores.specs.Public.Stores.Found.{Parts};
 ghost use Rattle.csi_sqlite.specs.Public.Statements.{RefusesToMake};
 ghost use Rattle.csi_sqlite.specs.Public.Kept.{sqlite_store};
+ghost use Rattle.csi_sqlite.specs.Public.Opening.{FindsLeft, IsOpenedOver};
 ghost use Rattle.csi_sqlite.specs.Public.Refusals.{IsToldFault, IsNotLoaded, RefusesChanges};
 ghost use Rattle.csi_sqlite.specs.Public.Loading.{IsLoaded, IsForeign, LeavesFound};
 ghost use Rattle.csi_sqlite.specs.Public.Tables.{StoresParts, HoldsParts, OpensOver, CountsFault, CountsOnce};
@@ -27,12 +29,14 @@ use std::alloc::Global;
 mod changing;
 mod file;
 mod found;
+mod half_made;
 mod over;
 mod reading;
 
 use changing::change_at_once;
 pub use file::close_file;
 pub use found::{close_found, copies, find_at};
+pub use half_made::{BEGUN_LOG, is_half_made};
 pub use over::{OverStore, over_file, over_found};
 use reading::parts_of;
 
@@ -62,6 +66,18 @@ fn is_memory(error: &Error) -> bool
     ensures { IsTrue result ↔ (error.now ≡ Error.SqliteFailure ErrorCode.OutOfMemory) }
 {
     matches!(error, Error::SqliteFailure(ErrorCode::OutOfMemory))
+}
+
+// What an error at opening is to the keeper: want of memory, or a failing device.
+fn told(error: &Error) -> KeepFault
+    ensures memory { (result ≡ KeepFault.NoMemory) ↔ (error.now ≡ Error.SqliteFailure ErrorCode.OutOfMemory) }
+    ensures cause { (result ≡ KeepFault.Device) ⊎ (result ≡ KeepFault.NoMemory) }
+{
+    if is_memory(error) {
+        KeepFault::NoMemory
+    } else {
+        KeepFault::Device
+    }
 }
 
 // What a refusal is to the keeper; all but want of memory is a failure, and counted. A count of 2^64 - 1 stays.
@@ -121,6 +137,18 @@ impl<S: Alter> SqliteKeep<S> {
     pub fn settled_law()
         ensures { (connection : Held S) (faults : ℕ) → IsSettled (sqlite_store (state S.Store connection) faults) }
     {}
+
+    /// A law, and nothing that runs, of two stores in one file, each opened by a process of its own and so of its own kind: where the second
+    /// one's files hold a database that the first may have left, which has these parts (`FindsLeft`; that is what the file system does
+    /// between the two, and asked of it), and the second was opened over what its files hold (`open_file`, `found`), it has these parts alone.
+    pub fn reopened_law<T: Alter>()
+        ensures { (left : Held S) (now : Held T) (faults rises : ℕ) (image : Image) (content : List StoredPart) →
+            FindsLeft (state S.Store left) image (Parts content) → IsOpenedOver image (state T.Store now) →
+            (sqlite_store (state S.Store left) faults).leaves (Parts content)
+            × (HasCleanDisk (state T.Store now) → IsOnly (sqlite_store (state T.Store now) rises) (Parts content)) }
+    {
+        SqliteKeep::<T>::settled_law();
+    }
 
     /// The connection. It takes no memory.
     pub fn into_connection(self) -> Connection<S>

@@ -95,6 +95,8 @@ const LINES: &[(&str, Read)] = &[
     ("[]", BAD_LINE),
     ("\"v\"", BAD_LINE),
     ("{\"delete\":\"v\",\"timeout\":\"v\"}", BAD_LINE),
+    ("{\"reply\":\"zz\",\"x\":1}", BAD_LINE),
+    ("{\"reply\":\"00\",\"x\":1}", BAD_LINE),
     ("{\"delete\":\"\"}", BAD_LINE),
     ("{\"delete\":1}", BAD_LINE),
     ("{\"use\":{\"name\":\"v\"}}", BAD_LINE),

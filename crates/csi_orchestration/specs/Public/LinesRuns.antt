@@ -1,10 +1,10 @@
--- Two runs over one store, one after another, however each ended, as one run. This profile's own.
+-- Two runs over one store, one after another, each by a process of its own, however each ended, as one run. This profile's own.
 use Rattle.std.specs.Prelude.{◌≡◌, ◌⊎◌, ℕ, ◌+◌, ◌≤◌, ◌^◌, List, ◌++◌, length, take, Option, Result}
 use Rattle.std.specs.Io.KnownBytes.{Consumes, IsAtEnd}
 use Rattle.csi_stores.specs.Public.Counting.{HasRisen}
 use Rattle.csi_stores.specs.declared.counted.Counted.{Counted}
 use Rattle.csi_stores.specs.Public.Part.{StoredPart}
-use Rattle.csi_stores.specs.Public.Stores.{Store, Found, Parts, Has, IsOnly}
+use Rattle.csi_stores.specs.Public.Stores.{Store, Found, Parts, IsOnly}
 use Rattle.csi_orchestration.specs.declared.lines_serving.fault.ServedLines.{ServedLines}
 use Rattle.csi_orchestration.specs.declared.lines_serving.fault.LinesServeFault.{LinesServeFault}
 use Rattle.csi_orchestration.specs.Public.LinesServing.{Setting, AnswersEach, lines_counted, ServesLines}
@@ -53,9 +53,21 @@ pub record Ran {C K R W : Type 0} (setting : RunSetting C K R W) (before after :
 
 -- ---- two runs
 
--- opening the store again found this, which it might find
+-- the same, where stores are seen so
+abbrev pub over : {C K L R W : Type 0} → RunSetting C K R W → (L → Store) → RunSetting C L R W
+over setting seen = record {
+  opens = setting.opens;
+  answers = setting.answers;
+  parts_of = setting.parts_of;
+  seen = seen;
+  remaining = setting.remaining;
+  contents = setting.contents;
+}
+
+-- What the file system does between two processes: the second one opens one of the contents that the first may have left, and its store has
+-- that alone.
 abbrev pub Reopens : Store → Store → Type 0
-Reopens left now = (found : Found) × left.leaves found × Has now found
+Reopens left now = (found : Found) × left.leaves found × IsOnly now found
 
 -- How many lines left their mark in the store: those that are counted; or also those that were answered behind them, all of them, where
 -- their commit was refused.
@@ -63,24 +75,26 @@ abbrev pub AreMade : ℕ → List (List ℕ) → ℕ → Type 0
 AreMade counted group made = (made ≡ counted) ⊎ (made ≡ counted + length group)
 
 -- Two runs are one, from a store with this content: the first lines of the first input, as many as left their mark, led to some responder;
--- of its parts opening made the second run's, which went on with the lines that are counted of the second input. The answers are those of
--- both runs, and of lines whose commit was refused.
-pub record AreOneRun {C K R W : Type 0} (setting : RunSetting C K R W) (content : List StoredPart) (before between again after : K) (r r_read s s_read : Counted R) (w w_written v v_written : Counted W) (result result_too : Result ServedLines LinesServeFault)
-    (one : Ran setting before between r r_read w w_written result) (two : Ran setting again after s s_read v v_written result_too) : Type 0 where
+-- the second run found its parts, so that the second and a third are one likewise, from these; and of them opening made the second run's
+-- responder, which went on with the lines that are counted of the second input. The answers are those of both runs, and of lines whose commit
+-- was refused.
+pub record AreOneRun {C K L R W : Type 0} (setting : RunSetting C K R W) (seen_too : L → Store) (content : List StoredPart) (before between : K) (again after : L) (r r_read s s_read : Counted R) (w w_written v v_written : Counted W) (result result_too : Result ServedLines LinesServeFault)
+    (one : Ran setting before between r r_read w w_written result) (two : Ran (over setting seen_too) again after s s_read v v_written result_too) : Type 0 where
   pub opened : setting.opens content one.responder
   pub made : ℕ
   pub are_made : AreMade (lines_counted result) one.served.serves.group made
   pub unwritten : List (List ℕ)
   pub left : C
   pub runs : AnswersEach setting.answers one.responder (take made one.served.serves.there) (one.served.serves.given ++ unwritten) left
+  pub found : (seen_too again).holds (setting.parts_of left)
   pub reopened : setting.opens (setting.parts_of left) two.responder
   pub goes_on : AnswersEach setting.answers two.responder (take (lines_counted result_too) two.served.serves.there) two.served.serves.given two.served.serves.now
 
--- Two runs, the second over what opening the store again found after the first, are one: where the store had a content before, and was honest
--- after both.
-abbrev pub LinesRunsLaw : {C K R W : Type 0} → RunSetting C K R W → Type 0
-LinesRunsLaw {C} {K} {R} {W} setting =
-    (before between again after : K) (content : List StoredPart) (r r_read s s_read : Counted R) (w w_written v v_written : Counted W) (result result_too : Result ServedLines LinesServeFault)
-    → (setting.seen between).honest → (setting.seen after).honest → (setting.seen before).holds content
-    → (one : Ran setting before between r r_read w w_written result) → Reopens (setting.seen between) (setting.seen again) → (two : Ran setting again after s s_read v v_written result_too)
-    → AreOneRun setting content before between again after r r_read s s_read w w_written v v_written result result_too one two
+-- Two runs, each by a process of its own, which sees its store in its own way, the second over what opening the store again found after the
+-- first, are one: where the store had a content before, and was honest after both.
+abbrev pub LinesRunsLaw : {C K L R W : Type 0} → RunSetting C K R W → (L → Store) → Type 0
+LinesRunsLaw {C} {K} {L} {R} {W} setting seen_too =
+    (before between : K) (again after : L) (content : List StoredPart) (r r_read s s_read : Counted R) (w w_written v v_written : Counted W) (result result_too : Result ServedLines LinesServeFault)
+    → (setting.seen between).honest → (seen_too after).honest → (setting.seen before).holds content
+    → (one : Ran setting before between r r_read w w_written result) → Reopens (setting.seen between) (seen_too again) → (two : Ran (over setting seen_too) again after s s_read v v_written result_too)
+    → AreOneRun setting seen_too content before between again after r r_read s s_read w w_written v v_written result result_too one two

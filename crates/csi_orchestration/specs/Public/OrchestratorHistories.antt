@@ -26,9 +26,10 @@ use Rattle.csi_stores.specs.Public.Stores.{Store}
 use Rattle.csi_orchestration.specs.declared.lines_serving.fault.ServedLines.{ServedLines}
 use Rattle.csi_orchestration.specs.declared.lines_serving.fault.LinesServeFault.{LinesServeFault}
 use Rattle.csi_orchestration.specs.declared.orchestrator_responder.OrchestratorResponder.{OrchestratorResponder}
-use Rattle.csi_orchestration.specs.Public.LinesRuns.{RunSetting, Ran, Reopens, AreOneRun}
+use Rattle.csi_orchestration.specs.Public.LinesRuns.{RunSetting, Ran, over, Reopens, AreOneRun}
 use Rattle.csi_orchestration.specs.Public.LinesServing.{AnswersEach, lines_counted}
 use Rattle.csi_orchestration.specs.Public.OrchestratorLines.{LineJudge, RequestBy, with_bytes, command_entry, lost_entry}
+use Rattle.csi_orchestration.specs.Public.OrchestratorResponding.{responder_parts}
 use Rattle.csi_orchestration.specs.Public.Running.{orchestrator_setting}
 
 -- ---- a line
@@ -85,29 +86,50 @@ MovesLine history line answer next = RequestBy moved_lines (line_request line) h
 
 -- ---- two runs
 
--- From a history, the first lines of the first run lead to another one; the orchestrator restarts with the second run's list of nodes; and the second
--- run's lines lead on. The answers are those that were given, and of a line whose commit was refused.
-pub record AreOneHistory {K R W : Type 0} (setting : RunSetting OrchestratorResponder K R W) (content : List StoredPart) (before between again after : K) (r r_read s s_read : Counted R) (w w_written v v_written : Counted W) (result result_too : Result ServedLines LinesServeFault)
-    (one : Ran setting before between r r_read w w_written result) (two : Ran setting again after s s_read v v_written result_too)
-    (run : AreOneRun setting content before between again after r r_read s s_read w w_written v v_written result result_too one two) (history : History) : Type 0 where
+-- From a history, the first lines of the first run lead to another one; the orchestrator restarts with the second run's list of nodes, in a
+-- history that the second run's orchestrator shows; and the second run's lines lead on. The answers are those that were given, and of lines whose
+-- commit was refused.
+pub record AreOneHistory {K L R W : Type 0} (setting : RunSetting OrchestratorResponder K R W) (seen_too : L → Store) (content : List StoredPart) (before between : K) (again after : L) (r r_read s s_read : Counted R) (w w_written v v_written : Counted W)
+    (result result_too : Result ServedLines LinesServeFault) (one : Ran setting before between r r_read w w_written result) (two : Ran (over setting seen_too) again after s s_read v v_written result_too)
+    (run : AreOneRun setting seen_too content before between again after r r_read s s_read w w_written v v_written result result_too one two) (history : History) : Type 0 where
   pub came : History
   pub first : AnswersEach MovesLine history (take run.made one.served.serves.there) (one.served.serves.given ++ run.unwritten) came
   pub begun : History
   pub restarts : IsMoved {A = Unit {0}} (λ done. Restarted) came (Restarts two.responder.service.orchestrator.nodes) (Ok tt) begun
+  pub begun_form : IsWellFormed begun
+  pub begun_shown : Shows two.responder.service.orchestrator begun
   pub last : History
   pub second : AnswersEach MovesLine begun (take (lines_counted result_too) two.served.serves.there) two.served.serves.given last
   pub shown : Shows two.served.serves.now.service.orchestrator last
 
--- Two runs of an orchestrator, the second over what opening the store again found after the first, are one; and from each history that the first one's
--- orchestrator shows, of which there is one, and a new one's where the store was empty, they are one run of the stated machine, with a restart between:
--- where the store had a content before, and was honest after both.
-abbrev pub OrchestratorRunsLaw : {K R W : Type 0} → (K → Store) → (R → Option (List ℕ)) → (W → Option (List ℕ)) → Type 0
-OrchestratorRunsLaw {K} {R} {W} seen remaining contents =
-    (before between again after : K) (content : List StoredPart) (r r_read s s_read : Counted R) (w w_written v v_written : Counted W) (result result_too : Result ServedLines LinesServeFault)
-    → (seen between).honest → (seen after).honest → (seen before).holds content
-    → (one : Ran (orchestrator_setting seen remaining contents) before between r r_read w w_written result) → Reopens (seen between) (seen again)
-    → (two : Ran (orchestrator_setting seen remaining contents) again after s s_read v v_written result_too)
-    → (run : AreOneRun (orchestrator_setting seen remaining contents) content before between again after r r_read s s_read w w_written v v_written result result_too one two)
+-- Two runs of an orchestrator, each by a process of its own, which sees its store in its own way, the second over what opening the store again found
+-- after the first, are one; and from each history that the first one's orchestrator shows, of which there is one, and a new one's where the store
+-- was empty, they are one run of the stated machine, with a restart between: where the store had a content before, and was honest after both.
+abbrev pub OrchestratorRunsLaw : {K L R W : Type 0} → (K → Store) → (L → Store) → (R → Option (List ℕ)) → (W → Option (List ℕ)) → Type 0
+OrchestratorRunsLaw {K} {L} {R} {W} seen seen_too remaining contents =
+    (before between : K) (again after : L) (content : List StoredPart) (r r_read s s_read : Counted R) (w w_written v v_written : Counted W) (result result_too : Result ServedLines LinesServeFault)
+    → (seen between).honest → (seen_too after).honest → (seen before).holds content
+    → (one : Ran (orchestrator_setting seen remaining contents) before between r r_read w w_written result) → Reopens (seen between) (seen_too again)
+    → (two : Ran (orchestrator_setting seen_too remaining contents) again after s s_read v v_written result_too)
+    → (run : AreOneRun (orchestrator_setting seen remaining contents) seen_too content before between again after r r_read s s_read w w_written v v_written result result_too one two)
     × HasHistory one.responder.service.orchestrator × (content ≡ [] → Shows one.responder.service.orchestrator (new_history one.responder.service.orchestrator.nodes))
     × ((history : History) → IsWellFormed history → Shows one.responder.service.orchestrator history
-    → AreOneHistory (orchestrator_setting seen remaining contents) content before between again after r r_read s s_read w w_written v v_written result result_too one two run history)
+    → AreOneHistory (orchestrator_setting seen remaining contents) seen_too content before between again after r r_read s s_read w w_written v v_written result result_too one two run history)
+
+-- ---- three runs
+
+-- Three runs of an orchestrator likewise, one after another: the second and a third are one from the parts that the first left, and, in each
+-- history, from the one with which the second run began. By the same step so are any number.
+abbrev pub OrchestratorThreeRunsLaw : {K L M R W : Type 0} → (K → Store) → (L → Store) → (M → Store) → (R → Option (List ℕ)) → (W → Option (List ℕ)) → Type 0
+OrchestratorThreeRunsLaw {K} {L} {M} {R} {W} seen seen_too seen_last remaining contents =
+    (before between : K) (again left : L) (anew after : M) (content : List StoredPart) (r r_read s s_read t t_read : Counted R) (w w_written v v_written u u_written : Counted W) (result result_too result_last : Result ServedLines LinesServeFault)
+    → (seen between).honest → (seen_too left).honest → (seen_last after).honest → (seen before).holds content
+    → (one : Ran (orchestrator_setting seen remaining contents) before between r r_read w w_written result) → Reopens (seen between) (seen_too again)
+    → (two : Ran (orchestrator_setting seen_too remaining contents) again left s s_read v v_written result_too) → Reopens (seen_too left) (seen_last anew)
+    → (three : Ran (orchestrator_setting seen_last remaining contents) anew after t t_read u u_written result_last)
+    → (run : AreOneRun (orchestrator_setting seen remaining contents) seen_too content before between again left r r_read s s_read w w_written v v_written result result_too one two)
+    × (later : AreOneRun (orchestrator_setting seen_too remaining contents) seen_last (responder_parts run.left) again left anew after s s_read t t_read v v_written u u_written result_too result_last two three)
+    × HasHistory one.responder.service.orchestrator × (content ≡ [] → Shows one.responder.service.orchestrator (new_history one.responder.service.orchestrator.nodes))
+    × ((history : History) → IsWellFormed history → Shows one.responder.service.orchestrator history
+    → (begins : AreOneHistory (orchestrator_setting seen remaining contents) seen_too content before between again left r r_read s s_read w w_written v v_written result result_too one two run history)
+    × AreOneHistory (orchestrator_setting seen_too remaining contents) seen_last (responder_parts run.left) again left anew after s s_read t t_read v v_written u u_written result_too result_last two three later begins.begun)

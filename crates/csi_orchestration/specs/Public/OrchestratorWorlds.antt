@@ -96,10 +96,29 @@ Brings world (event ∷ others) lines =
     (IsElsewhere world event × Brings (occurs world event).world others lines)
     ⊎ ((next : ComesNext world event lines) × Brings (occurs world event).world others next.rest)
 
+-- ---- which lines come about
+
+-- a frame of these bytes was sent before, a reply
+pub record WasSent (world : World) (bytes : List ℕ) : Type 0 where
+  pub number : ℕ
+  pub frame : Frame
+  pub spelled : Spells frame bytes
+  pub reply : IsCallBody frame.body → ⊥
+  pub sent : frame_numbered world number ≡ Some frame
+
+-- what is asked may come about in a world: a reply only if it was sent, and all else
+abbrev pub MayCome : World → Result RequestShown RequestFault → Type 0
+MayCome world (Ok (Command asked)) = Unit {0}
+MayCome world (Ok (Reply bytes)) = AsksNothing (Ok (Reply bytes)) ⊎ WasSent world bytes
+MayCome world (Err fault) = Unit {0}
+
 -- Whatever else happens, where lines come to a world's orchestrator, its history goes on as they lead it; and where it restarts with a list of nodes, as a
--- restart does.
+-- restart does. Each line that may come is brought by some events, and lines behind lines by the events behind the events.
 pub record WorldsLaw : Type 0 where
   pub lines : (world : World) (others : List Event) (lines given : List (List ℕ)) (next : History) → Brings world others lines
       → AnswersEach MovesLine world.history lines given next → (after_from world others).world.history ≡ next
   pub restart : (world : World) (nodes : List (List ℕ)) (next : History) → IsMoved {A = Unit {0}} (λ done. Restarted) world.history (Restarts nodes) (Ok tt) next
       → (occurs world (events.RestartOrchestratorWith nodes)).world.history ≡ next
+  pub each : (world : World) (line : List ℕ) → MayCome world (line_request line) → (others : List Event) × Brings world others (line ∷ [])
+  pub joined : (world : World) (others more : List Event) (lines rest : List (List ℕ)) → Brings world others lines → Brings (after_from world others).world more rest
+      → Brings world (others ++ more) (lines ++ rest)

@@ -66,6 +66,13 @@ orchestrator_changes_of (Whole before) orchestrator = whole_change before orches
 abbrev pub orchestrator_service_changes : ServedOrchestrator → List StoredChange
 orchestrator_service_changes service = orchestrator_changes_of service.changed service.orchestrator
 
+-- one row at most: no head, and not all of it
+abbrev pub IsOneRow : OrchestratorChanged → Type 0
+IsOneRow Nothing = Unit {0}
+IsOneRow Head = ⊥
+IsOneRow (Row place) = Unit {0}
+IsOneRow (Whole before) = ⊥
+
 -- what is changed where a session begins and so many rows were there before: the head, or all of it, where names were forgotten, since
 -- a row's key is its place
 abbrev pub session_change : ℕ → ℕ → OrchestratorChanged

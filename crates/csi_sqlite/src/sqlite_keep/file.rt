@@ -1,20 +1,22 @@
 //! A store in a file.
-ghost use Rattle.std.specs.Prelude.{◌≡◌, ◌⊎◌, List, IsTrue, IfOk, IfErr, OnOk};
+ghost use Rattle.std.specs.Prelude.{◌≡◌, ◌⊎◌, List, [], codes, IsTrue, IsErr, IfOk, IfErr, OnOk};
 ghost use Rattle.sqlite_wal.specs.Files.{image_at};
 ghost use Rattle.sqlite_trees.specs.Tree.{Trees};
 ghost use Rattle.sqlite_trees.specs.View.{IsClean};
 ghost use Rattle.sqlite_store.specs.FileStore.{view, recovers};
 ghost use Rattle.sqlite.specs.Held.{state};
 ghost use Rattle.sqlite.specs.State.{HasCleanDisk};
-ghost use Rattle.sqlite.specs.Files.{file_state, HoldsDatabase, FailsToClose};
+ghost use Rattle.sqlite.specs.Files.{over_files, file_state, FailsToClose};
 ghost use Rattle.csi_stores.specs.Public.Part.{StoredPart};
+ghost use Rattle.csi_sqlite.specs.Public.Opening.{IsNotKept, IsOpenedOver};
+ghost use Rattle.csi_sqlite.specs.Public.Rows.{IsBlank};
 ghost use Rattle.csi_sqlite.specs.Public.Tables.{StoresParts, HoldsParts, OpensOver};
 ghost use Rattle.csi_sqlite.specs.Public.Refusals.{IsToldFault};
 ghost use Rattle.csi_sqlite.specs.Public.Closing.{PutsBack, IsPutBack, IsNotPutBack};
 
 use crate::rows::has_table;
 use crate::sqlite_keep::found::look_at;
-use crate::sqlite_keep::{SqliteKeep, is_memory};
+use crate::sqlite_keep::{SqliteKeep, is_memory, told};
 use csi_stores::KeepFault;
 use sqlite::{Alter, Connection, FileFrom, FileStore, Files, Start, Unknown};
 use sqlite_disk::Disk;
@@ -29,10 +31,12 @@ fn kept<S: Alter + Drop>(
 ) -> Result<SqliteKeep<S>, KeepFault>
     ensures found { IfOk result (λ keep. OpensOver (state S.Store connection) (state S.Store keep.connection)
         × (HasCleanDisk (state S.Store keep.connection) → (content : List StoredPart) → IsTrue (state S.Store connection).is_open →
-        StoresParts (state S.Store connection).now.trees content → HoldsParts (state S.Store keep.connection) content)) }
+        StoresParts (state S.Store connection).now.trees content → HoldsParts (state S.Store keep.connection) content)
+        × (HasCleanDisk (state S.Store keep.connection) → IsBlank (state S.Store connection) → HoldsParts (state S.Store keep.connection) [])) }
     ensures there { IsTrue has_to_be_there → IfOk result (λ keep. keep.connection ≡ connection) }
     ensures faults { IfOk result (λ keep. keep.faults ≡ 0) }
     ensures cause { IfErr result (λ fault. (fault ≡ KeepFault.Device) ⊎ (fault ≡ KeepFault.NoMemory)) }
+    ensures told { IfErr result (IsNotKept S.Store connection) }
 {
     if has_to_be_there && !has_table(&connection) {
         return Err(KeepFault::Device);
@@ -51,34 +55,37 @@ pub(crate) fn kept_files<D: Disk + Drop>(
 ) -> Result<SqliteKeep<FileStore<D>>, KeepFault>
     ensures found { IfOk result (λ keep. OpensOver (file_state connection) (file_state keep.connection)
         × (HasCleanDisk (file_state keep.connection) → (content : List StoredPart) → IsTrue (file_state connection).is_open →
-        StoresParts (file_state connection).now.trees content → HoldsParts (file_state keep.connection) content)) }
+        StoresParts (file_state connection).now.trees content → HoldsParts (file_state keep.connection) content)
+        × (HasCleanDisk (file_state keep.connection) → IsBlank (file_state connection) → HoldsParts (file_state keep.connection) [])) }
     ensures there { IsTrue has_to_be_there → IfOk result (λ keep. keep.connection ≡ connection) }
     ensures faults { IfOk result (λ keep. keep.faults ≡ 0) }
     ensures cause { IfErr result (λ fault. (fault ≡ KeepFault.Device) ⊎ (fault ≡ KeepFault.NoMemory)) }
+    ensures told { IfErr result (IsNotKept over_files connection) }
 {
     kept(alloc, connection, has_to_be_there)
 }
 
 impl<S: Start> SqliteKeep<FileStore<FileFrom<S>>> {
     /// The store in the SQLite file at this path, which is made where there is none, as is the table `parts`. `S` stands for what the
-    /// file and its log held, and for how a crash is read. `Device` stands for all refusals but want of memory: the path can't be
-    /// opened, another process has the file, or it is no database that may be a store. Such a file is left as it is, as is what lies
-    /// beside it: both are looked at in copies first.
+    /// file and its log held, and for how a crash is read. It has no part where the file was new, or empty. `Device` stands for all refusals
+    /// but want of memory: the path can't be opened, another process has the file, or it is no database that may be a store. Such a file is
+    /// left as it is, as is what lies beside it: both are looked at in copies first. `:memory:` names no file.
     pub fn open_file(
         rt: &HostRuntime,
         path: &str,
         start: S,
     ) -> Result<SqliteKeep<FileStore<FileFrom<S>>>, KeepFault>
-        ensures found { IfOk result (λ keep. HasCleanDisk (file_state keep.connection) → (db : Trees) → (content : List StoredPart) →
-            HoldsDatabase (image_at S.Start) db → StoresParts db content → HoldsParts (file_state keep.connection) content) }
+        ensures found { IfOk result (λ keep. HasCleanDisk (file_state keep.connection) → IsOpenedOver (image_at S.Start) (file_state keep.connection)) }
+        ensures blank { IfOk result (λ keep. HasCleanDisk (file_state keep.connection) → (image_at S.Start).db ≡ [] →
+            HoldsParts (file_state keep.connection) []) }
+        ensures memory { path.now ≡ codes ":memory:" → IsErr result }
         ensures faults { IfOk result (λ keep. keep.faults ≡ 0) }
         ensures cause { IfErr result (λ fault. (fault ≡ KeepFault.Device) ⊎ (fault ≡ KeepFault.NoMemory)) }
     {
         look_at(rt, path)?;
         let connection = match Connection::open_from(rt, path, false, start) {
             Ok(connection) => connection,
-            Err((error, _left)) if is_memory(&error) => return Err(KeepFault::NoMemory),
-            Err(_) => return Err(KeepFault::Device),
+            Err((error, _left)) => return Err(told(&error)),
         };
         kept_files(rt.alloc(), connection, false)
     }

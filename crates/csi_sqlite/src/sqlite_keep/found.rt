@@ -6,13 +6,15 @@ ghost use Rattle.sqlite.specs.Held.{state};
 ghost use Rattle.sqlite.specs.State.{HasCleanDisk};
 ghost use Rattle.sqlite.specs.Files.{file_state, image_of, Finds, HoldsDatabase};
 ghost use Rattle.csi_stores.specs.Public.Part.{StoredPart};
-ghost use Rattle.csi_sqlite.specs.Private.Looking.{ListsTableAtMost};
+ghost use Rattle.csi_sqlite.specs.Private.Looking.{ListsTableAtMost, IsJudged};
 ghost use Rattle.csi_sqlite.specs.Public.Listed.{ListsOther};
+ghost use Rattle.csi_sqlite.specs.Public.Opening.{IsNotFound, IsFoundIn};
 ghost use Rattle.csi_sqlite.specs.Public.Tables.{StoresParts, HoldsParts};
 
 use crate::rows::has_other;
 use crate::sqlite_keep::file::kept_files;
-use crate::sqlite_keep::{SqliteKeep, is_memory};
+use crate::sqlite_keep::half_made::{begin_log, is_half_made};
+use crate::sqlite_keep::{SqliteKeep, told};
 use csi_stores::KeepFault;
 use csi_types::NoMemory;
 use sqlite::{Alter, Connection, FileStore, Files, Options};
@@ -33,11 +35,11 @@ impl<D: Disk + Drop> SqliteKeep<FileStore<D>> {
             HoldsDatabase (image_of D.Disk files) db → StoresParts db content → HoldsParts (file_state keep.connection) content) }
         ensures faults { IfOk result (λ keep. keep.faults ≡ 0) }
         ensures cause { IfErr result (λ fault. (fault ≡ KeepFault.Device) ⊎ (fault ≡ KeepFault.NoMemory)) }
+        ensures told { IfErr result (IsNotFound D.Disk files) }
     {
         let connection = match Connection::open_files(alloc, files, Options::new(1)) {
             Ok(connection) => connection,
-            Err((error, _left)) if is_memory(&error) => return Err(KeepFault::NoMemory),
-            Err(_) => return Err(KeepFault::Device),
+            Err((error, _left)) => return Err(told(&error)),
         };
         kept_files(alloc, connection, true)
     }
@@ -80,8 +82,8 @@ pub fn copies(alloc: Global, db: &[u8], log: &[u8]) -> Result<Files<Memory>, NoM
     Ok(Files { log, db })
 }
 
-// What a file that can't be read is to the keeper.
-fn unread(kind: ErrorKind) -> KeepFault
+/// What a file that can't be read is to the keeper.
+pub(crate) fn unread(kind: ErrorKind) -> KeepFault
     ensures { (result ≡ KeepFault.Device) ⊎ (result ≡ KeepFault.NoMemory) }
 {
     match kind {
@@ -121,8 +123,36 @@ fn read_both(rt: &(impl Reads + AllocGlobal), path: &str) -> Result<(Vec<u8>, Ve
     Ok((db, log))
 }
 
-// Copies of the database file at this path, and of the log beside it, as they are now. There are none of what is no file, and where
+// The bytes of the database file at this real path and of the log beside it, as they are now. There are none of what is no file, and where
 // SQLite left a rollback journal; one that begins with a 0 has nothing to play back.
+fn bytes_at(rt: &(impl Reads + AllocGlobal), real: &str) -> Result<(Vec<u8>, Vec<u8>), KeepFault>
+    ensures { IfErr result (λ fault. (fault ≡ KeepFault.Device) ⊎ (fault ≡ KeepFault.NoMemory)) }
+{
+    match fs::metadata(rt, real) {
+        Ok(found) if found.is_file() => {}
+        Ok(_) => return Err(KeepFault::Device),
+        Err(error) => return Err(unread(error.kind())),
+    }
+    let journal = beside(rt, real, "-journal")?;
+    if !journal.is_empty() && journal[0] != 0 {
+        return Err(KeepFault::Device);
+    }
+    read_both(rt, real)
+}
+
+// Copies of the two.
+fn copies_of(alloc: Global, db: &[u8], log: &[u8]) -> Result<Files<Memory>, KeepFault>
+    ensures db_usable { IfOk result (λ files. IsTrue (memory_is_usable files.db)) }
+    ensures log_usable { IfOk result (λ files. IsTrue (memory_is_usable files.log)) }
+    ensures cause { IfErr result (λ fault. (fault ≡ KeepFault.Device) ⊎ (fault ≡ KeepFault.NoMemory)) }
+{
+    match copies(alloc, db, log) {
+        Ok(files) => Ok(files),
+        Err(_) => Err(KeepFault::NoMemory),
+    }
+}
+
+// Copies of the database file at this path, and of the log beside it.
 fn copies_at(rt: &(impl Reads + AllocGlobal), path: &str) -> Result<Files<Memory>, KeepFault>
     ensures db_usable { IfOk result (λ files. IsTrue (memory_is_usable files.db)) }
     ensures log_usable { IfOk result (λ files. IsTrue (memory_is_usable files.log)) }
@@ -132,29 +162,20 @@ fn copies_at(rt: &(impl Reads + AllocGlobal), path: &str) -> Result<Files<Memory
         Ok(real) => real,
         Err(error) => return Err(unread(error.kind())),
     };
-    match fs::metadata(rt, real.as_str()) {
-        Ok(found) if found.is_file() => {}
-        Ok(_) => return Err(KeepFault::Device),
-        Err(error) => return Err(unread(error.kind())),
-    }
-    let journal = beside(rt, real.as_str(), "-journal")?;
-    if !journal.is_empty() && journal[0] != 0 {
-        return Err(KeepFault::Device);
-    }
-    let (db, log) = read_both(rt, real.as_str())?;
-    match copies(rt.alloc(), &db, &log) {
-        Ok(files) => Ok(files),
-        Err(_) => Err(KeepFault::NoMemory),
-    }
+    let (db, log) = bytes_at(rt, real.as_str())?;
+    copies_of(rt.alloc(), &db, &log)
 }
 
 /// The store in the SQLite file at this path, as the file and the log beside it are now, in copies of the two: nothing is written
-/// to them, and where there is no file none is made. `Device` stands for all refusals but want of memory: a file can't be read, or
-/// was written meanwhile, it is no database that lists the table `parts` alone, or SQLite left a rollback journal beside it.
+/// to them, and where there is no file none is made; the store is as SQLite finds it in the copies. `Device` stands for all refusals but want
+/// of memory: a file can't be read, or was written meanwhile, it is no database that lists the table `parts` alone, or SQLite left a rollback
+/// journal beside it.
 pub fn find_at(
     rt: &(impl Reads + AllocGlobal),
     path: &str,
 ) -> Result<SqliteKeep<FileStore<Memory>>, KeepFault>
+    ensures finds { IfOk result (λ keep. IsFoundIn keep.connection) }
+    ensures faults { IfOk result (λ keep. keep.faults ≡ 0) }
     ensures cause { IfErr result (λ fault. (fault ≡ KeepFault.Device) ⊎ (fault ≡ KeepFault.NoMemory)) }
 {
     let files = copies_at(rt, path)?;
@@ -181,6 +202,7 @@ fn judge<D: Disk + Drop>(alloc: Global, files: Files<D>) -> Result<(), KeepFault
     requires db { IsTrue (D.Disk.is_usable files.db) }
     ensures taken { OnOk result (ListsTableAtMost D.Disk files) }
     ensures cause { IfErr result (λ fault. (fault ≡ KeepFault.Device) ⊎ (fault ≡ KeepFault.NoMemory)) }
+    ensures told { IfErr result (IsJudged D.Disk files) }
 {
     match Connection::open_files(alloc, files, Options::new(1)) {
         Ok(connection) => {
@@ -189,19 +211,34 @@ fn judge<D: Disk + Drop>(alloc: Global, files: Files<D>) -> Result<(), KeepFault
             }
             Ok(())
         }
-        Err((error, _left)) if is_memory(&error) => Err(KeepFault::NoMemory),
-        Err(_) => Err(KeepFault::Device),
+        Err((error, _left)) => Err(told(&error)),
     }
 }
 
+// Looks at a file that is there.
+fn look_at_file(rt: &(impl Reads + AllocGlobal), path: &str) -> Result<(), KeepFault>
+    ensures cause { IfErr result (λ fault. (fault ≡ KeepFault.Device) ⊎ (fault ≡ KeepFault.NoMemory)) }
+{
+    let real = match fs::canonicalize(rt, path) {
+        Ok(real) => real,
+        Err(error) => return Err(unread(error.kind())),
+    };
+    let (db, log) = bytes_at(rt, real.as_str())?;
+    if is_half_made(&db, &log) {
+        return begin_log(rt, real.as_str());
+    }
+    judge(rt.alloc(), copies_of(rt.alloc(), &db, &log)?)
+}
+
 /// Looks at the file at this path and at the log beside it, in copies of the two, before they are opened to be written: opening
-/// makes a log and changes it, and what is no store has to stay as it is. Where there is no file nothing is done.
+/// makes a log and changes it, and what is no store has to stay as it is. Where there is no file nothing is done; and a new file that got its
+/// first page in part and lost its log gets one again, so that it is opened as a new one.
 pub(crate) fn look_at(rt: &(impl Reads + AllocGlobal), path: &str) -> Result<(), KeepFault>
     ensures cause { IfErr result (λ fault. (fault ≡ KeepFault.Device) ⊎ (fault ≡ KeepFault.NoMemory)) }
 {
     match fs::metadata(rt, path) {
         Err(error) if error.kind() == ErrorKind::NotFound => Ok(()),
-        _ => judge(rt.alloc(), copies_at(rt, path)?),
+        _ => look_at_file(rt, path),
     }
 }
 

@@ -1,6 +1,6 @@
 //! What is done over a store in a file, from its opening to its closing. What has to be known of such a store for that is known here, so
 //! that programs needn't prove it.
-ghost use Rattle.std.specs.Prelude.{◌≡◌, ◌⊎◌, IfErr};
+ghost use Rattle.std.specs.Prelude.{◌≡◌, ◌⊎◌, codes, IsErr, IfErr};
 
 use crate::sqlite_keep::{SqliteKeep, close_file, close_found, find_at};
 use csi_stores::{Keep, KeepFault};
@@ -35,6 +35,7 @@ pub fn over_file<T, P: OverStore<T> + Drop>(
     path: &str,
     process: P,
 ) -> Result<(T, Result<(), KeepFault>), KeepFault>
+    ensures memory { path.now ≡ codes ":memory:" → IsErr result }
     ensures cause { IfErr result (λ fault. (fault ≡ KeepFault.Device) ⊎ (fault ≡ KeepFault.NoMemory)) }
 {
     let mut keep = match SqliteKeep::open_file(rt, path, Unknown) {

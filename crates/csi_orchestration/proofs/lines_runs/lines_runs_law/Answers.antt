@@ -3,4 +3,4 @@ use Rattle.csi_orchestration.proofs.JoinedLines.{one-run}
 use Rattle.csi_orchestration.proofs.lines_runs.lines_runs_law.Goals as goal
 
 pub returns : goal.returns
-returns g c = one-run _
+returns g c = one-run _ _

@@ -9,5 +9,5 @@ use Rattle.csi_service.proofs.orchestrator_service.OrchestratorService.use_at.Go
 pub returns-clause-changed : goal.returns-clause-changed
 returns-clause-changed c =
     some-told c.in_ok-sent.sent c.is_some.result (place_by_name c.args.name.now c.use_at.new.self.rows) c.row_named-self-inside.result c.args.self.now c.self.inside.orchestrator c.use_at.new.self
-    (ap (λ (service : ServedOrchestrator). service.orchestrator) c.self.view_is) c.row_named-self-inside.ensures c.in_ok-sent.ensures.changed
+    (ap (λ (service : ServedOrchestrator). service.orchestrator) c.self.view_is) c.row_named-self-inside.ensures.value c.in_ok-sent.ensures.changed
     (λ none. c.in_ok-sent.ensures.rests (none-from_is_some c.in_ok-sent.sent (sym c.is_some.ensures ∙ none)))

@@ -1,0 +1,5 @@
+-- By the law of any stores.
+use Rattle.csi_replay.proofs.laws.sqlite_three_runs_law.Goals as goal
+
+pub returns : goal.returns
+returns g c = c.three_runs_law.ensures
