@@ -146,22 +146,3 @@ use-decided nodes last usage row entry made idle known able alone single is =
     (has_elsewhere (is_for_one_node usage) usage.node row) (has_elsewhere (uses_as_second_writer usage) usage.node row)
     (cond (is_entry_otherwise usage here) (Some faults.HeldOtherwise) (cond (allows_one_target usage.capability.mode && others_in usage.target here) (Some faults.TargetTaken) None))
     made idle known able alone single)
-
--- what one comes to at a node that has no entry
-pub use-first : (nodes : List (List ℕ)) (last : Number) (usage : Usage) (row : RowShown)
-    → is_yes row.exists ≡ true → is_some row.goal ≡ false → list_any (same_text usage.node) nodes ≡ true → has_capability row.arguments.capabilities usage.capability ≡ true
-    → has_elsewhere (is_for_one_node usage) usage.node row ≡ false → has_elsewhere (uses_as_second_writer usage) usage.node row ≡ false → node_entry_of row usage.node ≡ None
-    → decided_at last usage (others_attached usage.node row) row.id None ≡ refused_or (use_refusal nodes usage row) (decided_then last (steps.Use usage) row)
-use-first nodes last usage row made idle known able alone single is = use-decided nodes last usage row None made idle known able alone single is
-
--- there it has no other target
-pub first-decided : (last : Number) (usage : Usage) (others : ℕ) (id : Option ℕ)
-    → decided_at last usage others id None ≡ cond (is_none id) Met (cond (is_last last) (Refuse faults.NumbersSpent) (cond (nat_le 64 others) (Refuse faults.Full) Send))
-first-decided last usage others id = by (allows_one_target usage.capability.mode) (is_none id)
-  where
-    by : (one none : Bool) → cond (one && false) (Refuse faults.TargetTaken) (cond (none || false) Met (cond (is_last last) (Refuse faults.NumbersSpent) (cond (nat_le 64 others) (Refuse faults.Full) Send)))
-        ≡ cond none Met (cond (is_last last) (Refuse faults.NumbersSpent) (cond (nat_le 64 others) (Refuse faults.Full) Send))
-    by true true = refl
-    by true false = refl
-    by false true = refl
-    by false false = refl

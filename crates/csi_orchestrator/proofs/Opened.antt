@@ -1,20 +1,22 @@
 -- What is opened from a record keeps all that an orchestrator's type keeps.
+use Rattle.std.proofs.Common.{◌≡◌, ℕ, List}
+use Rattle.std.specs.Prelude.{None}
 use Rattle.csi_lists.proofs.Each.{each-weaker}
-use Rattle.csi_orchestrator.specs.Public.Beginning.{remembered}
+use Rattle.csi_orchestrator.specs.Public.Beginning.{remembered, restart_refusal}
 use Rattle.csi_orchestrator.specs.Public.Bounds.{AreWithin}
 use Rattle.csi_orchestrator.specs.Public.Laws.{opened_parts}
+use Rattle.csi_orchestrator.specs.Public.Record.{RecordParts}
 use Rattle.csi_orchestrator.specs.Public.Restored.{IsRestorable, AreRestorable}
-use Rattle.csi_orchestrator.specs.Public.Sound.{IsSoundRow}
+use Rattle.csi_orchestrator.specs.Public.Sound.{IsSoundRow, AreSoundParts}
 use Rattle.csi_orchestrator.specs.Public.Steady.{IsSteadyRow}
 use Rattle.csi_orchestrator.specs.Public.Steps.{Opens}
-use Rattle.csi_orchestrator.specs.Private.Opened.{RecordsAreOpened}
 use Rattle.csi_orchestrator.proofs.AllTold.{HasTold, next-told}
 use Rattle.csi_orchestrator.proofs.Relisted.{restarted-restorable}
 use Rattle.csi_orchestrator.proofs.RestorableRows.{restorable-sound, restorable-steady, restorable-within}
 use Rattle.csi_orchestrator.proofs.ViewFollowed.{view-follows}
 
--- with each list of nodes with which it isn't refused
-pub opened : RecordsAreOpened
+-- whatever rows keep the rules, with each list of nodes with which it isn't refused
+pub opened : (kept : RecordParts) (nodes : List (List ℕ)) → AreRestorable kept.nodes kept.rows → restart_refusal kept.session kept.nodes nodes kept.rows ≡ None → AreSoundParts (opened_parts kept nodes)
 opened kept nodes rules ok =
     record {
       sound = record { names = fit.names; each = each-weaker (IsRestorable nodes) IsSoundRow (remembered kept.rows) (restorable-sound nodes) fit.each };

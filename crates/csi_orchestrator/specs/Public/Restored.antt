@@ -13,9 +13,9 @@ use Rattle.csi_orchestrator.specs.declared.request.Usage.{Usage}
 use Rattle.csi_orchestrator.specs.declared.thing.Known.{Known}
 use Rattle.csi_orchestrator.specs.declared.thing.Known.TheVariants.{Yes, No, Maybe}
 use Rattle.csi_orchestrator.specs.Model.Commands.{is_for_one_node, uses_as_second_writer}
-use Rattle.csi_orchestrator.specs.Model.Shown.{NodeEntryShown, RowShown, node_entry_of, held_at}
+use Rattle.csi_orchestrator.specs.Model.Shown.{NodeEntryShown, RowShown, held_at}
 use Rattle.csi_orchestrator.specs.Public.Shown.{AreTargetsApart, AreNodesApart}
-use Rattle.csi_orchestrator.specs.Public.Steady.{HasTries, IsUntried, IsLeft, IsLast}
+use Rattle.csi_orchestrator.specs.Public.Steady.{HasTries, IsUntried, IsLeft}
 
 -- ---- the rules of a node's entry
 
@@ -143,10 +143,3 @@ pub record AreRestorable (nodes : List (List ℕ)) (rows : List RowShown) : Type
   pub few : length rows ≤ 4096
   pub names : EachTwo (λ (a b : RowShown). same_text a.name b.name ≡ false) rows
   pub each : AllByRecursion (IsRestorable nodes) rows
-
--- ---- as long as no node was lost
-
--- no entry is left of a lost node; and none was, and used again: where a use's target is its node's only one, the node came last
-pub record IsUnlost (row : RowShown) : Type 0 where
-  pub targets : AllByRecursion (λ (entry : NodeEntryShown). entry.target_entries ≢ []) row.node_entries
-  pub last : (usage : Usage) (entry : NodeEntryShown) → row.goal ≡ Some (Use usage) → node_entry_of row usage.node ≡ Some entry → length entry.target_entries ≡ 1 → IsLast (λ (e : NodeEntryShown). e.node) usage.node row.node_entries
