@@ -24,8 +24,7 @@ use Rattle.csi_orchestrator.specs.Model.WellFormed.{IsWellFormed}
 use Rattle.csi_orchestrator.specs.Model.Agrees.{OrchestratorView, Agrees}
 use Rattle.csi_orchestrator.specs.Model.Shown.{NodeEntryShown, RowShown, mark_in, mark_of, held_on_node, held_at, goal_shown}
 use Rattle.csi_orchestrator.specs.Public.Shown.{AreNodesApart}
-use Rattle.csi_orchestrator.specs.Public.Steady.{HasTries}
-use Rattle.csi_orchestrator.specs.Public.Restored.{FitsLife}
+use Rattle.csi_orchestrator.specs.Public.Steady.{HasTries, IsStanding}
 use Rattle.csi_orchestrator.specs.Private.Following.{ViewFollows, after_sent, after_closed, after_noted}
 use Rattle.csi_orchestrator.proofs.TextLists.{text-same, same_text-flip}
 use Rattle.csi_orchestrator.proofs.SplitLists.{find-of_none}
@@ -201,9 +200,9 @@ exist-marks name arguments id after was now (Exists m) is = sym (ap (λ b. cond 
 exist-marks name arguments id after was now thing is = refl
 
 -- its id, and what is known of it
-told-life : ViewFollows → (rest : OrchestratorView) (name : List ℕ) (arguments : Arguments) (entries : List NodeEntryShown) (id : Option ℕ) (exists : Known) (goal : Option Goal) → FitsLife entries id exists goal → IsTold rest (still name arguments None No [])
+told-life : ViewFollows → (rest : OrchestratorView) (name : List ℕ) (arguments : Arguments) (goal : Option Goal) (id : Option ℕ) (exists : Known) → IsStanding goal id exists → IsTold rest (still name arguments None No [])
     → IsTold rest (still name arguments id exists [])
-told-life follows rest name arguments entries id exists goal life told = by id exists goal life
+told-life follows rest name arguments goal id exists standing told = by goal id exists standing
   where
     create : Call
     create = calls.CreateVolume name arguments.required arguments.limit arguments.capabilities
@@ -216,17 +215,17 @@ told-life follows rest name arguments entries id exists goal life told = by id e
     made id =
         done follows rest name arguments None No Yes [] [] Controller create (Some id) refl (λ there touched undoing. false≢true touched) (exist-marks name arguments None (Some id) No Yes) (λ view reads there maybe. absurd (maybe refl)) told
 
-    by : (id : Option ℕ) (exists : Known) (goal : Option Goal) → FitsLife entries id exists goal → IsTold rest (still name arguments id exists [])
-    by None Maybe None life = wanted
-    by None Maybe (Some Create) life = wanted
-    by (Some id) Yes None life = made id
-    by (Some id) Yes (Some (Use usage)) life = made id
-    by (Some id) Yes (Some (Stop node target)) life = made id
-    by (Some id) Maybe (Some Delete) life =
+    by : (goal : Option Goal) (id : Option ℕ) (exists : Known) → IsStanding goal id exists → IsTold rest (still name arguments id exists [])
+    by None None Maybe standing = wanted
+    by (Some Create) None Maybe standing = wanted
+    by None (Some id) Yes standing = made id
+    by (Some (Use usage)) (Some id) Yes standing = made id
+    by (Some (Stop node target)) (Some id) Yes standing = made id
+    by (Some Delete) (Some id) Maybe standing =
         tried follows rest name arguments (Some id) Yes Maybe [] [] Controller (calls.DeleteVolume 0) tt (λ there touched undoing. false≢true touched) (exist-marks name arguments (Some id) (Some id) Yes Maybe) (λ view reads there maybe. absurd (maybe refl)) (made id)
-    by (Some id) No None life =
+    by None (Some id) No standing =
         done follows rest name arguments (Some id) Yes No [] [] Controller (calls.DeleteVolume 0) None tt (λ there touched undoing. false≢true touched) (exist-marks name arguments (Some id) (Some id) Yes No) (λ view reads there maybe. absurd (maybe refl)) (made id)
-    by id exists goal life = absurd life
+    by goal id exists standing = absurd standing
 
 -- ---- what is wanted of it
 
@@ -379,12 +378,12 @@ told-new follows rest history name arguments form agrees unknown =
 
 -- the row, whose entries are of different nodes
 pub told-row : ViewFollows → (rest : OrchestratorView) (history : History) (row : RowShown) → IsWellFormed history → Agrees rest history → IsUnknown rest row.name → row.open_call ≡ None → HasTries row.goal row.tries
-    → FitsLife row.node_entries row.id row.exists row.goal → AreNodesApart row.node_entries → IsTold rest row
-told-row follows rest history row form agrees unknown quiet tries life apart =
+    → IsStanding row.goal row.id row.exists → AreNodesApart row.node_entries → IsTold rest row
+told-row follows rest history row form agrees unknown quiet tries standing apart =
     subst (IsTold rest) same
     (told-goal follows rest row.name row.arguments row.id row.exists row.node_entries row.goal row.tries tries
     (told-entries follows rest row.name row.arguments row.id row.exists row.node_entries apart
-    (told-life follows rest row.name row.arguments row.node_entries row.id row.exists row.goal life (told-new follows rest history row.name row.arguments form agrees unknown))))
+    (told-life follows rest row.name row.arguments row.goal row.id row.exists standing (told-new follows rest history row.name row.arguments form agrees unknown))))
   where
     same : (let r : RowShown = record { name = row.name; arguments = row.arguments; id = row.id; exists = row.exists; goal = row.goal; open_call = None; tries = row.tries; node_entries = row.node_entries } in r) ≡ row
     same = let none = sym quiet in λ i. record { name = row.name; arguments = row.arguments; id = row.id; exists = row.exists; goal = row.goal; open_call = none i; tries = row.tries; node_entries = row.node_entries }

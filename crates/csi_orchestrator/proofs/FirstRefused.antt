@@ -15,8 +15,7 @@ use Rattle.csi_orchestrator.specs.Public.Judging.{IsFirstRefused}
 use Rattle.csi_orchestrator.specs.Public.Restored.{IsRestorable, AreRestorable}
 use Rattle.csi_orchestrator.specs.Public.Shown.{row_shown}
 use Rattle.csi_orchestrator.specs.Private.Judging.{is_restorable, may_follow}
-use Rattle.csi_orchestrator.proofs.JudgedPlaces.{restorable-from}
-use Rattle.csi_orchestrator.proofs.PassedTests.{from-restorable}
+use Rattle.csi_orchestrator.proofs.JudgedRows.{restorable-from, from-restorable}
 use Rattle.csi_orchestrator.proofs.SplitLists.{any-of_none, each-left, each-right, two-left, two-there}
 
 -- ---- the rules of the first rows

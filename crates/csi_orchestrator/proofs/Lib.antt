@@ -71,15 +71,13 @@ pub mod RowsRestorable
 pub mod Opened
 pub mod Judged
 pub mod FirstEntries
-pub mod RestorableRows
 pub mod Relisted
 pub mod AllTold
 pub mod EntriesTold
 pub mod RowsTold
-pub mod RestoredPlaces
 pub mod WalksOn
-pub mod JudgedPlaces
-pub mod PassedTests
+pub mod Walks
+pub mod JudgedRows
 pub mod FirstRefused
 pub mod NodesFit
 pub mod RowsOfRecord

@@ -12,16 +12,15 @@ use Rattle.csi_orchestrator.specs.Public.Steady.{IsSteadyRow}
 use Rattle.csi_orchestrator.specs.Public.Steps.{Opens}
 use Rattle.csi_orchestrator.proofs.AllTold.{HasTold, next-told}
 use Rattle.csi_orchestrator.proofs.Relisted.{restarted-restorable}
-use Rattle.csi_orchestrator.proofs.RestorableRows.{restorable-sound, restorable-steady, restorable-within}
 use Rattle.csi_orchestrator.proofs.ViewFollowed.{view-follows}
 
 -- whatever rows keep the rules, with each list of nodes with which it isn't refused
 pub opened : (kept : RecordParts) (nodes : List (List ℕ)) → AreRestorable kept.nodes kept.rows → restart_refusal kept.session kept.nodes nodes kept.rows ≡ None → AreSoundParts (opened_parts kept nodes)
 opened kept nodes rules ok =
     record {
-      sound = record { names = fit.names; each = each-weaker (IsRestorable nodes) IsSoundRow (remembered kept.rows) (restorable-sound nodes) fit.each };
-      steady = each-weaker (IsRestorable nodes) IsSteadyRow (remembered kept.rows) (restorable-steady nodes) fit.each;
-      within = record { rows = fit.few; entries = each-weaker (IsRestorable nodes) (AreWithin nodes) (remembered kept.rows) (restorable-within nodes) fit.each };
+      sound = record { names = fit.names; each = each-weaker (IsRestorable nodes) IsSoundRow (remembered kept.rows) (λ row own. own.sound) fit.each };
+      steady = each-weaker (IsRestorable nodes) IsSteadyRow (remembered kept.rows) (λ row own. own.steady) fit.each;
+      within = record { rows = fit.few; entries = each-weaker (IsRestorable nodes) (AreWithin nodes) (remembered kept.rows) (λ row own. own.within) fit.each };
       told = record { history = told.history; reached = Opens (opened_parts kept nodes) told.history fit told.form told.agrees; form = told.form; agrees = told.agrees };
     }
   where
