@@ -17,6 +17,7 @@ pub mod EntriesShown
 pub mod DueCalls
 pub mod EntryRules
 pub mod RowsLost
+pub mod RowsMoved
 pub mod RulesStay
 pub mod KeptInUse
 pub mod EntriesBounded
