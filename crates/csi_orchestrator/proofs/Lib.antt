@@ -72,7 +72,6 @@ pub mod RowsRestorable
 pub mod Opened
 pub mod Judged
 pub mod FirstEntries
-pub mod Relisted
 pub mod AllTold
 pub mod EntriesTold
 pub mod RowsTold

@@ -16,10 +16,6 @@ find-behind p (x ∷ front) rest none =
     let parts = find-missed (p x) x (find p front) none in
     ap (λ b. cond b (Some x) (find p (front ++ rest))) parts.0 ∙ find-behind p front rest parts.1
 
--- the first that passes is found
-pub find-at : {X : Type 0} (p : X → Bool) (front : List X) (x : X) (rear : List X) → find p front ≡ None → p x ≡ true → find p (front ++ x ∷ rear) ≡ Some x
-find-at p front x rear none passes = find-behind p front (x ∷ rear) none ∙ ap (λ b. cond b (Some x) (find p rear)) passes
-
 -- none is found where each fails
 pub find-of_none : {X : Type 0} (p : X → Bool) (xs : List X) → AllByRecursion (λ x. p x ≡ false) xs → find p xs ≡ None
 find-of_none p [] all = refl
