@@ -52,10 +52,10 @@ reopened left again its opens = by opens.opened.from
           subst (λ (r : RecordParts). opening_refusal r again.service.orchestrator.nodes ≡ None) same opens.opened.unrefused,
         )
 
--- what was opened came to a history
+-- what was opened has a history
 has-history : RecordsLaw → (content : List StoredPart) (responder : OrchestratorResponder) → OpensResponder content responder → HasHistory responder.service.orchestrator
-has-history reached content responder opens =
-    subst HasHistory (sym opens.opened.is) ((reached kept (rules opens.opened.from)).opened responder.service.orchestrator.nodes opens.opened.unrefused)
+has-history law content responder opens =
+    subst HasHistory (sym opens.opened.is) (law kept responder.service.orchestrator.nodes (rules opens.opened.from) opens.opened.unrefused)
   where
     kept : RecordParts
     kept = opens.opened.kept
@@ -100,10 +100,10 @@ shows-new content responder opens none = by opens.opened.from
 -- by the law of two runs
 pub one-history : {K L R W : Type 0} (seen : K → Store) (seen_too : L → Store) (remaining : R → Option (List ℕ)) (contents : W → Option (List ℕ)) → MovesKeepForm → RecordsLaw
     → LinesRunsLaw (orchestrator_setting seen remaining contents) seen_too → OrchestratorRunsLaw seen seen_too remaining contents
-one-history seen seen_too remaining contents keeps reached law before between again after content r r_read s s_read w w_written v v_written result result_too honest honest_too holds one reopens two =
+one-history seen seen_too remaining contents keeps records law before between again after content r r_read s s_read w w_written v v_written result result_too honest honest_too holds one reopens two =
     let run = law before between again after content r r_read s s_read w w_written v v_written result result_too honest honest_too holds one reopens two in (
       run,
-      has-history reached content one.responder run.opened,
+      has-history records content one.responder run.opened,
       shows-new content one.responder run.opened,
       λ history form shown.
           let first = each-goes keeps one.responder _ _ run.left history run.runs run.opened.fit run.opened.its run.opened.restarts form shown in

@@ -24,8 +24,7 @@ use Rattle.csi_lists.proofs.Filters.{each-passes}
 use Rattle.csi_lists.proofs.Members.{among-find}
 use Rattle.csi_lists.proofs.Searches.{find-passes}
 use Rattle.csi_orchestrator.specs.declared.fault.OrchFault.{OrchFault}
-use Rattle.csi_orchestrator.specs.declared.thing.Known.{Known}
-use Rattle.csi_orchestrator.specs.declared.thing.Known.TheVariants.{Yes, No, Maybe}
+use Rattle.csi_orchestrator.specs.declared.thing.Known.TheVariants.{No}
 use Rattle.csi_orchestrator.specs.declared.thing.Thing.{Thing}
 use Rattle.csi_orchestrator.specs.declared.thing.Thing.TheVariants.{Exists}
 use Rattle.csi_orchestrator.specs.Model.Thing.{Issued, is_no}
@@ -38,6 +37,7 @@ use Rattle.csi_orchestrator.specs.Model.Moves.{Input, ToCreate, ToUse, ToStop, T
 use Rattle.csi_orchestrator.specs.Public.Moves.{moved_to}
 use Rattle.csi_orchestrator.specs.Public.Steps.{IsReplyTo, most_items, frame_of, frame_if_sent, frames_in}
 use Rattle.csi_orchestrator.proofs.BegunItems.{AreAside, forgetting-aside, stopping-aside, loss-aside, issued-aside, form-aside, few-forgotten, few-begun}
+use Rattle.csi_orchestrator.proofs.KnownTests.{no_is_no}
 use Rattle.csi_orchestrator.proofs.RepliedRows.{own-open}
 use Rattle.csi_orchestrator.proofs.ViewsFollow.{latest, known-quiet}
 
@@ -272,13 +272,8 @@ forgets-pass history input first stays passing (name ∷ names) all = (after nam
     is-gone : is_forgotten history name ≡ true → IsGone history name
     is-gone e =
         let both = and_parts (is_no (known history (Exists name))) (is_none (goal_of history name)) e in
-        record { gone = no-is (known history (Exists name)) both.0; unwanted = none-is (goal_of history name) both.1 }
+        record { gone = no_is_no (known history (Exists name)) both.0; unwanted = none-is (goal_of history name) both.1 }
       where
-        no-is : (k : Known) → is_no k ≡ true → k ≡ No
-        no-is No h = refl
-        no-is Yes h = absurd (false≢true h)
-        no-is Maybe h = absurd (false≢true h)
-
         none-is : (g : Option Goal) → is_none g ≡ true → g ≡ None
         none-is None h = refl
         none-is (Some goal) h = absurd (false≢true h)

@@ -80,7 +80,7 @@ one-told follows nodes session rows row fresh kept old =
     parts = parts_after nodes old.last rows
 
     told : IsTold (orchestrator_view parts) row
-    told = told-row follows (orchestrator_view parts) old.history row old.form old.agrees (no-row parts row.name fresh) kept.quiet kept.tries kept.life (kept.entries).apart
+    told = told-row follows (orchestrator_view parts) old.history row old.form old.agrees (no-row parts row.name fresh) kept.quiet kept.steady.tries kept.steady.standing kept.sound.nodes kept.sound.targets
 
 -- row after row
 more-told : ViewFollows → (nodes : List (List ℕ)) (session : ℕ) (done todo : List RowShown) → EachTwo (λ (a b : RowShown). same_text a.name b.name ≡ false) (done ++ todo) → AllByRecursion (IsRestorable nodes) todo

@@ -13,7 +13,7 @@ use Rattle.csi_orchestrator.specs.declared.row.Goal.{Goal as KeptGoal}
 use Rattle.csi_orchestrator.specs.declared.thing.Thing.{Thing}
 use Rattle.csi_orchestrator.specs.declared.thing.Thing.TheVariants.{Exists, Attached, Staged, Published}
 use Rattle.csi_orchestrator.specs.declared.thing.Known.{Known}
-use Rattle.csi_orchestrator.specs.declared.thing.Known.TheVariants.{Yes, No, Maybe}
+use Rattle.csi_orchestrator.specs.declared.thing.Known.TheVariants.{Yes, No}
 use Rattle.csi_orchestrator.specs.Model.Thing.{name_in, is_no}
 use Rattle.csi_orchestrator.specs.Model.History.{History}
 use Rattle.csi_orchestrator.specs.Model.Readings.{is_gone_with, goal_of, names_of, has_row}
@@ -29,6 +29,7 @@ use Rattle.csi_orchestrator.proofs.LossViews.{after_forgetting, forgetting-shows
 use Rattle.csi_orchestrator.proofs.RowsAfterSending.{mark-same}
 use Rattle.csi_orchestrator.proofs.RowsLost.{with_lost, row-by, lost-mark, lost-goal, lost-tries}
 use Rattle.csi_orchestrator.proofs.TextLists.{same_text-flip}
+use Rattle.csi_orchestrator.proofs.KnownTests.{no_is_no}
 
 -- ---- the rows that are remembered
 
@@ -261,7 +262,7 @@ record IsGone (row : RowShown) : Type 0 where
 gone-row : (row : RowShown) → is_row_forgotten row ≡ true → IsSteadyRowIf (Unit {0}) row → IsGone row
 gone-row row e steady =
     let both = and_parts (is_no row.exists) (is_none row.goal) e in
-    let no = no-is row.exists both.0 in
+    let no = no_is_no row.exists both.0 in
     let idle = none-is row.goal both.1 in
     record {
       exists = no;
@@ -270,11 +271,6 @@ gone-row row e steady =
       tries = subst (λ g. HasTries g row.tries) idle steady.tries;
     }
   where
-    no-is : (k : Known) → is_no k ≡ true → k ≡ No
-    no-is No h = refl
-    no-is Yes h = absurd (false≢true h)
-    no-is Maybe h = absurd (false≢true h)
-
     none-is : (g : Option KeptGoal) → is_none g ≡ true → g ≡ None
     none-is None h = refl
     none-is (Some goal) h = absurd (false≢true h)

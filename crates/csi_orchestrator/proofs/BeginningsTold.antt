@@ -1,14 +1,11 @@
 -- What the rows tell of a restart and of a loss.
-use Rattle.std.proofs.Common.{◌≡◌, ◌+◌, ◌<◌, ◌^◌, ℕ, List, [], ◌∷◌, Bool, true, false, cond, not, map, refl, sym, ◌∙◌, ap, subst, arith}
-use Rattle.std.specs.Prelude.{Option, Some, None, is_none, nat_lt, Result, Ok, Err, OnOk, OnErr, IfErr}
+use Rattle.std.proofs.Common.{◌≡◌, ◌+◌, ℕ, List, [], ◌∷◌, Bool, cond, not, map, refl, sym, ◌∙◌, ap, subst}
+use Rattle.std.specs.Prelude.{Option, Some, None, Result, Ok, Err, OnOk, OnErr, IfErr}
 use Rattle.std.specs.List.{AllByRecursion}
-use Rattle.std.proofs.lemmas.Bool.Decides.{nat_tests}
-use Rattle.std.proofs.lemmas.Option.{none-some, same_Some}
 use Rattle.csi_types.specs.Model.Same.{same_text}
 use Rattle.csi_lists.proofs.Each.{each-filter}
 use Rattle.csi_lists.proofs.Filters.{filter-of_map}
 use Rattle.csi_orchestrator.specs.declared.fault.OrchFault.{OrchFault}
-use Rattle.csi_orchestrator.specs.declared.fault.OrchFault.TheVariants as faults
 use Rattle.csi_orchestrator.specs.declared.row.Goal.{Goal}
 use Rattle.csi_orchestrator.specs.declared.row.Goal.TheVariants.{Create, Use, Stop, Delete}
 use Rattle.csi_orchestrator.specs.declared.row.Row.{Row}
@@ -148,14 +145,3 @@ restart-nodes nodes (Err fault) is told = tt
 pub loss-value : {R : Type 0} {old now new : OrchestratorParts} (node : List ℕ) (result : Result R OrchFault) → old ≡ now → IsMoveOf old new (Loses node) (λ r. GivenUp) result → OnOk result (new ≡ parts_at_loss node now)
 loss-value {old = old} {now = now} {new = new} node result is told =
     subst (λ p. OnOk result (new ≡ parts_at_loss node p)) is (value-told old new (parts_at_loss node old) (Loses node) (loss_refusal old.last.session) GivenUp result refl told)
-
--- a loss is refused in the last session alone
-pub loss-spent : (session : ℕ) (fault : OrchFault) → session < 2 ^ 64 → loss_refusal session ≡ Some fault → (fault ≡ faults.NumbersSpent) × (session + 1 ≡ 2 ^ 64)
-loss-spent session fault fits e = by (nat_lt (session + 1) (2 ^ 64)) refl e
-  where
-    spent : (n : ℕ) → n < 2 ^ 64 → nat_lt (n + 1) (2 ^ 64) ≡ false → n + 1 ≡ 2 ^ 64
-    spent n h k = grind (arith, nat_tests)
-
-    by : (b : Bool) → nat_lt (session + 1) (2 ^ 64) ≡ b → cond (is_none (cond b (Some (session + 1)) None)) (Some faults.NumbersSpent) None ≡ Some fault → (fault ≡ faults.NumbersSpent) × (session + 1 ≡ 2 ^ 64)
-    by true f h = absurd (none-some fault h)
-    by false f h = (sym (same_Some faults.NumbersSpent fault h), spent session fits f)

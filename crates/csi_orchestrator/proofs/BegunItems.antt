@@ -10,7 +10,7 @@ use Rattle.csi_types.specs.Model.Same.{same_text}
 use Rattle.csi_orchestrator.specs.declared.thing.Thing.TheVariants.{Exists}
 use Rattle.csi_orchestrator.specs.Model.Thing.{is_no}
 use Rattle.csi_orchestrator.specs.Model.History.{Goal, Create, Use, Stop, Delete, Item, Forgotten, Noted, History}
-use Rattle.csi_orchestrator.specs.Model.Readings.{known, goal_of, issued_in, last_in, nodes_in, names_of}
+use Rattle.csi_orchestrator.specs.Model.Readings.{known, goal_of, issued_in, last_in, names_of}
 use Rattle.csi_orchestrator.specs.Model.WellFormed.{IsUnused, AreWellFormed}
 use Rattle.csi_orchestrator.specs.Model.Moves.{is_forgotten, forgetting, stopping, stopping_all}
 
@@ -66,13 +66,6 @@ last-aside began [] older aside = refl
 last-aside began (Noted name goal ∷ later) older aside = last-aside began later older aside.1
 last-aside began (Forgotten name ∷ later) older aside = last-aside began later older aside.1
 last-aside began (item ∷ later) older aside = absurd aside.0
-
--- the nodes
-pub nodes-aside : (first : List (List ℕ)) (later older : List Item) → AreAside later → nodes_in first (later ++ older) ≡ nodes_in first older
-nodes-aside first [] older aside = refl
-nodes-aside first (Noted name goal ∷ later) older aside = nodes-aside first later older aside.1
-nodes-aside first (Forgotten name ∷ later) older aside = nodes-aside first later older aside.1
-nodes-aside first (item ∷ later) older aside = absurd aside.0
 
 -- the calls that were sent
 pub issued-aside : (later older : List Item) → AreAside later → issued_in (later ++ older) ≡ issued_in older

@@ -1,14 +1,10 @@
 -- Why what an orchestrator keeps stays within its bounds.
 use Rattle.std.proofs.Common.{◌≡◌, ◌≤◌, ℕ, List, Bool, true, false, not, length, map, refl, sym, ◌∙◌, ap, subst, arith}
-use Rattle.std.specs.Prelude.{◌&&◌, ◌||◌, Option, Some, None, is_some, is_none, find, nat_le, Result, Ok, Err}
+use Rattle.std.specs.Prelude.{◌&&◌, ◌||◌, Option, Some, None, is_some, is_none, nat_le, Result, Ok, Err}
 use Rattle.std.specs.List.{AllByRecursion, list_any}
 use Rattle.std.proofs.lemmas.Bool.{false≢true, or_parts}
 use Rattle.std.proofs.lemmas.List.{length-map}
-use Rattle.csi_types.specs.declared.call.Party.{Party}
-use Rattle.csi_types.specs.declared.frame.Body.{Body}
-use Rattle.csi_types.specs.declared.frame.Body.TheVariants as bodies
 use Rattle.csi_types.specs.declared.number.Number.{Number}
-use Rattle.csi_types.specs.Model.Frame.{Frame}
 use Rattle.csi_types.specs.Model.Same.{same_text}
 use Rattle.csi_types.proofs.Equality.{same_text-tells}
 use Rattle.csi_lists.specs.Model.Members.{IsAmong}
@@ -26,18 +22,18 @@ use Rattle.csi_orchestrator.specs.declared.step.Step.{Step}
 use Rattle.csi_orchestrator.specs.declared.step.Step.TheVariants as steps
 use Rattle.csi_orchestrator.specs.declared.thing.Known.TheVariants.{Maybe}
 use Rattle.csi_orchestrator.specs.Model.Thing.{is_no, is_yes}
-use Rattle.csi_orchestrator.specs.Model.History.{Arguments, Usage}
-use Rattle.csi_orchestrator.specs.Model.Moves.{Input, ToCreate, ToUse, ToStop, ToDelete, TimesOut, Comes, Restarts, Loses, Answer, Sends, Restarted, GivenUp, without_node, hears}
-use Rattle.csi_orchestrator.specs.Model.Shown.{NodeEntryShown, RowShown, OrchestratorParts, row_of, node_entry_of, mark_in, mark_of, open_in_row}
+use Rattle.csi_orchestrator.specs.Model.History.{Usage}
+use Rattle.csi_orchestrator.specs.Model.Moves.{Input, without_node}
+use Rattle.csi_orchestrator.specs.Model.Shown.{NodeEntryShown, RowShown, OrchestratorParts, node_entry_of, mark_in, mark_of}
 use Rattle.csi_orchestrator.specs.Public.Shown.{closed}
 use Rattle.csi_orchestrator.specs.declared.thing.Thing.TheVariants.{Attached}
-use Rattle.csi_orchestrator.specs.Public.Beginning.{is_row_forgotten, remembered, is_used_in, leaves_out_used, restart_refusal, restarted_parts, loss_refusal, entry_at_loss, row_at_loss, parts_at_loss}
+use Rattle.csi_orchestrator.specs.Public.Beginning.{is_row_forgotten, remembered, is_used_in, leaves_out_used, restart_refusal, entry_at_loss, row_at_loss}
 use Rattle.csi_orchestrator.specs.Public.RowDue.{due_in}
 use Rattle.csi_orchestrator.specs.Private.RowChanges.{new_row, entry_for, with_entry, stopped_goal, wanted_row, known_by_success_of}
-use Rattle.csi_orchestrator.specs.Private.RowRefusals.{is_last, first_fault, others_count, others_attached, use_refusal, room_refusal, step_refusal, late_refusal}
+use Rattle.csi_orchestrator.specs.Private.RowRefusals.{is_last, others_count, others_attached, use_refusal, room_refusal, step_refusal, late_refusal}
 use Rattle.csi_orchestrator.specs.Private.RowSteps.{MovedRow, outgoing_by, row_moved, row_sends_due, row_rests, row_unless, is_step_met, waits, is_given_up, timed_out, failed, row_before_call, row_step}
 use Rattle.csi_orchestrator.specs.Public.RowMoves.{MovedRows, moved_rows}
-use Rattle.csi_orchestrator.specs.Private.RowMoves.{all_rows_moved, steps_at, creates, is_issued_as, row_replied, step_heard, hears_reply, receives, moved_unless, starts_again, gives_up, row_moves}
+use Rattle.csi_orchestrator.specs.Private.RowMoves.{row_moves}
 use Rattle.csi_orchestrator.specs.Public.Bounds.{HasFewTargets, HasFewNodes, IsBounded, IsEntryWithin, AreEntriesWithin, AreWithin, IsWithin}
 use Rattle.csi_orchestrator.specs.Model.Commands.{next_number, next_session}
 use Rattle.csi_orchestrator.specs.Public.Sound.{IsSoundRow, AreSoundRows, AreNodesApart}
@@ -47,6 +43,7 @@ use Rattle.csi_orchestrator.proofs.JoinedLists.{own-entry}
 use Rattle.csi_orchestrator.proofs.KeptInUse.{idle-used, used-needed, steady-attached}
 use Rattle.csi_orchestrator.proofs.OpenCalls.{GoesOn, step-goes}
 use Rattle.csi_orchestrator.proofs.RowsLost.{other-entry, own-lost, row-by}
+use Rattle.csi_orchestrator.proofs.RowsMoved.{IsRowMove, IsRefused, IsIgnored, TakesStep, PutsIn, StartsAgain, GivesUp, row-moved}
 use Rattle.csi_orchestrator.proofs.StepsSound.{first-held, use-free}
 use Rattle.csi_orchestrator.proofs.TextLists.{any-without}
 use Rattle.csi_orchestrator.proofs.EntriesBounded.{put-long, put-there, row-marked, all-tidied, not-reached, entry-within, with-entry-few}
@@ -141,65 +138,9 @@ step-within nodes last step row own all =
 -- ---- what becomes of all the rows
 
 -- the parts are within the bounds then, unless something was refused
-abbrev pub BoundedAfter : Result MovedRows OrchFault → Type 0
+abbrev BoundedAfter : Result MovedRows OrchFault → Type 0
 BoundedAfter (Ok moved_rows) = IsWithin moved_rows.parts
 BoundedAfter (Err fault) = Unit {0}
-
--- the row that is found takes a step
-found-within : (parts : OrchestratorParts) (answer : Option Frame → Answer) (step : Step) (p : RowShown → Bool) (row : RowShown) → AreSteadyRows parts.rows → IsWithin parts → find p parts.rows ≡ Some row
-    → BoundedAfter (steps_at parts answer step (Some row))
-found-within parts answer step p row kept within e =
-    by (row_step parts.nodes parts.last step row) (step-within parts.nodes parts.last step row (each_of IsSteadyRow parts.rows row kept (among-find p parts.rows row e)) (each_of (AreWithin parts.nodes) parts.rows row within.entries (among-find p parts.rows row e)))
-    (step-goes parts.nodes parts.last step row)
-  where
-    by : (result : Result MovedRow OrchFault) → WithinAfter parts.nodes result → GoesOn parts.last row result → BoundedAfter (all_rows_moved parts answer result)
-    by (Err fault) all on = tt
-    by (Ok moved_row) all on =
-        let least = within.rows in
-        let long = put-there (λ (r : RowShown). r.name) moved_row.row row parts.rows (among-find p parts.rows row e) on.name in
-        record {
-          rows = omega (arith, long, least);
-          entries = each-put (AreWithin parts.nodes) (λ (r : RowShown). r.name) moved_row.row parts.rows all within.entries;
-        }
-
--- rows stay within the bounds where one of them is asked something, or none has the name
-asked-within : (parts : OrchestratorParts) (step : Step) (name : List ℕ) → AreSteadyRows parts.rows → IsWithin parts → (o : Option RowShown) → row_of parts.rows name ≡ o → BoundedAfter (steps_at parts Sends step o)
-asked-within parts step name kept within None e = tt
-asked-within parts step name kept within (Some row) e = found-within parts Sends step (λ (r : RowShown). same_text r.name name) row kept within e
-
--- a new row goes last, where there is room for one
-creates-within : (parts : OrchestratorParts) (name : List ℕ) (arguments : Arguments) → AreSteadyRows parts.rows → IsWithin parts → (o : Option RowShown) → row_of parts.rows name ≡ o → BoundedAfter (creates parts name arguments o)
-creates-within parts name arguments kept within (Some row) e = found-within parts Sends (steps.Create arguments) (λ (r : RowShown). same_text r.name name) row kept within e
-creates-within parts name arguments kept within None e = by (first_fault parts.last parts.rows) refl
-  where
-    free : first_fault parts.last parts.rows ≡ None → nat_le 4096 (length parts.rows) ≡ false
-    free none = (first-held (nat_le 4096 (length parts.rows)) faults.Full None (first-held (is_last parts.last) faults.NumbersSpent _ none).1).0
-
-    put-in : nat_le 4096 (length parts.rows) ≡ false → (result : Result MovedRow OrchFault) → WithinAfter parts.nodes result → BoundedAfter (all_rows_moved parts Sends result)
-    put-in room (Err fault) all = tt
-    put-in room (Ok moved_row) all =
-        record {
-          rows = let below = not-reached 4096 _ room in let long = put-long (λ (r : RowShown). r.name) moved_row.row parts.rows in omega (arith, below, long);
-          entries = each-put (AreWithin parts.nodes) (λ (r : RowShown). r.name) moved_row.row parts.rows all within.entries;
-        }
-
-    by : (fault : Option OrchFault) → first_fault parts.last parts.rows ≡ fault → BoundedAfter (all_rows_moved parts Sends (row_unless fault (row_sends_due parts.last (new_row name arguments))))
-    by (Some fault) e = tt
-    by None e = put-in (free e) (row_sends_due parts.last (new_row name arguments)) (sends-due-within parts.nodes parts.last (new_row name arguments) (record { each = tt; few = omega arith }))
-
--- rows stay within the bounds where a frame comes
-receives-within : (parts : OrchestratorParts) (number : Number) (party : Party) (body : Body) → AreSteadyRows parts.rows → IsWithin parts → BoundedAfter (receives parts number party body)
-receives-within parts number party (bodies.Call call) kept within = within
-receives-within parts number party (bodies.Reply kind reply) kept within = by (row_replied parts.rows number party kind) refl
-  where
-    by : (o : Option RowShown) → row_replied parts.rows number party kind ≡ o → BoundedAfter (hears_reply parts kind reply o)
-    by None e = within
-    by (Some row) e = found-within parts hears (step_heard kind reply) (λ (r : RowShown). is_issued_as number party kind (open_in_row r)) row kept within e
-
--- unless it is refused
-unless-bounded : (then : OrchestratorParts) (fault : Option OrchFault) (answer : Answer) → (fault ≡ None → IsWithin then) → BoundedAfter (moved_unless fault then answer)
-unless-bounded then None answer within = within refl
-unless-bounded then (Some fault) answer within = tt
 
 -- there are no more rows that are remembered
 few-remembered : (change : RowShown → RowShown) (rows : List RowShown) → length rows ≤ 4096 → length (map change (remembered rows)) ≤ 4096
@@ -226,37 +167,24 @@ stays-listed old new rows row entry free among there apart may listed = by (list
         absurd (false≢true (sym free ∙ then-any (λ node. not (list_any (same_text node) new) && is_used_in rows node) old found.0 found.1
         (ap (λ n. not (list_any (same_text n) new) && is_used_in rows n) (sym is) ∙ ap (λ b. not b && is_used_in rows entry.node) e ∙ used)))
 
--- rows stay within the bounds at a restart
-restart-within : (parts : OrchestratorParts) (nodes : List (List ℕ)) → AreSoundRows parts.rows → AreSteadyRows parts.rows → IsWithin parts → BoundedAfter (starts_again parts nodes)
-restart-within parts nodes sound kept within =
-    unless-bounded (restarted_parts nodes parts) (restart_refusal parts.last.session parts.nodes nodes parts.rows) Restarted
-    (λ free.
+-- a row stays within its bounds where the list of nodes isn't refused
+pub relisted : (old new : List (List ℕ)) (rows : List RowShown) (row : RowShown) → leaves_out_used old new rows ≡ false → IsAmong row rows → IsSoundRow row → IsSteadyRow row → AreWithin old row → AreWithin new row
+relisted old new rows row unused among sound steady own =
     record {
-      rows = few-remembered closed parts.rows within.rows;
-      entries =
-          each-map (AreWithin nodes) (AreWithin nodes) closed (remembered parts.rows) (λ row all. all)
-          (each-filter (AreWithin nodes) (λ (r : RowShown). not (is_row_forgotten r)) parts.rows (all_of (AreWithin nodes) parts.rows (λ row among. listed free row among)));
-    })
-  where
-    unused : restart_refusal parts.last.session parts.nodes nodes parts.rows ≡ None → leaves_out_used parts.nodes nodes parts.rows ≡ false
-    unused free = (first-held (leaves_out_used parts.nodes nodes parts.rows) faults.NodeInUse None (first-held (is_none (next_session parts.last.session)) faults.NumbersSpent _ free).1).0
+      each =
+          all_of (IsEntryWithin new) row.node_entries
+          (λ entry there.
+          let was = each_of (IsEntryWithin old) row.node_entries entry own.each there in
+          record {
+            among = λ some. stays-listed old new rows row entry unused among there sound.nodes (each_of (λ (e : NodeEntryShown). is_no e.attached ≡ false) row.node_entries entry (steady-attached ⊥ row steady) there) (was.among some);
+            targets = was.targets;
+          });
+      few = own.few;
+    }
 
-    listed : restart_refusal parts.last.session parts.nodes nodes parts.rows ≡ None → (row : RowShown) → IsAmong row parts.rows → AreWithin nodes row
-    listed free row among =
-        let own = each_of (AreWithin parts.nodes) parts.rows row within.entries among in
-        let apart = (each_of IsSoundRow parts.rows row sound.each among).nodes in
-        let may = steady-attached ⊥ row (each_of IsSteadyRow parts.rows row kept among) in
-        record {
-          each =
-              all_of (IsEntryWithin nodes) row.node_entries
-              (λ entry there.
-              let old = each_of (IsEntryWithin parts.nodes) row.node_entries entry own.each there in
-              record {
-                among = λ some. stays-listed parts.nodes nodes parts.rows row entry (unused free) among there apart (each_of (λ (e : NodeEntryShown). is_no e.attached ≡ false) row.node_entries entry may there) (old.among some);
-                targets = old.targets;
-              });
-          few = own.few;
-        }
+-- a list that isn't refused leaves out no node that is used
+pub none-left-out : (session : ℕ) (old new : List (List ℕ)) (rows : List RowShown) → restart_refusal session old new rows ≡ None → leaves_out_used old new rows ≡ false
+none-left-out session old new rows free = (first-held (leaves_out_used old new rows) faults.NodeInUse None (first-held (is_none (next_session session)) faults.NumbersSpent _ free).1).0
 
 -- an entry once a node was lost
 entry-lost : (nodes : List (List ℕ)) (node : List ℕ) (entry : NodeEntryShown) → IsEntryWithin nodes entry → IsEntryWithin (without_node node nodes) (entry_at_loss node entry)
@@ -278,32 +206,51 @@ row-lost nodes node row all = row-by (AreWithin (without_node node nodes)) node 
         let long = length-map row.node_entries (entry_at_loss node) in
         record { each = each-map (IsEntryWithin nodes) (IsEntryWithin (without_node node nodes)) (entry_at_loss node) row.node_entries (entry-lost nodes node) all.each; few = omega (arith, few, long) }
 
--- rows stay within the bounds at a loss
-loss-within : (parts : OrchestratorParts) (node : List ℕ) → IsWithin parts → BoundedAfter (gives_up parts node)
-loss-within parts node within =
-    unless-bounded (parts_at_loss node parts) (loss_refusal parts.last.session) GivenUp
-    (λ free.
+-- rows stay within the bounds at every input
+stays-within : (parts : OrchestratorParts) (input : Input) (result : Result MovedRows OrchFault) → AreSoundRows parts.rows → AreSteadyRows parts.rows → IsWithin parts → IsRowMove parts input result → BoundedAfter result
+stays-within parts input _ sound kept within (IsRefused fault) = tt
+stays-within parts input _ sound kept within IsIgnored = within
+stays-within parts input _ sound kept within (TakesStep answer step row moved_row among of fits e) =
+    let on = subst (GoesOn parts.last row) e (step-goes parts.nodes parts.last step row) in
+    let least = within.rows in
+    let long = put-there (λ (r : RowShown). r.name) moved_row.row row parts.rows among on.name in
+    record {
+      rows = omega (arith, long, least);
+      entries =
+          each-put (AreWithin parts.nodes) (λ (r : RowShown). r.name) moved_row.row parts.rows
+          (subst (WithinAfter parts.nodes) e (step-within parts.nodes parts.last step row (each_of IsSteadyRow parts.rows row kept among) (each_of (AreWithin parts.nodes) parts.rows row within.entries among))) within.entries;
+    }
+stays-within parts input _ sound kept within (PutsIn name arguments moved_row free e) =
+    let below = not-reached 4096 _ (first-held (nat_le 4096 (length parts.rows)) faults.Full None (first-held (is_last parts.last) faults.NumbersSpent _ free).1).0 in
+    let long = put-long (λ (r : RowShown). r.name) moved_row.row parts.rows in
+    record {
+      rows = omega (arith, below, long);
+      entries =
+          each-put (AreWithin parts.nodes) (λ (r : RowShown). r.name) moved_row.row parts.rows
+          (subst (WithinAfter parts.nodes) e (sends-due-within parts.nodes parts.last (new_row name arguments) (record { each = tt; few = omega arith }))) within.entries;
+    }
+stays-within parts input _ sound kept within (StartsAgain nodes is free) =
+    record {
+      rows = few-remembered closed parts.rows within.rows;
+      entries =
+          each-map (AreWithin nodes) (AreWithin nodes) closed (remembered parts.rows) (λ row all. all)
+          (each-filter (AreWithin nodes) (λ (r : RowShown). not (is_row_forgotten r)) parts.rows
+          (all_of (AreWithin nodes) parts.rows
+          (λ row among.
+          relisted parts.nodes nodes parts.rows row (none-left-out parts.last.session parts.nodes nodes parts.rows free) among (each_of IsSoundRow parts.rows row sound.each among) (each_of IsSteadyRow parts.rows row kept among)
+          (each_of (AreWithin parts.nodes) parts.rows row within.entries among))));
+    }
+stays-within parts input _ sound kept within (GivesUp node is) =
     record {
       rows = few-remembered (row_at_loss node) parts.rows within.rows;
       entries =
           each-map (AreWithin parts.nodes) (AreWithin (without_node node parts.nodes)) (row_at_loss node) (remembered parts.rows) (row-lost parts.nodes node)
           (each-filter (AreWithin parts.nodes) (λ (r : RowShown). not (is_row_forgotten r)) parts.rows within.entries);
-    })
-
--- rows stay within the bounds at every input
-moves-within : (parts : OrchestratorParts) (input : Input) → AreSoundRows parts.rows → AreSteadyRows parts.rows → IsWithin parts → BoundedAfter (row_moves parts input)
-moves-within parts (ToCreate name arguments) sound kept within = creates-within parts name arguments kept within (row_of parts.rows name) refl
-moves-within parts (ToUse name usage) sound kept within = asked-within parts (steps.Use usage) name kept within (row_of parts.rows name) refl
-moves-within parts (ToStop name node target) sound kept within = asked-within parts (steps.Stop node target) name kept within (row_of parts.rows name) refl
-moves-within parts (ToDelete name) sound kept within = asked-within parts steps.Delete name kept within (row_of parts.rows name) refl
-moves-within parts (TimesOut name) sound kept within = asked-within parts steps.TimeOut name kept within (row_of parts.rows name) refl
-moves-within parts (Comes frame) sound kept within = receives-within parts frame.number frame.party frame.body kept within
-moves-within parts (Restarts nodes) sound kept within = restart-within parts nodes sound kept within
-moves-within parts (Loses node) sound kept within = loss-within parts node within
+    }
 
 -- whatever comes, the rows stay within their bounds
 pub rows-stay-within : (parts : OrchestratorParts) (input : Input) (moved_rows : MovedRows) → AreSoundRows parts.rows → AreSteadyRows parts.rows → IsWithin parts → row_moves parts input ≡ Ok moved_rows → IsWithin moved_rows.parts
-rows-stay-within parts input moved_rows sound kept within e = subst BoundedAfter e (moves-within parts input sound kept within)
+rows-stay-within parts input moved_rows sound kept within e = stays-within parts input (Ok moved_rows) sound kept within (subst (IsRowMove parts input) e (row-moved parts input sound))
 
 -- ---- what is told of the bounds
 

@@ -1,18 +1,16 @@
 -- What a decision makes of a row is what the step makes of it, and what a use comes to is told by the entry of its node.
 use Rattle.std.proofs.Common.{◌≡◌, ℕ, List, Bool, true, false, cond, not, refl, sym, ◌∙◌, ap}
-use Rattle.std.specs.Prelude.{Option, Some, None, is_some, is_none, option_and_then, ◌&&◌, ◌||◌, nat_lt, nat_le, Result, Err}
+use Rattle.std.specs.Prelude.{Option, Some, None, is_some, is_none, option_and_then, ◌&&◌, ◌||◌, nat_le, Result, Err}
 use Rattle.std.specs.List.{list_any}
 use Rattle.csi_types.specs.declared.number.Number.{Number}
 use Rattle.csi_types.specs.Model.Same.{same_text, has_capability}
 use Rattle.csi_types.specs.Model.Sharing.{allows_one_target}
-use Rattle.csi_lists.proofs.Counts.{any-counted}
 use Rattle.csi_orchestrator.specs.declared.decision.Decision.{Decision}
 use Rattle.csi_orchestrator.specs.declared.decision.Decision.TheVariants.{Refuse, Met, Wait, Send}
 use Rattle.csi_orchestrator.specs.declared.fault.OrchFault.{OrchFault}
 use Rattle.csi_orchestrator.specs.declared.fault.OrchFault.TheVariants as faults
 use Rattle.csi_orchestrator.specs.declared.marks.Marks.{Marks}
 use Rattle.csi_orchestrator.specs.declared.request.Usage.{Usage}
-use Rattle.csi_orchestrator.specs.declared.row.TargetEntry.{TargetEntry}
 use Rattle.csi_orchestrator.specs.declared.step.Step.{Step}
 use Rattle.csi_orchestrator.specs.declared.step.Step.TheVariants as steps
 use Rattle.csi_orchestrator.specs.Model.Thing.{is_yes, is_no}
@@ -25,6 +23,7 @@ use Rattle.csi_orchestrator.specs.Model.Shown.{NodeEntryShown, RowShown, node_en
 use Rattle.csi_orchestrator.specs.Public.Shown.{closed}
 use Rattle.csi_orchestrator.specs.Public.RowDue.{others_in, marks_at, use_due}
 use Rattle.csi_orchestrator.proofs.DueCases.{attaching, staging, publishing}
+use Rattle.csi_orchestrator.proofs.InUse.{others-counted}
 
 -- ---- what becomes of the row
 
@@ -76,11 +75,6 @@ deletes-without nodes last row is = by (is_none row.id) (is_attached_somewhere r
     by false false false false false e = cc
 
 -- ---- a use, by the entry of its node
-
--- others are there where some are counted
-others-told : (target : List ℕ) (entry : Option NodeEntryShown) → nat_lt 0 (others_count target entry) ≡ others_in target entry
-others-told target None = refl
-others-told target (Some entry) = any-counted (λ (target_entry : TargetEntry). not (same_text target_entry.target target) && not (is_no target_entry.published)) entry.target_entries
 
 -- no call is due for it where the volume has no id, or is used so already
 none-due : (usage : Usage) (marks : Marks) (id : Option ℕ)
@@ -135,7 +129,7 @@ use-decided nodes last usage row entry made idle known able alone single is =
     ∙ ap
     (λ (taken : Bool).
     tested (is_entry_otherwise usage here) (allows_one_target usage.capability.mode && taken) (is_none row.id || is_used_at usage.target here) (is_last last) (nat_le 16 (others_count usage.target here) || nat_le 64 (others_attached usage.node row)))
-    (others-told usage.target here)
+    (others-counted usage.target here)
     ∙ ap
     (λ (met : Bool).
     tested (is_entry_otherwise usage here) (allows_one_target usage.capability.mode && others_in usage.target here) met (is_last last) (nat_le 16 (others_count usage.target here) || nat_le 64 (others_attached usage.node row)))
@@ -146,22 +140,3 @@ use-decided nodes last usage row entry made idle known able alone single is =
     (has_elsewhere (is_for_one_node usage) usage.node row) (has_elsewhere (uses_as_second_writer usage) usage.node row)
     (cond (is_entry_otherwise usage here) (Some faults.HeldOtherwise) (cond (allows_one_target usage.capability.mode && others_in usage.target here) (Some faults.TargetTaken) None))
     made idle known able alone single)
-
--- what one comes to at a node that has no entry
-pub use-first : (nodes : List (List ℕ)) (last : Number) (usage : Usage) (row : RowShown)
-    → is_yes row.exists ≡ true → is_some row.goal ≡ false → list_any (same_text usage.node) nodes ≡ true → has_capability row.arguments.capabilities usage.capability ≡ true
-    → has_elsewhere (is_for_one_node usage) usage.node row ≡ false → has_elsewhere (uses_as_second_writer usage) usage.node row ≡ false → node_entry_of row usage.node ≡ None
-    → decided_at last usage (others_attached usage.node row) row.id None ≡ refused_or (use_refusal nodes usage row) (decided_then last (steps.Use usage) row)
-use-first nodes last usage row made idle known able alone single is = use-decided nodes last usage row None made idle known able alone single is
-
--- there it has no other target
-pub first-decided : (last : Number) (usage : Usage) (others : ℕ) (id : Option ℕ)
-    → decided_at last usage others id None ≡ cond (is_none id) Met (cond (is_last last) (Refuse faults.NumbersSpent) (cond (nat_le 64 others) (Refuse faults.Full) Send))
-first-decided last usage others id = by (allows_one_target usage.capability.mode) (is_none id)
-  where
-    by : (one none : Bool) → cond (one && false) (Refuse faults.TargetTaken) (cond (none || false) Met (cond (is_last last) (Refuse faults.NumbersSpent) (cond (nat_le 64 others) (Refuse faults.Full) Send)))
-        ≡ cond none Met (cond (is_last last) (Refuse faults.NumbersSpent) (cond (nat_le 64 others) (Refuse faults.Full) Send))
-    by true true = refl
-    by true false = refl
-    by false true = refl
-    by false false = refl

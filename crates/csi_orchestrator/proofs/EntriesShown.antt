@@ -1,10 +1,9 @@
 -- Tests of entries, as they are kept and as they are shown, one entry after another.
-use Rattle.std.proofs.Common.{◌≡◌, ◌<◌, ◌≤◌, ◌+◌, ℕ, zero, suc, List, [], ◌∷◌, Bool, true, false, cond, length, get_or, map, take, refl, sym, ◌∙◌, ap, arith}
+use Rattle.std.proofs.Common.{◌≡◌, ◌<◌, ◌≤◌, ◌+◌, ℕ, zero, suc, List, [], ◌∷◌, Bool, true, false, length, get_or, map, take, refl, sym, ◌∙◌, ap, arith}
 use Rattle.std.specs.Prelude.{Some, None, count_by, position, ◌||◌}
 use Rattle.std.specs.List.{list_any}
 use Rattle.std.proofs.lemmas.List.Sums.{count_by_more_yes, count_by_more_no}
 use Rattle.csi_lists.specs.Public.Places.{FirstAt}
-use Rattle.csi_lists.proofs.Counts.{count-cons}
 use Rattle.csi_lists.proofs.Places.{position-first, position-none}
 
 -- this one passes
@@ -52,8 +51,3 @@ none-there p (x ∷ xs) (suc i) over none (suc k) d inside = none-there p xs i (
 -- so there is no place
 pub placed-nowhere : {X : Type 0} (p : X → Bool) (xs : List X) (i : ℕ) → length xs ≤ i → list_any p (take i xs) ≡ false → None ≡ position p xs
 placed-nowhere p xs i over none = position-none p xs (none-there p xs i over none)
-
--- what is counted as it is shown is counted as it is kept
-pub count-shown : {R X : Type 0} (view : R → X) (p : X → Bool) (rs : List R) → count_by p (map view rs) ≡ count_by (λ r. p (view r)) rs
-count-shown view p [] = refl
-count-shown view p (r ∷ rs) = count-cons p (view r) (map view rs) ∙ ap (λ n. cond (p (view r)) 1 0 + n) (count-shown view p rs) ∙ sym (count-cons (λ r. p (view r)) r rs)

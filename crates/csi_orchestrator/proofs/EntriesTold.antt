@@ -1,6 +1,7 @@
 -- The entries of a row, its volume and what is wanted of it come to be told, one call after another.
 use Rattle.std.proofs.Common.{◌≡◌, ◌≢◌, ◌≤◌, ◌+◌, ℕ, zero, suc, List, [], ◌∷◌, Bool, true, false, cond, refl, sym, ◌∙◌, ap, subst, arith}
 use Rattle.std.specs.Prelude.{Option, Some, None, find, min, option_map}
+use Rattle.std.specs.List.{AllByRecursion}
 use Rattle.std.specs.Option.{option_or}
 use Rattle.std.proofs.lemmas.Bool.{false≢true}
 use Rattle.csi_lists.proofs.Each.{each-weaker}
@@ -14,7 +15,7 @@ use Rattle.csi_orchestrator.specs.declared.row.Goal.{Goal}
 use Rattle.csi_orchestrator.specs.declared.row.Goal.TheVariants.{Create, Use, Stop, Delete}
 use Rattle.csi_orchestrator.specs.declared.row.TargetEntry.{TargetEntry}
 use Rattle.csi_orchestrator.specs.declared.thing.Thing.{Thing}
-use Rattle.csi_orchestrator.specs.declared.thing.Thing.TheVariants.{Exists, Attached, Published}
+use Rattle.csi_orchestrator.specs.declared.thing.Thing.TheVariants.{Exists, Attached}
 use Rattle.csi_orchestrator.specs.declared.thing.Known.{Known}
 use Rattle.csi_orchestrator.specs.declared.thing.Known.TheVariants.{Yes, No, Maybe}
 use Rattle.csi_orchestrator.specs.Model.Thing.{Issued, name_in, same_thing}
@@ -23,24 +24,31 @@ use Rattle.csi_orchestrator.specs.Model.Readings.{held_by_call, arguments_in_goa
 use Rattle.csi_orchestrator.specs.Model.WellFormed.{IsWellFormed}
 use Rattle.csi_orchestrator.specs.Model.Agrees.{OrchestratorView, Agrees}
 use Rattle.csi_orchestrator.specs.Model.Shown.{NodeEntryShown, RowShown, mark_in, mark_of, held_on_node, held_at, goal_shown}
-use Rattle.csi_orchestrator.specs.Public.Shown.{AreNodesApart}
-use Rattle.csi_orchestrator.specs.Public.Steady.{HasTries}
-use Rattle.csi_orchestrator.specs.Public.Restored.{FitsLife}
+use Rattle.csi_orchestrator.specs.Public.Shown.{AreTargetsApart, AreNodesApart}
+use Rattle.csi_orchestrator.specs.Private.RowChanges.{Aspect, Existence, Attachment, Staging, Publication, target_marked, node_marked}
+use Rattle.csi_orchestrator.specs.Public.Steady.{HasTries, IsStanding}
 use Rattle.csi_orchestrator.specs.Private.Following.{ViewFollows, after_sent, after_closed, after_noted}
 use Rattle.csi_orchestrator.proofs.TextLists.{text-same, same_text-flip}
 use Rattle.csi_orchestrator.proofs.SplitLists.{find-of_none}
 use Rattle.csi_orchestrator.proofs.RowViews.{Reads, same-then, same-sent, same-closed, same-noted}
-use Rattle.csi_orchestrator.proofs.FirstEntries.{still, entry_of, target_of, more-marks, attach-marks, stage-marks, publish-marks, held-front}
+use Rattle.csi_orchestrator.proofs.EntryRules.{AreApart}
+use Rattle.csi_orchestrator.proofs.FirstEntries.{still, entry_of, target_of, targeted, more-marks, target-marks, held-front}
+use Rattle.csi_orchestrator.proofs.RowMarks.{HasSpot, front-marked}
 use Rattle.csi_orchestrator.proofs.RowsAfterSending.{mark-same}
 use Rattle.csi_orchestrator.proofs.RowsTold.{IsTold, own, call_now, IsSentNow, sent-now, done, tried}
 
+-- none of a list is of the text of one from which all are apart
+none-of : {X : Type 0} (key : X → List ℕ) (x : X) (xs : List X) → AllByRecursion (λ y. same_text (key x) (key y) ≡ false) xs → find (λ y. same_text (key y) (key x)) xs ≡ None
+none-of key x xs apart = find-of_none (λ y. same_text (key y) (key x)) xs (each-weaker (λ y. same_text (key x) (key y) ≡ false) (λ y. same_text (key y) (key x) ≡ false) xs (λ y f. same_text-flip (key y) (key x) ∙ f) apart)
+
 -- ---- an entry
 
--- one more, of which nothing is known
-told-more : (rest : OrchestratorView) (name : List ℕ) (arguments : Arguments) (id : Option ℕ) (exists : Known) (node : List ℕ) (capability : Capability) (readonly : Bool) (later : List NodeEntryShown)
-    → find (λ (e : NodeEntryShown). same_text e.node node) later ≡ None → IsTold rest (still name arguments id exists later)
-    → IsTold rest (still name arguments id exists (entry_of node capability readonly No No [] ∷ later))
-told-more rest name arguments id exists node capability readonly later none told =
+-- entries of which the same is known are told too
+told-alike : (rest : OrchestratorView) (name : List ℕ) (arguments : Arguments) (id : Option ℕ) (exists : Known) (old new : List NodeEntryShown)
+    → ((thing : Thing) → mark_of thing (still name arguments id exists new) ≡ mark_of thing (still name arguments id exists old))
+    → ((there : List ℕ) → mark_of (Attached name there) (still name arguments id exists new) ≢ No → held_on_node (still name arguments id exists new) there ≡ held_on_node (still name arguments id exists old) there)
+    → IsTold rest (still name arguments id exists old) → IsTold rest (still name arguments id exists new)
+told-alike rest name arguments id exists old new same held told =
     record {
       view = told.view;
       history = told.history;
@@ -52,64 +60,56 @@ told-more rest name arguments id exists node capability readonly later none told
           record {
             own = refl;
             there = reads.there;
-            marks = λ thing is. more-marks name arguments id exists node capability readonly later none thing ∙ reads.marks thing is;
+            marks = λ thing is. same thing ∙ reads.marks thing is;
             ids = reads.ids;
             goals = reads.goals;
             arguments = reads.arguments;
-            holdings = λ there maybe. held there (same_text node there) maybe;
+            holdings = λ there maybe. held there maybe ∙ reads.holdings there (λ e. maybe (same (Attached name there) ∙ e));
             open_calls = reads.open_calls;
             counts = reads.counts;
           };
       others = told.others;
     }
   where
-    reads : Reads (still name arguments id exists later) told.view name
+    reads : Reads (still name arguments id exists old) told.view name
     reads = told.reads
 
+-- one more, of which nothing is known
+told-more : (rest : OrchestratorView) (name : List ℕ) (arguments : Arguments) (id : Option ℕ) (exists : Known) (node : List ℕ) (capability : Capability) (readonly : Bool) (later : List NodeEntryShown)
+    → find (λ (e : NodeEntryShown). same_text e.node node) later ≡ None → IsTold rest (still name arguments id exists later) → IsTold rest (still name arguments id exists (entry_of node capability readonly No No [] ∷ later))
+told-more rest name arguments id exists node capability readonly later none told =
+    told-alike rest name arguments id exists later (entry_of node capability readonly No No [] ∷ later) (more-marks name arguments id exists node capability readonly later none) (λ there. held there (same_text node there)) told
+  where
     new : NodeEntryShown
     new = entry_of node capability readonly No No []
 
     held : (there : List ℕ) (b : Bool) → mark_in (λ (e : NodeEntryShown). e.attached) (cond b (Some new) (find (λ (e : NodeEntryShown). same_text e.node there) later)) ≢ No
-        → option_map held_at (cond b (Some new) (find (λ (e : NodeEntryShown). same_text e.node there) later)) ≡ (told.view).holdings name there
+        → option_map held_at (cond b (Some new) (find (λ (e : NodeEntryShown). same_text e.node there) later)) ≡ option_map held_at (find (λ (e : NodeEntryShown). same_text e.node there) later)
     held there true maybe = absurd (maybe refl)
-    held there false maybe = reads.holdings there maybe
+    held there false maybe = refl
 
--- how it is held once it is attached
-attach-holds : (name : List ℕ) (arguments : Arguments) (id : Option ℕ) (exists : Known) (node : List ℕ) (capability : Capability) (readonly : Bool) (later : List NodeEntryShown) (known : Known) (view : OrchestratorView)
-    → Reads (still name arguments id exists (entry_of node capability readonly No No [] ∷ later)) view name → (there : List ℕ)
-    → mark_of (Attached name there) (still name arguments id exists (entry_of node capability readonly known No [] ∷ later)) ≢ No
-    → held_on_node (still name arguments id exists (entry_of node capability readonly known No [] ∷ later)) there ≡ option_or (held_by_call there (calls.ControllerPublishVolume 0 node capability readonly)) (view.holdings name there)
-attach-holds name arguments id exists node capability readonly later known view reads there maybe = by (same_text node there) (λ m. reads.holdings there m) maybe
+-- how it is held once its attachment is marked
+attach-holds : (name : List ℕ) (arguments : Arguments) (id : Option ℕ) (exists : Known) (entry : NodeEntryShown) (later : List NodeEntryShown) (target : List ℕ) (known : Known) (view : OrchestratorView)
+    → Reads (still name arguments id exists (entry ∷ later)) view name → (there : List ℕ) → mark_of (Attached name there) (still name arguments id exists (node_marked known Attachment target entry ∷ later)) ≢ No
+    → held_on_node (still name arguments id exists (node_marked known Attachment target entry ∷ later)) there
+    ≡ option_or (held_by_call there (calls.ControllerPublishVolume 0 entry.node entry.capability entry.readonly)) (view.holdings name there)
+attach-holds name arguments id exists entry later target known view reads there maybe = by (same_text entry.node there) (λ m. reads.holdings there m) maybe
   where
     o : Option NodeEntryShown
     o = find (λ (e : NodeEntryShown). same_text e.node there) later
 
-    old : NodeEntryShown
-    old = entry_of node capability readonly No No []
-
     new : NodeEntryShown
-    new = entry_of node capability readonly known No []
+    new = node_marked known Attachment target entry
 
     h : Held
-    h = record { capability = capability; readonly = readonly }
+    h = record { capability = entry.capability; readonly = entry.readonly }
 
-    by : (b : Bool) → (mark_in (λ (e : NodeEntryShown). e.attached) (cond b (Some old) o) ≢ No → option_map held_at (cond b (Some old) o) ≡ view.holdings name there)
+    by : (b : Bool) → (mark_in (λ (e : NodeEntryShown). e.attached) (cond b (Some entry) o) ≢ No → option_map held_at (cond b (Some entry) o) ≡ view.holdings name there)
         → mark_in (λ (e : NodeEntryShown). e.attached) (cond b (Some new) o) ≢ No → option_map held_at (cond b (Some new) o) ≡ option_or (cond b (Some h) None) (view.holdings name there)
     by true was m = refl
     by false was m = was m
 
--- what is known of its attachment
-told-attached : ViewFollows → (rest : OrchestratorView) (name : List ℕ) (arguments : Arguments) (id : Option ℕ) (exists : Known) (node : List ℕ) (capability : Capability) (readonly : Bool) (later : List NodeEntryShown) (known : Known)
-    → IsTold rest (still name arguments id exists (entry_of node capability readonly No No [] ∷ later)) → IsTold rest (still name arguments id exists (entry_of node capability readonly known No [] ∷ later))
-told-attached follows rest name arguments id exists node capability readonly later No told = told
-told-attached follows rest name arguments id exists node capability readonly later Yes told =
-    done follows rest name arguments id exists exists (entry_of node capability readonly No No [] ∷ later) (entry_of node capability readonly Yes No [] ∷ later) Controller (calls.ControllerPublishVolume 0 node capability readonly) None tt
-    (λ there touched undoing. false≢true (sym undoing)) (attach-marks name arguments id exists node capability readonly later Yes) (attach-holds name arguments id exists node capability readonly later Yes) told
-told-attached follows rest name arguments id exists node capability readonly later Maybe told =
-    tried follows rest name arguments id exists exists (entry_of node capability readonly No No [] ∷ later) (entry_of node capability readonly Maybe No [] ∷ later) Controller (calls.ControllerPublishVolume 0 node capability readonly) tt
-    (λ there touched undoing. false≢true (sym undoing)) (attach-marks name arguments id exists node capability readonly later Maybe) (attach-holds name arguments id exists node capability readonly later Maybe) told
-
--- it is held as before where another thing is known
+-- it is held as before where another aspect is marked
 still-held : (name : List ℕ) (arguments : Arguments) (id : Option ℕ) (exists : Known) (old new : NodeEntryShown) (later : List NodeEntryShown) → new.node ≡ old.node → held_at new ≡ held_at old
     → ((there : List ℕ) → mark_of (Attached name there) (still name arguments id exists (new ∷ later)) ≡ mark_of (Attached name there) (still name arguments id exists (old ∷ later)))
     → (view : OrchestratorView) → Reads (still name arguments id exists (old ∷ later)) view name → (there : List ℕ) → mark_of (Attached name there) (still name arguments id exists (new ∷ later)) ≢ No
@@ -117,80 +117,73 @@ still-held : (name : List ℕ) (arguments : Arguments) (id : Option ℕ) (exists
 still-held name arguments id exists old new later of_node same marks view reads there maybe =
     held-front name arguments id exists old new later there of_node same ∙ reads.holdings there (λ e. maybe (marks there ∙ e))
 
--- what is known of its staging
-told-staged : ViewFollows → (rest : OrchestratorView) (name : List ℕ) (arguments : Arguments) (id : Option ℕ) (exists : Known) (node : List ℕ) (capability : Capability) (readonly : Bool) (attached : Known) (later : List NodeEntryShown) (known : Known)
-    → IsTold rest (still name arguments id exists (entry_of node capability readonly attached No [] ∷ later)) → IsTold rest (still name arguments id exists (entry_of node capability readonly attached known [] ∷ later))
-told-staged follows rest name arguments id exists node capability readonly attached later No told = told
-told-staged follows rest name arguments id exists node capability readonly attached later Yes told =
-    done follows rest name arguments id exists exists (entry_of node capability readonly attached No [] ∷ later) (entry_of node capability readonly attached Yes [] ∷ later) (Node node) (calls.NodeStageVolume 0 capability) None tt
-    (λ there touched undoing. false≢true touched) (stage-marks name arguments id exists node capability readonly attached later Yes)
-    (still-held name arguments id exists (entry_of node capability readonly attached No []) (entry_of node capability readonly attached Yes []) later refl refl (λ there. stage-marks name arguments id exists node capability readonly attached later Yes (Attached name there) refl)) told
-told-staged follows rest name arguments id exists node capability readonly attached later Maybe told =
-    tried follows rest name arguments id exists exists (entry_of node capability readonly attached No [] ∷ later) (entry_of node capability readonly attached Maybe [] ∷ later) (Node node) (calls.NodeStageVolume 0 capability) tt
-    (λ there touched undoing. false≢true touched) (stage-marks name arguments id exists node capability readonly attached later Maybe)
-    (still-held name arguments id exists (entry_of node capability readonly attached No []) (entry_of node capability readonly attached Maybe []) later refl refl (λ there. stage-marks name arguments id exists node capability readonly attached later Maybe (Attached name there) refl)) told
+-- an aspect of it is done
+told-done : ViewFollows → (rest : OrchestratorView) (name : List ℕ) (arguments : Arguments) (id : Option ℕ) (exists : Known) (entry : NodeEntryShown) (later : List NodeEntryShown) (aspect : Aspect) (target : List ℕ) → HasSpot aspect entry target
+    → IsTold rest (still name arguments id exists (entry ∷ later)) → IsTold rest (still name arguments id exists (node_marked Yes aspect target entry ∷ later))
+told-done follows rest name arguments id exists entry later Existence target spot told = absurd spot
+told-done follows rest name arguments id exists entry later Attachment target spot told =
+    done follows rest name arguments id exists exists (entry ∷ later) (node_marked Yes Attachment target entry ∷ later) Controller (calls.ControllerPublishVolume 0 entry.node entry.capability entry.readonly) None tt
+    (λ there touched undoing. false≢true (sym undoing)) (front-marked (still name arguments id exists []) entry later target Yes Attachment spot) (attach-holds name arguments id exists entry later target Yes) told
+told-done follows rest name arguments id exists entry later Staging target spot told =
+    let marks = front-marked (still name arguments id exists []) entry later target Yes Staging spot in
+    done follows rest name arguments id exists exists (entry ∷ later) (node_marked Yes Staging target entry ∷ later) (Node entry.node) (calls.NodeStageVolume 0 entry.capability) None tt
+    (λ there touched undoing. false≢true touched) marks (still-held name arguments id exists entry (node_marked Yes Staging target entry) later refl refl (λ there. marks (Attached name there) refl)) told
+told-done follows rest name arguments id exists entry later Publication target spot told =
+    let marks = front-marked (still name arguments id exists []) entry later target Yes Publication spot in
+    done follows rest name arguments id exists exists (entry ∷ later) (node_marked Yes Publication target entry ∷ later) (Node entry.node) (calls.NodePublishVolume 0 target entry.capability entry.readonly) None tt
+    (λ there touched undoing. false≢true touched) marks (still-held name arguments id exists entry (node_marked Yes Publication target entry) later refl refl (λ there. marks (Attached name there) refl)) told
 
--- what is known once more of the same thing
-again-over : (b : Bool) (known mid was : Known) → cond b known was ≡ cond b known (cond b mid was)
-again-over true known mid was = refl
-again-over false known mid was = refl
+-- it is tried
+told-may_be : ViewFollows → (rest : OrchestratorView) (name : List ℕ) (arguments : Arguments) (id : Option ℕ) (exists : Known) (entry : NodeEntryShown) (later : List NodeEntryShown) (aspect : Aspect) (target : List ℕ) → HasSpot aspect entry target
+    → IsTold rest (still name arguments id exists (entry ∷ later)) → IsTold rest (still name arguments id exists (node_marked Maybe aspect target entry ∷ later))
+told-may_be follows rest name arguments id exists entry later Existence target spot told = absurd spot
+told-may_be follows rest name arguments id exists entry later Attachment target spot told =
+    tried follows rest name arguments id exists exists (entry ∷ later) (node_marked Maybe Attachment target entry ∷ later) Controller (calls.ControllerPublishVolume 0 entry.node entry.capability entry.readonly) tt
+    (λ there touched undoing. false≢true (sym undoing)) (front-marked (still name arguments id exists []) entry later target Maybe Attachment spot) (attach-holds name arguments id exists entry later target Maybe) told
+told-may_be follows rest name arguments id exists entry later Staging target spot told =
+    let marks = front-marked (still name arguments id exists []) entry later target Maybe Staging spot in
+    tried follows rest name arguments id exists exists (entry ∷ later) (node_marked Maybe Staging target entry ∷ later) (Node entry.node) (calls.NodeStageVolume 0 entry.capability) tt
+    (λ there touched undoing. false≢true touched) marks (still-held name arguments id exists entry (node_marked Maybe Staging target entry) later refl refl (λ there. marks (Attached name there) refl)) told
+told-may_be follows rest name arguments id exists entry later Publication target spot told =
+    let marks = front-marked (still name arguments id exists []) entry later target Maybe Publication spot in
+    tried follows rest name arguments id exists exists (entry ∷ later) (node_marked Maybe Publication target entry ∷ later) (Node entry.node) (calls.NodePublishVolume 0 target entry.capability entry.readonly) tt
+    (λ there touched undoing. false≢true touched) marks (still-held name arguments id exists entry (node_marked Maybe Publication target entry) later refl refl (λ there. marks (Attached name there) refl)) told
 
--- one target more, at which it is published
-told-published : ViewFollows → (rest : OrchestratorView) (name : List ℕ) (arguments : Arguments) (id : Option ℕ) (exists : Known) (node : List ℕ) (capability : Capability) (readonly : Bool) (attached staged : Known) (targets : List TargetEntry)
-    (later : List NodeEntryShown) (target : List ℕ) → IsTold rest (still name arguments id exists (entry_of node capability readonly attached staged targets ∷ later))
-    → IsTold rest (still name arguments id exists (entry_of node capability readonly attached staged (target_of target Yes ∷ targets) ∷ later))
-told-published follows rest name arguments id exists node capability readonly attached staged targets later target told =
-    done follows rest name arguments id exists exists (entry_of node capability readonly attached staged targets ∷ later) (entry_of node capability readonly attached staged (target_of target Yes ∷ targets) ∷ later) (Node node)
-    (calls.NodePublishVolume 0 target capability readonly) None tt (λ there touched undoing. false≢true touched) (publish-marks name arguments id exists node capability readonly attached staged targets later target Yes)
-    (still-held name arguments id exists (entry_of node capability readonly attached staged targets) (entry_of node capability readonly attached staged (target_of target Yes ∷ targets)) later refl refl
-    (λ there. publish-marks name arguments id exists node capability readonly attached staged targets later target Yes (Attached name there) refl)) told
-
--- one target more, and what is known of its publication
-told-target : ViewFollows → (rest : OrchestratorView) (name : List ℕ) (arguments : Arguments) (id : Option ℕ) (exists : Known) (node : List ℕ) (capability : Capability) (readonly : Bool) (attached staged : Known) (targets : List TargetEntry) (later : List NodeEntryShown)
-    (target : List ℕ) (known : Known) → IsTold rest (still name arguments id exists (entry_of node capability readonly attached staged targets ∷ later))
-    → IsTold rest (still name arguments id exists (entry_of node capability readonly attached staged (target_of target known ∷ targets) ∷ later))
-told-target follows rest name arguments id exists node capability readonly attached staged targets later target Yes told = told-published follows rest name arguments id exists node capability readonly attached staged targets later target told
-told-target follows rest name arguments id exists node capability readonly attached staged targets later target Maybe told =
-    tried follows rest name arguments id exists exists (entry_of node capability readonly attached staged targets ∷ later) (entry_of node capability readonly attached staged (target_of target Maybe ∷ targets) ∷ later) (Node node)
-    (calls.NodePublishVolume 0 target capability readonly) tt (λ there touched undoing. false≢true touched) (publish-marks name arguments id exists node capability readonly attached staged targets later target Maybe)
-    (still-held name arguments id exists (entry_of node capability readonly attached staged targets) (entry_of node capability readonly attached staged (target_of target Maybe ∷ targets)) later refl refl
-    (λ there. publish-marks name arguments id exists node capability readonly attached staged targets later target Maybe (Attached name there) refl)) told
-told-target follows rest name arguments id exists node capability readonly attached staged targets later target No told =
-    done follows rest name arguments id exists exists (entry_of node capability readonly attached staged (target_of target Yes ∷ targets) ∷ later) (entry_of node capability readonly attached staged (target_of target No ∷ targets) ∷ later) (Node node)
-    (calls.NodeUnpublishVolume 0 target) None tt (λ there touched undoing. false≢true touched) marks
-    (still-held name arguments id exists (entry_of node capability readonly attached staged (target_of target Yes ∷ targets)) (entry_of node capability readonly attached staged (target_of target No ∷ targets)) later refl refl
-    (λ there. marks (Attached name there) refl)) (told-published follows rest name arguments id exists node capability readonly attached staged targets later target told)
-  where
-    marks : (thing : Thing) → name_in thing ≡ name → mark_of thing (still name arguments id exists (entry_of node capability readonly attached staged (target_of target No ∷ targets) ∷ later))
-        ≡ cond (same_thing thing (Published name node target)) No (mark_of thing (still name arguments id exists (entry_of node capability readonly attached staged (target_of target Yes ∷ targets) ∷ later)))
-    marks thing is =
-        let touched = same_thing thing (Published name node target) in
-        publish-marks name arguments id exists node capability readonly attached staged targets later target No thing is
-        ∙ again-over touched No Yes (mark_of thing (still name arguments id exists (entry_of node capability readonly attached staged targets ∷ later)))
-        ∙ ap (cond touched No) (sym (publish-marks name arguments id exists node capability readonly attached staged targets later target Yes thing is))
+-- whatever is known of an aspect of which nothing was known
+told-marked : ViewFollows → (rest : OrchestratorView) (name : List ℕ) (arguments : Arguments) (id : Option ℕ) (exists : Known) (entry : NodeEntryShown) (later : List NodeEntryShown) (aspect : Aspect) (target : List ℕ) (known : Known) → HasSpot aspect entry target
+    → node_marked No aspect target entry ≡ entry → IsTold rest (still name arguments id exists (entry ∷ later)) → IsTold rest (still name arguments id exists (node_marked known aspect target entry ∷ later))
+told-marked follows rest name arguments id exists entry later aspect target Yes spot none told = told-done follows rest name arguments id exists entry later aspect target spot told
+told-marked follows rest name arguments id exists entry later aspect target Maybe spot none told = told-may_be follows rest name arguments id exists entry later aspect target spot told
+told-marked follows rest name arguments id exists entry later aspect target No spot none told = subst (λ (e : NodeEntryShown). IsTold rest (still name arguments id exists (e ∷ later))) (sym none) told
 
 -- all targets
-told-targets : ViewFollows → (rest : OrchestratorView) (name : List ℕ) (arguments : Arguments) (id : Option ℕ) (exists : Known) (node : List ℕ) (capability : Capability) (readonly : Bool) (attached staged : Known) (later : List NodeEntryShown)
-    (targets : List TargetEntry) → IsTold rest (still name arguments id exists (entry_of node capability readonly attached staged [] ∷ later)) → IsTold rest (still name arguments id exists (entry_of node capability readonly attached staged targets ∷ later))
-told-targets follows rest name arguments id exists node capability readonly attached staged later [] told = told
-told-targets follows rest name arguments id exists node capability readonly attached staged later (t ∷ targets) told =
-    told-target follows rest name arguments id exists node capability readonly attached staged targets later t.target t.published
-    (told-targets follows rest name arguments id exists node capability readonly attached staged later targets told)
+told-targets : ViewFollows → (rest : OrchestratorView) (name : List ℕ) (arguments : Arguments) (id : Option ℕ) (exists : Known) (entry : NodeEntryShown) (later : List NodeEntryShown) (targets : List TargetEntry)
+    → AreApart (λ (t : TargetEntry). t.target) targets → IsTold rest (still name arguments id exists (targeted entry [] ∷ later)) → IsTold rest (still name arguments id exists (targeted entry targets ∷ later))
+told-targets follows rest name arguments id exists entry later [] apart told = told
+told-targets follows rest name arguments id exists entry later (t ∷ targets) apart told =
+    subst (λ (ts : List TargetEntry). IsTold rest (still name arguments id exists (targeted entry ts ∷ later))) (set t.published)
+    (told-marked follows rest name arguments id exists (targeted entry (target_of t.target No ∷ targets)) later Publication t.target t.published (target_of t.target No, front) (ap (λ (ts : List TargetEntry). targeted entry ts) (set No))
+    (told-alike rest name arguments id exists (targeted entry targets ∷ later) (targeted entry (target_of t.target No ∷ targets) ∷ later) (target-marks name arguments id exists entry targets later t.target none)
+    (λ there maybe. held-front name arguments id exists (targeted entry targets) (targeted entry (target_of t.target No ∷ targets)) later there refl refl) (told-targets follows rest name arguments id exists entry later targets apart.1 told)))
+  where
+    set : (known : Known) → target_marked known t.target (target_of t.target No ∷ targets) ≡ target_of t.target known ∷ targets
+    set known = ap (λ b. cond b (target_of t.target known ∷ targets) (target_of t.target No ∷ target_marked known t.target targets)) (text-same t.target)
+
+    front : find (λ (u : TargetEntry). same_text u.target t.target) (target_of t.target No ∷ targets) ≡ Some (target_of t.target No)
+    front = ap (λ b. cond b (Some (target_of t.target No)) (find (λ (u : TargetEntry). same_text u.target t.target) targets)) (text-same t.target)
+
+    none : find (λ (u : TargetEntry). same_text u.target t.target) targets ≡ None
+    none = none-of (λ (u : TargetEntry). u.target) t targets apart.0
 
 -- all entries
-told-entries : ViewFollows → (rest : OrchestratorView) (name : List ℕ) (arguments : Arguments) (id : Option ℕ) (exists : Known) (entries : List NodeEntryShown) → AreNodesApart entries → IsTold rest (still name arguments id exists [])
-    → IsTold rest (still name arguments id exists entries)
-told-entries follows rest name arguments id exists [] apart told = told
-told-entries follows rest name arguments id exists (e ∷ later) apart told =
-    told-targets follows rest name arguments id exists e.node e.capability e.readonly e.attached e.staged later e.target_entries
-    (told-staged follows rest name arguments id exists e.node e.capability e.readonly e.attached later e.staged
-    (told-attached follows rest name arguments id exists e.node e.capability e.readonly later e.attached
-    (told-more rest name arguments id exists e.node e.capability e.readonly later none (told-entries follows rest name arguments id exists later apart.1 told))))
-  where
-    none : find (λ (p : NodeEntryShown). same_text p.node e.node) later ≡ None
-    none =
-        find-of_none (λ (p : NodeEntryShown). same_text p.node e.node) later
-        (each-weaker (λ (p : NodeEntryShown). same_text e.node p.node ≡ false) (λ (p : NodeEntryShown). same_text p.node e.node ≡ false) later (λ p f. same_text-flip p.node e.node ∙ f) apart.0)
+told-entries : ViewFollows → (rest : OrchestratorView) (name : List ℕ) (arguments : Arguments) (id : Option ℕ) (exists : Known) (entries : List NodeEntryShown) → AreNodesApart entries → AllByRecursion AreTargetsApart entries
+    → IsTold rest (still name arguments id exists []) → IsTold rest (still name arguments id exists entries)
+told-entries follows rest name arguments id exists [] apart targets told = told
+told-entries follows rest name arguments id exists (e ∷ later) apart targets told =
+    told-targets follows rest name arguments id exists e later e.target_entries targets.0
+    (told-marked follows rest name arguments id exists (entry_of e.node e.capability e.readonly e.attached No []) later Staging [] e.staged tt refl
+    (told-marked follows rest name arguments id exists (entry_of e.node e.capability e.readonly No No []) later Attachment [] e.attached tt refl
+    (told-more rest name arguments id exists e.node e.capability e.readonly later (none-of (λ (p : NodeEntryShown). p.node) e later apart.0) (told-entries follows rest name arguments id exists later apart.1 targets.1 told))))
 
 -- ---- the volume
 
@@ -201,9 +194,9 @@ exist-marks name arguments id after was now (Exists m) is = sym (ap (λ b. cond 
 exist-marks name arguments id after was now thing is = refl
 
 -- its id, and what is known of it
-told-life : ViewFollows → (rest : OrchestratorView) (name : List ℕ) (arguments : Arguments) (entries : List NodeEntryShown) (id : Option ℕ) (exists : Known) (goal : Option Goal) → FitsLife entries id exists goal → IsTold rest (still name arguments None No [])
+told-life : ViewFollows → (rest : OrchestratorView) (name : List ℕ) (arguments : Arguments) (goal : Option Goal) (id : Option ℕ) (exists : Known) → IsStanding goal id exists → IsTold rest (still name arguments None No [])
     → IsTold rest (still name arguments id exists [])
-told-life follows rest name arguments entries id exists goal life told = by id exists goal life
+told-life follows rest name arguments goal id exists standing told = by goal id exists standing
   where
     create : Call
     create = calls.CreateVolume name arguments.required arguments.limit arguments.capabilities
@@ -216,17 +209,17 @@ told-life follows rest name arguments entries id exists goal life told = by id e
     made id =
         done follows rest name arguments None No Yes [] [] Controller create (Some id) refl (λ there touched undoing. false≢true touched) (exist-marks name arguments None (Some id) No Yes) (λ view reads there maybe. absurd (maybe refl)) told
 
-    by : (id : Option ℕ) (exists : Known) (goal : Option Goal) → FitsLife entries id exists goal → IsTold rest (still name arguments id exists [])
-    by None Maybe None life = wanted
-    by None Maybe (Some Create) life = wanted
-    by (Some id) Yes None life = made id
-    by (Some id) Yes (Some (Use usage)) life = made id
-    by (Some id) Yes (Some (Stop node target)) life = made id
-    by (Some id) Maybe (Some Delete) life =
+    by : (goal : Option Goal) (id : Option ℕ) (exists : Known) → IsStanding goal id exists → IsTold rest (still name arguments id exists [])
+    by None None Maybe standing = wanted
+    by (Some Create) None Maybe standing = wanted
+    by None (Some id) Yes standing = made id
+    by (Some (Use usage)) (Some id) Yes standing = made id
+    by (Some (Stop node target)) (Some id) Yes standing = made id
+    by (Some Delete) (Some id) Maybe standing =
         tried follows rest name arguments (Some id) Yes Maybe [] [] Controller (calls.DeleteVolume 0) tt (λ there touched undoing. false≢true touched) (exist-marks name arguments (Some id) (Some id) Yes Maybe) (λ view reads there maybe. absurd (maybe refl)) (made id)
-    by (Some id) No None life =
+    by None (Some id) No standing =
         done follows rest name arguments (Some id) Yes No [] [] Controller (calls.DeleteVolume 0) None tt (λ there touched undoing. false≢true touched) (exist-marks name arguments (Some id) (Some id) Yes No) (λ view reads there maybe. absurd (maybe refl)) (made id)
-    by id exists goal life = absurd life
+    by goal id exists standing = absurd standing
 
 -- ---- what is wanted of it
 
@@ -379,12 +372,12 @@ told-new follows rest history name arguments form agrees unknown =
 
 -- the row, whose entries are of different nodes
 pub told-row : ViewFollows → (rest : OrchestratorView) (history : History) (row : RowShown) → IsWellFormed history → Agrees rest history → IsUnknown rest row.name → row.open_call ≡ None → HasTries row.goal row.tries
-    → FitsLife row.node_entries row.id row.exists row.goal → AreNodesApart row.node_entries → IsTold rest row
-told-row follows rest history row form agrees unknown quiet tries life apart =
+    → IsStanding row.goal row.id row.exists → AreNodesApart row.node_entries → AllByRecursion AreTargetsApart row.node_entries → IsTold rest row
+told-row follows rest history row form agrees unknown quiet tries standing apart targets =
     subst (IsTold rest) same
     (told-goal follows rest row.name row.arguments row.id row.exists row.node_entries row.goal row.tries tries
-    (told-entries follows rest row.name row.arguments row.id row.exists row.node_entries apart
-    (told-life follows rest row.name row.arguments row.node_entries row.id row.exists row.goal life (told-new follows rest history row.name row.arguments form agrees unknown))))
+    (told-entries follows rest row.name row.arguments row.id row.exists row.node_entries apart targets
+    (told-life follows rest row.name row.arguments row.goal row.id row.exists standing (told-new follows rest history row.name row.arguments form agrees unknown))))
   where
     same : (let r : RowShown = record { name = row.name; arguments = row.arguments; id = row.id; exists = row.exists; goal = row.goal; open_call = None; tries = row.tries; node_entries = row.node_entries } in r) ≡ row
     same = let none = sym quiet in λ i. record { name = row.name; arguments = row.arguments; id = row.id; exists = row.exists; goal = row.goal; open_call = none i; tries = row.tries; node_entries = row.node_entries }

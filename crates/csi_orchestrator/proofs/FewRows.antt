@@ -9,7 +9,7 @@ use Rattle.csi_orchestrator.specs.declared.row.Goal.TheVariants.{Create, Use, St
 use Rattle.csi_orchestrator.specs.declared.row.Row.{Row}
 use Rattle.csi_orchestrator.specs.Model.Shown.{RowShown, OrchestratorParts}
 use Rattle.csi_orchestrator.specs.Public.Bounds.{HasFewTargets, IsEntryWithin, AreWithin, IsRowFew}
-use Rattle.csi_orchestrator.specs.Public.Restored.{IsEntryFit, IsRestorable, AreRestorable}
+use Rattle.csi_orchestrator.specs.Public.Restored.{IsRestorable, AreRestorable}
 use Rattle.csi_orchestrator.specs.Public.Shown.{node_entry_shown, row_shown}
 use Rattle.csi_orchestrator.specs.Public.Sound.{AreSoundParts}
 use Rattle.csi_orchestrator.specs.Public.Steady.{HasTries, IsSteadyRow, AreSteadyRows}
@@ -29,15 +29,6 @@ few-tries (Some Create) tries some = some.1
 few-tries (Some (Use usage)) tries some = some.1
 few-tries (Some Delete) tries some = some.1
 
--- a row that keeps the rules
-fit-few : (nodes : List (List ℕ)) (row : RowShown) → IsRestorable nodes row → IsShownFew row
-fit-few nodes row kept =
-    record {
-      tries = few-tries row.goal row.tries kept.tries;
-      count = kept.few;
-      targets = each-weaker (IsEntryFit nodes row.arguments) HasFewTargets row.node_entries (λ entry fit. fit.few) (kept.entries).each;
-    }
-
 -- so it is with the row as it is kept
 shown-few : (row : Row) → IsShownFew (row_shown row) → IsRowFew row
 shown-few row few =
@@ -45,13 +36,7 @@ shown-few row few =
     let count = few.count in
     record { tries = few.tries; count = omega (arith, long, count); targets = each-unmapped node_entry_shown HasFewTargets row.node_entries.items few.targets }
 
--- the rows of a record
-pub record-few : (nodes : List (List ℕ)) (rows : List Row) → AreRestorable nodes (map row_shown rows) → AllByRecursion IsRowFew rows
-record-few nodes rows kept =
-    each-weaker (λ (row : Row). IsRestorable nodes (row_shown row)) IsRowFew rows (λ row fit. shown-few row (fit-few nodes (row_shown row) fit))
-    (each-unmapped row_shown (IsRestorable nodes) rows kept.each)
-
--- a row of an orchestrator
+-- a row of one, or of an orchestrator
 steady-few : (nodes : List (List ℕ)) (row : RowShown) → AreWithin nodes row → IsSteadyRow row → IsShownFew row
 steady-few nodes row within steady =
     record {
@@ -59,6 +44,12 @@ steady-few nodes row within steady =
       count = within.few;
       targets = each-weaker (IsEntryWithin nodes) HasFewTargets row.node_entries (λ entry own. own.targets) within.each;
     }
+
+-- the rows of a record
+pub record-few : (nodes : List (List ℕ)) (rows : List Row) → AreRestorable nodes (map row_shown rows) → AllByRecursion IsRowFew rows
+record-few nodes rows kept =
+    each-weaker (λ (row : Row). IsRestorable nodes (row_shown row)) IsRowFew rows (λ row own. shown-few row (steady-few nodes (row_shown row) own.within own.steady))
+    (each-unmapped row_shown (IsRestorable nodes) rows kept.each)
 
 -- each of them
 each-few : (nodes : List (List ℕ)) (rows : List RowShown) → AllByRecursion (AreWithin nodes) rows → AreSteadyRows rows → AllByRecursion IsShownFew rows

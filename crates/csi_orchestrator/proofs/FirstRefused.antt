@@ -3,7 +3,7 @@ use Rattle.std.proofs.Common.{◌≡◌, ◌<◌, ◌≤◌, ◌+◌, ◌-◌, �
 use Rattle.std.specs.Prelude.{◌||◌, nat_lt}
 use Rattle.std.specs.List.{AllByRecursion, list_any}
 use Rattle.std.proofs.lemmas.Bool.{and_from, and_parts, false≢true, true≢false, lt-ltb, ltb-true, or_parts}
-use Rattle.std.proofs.lemmas.List.{length-append, length-map, length-take-le, length_push, map_push, take-append-drop, take-map, take_all, take_more}
+use Rattle.std.proofs.lemmas.List.{length-append, length-map, length-take-le, length_push, map_push, take-append-drop, take-map, take_more}
 use Rattle.std.proofs.lemmas.List.Folds.{list_any-append}
 use Rattle.csi_lists.proofs.Each.{each-append_one}
 use Rattle.csi_lists.proofs.Members.{each_of}
@@ -15,8 +15,7 @@ use Rattle.csi_orchestrator.specs.Public.Judging.{IsFirstRefused}
 use Rattle.csi_orchestrator.specs.Public.Restored.{IsRestorable, AreRestorable}
 use Rattle.csi_orchestrator.specs.Public.Shown.{row_shown}
 use Rattle.csi_orchestrator.specs.Private.Judging.{is_restorable, may_follow}
-use Rattle.csi_orchestrator.proofs.JudgedPlaces.{restorable-from}
-use Rattle.csi_orchestrator.proofs.PassedTests.{from-restorable}
+use Rattle.csi_orchestrator.proofs.JudgedRows.{restorable-from, from-restorable}
 use Rattle.csi_orchestrator.proofs.SplitLists.{any-of_none, each-left, each-right, two-left, two-there}
 
 -- ---- the rules of the first rows
@@ -100,10 +99,6 @@ or-turned true false = refl
 or-turned false true = refl
 or-turned false false = refl
 
--- the walk begins so, before the first row and while no name is had
-pub begins : (nodes : List (List ℕ)) (rows : List Row) (has : List ℕ → Bool) → ((name : List ℕ) → has name ≡ false) → SoFar nodes rows 0 has
-begins nodes rows has none = record { kept = record { few = omega arith; names = tt; each = tt }; names = none }
-
 -- it goes on so after a row that may follow and has a new name, once that name is put in
 pub goes_on : (nodes : List (List ℕ)) (rows : List Row) (place : ℕ) (has now_has : List ℕ → Bool) (row : Row) → SoFar nodes rows place has → place < length rows → row ≡ get_or rows place row
     → may_follow nodes place row ≡ true → has row.name ≡ false → ((name : List ℕ) → now_has name ≡ (same_text row.name name || has name)) → SoFar nodes rows (place + 1) now_has
@@ -144,7 +139,3 @@ pub refused-name : (nodes : List (List ℕ)) (rows : List Row) (place : ℕ) (ha
     → has row.name ≡ true → IsFirstRefused (AreRestorable nodes) (map row_shown rows) (place + 1)
 refused-name nodes rows place has row so inside is there =
     refused-there nodes rows place row so.kept inside is (λ whole. true≢false (sym there ∙ so.names row.name ∙ new-name nodes (so_far rows place) row whole))
-
--- at the end of the rows they are all a record's
-pub ends : (nodes : List (List ℕ)) (rows : List Row) (place : ℕ) (has : List ℕ → Bool) → SoFar nodes rows place has → length rows ≤ place → AreRestorable nodes (map row_shown rows)
-ends nodes rows place has so end = subst (λ (rs : List Row). AreRestorable nodes (map row_shown rs)) (take_all place rows end) so.kept

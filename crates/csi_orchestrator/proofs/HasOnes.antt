@@ -37,11 +37,19 @@ one-change key text change P Q R (x ∷ xs) same turns (inr later) =
     subst (λ b. HasOne key text R Q (cond b (change x ∷ xs) (x ∷ change_by key text change xs))) (sym later.0)
     (inr (later.0, later.1, one-change key text change P Q R xs same (λ y found. turns y (later-found key text x xs later.0 ∙ found)) later.2))
 
--- a fact of it from another, and one of each
+-- what is found is so
+pub one-is : {X : Type 0} (key : X → List ℕ) (text : List ℕ) (P Q : X → Type 0) (xs : List X) → HasOne key text P Q xs → (x : X) → find (λ y. same_text (key y) text) xs ≡ Some x → P x
+one-is key text P Q xs one x found = let there = one-found key text P Q xs one in subst P (same_Some there.0 x (sym there.1 ∙ found)) there.2
+
+-- a fact of it from another, and from its being found
+pub one-with : {X : Type 0} (key : X → List ℕ) (text : List ℕ) (P Q R : X → Type 0) (xs : List X) → ((x : X) → find (λ y. same_text (key y) text) xs ≡ Some x → P x → R x) → HasOne key text P Q xs → HasOne key text R Q xs
+one-with key text P Q R [] f one = absurd one
+one-with key text P Q R (x ∷ xs) f (inl here) = inl (here.0, f x (first-found key text x xs here.0) here.1, here.2)
+one-with key text P Q R (x ∷ xs) f (inr later) = inr (later.0, later.1, one-with key text P Q R xs (λ y found. f y (later-found key text x xs later.0 ∙ found)) later.2)
+
+-- from another alone
 pub one-weaker : {X : Type 0} (key : X → List ℕ) (text : List ℕ) (P Q R : X → Type 0) (xs : List X) → ((x : X) → P x → R x) → HasOne key text P Q xs → HasOne key text R Q xs
-one-weaker key text P Q R [] f one = absurd one
-one-weaker key text P Q R (x ∷ xs) f (inl here) = inl (here.0, f x here.1, here.2)
-one-weaker key text P Q R (x ∷ xs) f (inr later) = inr (later.0, later.1, one-weaker key text P Q R xs f later.2)
+one-weaker key text P Q R xs f one = one-with key text P Q R xs (λ x found. f x) one
 
 -- a fact of each, of it and of the others
 pub one-each : {X : Type 0} (key : X → List ℕ) (text : List ℕ) (P Q R : X → Type 0) (xs : List X) → ((x : X) → find (λ y. same_text (key y) text) xs ≡ Some x → P x → R x) → ((x : X) → Q x → R x)
@@ -52,7 +60,7 @@ one-each key text P Q R (x ∷ xs) f g (inl here) =
 one-each key text P Q R (x ∷ xs) f g (inr later) = (g x later.1, one-each key text P Q R xs (λ y found. f y (later-found key text x xs later.0 ∙ found)) g later.2)
 
 -- those apart from one of a text are of other texts
-others-of : {X : Type 0} (key : X → List ℕ) (text : List ℕ) (Q : X → Type 0) (x : X) (xs : List X) → same_text (key x) text ≡ true → AllByRecursion (λ y. same_text (key x) (key y) ≡ false) xs → AllByRecursion Q xs
+pub others-of : {X : Type 0} (key : X → List ℕ) (text : List ℕ) (Q : X → Type 0) (x : X) (xs : List X) → same_text (key x) text ≡ true → AllByRecursion (λ y. same_text (key x) (key y) ≡ false) xs → AllByRecursion Q xs
     → AllByRecursion (λ y. (same_text (key y) text ≡ false) × Q y) xs
 others-of key text Q x xs e apart all =
     all_of (λ y. (same_text (key y) text ≡ false) × Q y) xs

@@ -1,13 +1,14 @@
--- The tests of a row are passed exactly where it keeps the rules.
-use Rattle.std.proofs.Common.{◌≡◌, ◌≢◌, ℕ, zero, suc, length, map, Bool, true, false, not, List, [], ◌∷◌, refl, sym, ◌∙◌, ap, inl, inr, arith}
+-- The tests of a row's entries and tries are passed exactly where it keeps the rules.
+use Rattle.std.proofs.Common.{◌≡◌, ◌≢◌, ◌≤◌, ℕ, zero, suc, length, map, Bool, true, false, not, List, [], ◌∷◌, refl, sym, ◌∙◌, ap, inl, inr, arith}
 use Rattle.std.specs.Prelude.{◌⊎◌, ◌==◌, Option, Some, None, find, option_map, ◌&&◌, ◌||◌, nat_le}
 use Rattle.std.specs.List.{AllByRecursion, list_all, list_any}
 use Rattle.std.proofs.lemmas.Bool.{and_from, and_parts, or_from, or_parts, eq-eqb, eqb-true, false≢true, le-leb, leb-true, not-true, not_from_false}
 use Rattle.std.proofs.lemmas.Option.{none-some, same_Some}
 use Rattle.csi_lists.specs.Model.Members.{EachTwo}
 use Rattle.csi_lists.proofs.Searches.{find-of_map}
+use Rattle.csi_types.specs.declared.capability.Capability.{Capability}
 use Rattle.csi_types.specs.Model.Same.{same_text, has_capability}
-use Rattle.csi_types.specs.Model.Sharing.{is_single_node, are_two_writers, allows_one_target}
+use Rattle.csi_types.specs.Model.Sharing.{is_single_node, is_single_writer, writes, are_two_writers, allows_one_target}
 use Rattle.csi_orchestrator.specs.declared.row.Goal.{Goal}
 use Rattle.csi_orchestrator.specs.declared.row.Goal.TheVariants.{Create, Use, Stop, Delete}
 use Rattle.csi_orchestrator.specs.declared.row.TargetEntry.{TargetEntry}
@@ -17,10 +18,11 @@ use Rattle.csi_orchestrator.specs.declared.thing.Known.{Known}
 use Rattle.csi_orchestrator.specs.declared.thing.Known.TheVariants.{Yes, No, Maybe}
 use Rattle.csi_orchestrator.specs.Model.Shown.{NodeEntryShown}
 use Rattle.csi_orchestrator.specs.Model.Thing.{is_yes, is_no}
-use Rattle.csi_orchestrator.specs.Public.Shown.{node_entry_shown}
-use Rattle.csi_orchestrator.specs.Public.Restored.{AreHeldTogether, IsEntryFit, AreEntriesFit, IsPublished, IsSettled, IsResting}
-use Rattle.csi_orchestrator.specs.Public.Steady.{HasTries, IsUntried, IsLeft}
+use Rattle.csi_orchestrator.specs.Public.Bounds.{IsEntryWithin}
+use Rattle.csi_orchestrator.specs.Public.Shown.{AreTargetsApart, AreNodesApart, node_entry_shown}
+use Rattle.csi_orchestrator.specs.Public.Steady.{HasTries, IsUntried, IsInUse, IsLeft, IsAtRest, IsAllowed, CanBeBeside}
 use Rattle.csi_orchestrator.specs.Private.Judging.{is_published, is_settled, is_left, is_resting, is_other_target, are_targets_apart, is_entry_fit, are_beside, are_entries_fit, has_tries, is_untargeted, is_tried}
+use Rattle.csi_orchestrator.proofs.KnownTests.{yes_is_yes, no_is_no}
 
 -- ---- tests
 
@@ -37,12 +39,6 @@ from-implied false b f = refl
 -- in the other order
 or-flip : (a b : Bool) → (a || b) ≡ false → (b || a) ≡ false
 or-flip a b h = let parts = or_parts a b h in or_from b a parts.1 parts.0
-
--- what is known as `Yes`
-pub yes-from : (known : Known) → is_yes known ≡ true → known ≡ Yes
-yes-from Yes e = refl
-yes-from No e = absurd (false≢true e)
-yes-from Maybe e = absurd (false≢true e)
 
 -- what is so of each that passes is so of all, where all pass; and back
 pub all-from : {X : Type 0} (p : X → Bool) (P : X → Type 0) (xs : List X) → ((x : X) → p x ≡ true → P x) → list_all p xs ≡ true → AllByRecursion P xs
@@ -62,30 +58,35 @@ pub shown-all : {R X : Type 0} (view : R → X) (p : R → Bool) (P : X → Type
 shown-all view p P [] f all = refl
 shown-all view p P (r ∷ rs) f all = and_from (p r) (list_all p rs) (f r all.0) (shown-all view p P rs f all.1)
 
--- ---- an entry that is settled
+-- ---- an entry in use
+
+-- a list that isn't empty has one at least
+pub has-some : {X : Type 0} (xs : List X) → xs ≢ [] → 1 ≤ length xs
+has-some [] some = absurd (some refl)
+has-some (x ∷ xs) some = omega arith
 
 -- by the tests
-pub settled-from : (entry : NodeEntry) → is_settled entry ≡ true → IsSettled (node_entry_shown entry)
+settled-from : (entry : NodeEntry) → is_settled entry ≡ true → IsInUse (node_entry_shown entry)
 settled-from entry h =
     let targets = entry.target_entries.items in
     let first = and_parts (is_yes entry.attached) (is_yes entry.staged && (nat_le 1 (length targets) && list_all is_published targets)) h in
     let second = and_parts (is_yes entry.staged) (nat_le 1 (length targets) && list_all is_published targets) first.1 in
     let third = and_parts (nat_le 1 (length targets)) (list_all is_published targets) second.1 in
     record {
-      attached = yes-from entry.attached first.0;
-      staged = yes-from entry.staged second.0;
-      published = all-from is_published IsPublished targets (λ target_entry e. yes-from target_entry.published e) third.1;
-      some = leb-true 1 (length targets) third.0;
+      attached = yes_is_yes entry.attached first.0;
+      staged = yes_is_yes entry.staged second.0;
+      published = all-from is_published (λ (t : TargetEntry). t.published ≡ Yes) targets (λ t e. yes_is_yes t.published e) third.1;
+      some = λ none. let some = leb-true 1 (length targets) third.0 in let long : length targets ≡ 0 = ap length none in omega (arith, some, long);
     }
 
 -- and back
-pub from-settled : (entry : NodeEntry) → IsSettled (node_entry_shown entry) → is_settled entry ≡ true
-from-settled entry settled =
+from-settled : (entry : NodeEntry) → IsInUse (node_entry_shown entry) → is_settled entry ≡ true
+from-settled entry used =
     let targets = entry.target_entries.items in
-    and_from (is_yes entry.attached) (is_yes entry.staged && (nat_le 1 (length targets) && list_all is_published targets)) (ap is_yes settled.attached)
-    (and_from (is_yes entry.staged) (nat_le 1 (length targets) && list_all is_published targets) (ap is_yes settled.staged)
-    (and_from (nat_le 1 (length targets)) (list_all is_published targets) (le-leb 1 (length targets) settled.some)
-    (from-all is_published IsPublished targets (λ target_entry e. ap is_yes e) settled.published)))
+    and_from (is_yes entry.attached) (is_yes entry.staged && (nat_le 1 (length targets) && list_all is_published targets)) (ap is_yes used.attached)
+    (and_from (is_yes entry.staged) (nat_le 1 (length targets) && list_all is_published targets) (ap is_yes used.staged)
+    (and_from (nat_le 1 (length targets)) (list_all is_published targets) (le-leb 1 (length targets) (has-some targets used.some))
+    (from-all is_published (λ (t : TargetEntry). t.published ≡ Yes) targets (λ t e. ap is_yes e) used.published)))
 
 -- ---- an entry of a node that was lost
 
@@ -99,12 +100,6 @@ from-not_no Yes other = refl
 from-not_no No other = absurd (other refl)
 from-not_no Maybe other = refl
 
--- what is known as `No`
-no-from : (known : Known) → is_no known ≡ true → known ≡ No
-no-from Yes e = absurd (false≢true e)
-no-from No e = refl
-no-from Maybe e = absurd (false≢true e)
-
 -- a list of no length is empty
 pub empty-from : {X : Type 0} (xs : List X) → (length xs == 0) ≡ true → xs ≡ []
 empty-from [] h = refl
@@ -116,7 +111,7 @@ left-from entry h =
     let none = length entry.target_entries.items == 0 in
     let first = and_parts (not (is_no entry.attached)) (is_no entry.staged && none) h in
     let second = and_parts (is_no entry.staged) none first.1 in
-    record { attached = not_no-from entry.attached first.0; staged = no-from entry.staged second.0; targets = empty-from entry.target_entries.items second.1 }
+    record { attached = not_no-from entry.attached first.0; staged = no_is_no entry.staged second.0; targets = empty-from entry.target_entries.items second.1 }
 
 -- and back
 pub from-left : (entry : NodeEntry) → IsLeft (node_entry_shown entry) → is_left entry ≡ true
@@ -139,16 +134,16 @@ pub second-passes : (a b : Bool) → b ≡ true → (a || b) ≡ true
 second-passes true b e = refl
 second-passes false b e = e
 
--- nothing is on the way
-pub resting-from : (entry : NodeEntry) → is_resting entry ≡ true → IsResting (node_entry_shown entry)
+-- no goal is at work there
+pub resting-from : (entry : NodeEntry) → is_resting entry ≡ true → IsAtRest (node_entry_shown entry)
 resting-from entry h = by (either-from (is_settled entry) (is_left entry) h)
   where
-    by : (is_settled entry ≡ true) ⊎ (is_left entry ≡ true) → IsResting (node_entry_shown entry)
+    by : (is_settled entry ≡ true) ⊎ (is_left entry ≡ true) → IsAtRest (node_entry_shown entry)
     by (inl settled) = inl (settled-from entry settled)
     by (inr left) = inr (left-from entry left)
 
 -- and back
-pub from-resting : (entry : NodeEntry) → IsResting (node_entry_shown entry) → is_resting entry ≡ true
+pub from-resting : (entry : NodeEntry) → IsAtRest (node_entry_shown entry) → is_resting entry ≡ true
 from-resting entry (inl settled) = first-passes (is_settled entry) (is_left entry) (from-settled entry settled)
 from-resting entry (inr left) = second-passes (is_settled entry) (is_left entry) (from-left entry left)
 
@@ -186,8 +181,14 @@ from-targets (t ∷ later) two =
     and_from (list_all (is_other_target t) later) (are_targets_apart later)
     (from-all (is_other_target t) (λ (b : TargetEntry). same_text t.target b.target ≡ false) later (λ b e. not_from_false (same_text t.target b.target) e) two.0) (from-targets later two.1)
 
+-- an entry, as it is shown, is of these nodes, apart, and as the volume's arguments allow
+record IsFit (nodes : List (List ℕ)) (capabilities : List Capability) (entry : NodeEntryShown) : Type 0 where
+  pub within : IsEntryWithin nodes entry
+  pub apart : AreTargetsApart entry
+  pub allowed : IsAllowed capabilities entry
+
 -- by the tests
-fit-from : (nodes : List (List ℕ)) (arguments : Arguments) (entry : NodeEntry) → is_entry_fit nodes arguments entry ≡ true → IsEntryFit nodes arguments (node_entry_shown entry)
+fit-from : (nodes : List (List ℕ)) (arguments : Arguments) (entry : NodeEntry) → is_entry_fit nodes arguments entry ≡ true → IsFit nodes arguments.capabilities (node_entry_shown entry)
 fit-from nodes arguments entry h =
     let targets = entry.target_entries.items in
     let one = not (allows_one_target entry.capability.mode) || nat_le (length targets) 1 in
@@ -198,28 +199,45 @@ fit-from nodes arguments entry h =
     let third = and_parts listed (capable && are_targets_apart targets) second.1 in
     let fourth = and_parts capable (are_targets_apart targets) third.1 in
     record {
-      among = among-from nodes entry third.0;
-      capable = fourth.0;
-      few = leb-true (length targets) 16 first.0;
+      within = record { among = among-from nodes entry third.0; targets = leb-true (length targets) 16 first.0 };
       apart = targets-from targets fourth.1;
-      one = λ e. leb-true (length targets) 1 (implied-from (allows_one_target entry.capability.mode) (nat_le (length targets) 1) second.0 e);
+      allowed = record { capable = fourth.0; one_target = λ e. leb-true (length targets) 1 (implied-from (allows_one_target entry.capability.mode) (nat_le (length targets) 1) second.0 e) };
     }
 
 -- and back
-from-fit : (nodes : List (List ℕ)) (arguments : Arguments) (entry : NodeEntry) → IsEntryFit nodes arguments (node_entry_shown entry) → is_entry_fit nodes arguments entry ≡ true
-from-fit nodes arguments entry fit =
+from-fit : (nodes : List (List ℕ)) (arguments : Arguments) (entry : NodeEntry) → IsEntryWithin nodes (node_entry_shown entry) → AreTargetsApart (node_entry_shown entry) → IsAllowed arguments.capabilities (node_entry_shown entry)
+    → is_entry_fit nodes arguments entry ≡ true
+from-fit nodes arguments entry within apart allowed =
     let targets = entry.target_entries.items in
     let one = not (allows_one_target entry.capability.mode) || nat_le (length targets) 1 in
     let listed = list_any (same_text entry.node) nodes || (length entry.target_entries.items == 0) in
     let capable = has_capability arguments.capabilities entry.capability in
-    and_from (nat_le (length targets) 16) (one && (listed && (capable && are_targets_apart targets))) (le-leb (length targets) 16 fit.few)
-    (and_from one (listed && (capable && are_targets_apart targets)) (from-implied (allows_one_target entry.capability.mode) (nat_le (length targets) 1) (λ e. le-leb (length targets) 1 (fit.one e)))
-    (and_from listed (capable && are_targets_apart targets) (from-among nodes entry fit.among) (and_from capable (are_targets_apart targets) fit.capable (from-targets targets fit.apart))))
+    and_from (nat_le (length targets) 16) (one && (listed && (capable && are_targets_apart targets))) (le-leb (length targets) 16 within.targets)
+    (and_from one (listed && (capable && are_targets_apart targets)) (from-implied (allows_one_target entry.capability.mode) (nat_le (length targets) 1) (λ e. le-leb (length targets) 1 (allowed.one_target e)))
+    (and_from listed (capable && are_targets_apart targets) (from-among nodes entry within.among) (and_from capable (are_targets_apart targets) allowed.capable (from-targets targets apart))))
 
 -- ---- two entries
 
+-- whether there are two writers doesn't hang on their order
+writers-flip : (a b c d : Bool) → (a && b && (c || d)) ≡ false → (b && a && (d || c)) ≡ false
+writers-flip true true true true e = absurd (false≢true (sym e))
+writers-flip true true true false e = absurd (false≢true (sym e))
+writers-flip true true false true e = absurd (false≢true (sym e))
+writers-flip true true false false e = refl
+writers-flip false true c d e = refl
+writers-flip true false c d e = refl
+writers-flip false false c d e = refl
+
+-- nor does whether they can be beside one another
+pub beside-flip : (a b : NodeEntryShown) → CanBeBeside a b → CanBeBeside b a
+beside-flip a b can =
+    record {
+      several = or-flip (is_single_node a.capability.mode) (is_single_node b.capability.mode) can.several;
+      one_writer = writers-flip (writes a.capability.mode a.readonly) (writes b.capability.mode b.readonly) (is_single_writer a.capability.mode) (is_single_writer b.capability.mode) can.one_writer;
+    }
+
 -- by the tests
-beside-from : (a b : NodeEntry) → are_beside a b ≡ true → (same_text a.node b.node ≡ false) × AreHeldTogether (node_entry_shown a) (node_entry_shown b)
+beside-from : (a b : NodeEntry) → are_beside a b ≡ true → (same_text a.node b.node ≡ false) × CanBeBeside (node_entry_shown a) (node_entry_shown b)
 beside-from a b h =
     let single = is_single_node a.capability.mode || is_single_node b.capability.mode in
     let then = are_two_writers a.capability.mode a.readonly b.capability.mode b.readonly in
@@ -227,52 +245,57 @@ beside-from a b h =
     let first = and_parts (not (same_text a.node b.node)) (not single && (not then && not before)) h in
     let second = and_parts (not single) (not then && not before) first.1 in
     let third = and_parts (not then) (not before) second.1 in
-    let several = not-true single second.0 in (
-      not-true (same_text a.node b.node) first.0,
-      record {
-        then = record { one_node = several; one_writer = not-true then third.0 };
-        before = record { one_node = or-flip (is_single_node a.capability.mode) (is_single_node b.capability.mode) several; one_writer = not-true before third.1 };
-      },
-    )
+    (not-true (same_text a.node b.node) first.0, record { several = not-true single second.0; one_writer = not-true then third.0 })
 
 -- and back
-from-beside : (a b : NodeEntry) → same_text a.node b.node ≡ false → AreHeldTogether (node_entry_shown a) (node_entry_shown b) → are_beside a b ≡ true
-from-beside a b apart held =
+from-beside : (a b : NodeEntry) → same_text a.node b.node ≡ false → CanBeBeside (node_entry_shown a) (node_entry_shown b) → are_beside a b ≡ true
+from-beside a b apart can =
     let single = is_single_node a.capability.mode || is_single_node b.capability.mode in
     let then = are_two_writers a.capability.mode a.readonly b.capability.mode b.readonly in
     let before = are_two_writers b.capability.mode b.readonly a.capability.mode a.readonly in
     and_from (not (same_text a.node b.node)) (not single && (not then && not before)) (not_from_false (same_text a.node b.node) apart)
-    (and_from (not single) (not then && not before) (not_from_false single (held.then).one_node)
-    (and_from (not then) (not before) (not_from_false then (held.then).one_writer) (not_from_false before (held.before).one_writer)))
+    (and_from (not single) (not then && not before) (not_from_false single can.several)
+    (and_from (not then) (not before) (not_from_false then can.one_writer) (not_from_false before (beside-flip (node_entry_shown a) (node_entry_shown b) can).one_writer)))
 
 -- one beside all of a list
-from-each_beside : (a : NodeEntry) (later : List NodeEntry) → AllByRecursion (λ (b : NodeEntryShown). same_text a.node b.node ≡ false) (map node_entry_shown later) → AllByRecursion (AreHeldTogether (node_entry_shown a)) (map node_entry_shown later)
+from-each_beside : (a : NodeEntry) (later : List NodeEntry) → AllByRecursion (λ (b : NodeEntryShown). same_text a.node b.node ≡ false) (map node_entry_shown later) → AllByRecursion (CanBeBeside (node_entry_shown a)) (map node_entry_shown later)
     → list_all (are_beside a) later ≡ true
-from-each_beside a [] apart held = refl
-from-each_beside a (b ∷ later) apart held = and_from (are_beside a b) (list_all (are_beside a) later) (from-beside a b apart.0 held.0) (from-each_beside a later apart.1 held.1)
+from-each_beside a [] apart can = refl
+from-each_beside a (b ∷ later) apart can = and_from (are_beside a b) (list_all (are_beside a) later) (from-beside a b apart.0 can.0) (from-each_beside a later apart.1 can.1)
 
 -- ---- all entries
 
+-- what the tests say of them, as they are shown
+pub record AreEntriesFit (nodes : List (List ℕ)) (capabilities : List Capability) (entries : List NodeEntryShown) : Type 0 where
+  pub within : AllByRecursion (IsEntryWithin nodes) entries
+  pub targets : AllByRecursion AreTargetsApart entries
+  pub allowed : AllByRecursion (IsAllowed capabilities) entries
+  pub apart : AreNodesApart entries
+  pub beside : EachTwo CanBeBeside entries
+
 -- by the tests
-pub entries-from : (nodes : List (List ℕ)) (arguments : Arguments) (entries : List NodeEntry) → are_entries_fit nodes arguments entries ≡ true → AreEntriesFit nodes arguments (map node_entry_shown entries)
-entries-from nodes arguments [] h = record { each = tt; apart = tt; together = tt }
+pub entries-from : (nodes : List (List ℕ)) (arguments : Arguments) (entries : List NodeEntry) → are_entries_fit nodes arguments entries ≡ true → AreEntriesFit nodes arguments.capabilities (map node_entry_shown entries)
+entries-from nodes arguments [] h = record { within = tt; targets = tt; allowed = tt; apart = tt; beside = tt }
 entries-from nodes arguments (entry ∷ later) h =
     let first = and_parts (is_entry_fit nodes arguments entry) (list_all (are_beside entry) later && are_entries_fit nodes arguments later) h in
     let second = and_parts (list_all (are_beside entry) later) (are_entries_fit nodes arguments later) first.1 in
+    let own = fit-from nodes arguments entry first.0 in
     let rest = entries-from nodes arguments later second.1 in
     record {
-      each = (fit-from nodes arguments entry first.0, rest.each);
+      within = (own.within, rest.within);
+      targets = (own.apart, rest.targets);
+      allowed = (own.allowed, rest.allowed);
       apart = (all-shown node_entry_shown (are_beside entry) (λ (b : NodeEntryShown). same_text entry.node b.node ≡ false) later (λ b e. (beside-from entry b e).0) second.0, rest.apart);
-      together = (all-shown node_entry_shown (are_beside entry) (AreHeldTogether (node_entry_shown entry)) later (λ b e. (beside-from entry b e).1) second.0, rest.together);
+      beside = (all-shown node_entry_shown (are_beside entry) (CanBeBeside (node_entry_shown entry)) later (λ b e. (beside-from entry b e).1) second.0, rest.beside);
     }
 
 -- and back
-pub from-entries : (nodes : List (List ℕ)) (arguments : Arguments) (entries : List NodeEntry) → AreEntriesFit nodes arguments (map node_entry_shown entries) → are_entries_fit nodes arguments entries ≡ true
+pub from-entries : (nodes : List (List ℕ)) (arguments : Arguments) (entries : List NodeEntry) → AreEntriesFit nodes arguments.capabilities (map node_entry_shown entries) → are_entries_fit nodes arguments entries ≡ true
 from-entries nodes arguments [] fit = refl
 from-entries nodes arguments (entry ∷ later) fit =
-    and_from (is_entry_fit nodes arguments entry) (list_all (are_beside entry) later && are_entries_fit nodes arguments later) (from-fit nodes arguments entry (fit.each).0)
-    (and_from (list_all (are_beside entry) later) (are_entries_fit nodes arguments later) (from-each_beside entry later (fit.apart).0 (fit.together).0)
-    (from-entries nodes arguments later (record { each = (fit.each).1; apart = (fit.apart).1; together = (fit.together).1 })))
+    and_from (is_entry_fit nodes arguments entry) (list_all (are_beside entry) later && are_entries_fit nodes arguments later) (from-fit nodes arguments entry (fit.within).0 (fit.targets).0 (fit.allowed).0)
+    (and_from (list_all (are_beside entry) later) (are_entries_fit nodes arguments later) (from-each_beside entry later (fit.apart).0 (fit.beside).0)
+    (from-entries nodes arguments later (record { within = (fit.within).1; targets = (fit.targets).1; allowed = (fit.allowed).1; apart = (fit.apart).1; beside = (fit.beside).1 })))
 
 -- ---- tries
 

@@ -32,106 +32,57 @@ work-way Yes Maybe No w = tt
 work-way Yes Yes Maybe w = tt
 work-way a s p w = absurd w
 
--- an attachment is sent, and succeeds
-pub attach-sent : (a s p : Known) → is_yes a ≡ false → IsOnWay a s p → IsAtWork Maybe s p
-attach-sent No No No e w = tt
-attach-sent Maybe No No e w = tt
-attach-sent Yes s p e w = absurd (false≢true (sym e))
-attach-sent a s p e w = absurd w
+-- an attachment is at work once it is sent, and on the way once it succeeded
+pub attach-goes : (a s p : Known) → is_yes a ≡ false → IsOnWay a s p → IsAtWork Maybe s p × IsOnWay Yes s p
+attach-goes No No No e w = (tt, tt)
+attach-goes Maybe No No e w = (tt, tt)
+attach-goes Yes s p e w = absurd (false≢true (sym e))
+attach-goes a s p e w = absurd w
 
--- an attachment succeeds
-pub attach-done : (a s p : Known) → is_yes a ≡ false → IsOnWay a s p → IsOnWay Yes s p
-attach-done No No No e w = tt
-attach-done Maybe No No e w = tt
-attach-done Yes s p e w = absurd (false≢true (sym e))
-attach-done a s p e w = absurd w
+-- so is a staging
+pub stage-goes : (a s p : Known) → is_yes a ≡ true → is_yes s ≡ false → IsOnWay a s p → IsAtWork a Maybe p × IsOnWay a Yes p
+stage-goes Yes Yes p e f w = absurd (false≢true (sym f))
+stage-goes Yes Maybe No e f w = (tt, tt)
+stage-goes Yes No No e f w = (tt, tt)
+stage-goes Maybe s p e f w = absurd (false≢true e)
+stage-goes No s p e f w = absurd (false≢true e)
+stage-goes a s p e f w = absurd w
 
--- a staging is sent, and succeeds
-pub stage-sent : (a s p : Known) → is_yes a ≡ true → is_yes s ≡ false → IsOnWay a s p → IsAtWork a Maybe p
-stage-sent Yes Yes p e f w = absurd (false≢true (sym f))
-stage-sent Yes Maybe No e f w = tt
-stage-sent Yes No No e f w = tt
-stage-sent Maybe s p e f w = absurd (false≢true e)
-stage-sent No s p e f w = absurd (false≢true e)
-stage-sent a s p e f w = absurd w
+-- a publication
+pub publish-goes : (a s : Known) → is_yes a ≡ true → is_yes s ≡ true → IsAtWork a s Maybe × IsOnWay a s Yes
+publish-goes Yes Yes e f = (tt, tt)
+publish-goes Yes Maybe e f = absurd (false≢true f)
+publish-goes Yes No e f = absurd (false≢true f)
+publish-goes Maybe s e f = absurd (false≢true e)
+publish-goes No s e f = absurd (false≢true e)
 
--- a staging succeeds
-pub stage-done : (a s p : Known) → is_yes a ≡ true → IsOnWay a s p → IsOnWay a Yes p
-stage-done Yes s p e w = tt
-stage-done Maybe s p e w = absurd (false≢true e)
-stage-done No s p e w = absurd (false≢true e)
+-- its end
+pub unpublish-goes : (a s p : Known) → is_no p ≡ false → IsOnWay a s p → IsAtWork a s Maybe × IsOnWay a s No
+unpublish-goes Yes Yes Yes e w = (tt, tt)
+unpublish-goes Yes Yes Maybe e w = (tt, tt)
+unpublish-goes Yes Yes No e w = absurd (false≢true (sym e))
+unpublish-goes Yes Maybe No e w = absurd (false≢true (sym e))
+unpublish-goes Yes No No e w = absurd (false≢true (sym e))
+unpublish-goes Maybe No No e w = absurd (false≢true (sym e))
+unpublish-goes No No No e w = absurd (false≢true (sym e))
+unpublish-goes a s p e w = absurd w
 
--- a publication is sent, and succeeds
-pub publish-sent : (a s : Known) → is_yes a ≡ true → is_yes s ≡ true → IsAtWork a s Maybe
-publish-sent Yes Yes e f = tt
-publish-sent Yes Maybe e f = absurd (false≢true f)
-publish-sent Yes No e f = absurd (false≢true f)
-publish-sent Maybe s e f = absurd (false≢true e)
-publish-sent No s e f = absurd (false≢true e)
+-- the end of a staging
+pub unstage-goes : (a s p : Known) → is_no p ≡ true → is_no s ≡ false → IsOnWay a s p → IsAtWork a Maybe p × IsOnWay a No p
+unstage-goes a No p e f w = absurd (false≢true (sym f))
+unstage-goes Yes Yes No e f w = (tt, tt)
+unstage-goes Yes Maybe No e f w = (tt, tt)
+unstage-goes Yes Yes Yes e f w = absurd (false≢true e)
+unstage-goes Yes Yes Maybe e f w = absurd (false≢true e)
+unstage-goes a s p e f w = absurd w
 
--- a publication succeeds
-pub publish-done : (a s p : Known) → is_yes a ≡ true → is_yes s ≡ true → IsOnWay a s p
-publish-done Yes Yes p e f = tt
-publish-done Yes Maybe p e f = absurd (false≢true f)
-publish-done Yes No p e f = absurd (false≢true f)
-publish-done Maybe s p e f = absurd (false≢true e)
-publish-done No s p e f = absurd (false≢true e)
-
--- the end of a publication is sent, and succeeds
-pub unpublish-sent : (a s p : Known) → is_no p ≡ false → IsOnWay a s p → IsAtWork a s Maybe
-unpublish-sent Yes Yes Yes e w = tt
-unpublish-sent Yes Yes Maybe e w = tt
-unpublish-sent Yes Yes No e w = absurd (false≢true (sym e))
-unpublish-sent Yes Maybe No e w = absurd (false≢true (sym e))
-unpublish-sent Yes No No e w = absurd (false≢true (sym e))
-unpublish-sent Maybe No No e w = absurd (false≢true (sym e))
-unpublish-sent No No No e w = absurd (false≢true (sym e))
-unpublish-sent a s p e w = absurd w
-
--- the end of a publication succeeds
-pub unpublish-done : (a s p : Known) → is_no p ≡ false → IsOnWay a s p → IsOnWay a s No
-unpublish-done Yes Yes Yes e w = tt
-unpublish-done Yes Yes Maybe e w = tt
-unpublish-done Yes Yes No e w = absurd (false≢true (sym e))
-unpublish-done Yes Maybe No e w = absurd (false≢true (sym e))
-unpublish-done Yes No No e w = absurd (false≢true (sym e))
-unpublish-done Maybe No No e w = absurd (false≢true (sym e))
-unpublish-done No No No e w = absurd (false≢true (sym e))
-unpublish-done a s p e w = absurd w
-
--- the end of a staging is sent, and succeeds
-pub unstage-sent : (a s p : Known) → is_no p ≡ true → is_no s ≡ false → IsOnWay a s p → IsAtWork a Maybe p
-unstage-sent a No p e f w = absurd (false≢true (sym f))
-unstage-sent Yes Yes No e f w = tt
-unstage-sent Yes Maybe No e f w = tt
-unstage-sent Yes Yes Yes e f w = absurd (false≢true e)
-unstage-sent Yes Yes Maybe e f w = absurd (false≢true e)
-unstage-sent a s p e f w = absurd w
-
--- the end of a staging succeeds
-pub unstage-done : (a s p : Known) → is_no p ≡ true → is_no s ≡ false → IsOnWay a s p → IsOnWay a No p
-unstage-done a No p e f w = absurd (false≢true (sym f))
-unstage-done Yes Yes No e f w = tt
-unstage-done Yes Maybe No e f w = tt
-unstage-done Yes Yes Yes e f w = absurd (false≢true e)
-unstage-done Yes Yes Maybe e f w = absurd (false≢true e)
-unstage-done a s p e f w = absurd w
-
--- the end of an attachment is sent, and succeeds
-pub detach-sent : (s p : Known) → is_no p ≡ true → is_no s ≡ true → IsAtWork Maybe s p
-detach-sent No No e f = tt
-detach-sent No Yes e f = absurd (false≢true e)
-detach-sent No Maybe e f = absurd (false≢true e)
-detach-sent Yes p e f = absurd (false≢true f)
-detach-sent Maybe p e f = absurd (false≢true f)
-
--- the end of an attachment succeeds
-pub detach-done : (s p : Known) → is_no p ≡ true → is_no s ≡ true → IsOnWay No s p
-detach-done No No e f = tt
-detach-done No Yes e f = absurd (false≢true e)
-detach-done No Maybe e f = absurd (false≢true e)
-detach-done Yes p e f = absurd (false≢true f)
-detach-done Maybe p e f = absurd (false≢true f)
+-- the end of an attachment
+pub detach-goes : (s p : Known) → is_no p ≡ true → is_no s ≡ true → IsAtWork Maybe s p × IsOnWay No s p
+detach-goes No No e f = (tt, tt)
+detach-goes No Yes e f = absurd (false≢true e)
+detach-goes No Maybe e f = absurd (false≢true e)
+detach-goes Yes p e f = absurd (false≢true f)
+detach-goes Maybe p e f = absurd (false≢true f)
 
 -- ---- targets
 

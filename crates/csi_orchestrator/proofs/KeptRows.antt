@@ -1,46 +1,34 @@
 -- Why the rows of an orchestrator keep their rules.
-use Rattle.std.proofs.Common.{◌≡◌, ℕ, List, Bool, true, false, cond, refl, subst, inl, inr}
-use Rattle.std.specs.Prelude.{◌⊎◌, find, is_some, not, ◌&&◌, Option, Some, None, Result, Ok, Err}
+use Rattle.std.proofs.Common.{◌≡◌, ℕ, List, Bool, true, false, cond, refl, sym, subst, inl, inr}
+use Rattle.std.specs.Prelude.{◌⊎◌, is_some, not, ◌&&◌, Option, Some, None, Result, Ok, Err}
 use Rattle.csi_types.specs.declared.call.Kind.{Kind}
-use Rattle.csi_types.specs.declared.call.Party.{Party}
-use Rattle.csi_types.specs.declared.frame.Body.{Body}
-use Rattle.csi_types.specs.declared.frame.Body.TheVariants as bodies
-use Rattle.csi_types.specs.declared.number.Number.{Number}
 use Rattle.csi_types.specs.declared.reply.Reply.{Reply}
-use Rattle.csi_types.specs.Model.Frame.{Frame}
 use Rattle.csi_types.specs.Model.Reply.{is_ok_status}
-use Rattle.csi_types.specs.Model.Same.{same_text}
 use Rattle.csi_types.specs.Public.Frame.{IsAllowed}
 use Rattle.csi_types.specs.Public.Reply.{is_create, has_id_by_rule}
 use Rattle.std.proofs.lemmas.Bool.{false≢true}
 use Rattle.csi_lists.proofs.Each.{each-map, each-filter, each-weaker}
-use Rattle.csi_lists.proofs.Members.{each_of, among-find}
-use Rattle.csi_lists.proofs.Searches.{find-passes}
+use Rattle.csi_lists.proofs.Members.{each_of}
 use Rattle.csi_orchestrator.specs.declared.fault.OrchFault.{OrchFault}
 use Rattle.csi_orchestrator.specs.declared.step.Step.{Step}
 use Rattle.csi_orchestrator.specs.declared.step.Step.TheVariants as steps
-use Rattle.csi_orchestrator.specs.Model.History.{Arguments}
-use Rattle.csi_orchestrator.specs.Model.Moves.{Input, ToCreate, ToUse, ToStop, ToDelete, TimesOut, Comes, Restarts, Loses, Answer, Sends, Restarted, GivenUp, hears}
-use Rattle.csi_orchestrator.specs.Model.Shown.{RowShown, OrchestratorParts, row_of, open_in_row}
-use Rattle.csi_orchestrator.specs.Private.Hearing.{IsDueSuccess}
+use Rattle.csi_orchestrator.specs.Model.Moves.{Input, ToCreate, ToUse, ToStop, ToDelete, TimesOut, Comes, Restarts, Loses}
+use Rattle.csi_orchestrator.specs.Model.Shown.{RowShown, OrchestratorParts}
 use Rattle.csi_orchestrator.specs.Public.Shown.{closed}
-use Rattle.csi_orchestrator.specs.Public.Beginning.{is_row_forgotten, remembered, restart_refusal, restarted_parts, loss_refusal, row_at_loss, parts_at_loss}
+use Rattle.csi_orchestrator.specs.Public.Beginning.{is_row_forgotten, remembered, row_at_loss}
 use Rattle.csi_orchestrator.specs.declared.row.Goal.{Goal}
 use Rattle.csi_orchestrator.specs.declared.row.Goal.TheVariants.{Create, Use, Stop, Delete}
 use Rattle.csi_orchestrator.specs.declared.thing.Known.{Known}
 use Rattle.csi_orchestrator.specs.declared.thing.Known.TheVariants.{Yes, No, Maybe}
 use Rattle.csi_orchestrator.proofs.KeptLosses.{lost-kept}
-use Rattle.csi_orchestrator.specs.Private.RowRefusals.{first_fault}
-use Rattle.csi_orchestrator.specs.Private.RowSteps.{MovedRow, row_step}
 use Rattle.csi_orchestrator.specs.Public.Steady.{IsStandingIf, IsStanding, IsSteadyRowIf, IsSteadyRow, AreSteadyRowsIf, AreSteadyRows}
 use Rattle.csi_orchestrator.specs.Public.RowMoves.{MovedRows, moved_rows}
-use Rattle.csi_orchestrator.specs.Private.RowMoves.{all_rows_moved, steps_at, creates, is_issued_as, row_replied, step_heard, hears_reply, receives, moved_unless, starts_again, gives_up, row_moves}
+use Rattle.csi_orchestrator.specs.Private.RowMoves.{step_heard, row_moves}
 use Rattle.csi_orchestrator.specs.Public.Sound.{IsSoundRow, AreSoundRows}
 use Rattle.csi_orchestrator.proofs.EntryRules.{each-put}
-use Rattle.csi_orchestrator.proofs.KeptSteps.{closed-kept, unless-kept, step-kept}
+use Rattle.csi_orchestrator.proofs.KeptSteps.{closed-kept, step-kept}
 use Rattle.csi_orchestrator.proofs.KeptGoals.{BringsId, KeptAfter, new-kept}
-use Rattle.csi_orchestrator.proofs.RulesStay.{found-kept}
-use Rattle.csi_orchestrator.proofs.StepsSound.{heard-fits}
+use Rattle.csi_orchestrator.proofs.RowsMoved.{IsAsked, IsStepOf, IsRowMove, IsRefused, IsIgnored, TakesStep, PutsIn, StartsAgain, GivesUp, row-moved}
 
 -- a frame that comes has parts that go together
 abbrev pub IsFitInput : Input → Type 0
@@ -56,32 +44,6 @@ IsFitInputIf N input = Unit {0}
 abbrev AllKeptAfter : Type 0 → Result MovedRows OrchFault → Type 0
 AllKeptAfter N (Ok moved_rows) = AreSteadyRowsIf N moved_rows.parts.rows
 AllKeptAfter N (Err fault) = Unit {0}
-
--- kept rows stay so where a kept row is put in
-put-kept : (N : Type 0) → (parts : OrchestratorParts) (answer : Option Frame → Answer) (result : Result MovedRow OrchFault) → AreSteadyRowsIf N parts.rows → KeptAfter N result → AllKeptAfter N (all_rows_moved parts answer result)
-put-kept N parts answer (Err fault) kept own = tt
-put-kept N parts answer (Ok moved_row) kept own = each-put (IsSteadyRowIf N) (λ (r : RowShown). r.name) moved_row.row parts.rows own kept
-
--- the row that is found takes a step
-found-steps : (N : Type 0) → (parts : OrchestratorParts) (answer : Option Frame → Answer) (step : Step) (p : RowShown → Bool) (row : RowShown) → AreSoundRows parts.rows → AreSteadyRowsIf N parts.rows → find p parts.rows ≡ Some row
-    → (IsSoundRow row → IsDueSuccess step row) → BringsId N step → AllKeptAfter N (steps_at parts answer step (Some row))
-found-steps N parts answer step p row sound kept e fits brings =
-    let own = found-kept p parts.rows row sound e in
-    put-kept N parts answer (row_step parts.nodes parts.last step row) kept
-    (step-kept N parts.nodes parts.last step row own (fits own) brings (each_of (IsSteadyRowIf N) parts.rows row kept (among-find p parts.rows row e)))
-
--- what is asked of a name, whether it has a row or not
-asked-kept : (N : Type 0) → (parts : OrchestratorParts) (step : Step) (name : List ℕ) → AreSoundRows parts.rows → AreSteadyRowsIf N parts.rows → ((row : RowShown) → IsDueSuccess step row) → BringsId N step
-    → (o : Option RowShown) → row_of parts.rows name ≡ o → AllKeptAfter N (steps_at parts Sends step o)
-asked-kept N parts step name sound kept fits brings None e = tt
-asked-kept N parts step name sound kept fits brings (Some row) e = found-steps N parts Sends step (λ (r : RowShown). same_text r.name name) row sound kept e (λ own. fits row) brings
-
--- a volume of the name is asked for
-creates-kept : (N : Type 0) → (parts : OrchestratorParts) (name : List ℕ) (arguments : Arguments) → AreSoundRows parts.rows → AreSteadyRowsIf N parts.rows → (o : Option RowShown) → row_of parts.rows name ≡ o
-    → AllKeptAfter N (creates parts name arguments o)
-creates-kept N parts name arguments sound kept None e =
-    put-kept N parts Sends _ kept (unless-kept N (first_fault parts.last parts.rows) _ (λ free. new-kept N parts.last name arguments))
-creates-kept N parts name arguments sound kept (Some row) e = asked-kept N parts (steps.Create arguments) name sound kept (λ row. tt) tt (Some row) e
 
 -- a reply that has an id by rule brings one where it tells that a volume was made
 brings : (N : Type 0) (kind : Kind) (reply : Reply) → (has_id_by_rule kind reply ≡ true) ⊎ N → BringsId N (step_heard kind reply)
@@ -100,56 +62,39 @@ brings N kind reply (inl rule) = by (is_ok_status reply.status) rule
     by true rule = λ is. inl (told reply.id (subst (λ k. cond (is_create k && true) (is_some reply.id) (not (is_some reply.id)) ≡ true) is rule))
     by false rule = tt
 
--- a reply is heard
-reply-kept : (N : Type 0) → (parts : OrchestratorParts) (number : Number) (party : Party) (kind : Kind) (reply : Reply) → AreSoundRows parts.rows → AreSteadyRowsIf N parts.rows → (has_id_by_rule kind reply ≡ true) ⊎ N
-    → (o : Option RowShown) → row_replied parts.rows number party kind ≡ o → AllKeptAfter N (hears_reply parts kind reply o)
-reply-kept N parts number party kind reply sound kept rule None e = kept
-reply-kept N parts number party kind reply sound kept rule (Some row) e =
-    let heard = λ (r : RowShown). is_issued_as number party kind (open_in_row r) in
-    found-steps N parts hears (step_heard kind reply) heard row sound kept e (heard-fits row number party kind reply (find-passes heard parts.rows row e)) (brings N kind reply rule)
-
--- a frame that comes
-receives-kept : (N : Type 0) → (parts : OrchestratorParts) (number : Number) (party : Party) (body : Body) → AreSoundRows parts.rows → AreSteadyRowsIf N parts.rows → IsAllowed party body ⊎ N → AllKeptAfter N (receives parts number party body)
-receives-kept N parts number party (bodies.Call call) sound kept allowed = kept
-receives-kept N parts number party (bodies.Reply kind reply) sound kept (inl allowed) = reply-kept N parts number party kind reply sound kept (inl allowed.1) (row_replied parts.rows number party kind) refl
-receives-kept N parts number party (bodies.Reply kind reply) sound kept (inr n) = reply-kept N parts number party kind reply sound kept (inr n) (row_replied parts.rows number party kind) refl
-
--- unless it is refused
-unless-steady : (N : Type 0) (then : OrchestratorParts) (fault : Option OrchFault) (answer : Answer) → AreSteadyRowsIf N then.rows → AllKeptAfter N (moved_unless fault then answer)
-unless-steady N then None answer kept = kept
-unless-steady N then (Some fault) answer kept = tt
+-- what an input asks for brings none, and what it brings is such a reply's
+step-brings : (N : Type 0) (input : Input) (step : Step) → IsFitInputIf N input → IsStepOf input step → BringsId N step
+step-brings N input step fit (inl asked) = by step asked
+  where
+    by : (step : Step) → IsAsked step → BringsId N step
+    by (steps.Succeed kind id) asked = absurd asked
+    by step asked = tt
+step-brings N input step fit (inr b) = subst (BringsId N) (sym b.is) (brings N b.kind b.reply (rule (subst (IsFitInputIf N) b.came fit)))
+  where
+    rule : IsAllowed b.frame.party b.frame.body ⊎ N → (has_id_by_rule b.kind b.reply ≡ true) ⊎ N
+    rule (inl allowed) = inl (subst (IsAllowed b.frame.party) b.body allowed).1
+    rule (inr n) = inr n
 
 -- the rows that are remembered
-pub remembered-steady : (N : Type 0) (rows : List RowShown) → AreSteadyRowsIf N rows → AreSteadyRowsIf N (remembered rows)
+remembered-steady : (N : Type 0) (rows : List RowShown) → AreSteadyRowsIf N rows → AreSteadyRowsIf N (remembered rows)
 remembered-steady N rows kept = each-filter (IsSteadyRowIf N) (λ (r : RowShown). not (is_row_forgotten r)) rows kept
 
--- a restart
-restart-kept : (N : Type 0) (parts : OrchestratorParts) (nodes : List (List ℕ)) → AreSteadyRowsIf N parts.rows → AllKeptAfter N (starts_again parts nodes)
-restart-kept N parts nodes kept =
-    unless-steady N (restarted_parts nodes parts) (restart_refusal parts.last.session parts.nodes nodes parts.rows) Restarted
-    (each-map (IsSteadyRowIf N) (IsSteadyRowIf N) closed (remembered parts.rows) (closed-kept N) (remembered-steady N parts.rows kept))
-
--- a loss
-loss-kept : (N : Type 0) (parts : OrchestratorParts) (node : List ℕ) → AreSteadyRowsIf N parts.rows → AllKeptAfter N (gives_up parts node)
-loss-kept N parts node kept =
-    unless-steady N (parts_at_loss node parts) (loss_refusal parts.last.session) GivenUp
-    (each-map (IsSteadyRowIf N) (IsSteadyRowIf N) (row_at_loss node) (remembered parts.rows) (lost-kept N node) (remembered-steady N parts.rows kept))
-
 -- whatever comes
-moves-kept : (N : Type 0) → (parts : OrchestratorParts) (input : Input) → AreSoundRows parts.rows → AreSteadyRowsIf N parts.rows → IsFitInputIf N input → AllKeptAfter N (row_moves parts input)
-moves-kept N parts (ToCreate name arguments) sound kept fit = creates-kept N parts name arguments sound kept (row_of parts.rows name) refl
-moves-kept N parts (ToUse name usage) sound kept fit = asked-kept N parts (steps.Use usage) name sound kept (λ row. tt) tt (row_of parts.rows name) refl
-moves-kept N parts (ToStop name node target) sound kept fit = asked-kept N parts (steps.Stop node target) name sound kept (λ row. tt) tt (row_of parts.rows name) refl
-moves-kept N parts (ToDelete name) sound kept fit = asked-kept N parts steps.Delete name sound kept (λ row. tt) tt (row_of parts.rows name) refl
-moves-kept N parts (TimesOut name) sound kept fit = asked-kept N parts steps.TimeOut name sound kept (λ row. tt) tt (row_of parts.rows name) refl
-moves-kept N parts (Comes frame) sound kept fit = receives-kept N parts frame.number frame.party frame.body sound kept fit
-moves-kept N parts (Restarts nodes) sound kept fit = restart-kept N parts nodes kept
-moves-kept N parts (Loses node) sound kept fit = loss-kept N parts node kept
+stays-steady : (N : Type 0) (parts : OrchestratorParts) (input : Input) (result : Result MovedRows OrchFault) → AreSoundRows parts.rows → AreSteadyRowsIf N parts.rows → IsFitInputIf N input → IsRowMove parts input result → AllKeptAfter N result
+stays-steady N parts input _ sound kept fit (IsRefused fault) = tt
+stays-steady N parts input _ sound kept fit IsIgnored = kept
+stays-steady N parts input _ sound kept fit (TakesStep answer step row moved_row among of fits e) =
+    each-put (IsSteadyRowIf N) (λ (r : RowShown). r.name) moved_row.row parts.rows
+    (subst (KeptAfter N) e (step-kept N parts.nodes parts.last step row (each_of IsSoundRow parts.rows row sound.each among) fits (step-brings N input step fit of) (each_of (IsSteadyRowIf N) parts.rows row kept among))) kept
+stays-steady N parts input _ sound kept fit (PutsIn name arguments moved_row free e) =
+    each-put (IsSteadyRowIf N) (λ (r : RowShown). r.name) moved_row.row parts.rows (subst (KeptAfter N) e (new-kept N parts.last name arguments)) kept
+stays-steady N parts input _ sound kept fit (StartsAgain nodes is free) = each-map (IsSteadyRowIf N) (IsSteadyRowIf N) closed (remembered parts.rows) (closed-kept N) (remembered-steady N parts.rows kept)
+stays-steady N parts input _ sound kept fit (GivesUp node is) = each-map (IsSteadyRowIf N) (IsSteadyRowIf N) (row_at_loss node) (remembered parts.rows) (lost-kept N node) (remembered-steady N parts.rows kept)
 
 -- whatever comes, the rows keep their rules
 pub rows-stay-steady-if : (N : Type 0) (parts : OrchestratorParts) (input : Input) (moved_rows : MovedRows) → AreSoundRows parts.rows → AreSteadyRowsIf N parts.rows → IsFitInputIf N input → row_moves parts input ≡ Ok moved_rows
     → AreSteadyRowsIf N moved_rows.parts.rows
-rows-stay-steady-if N parts input moved_rows sound kept fit e = subst (AllKeptAfter N) e (moves-kept N parts input sound kept fit)
+rows-stay-steady-if N parts input moved_rows sound kept fit e = stays-steady N parts input (Ok moved_rows) sound kept fit (subst (IsRowMove parts input) e (row-moved parts input sound))
 
 -- with the frames that there are
 pub rows-stay-steady : (parts : OrchestratorParts) (input : Input) (moved_rows : MovedRows) → AreSoundRows parts.rows → AreSteadyRows parts.rows → IsFitInput input → row_moves parts input ≡ Ok moved_rows

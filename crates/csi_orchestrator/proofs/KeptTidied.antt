@@ -18,12 +18,7 @@ use Rattle.csi_orchestrator.specs.Public.Steady.{HasOne, HasMarks, IsInUse, IsLe
 use Rattle.csi_orchestrator.specs.Public.RowDue.{others_in}
 use Rattle.csi_orchestrator.proofs.HasOnes.{one-each}
 use Rattle.csi_orchestrator.proofs.KeptMarks.{IsOnWay, then-alone, known-there}
-
--- what passes the test is Yes
-pub yes-is : (k : Known) → is_yes k ≡ true → k ≡ Yes
-yes-is Yes e = refl
-yes-is No e = absurd (false≢true e)
-yes-is Maybe e = absurd (false≢true e)
+use Rattle.csi_orchestrator.proofs.KnownTests.{yes_is_yes}
 
 -- what is so of each that passes is so of each that is kept
 each-if_kept : {X : Type 0} (P : X → Type 0) (q : X → Bool) (xs : List X) → AllByRecursion (λ x. q x ≡ true → P x) xs → AllByRecursion P (filter q xs)
@@ -75,10 +70,10 @@ one-tidied node P entries f one =
 -- an entry whose target is published, as wanted
 pub met-used : (target : List ℕ) (entry : NodeEntryShown) → HasMarks IsOnWay target entry → is_yes entry.attached ≡ true → is_yes entry.staged ≡ true → is_yes (publication_known target entry) ≡ true → IsAtRestIfKept entry
 met-used target entry has attached staged published kept =
-    let own : has.published ≡ Yes = yes-is has.published (sym (ap is_yes (known-there IsOnWay target entry has)) ∙ published) in
+    let own : has.published ≡ Yes = yes_is_yes has.published (sym (ap is_yes (known-there IsOnWay target entry has)) ∙ published) in
     inl (use-kept entry (record {
-      attached = yes-is entry.attached attached;
-      staged = yes-is entry.staged staged;
+      attached = yes_is_yes entry.attached attached;
+      staged = yes_is_yes entry.staged staged;
       published =
           one-each (λ (t : TargetEntry). t.target) target (λ (t : TargetEntry). t.published ≡ has.published) (λ (t : TargetEntry). t.published ≡ Yes) (λ (t : TargetEntry). t.published ≡ Yes) entry.target_entries
           (λ t found is. is ∙ own) (λ t is. is) has.targets;

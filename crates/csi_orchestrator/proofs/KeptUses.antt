@@ -29,7 +29,7 @@ use Rattle.csi_orchestrator.specs.Public.Sound.{AreNodesApart}
 use Rattle.csi_orchestrator.proofs.EntriesBounded.{held-node}
 use Rattle.csi_orchestrator.proofs.DueCases.{IsDueFor, ToMake, ToRemove, ToAttach, ToStage, ToPublish, ToUnpublish, ToUnstage, ToDetach}
 use Rattle.csi_orchestrator.proofs.HasOnes.{one-change, one-of, one-last, one-put, one-weaker}
-use Rattle.csi_orchestrator.proofs.KeptMarks.{IsOnWay, work-way, attach-sent, attach-done, stage-sent, stage-done, publish-sent, publish-done, unpublish-sent, unpublish-done, unstage-sent, unstage-done, detach-sent, detach-done, alone-then, known-there, attachment-marked, staging-marked, publication-marked}
+use Rattle.csi_orchestrator.proofs.KeptMarks.{IsOnWay, work-way, attach-goes, stage-goes, publish-goes, unpublish-goes, unstage-goes, detach-goes, alone-then, known-there, attachment-marked, staging-marked, publication-marked}
 use Rattle.csi_orchestrator.proofs.KeptInUse.{rest-attached}
 use Rattle.csi_orchestrator.proofs.KnownTests.{not_yes}
 use Rattle.csi_orchestrator.proofs.RowMarks.{node-stays, has-node-entry, has-target-entry}
@@ -181,12 +181,12 @@ pub record Leads (mark : Kind → Known) (Then : Known → Known → Known → T
 pub sending-leads : Leads (λ kind. Maybe) IsAtWork (λ mark. mark ≢ No)
 sending-leads =
     record {
-      attaches = attach-sent;
-      stages = stage-sent;
-      publishes = λ a s p. publish-sent a s;
-      unpublishes = unpublish-sent;
-      unstages = unstage-sent;
-      detaches = detach-sent;
+      attaches = λ a s p e w. (attach-goes a s p e w).0;
+      stages = λ a s p e f w. (stage-goes a s p e f w).0;
+      publishes = λ a s p e f. (publish-goes a s e f).0;
+      unpublishes = λ a s p e w. (unpublish-goes a s p e w).0;
+      unstages = λ a s p e f w. (unstage-goes a s p e f w).0;
+      detaches = λ s p e f. (detach-goes s p e f).0;
       leaves = λ e. cc;
     }
 
@@ -194,12 +194,12 @@ sending-leads =
 pub success-leads : Leads known_by_success_of IsOnWay AnyMark
 success-leads =
     record {
-      attaches = attach-done;
-      stages = λ a s p e f w. stage-done a s p e w;
-      publishes = λ a s p. publish-done a s Yes;
-      unpublishes = unpublish-done;
-      unstages = unstage-done;
-      detaches = detach-done;
+      attaches = λ a s p e w. (attach-goes a s p e w).1;
+      stages = λ a s p e f w. (stage-goes a s p e f w).1;
+      publishes = λ a s p e f. (publish-goes a s e f).1;
+      unpublishes = λ a s p e w. (unpublish-goes a s p e w).1;
+      unstages = λ a s p e f w. (unstage-goes a s p e f w).1;
+      detaches = λ s p e f. (detach-goes s p e f).1;
       leaves = tt;
     }
 

@@ -1,24 +1,14 @@
 -- What the rows tell is what each call promises.
 use Rattle.std.proofs.Common.{◌≡◌, refl, sym, ◌∙◌, ap, subst}
-use Rattle.std.specs.Prelude.{Option, Some, None, Result, Ok, Err, IfOk, IfErr}
-use Rattle.csi_types.specs.declared.call.Kind.{Kind}
-use Rattle.csi_types.specs.declared.frame.Body.{Body}
-use Rattle.csi_types.specs.declared.frame.Body.TheVariants as bodies
-use Rattle.csi_types.specs.declared.reply.Reply.{Reply}
-use Rattle.csi_types.specs.Model.Frame.{Frame}
-use Rattle.csi_orchestrator.specs.declared.step.Step.{Step}
-use Rattle.csi_orchestrator.specs.declared.step.Step.TheVariants as steps
+use Rattle.std.specs.Prelude.{Result, Ok, Err, IfOk, IfErr}
 use Rattle.csi_orchestrator.specs.declared.fault.OrchFault.{OrchFault}
 use Rattle.csi_orchestrator.specs.Model.History.{History, with_items}
 use Rattle.csi_orchestrator.specs.Model.WellFormed.{IsWellFormed}
-use Rattle.csi_orchestrator.specs.Model.Moves.{Input, ToCreate, ToUse, ToStop, ToDelete, TimesOut, Comes, Restarts, Loses, Answer, Sends, hears, Moved, moves}
+use Rattle.csi_orchestrator.specs.Model.Moves.{Input, Restarts, Loses, Answer, Moved, moves}
 use Rattle.csi_orchestrator.specs.Public.Moves.{moved_to}
-use Rattle.csi_orchestrator.specs.Model.Shown.{RowShown, OrchestratorParts, row_of, Shows}
+use Rattle.csi_orchestrator.specs.Model.Shown.{OrchestratorParts, Shows}
 use Rattle.csi_orchestrator.specs.Public.RowMoves.{MovedRows, IsRefusal}
-use Rattle.csi_orchestrator.specs.Private.RowMoves.{all_rows_moved, steps_at, creates, row_replied, step_heard, hears_reply, receives, row_moves, IsMoveOf, RowsAnswer}
-use Rattle.csi_orchestrator.specs.Private.RowChanges.{new_row}
-use Rattle.csi_orchestrator.specs.Private.RowRefusals.{first_fault}
-use Rattle.csi_orchestrator.specs.Private.RowSteps.{MovedRow, row_sends_due, row_unless, row_step}
+use Rattle.csi_orchestrator.specs.Private.RowMoves.{row_moves, IsMoveOf, RowsAnswer}
 use Rattle.csi_orchestrator.specs.Public.Steady.{AreSteadyRowsIf}
 use Rattle.csi_orchestrator.specs.Public.Sound.{AreSoundRows, HasHistory, AreSoundParts}
 use Rattle.csi_orchestrator.specs.Public.Steps.{IsReached, GoesOn}
@@ -27,6 +17,7 @@ use Rattle.csi_orchestrator.proofs.AddedItems.{moves-add, stays-formed}
 use Rattle.csi_orchestrator.proofs.SendingAgrees.{Tells}
 use Rattle.csi_orchestrator.proofs.RulesStay.{rows-stay-sound}
 use Rattle.csi_orchestrator.proofs.BoundsStay.{rows-stay-within}
+use Rattle.csi_orchestrator.proofs.RowsMoved.{IsRowMove, IsRefused, IsIgnored, TakesStep, PutsIn, StartsAgain, GivesUp, row-moved}
 use Rattle.csi_orchestrator.proofs.KeptRows.{IsFitInput, rows-stay-steady, all-steady-any}
 use Rattle.csi_orchestrator.proofs.RepliesAgree.{all-tell}
 
@@ -105,43 +96,19 @@ abbrev NodesAfter : OrchestratorParts → Result MovedRows OrchFault → Type 0
 NodesAfter parts (Ok moved_rows) = moved_rows.parts.nodes ≡ parts.nodes
 NodesAfter parts (Err fault) = Unit {0}
 
--- where one row is put in
-put-nodes : (parts : OrchestratorParts) (answer : Option Frame → Answer) (result : Result MovedRow OrchFault) → NodesAfter parts (all_rows_moved parts answer result)
-put-nodes parts answer (Err fault) = tt
-put-nodes parts answer (Ok moved_row) = refl
-
--- where a row takes a step, or there is none
-step-nodes : (parts : OrchestratorParts) (answer : Option Frame → Answer) (step : Step) (o : Option RowShown) → NodesAfter parts (steps_at parts answer step o)
-step-nodes parts answer step None = tt
-step-nodes parts answer step (Some row) = put-nodes parts answer (row_step parts.nodes parts.last step row)
-
 -- whatever comes in a session
-moves-nodes : (parts : OrchestratorParts) (input : Input) → IsOfSession input → NodesAfter parts (row_moves parts input)
-moves-nodes parts (ToCreate name arguments) plain = by (row_of parts.rows name)
-  where
-    by : (o : Option RowShown) → NodesAfter parts (creates parts name arguments o)
-    by None = put-nodes parts Sends (row_unless (first_fault parts.last parts.rows) (row_sends_due parts.last (new_row name arguments)))
-    by (Some row) = step-nodes parts Sends (steps.Create arguments) (Some row)
-moves-nodes parts (ToUse name usage) plain = step-nodes parts Sends (steps.Use usage) (row_of parts.rows name)
-moves-nodes parts (ToStop name node target) plain = step-nodes parts Sends (steps.Stop node target) (row_of parts.rows name)
-moves-nodes parts (ToDelete name) plain = step-nodes parts Sends steps.Delete (row_of parts.rows name)
-moves-nodes parts (TimesOut name) plain = step-nodes parts Sends steps.TimeOut (row_of parts.rows name)
-moves-nodes parts (Comes frame) plain = by frame.body
-  where
-    heard : (kind : Kind) (reply : Reply) (o : Option RowShown) → NodesAfter parts (hears_reply parts kind reply o)
-    heard kind reply None = refl
-    heard kind reply (Some row) = step-nodes parts hears (step_heard kind reply) (Some row)
-
-    by : (body : Body) → NodesAfter parts (receives parts frame.number frame.party body)
-    by (bodies.Call call) = refl
-    by (bodies.Reply kind reply) = heard kind reply (row_replied parts.rows frame.number frame.party kind)
-moves-nodes parts (Restarts nodes) plain = absurd plain
-moves-nodes parts (Loses node) plain = absurd plain
+moves-nodes : (parts : OrchestratorParts) (input : Input) (result : Result MovedRows OrchFault) → IsOfSession input → IsRowMove parts input result → NodesAfter parts result
+moves-nodes parts input _ plain (IsRefused fault) = tt
+moves-nodes parts input _ plain IsIgnored = refl
+moves-nodes parts input _ plain (TakesStep answer step row moved_row among of fits e) = refl
+moves-nodes parts input _ plain (PutsIn name arguments moved_row free e) = refl
+moves-nodes parts input _ plain (StartsAgain nodes is free) = absurd (subst IsOfSession is plain)
+moves-nodes parts input _ plain (GivesUp node is) = absurd (subst IsOfSession is plain)
 
 -- the nodes stay as they were shown, whatever the result
-pub nodes-promised : {R : Type 0} {old now new : OrchestratorParts} {input : Input} {says : R → Answer} {result : Result R OrchFault} → old ≡ now → IsMoveOf old new input says result → IsOfSession input → new.nodes ≡ now.nodes
-nodes-promised {old = old} {input = input} {result = Ok r} is told plain = subst (NodesAfter old) told.ok (moves-nodes old input plain) ∙ ap (λ (p : OrchestratorParts). p.nodes) is
-nodes-promised {old = old} {input = input} {result = Err fault} is told plain = ap (λ (p : OrchestratorParts). p.nodes) (told.stays ∙ is)
+pub nodes-promised : {R : Type 0} {old now new : OrchestratorParts} {input : Input} {says : R → Answer} {result : Result R OrchFault} → old ≡ now → AreSoundParts old → IsMoveOf old new input says result → IsOfSession input → new.nodes ≡ now.nodes
+nodes-promised {old = old} {input = input} {result = Ok r} is kept told plain = subst (NodesAfter old) told.ok (moves-nodes old input (row_moves old input) plain (row-moved old input kept.sound)) ∙ ap (λ (p : OrchestratorParts). p.nodes) is
+nodes-promised {old = old} {input = input} {result = Err fault} is kept told plain = ap (λ (p : OrchestratorParts). p.nodes) (told.stays ∙ is)
 
 -- where they do, what the history answers the rows answer
 told-so : (history : History) (answer : Answer) (result : Result MovedRows OrchFault) (moved : Result Moved OrchFault) → Tells history result moved → IsAnsweredAs answer moved → RowsAnswer answer result

@@ -23,7 +23,7 @@ use Rattle.csi_orchestrator.specs.declared.row.Goal.TheVariants.{Create, Use, St
 use Rattle.csi_orchestrator.specs.declared.request.Usage.{Usage}
 use Rattle.csi_orchestrator.specs.declared.step.Step.TheVariants.{TimeOut, Succeed, Fail}
 use Rattle.csi_orchestrator.specs.Model.Thing.{Issued}
-use Rattle.csi_orchestrator.specs.Model.History.{Item, Started, Accepted, Closed, Noted, History, with_items}
+use Rattle.csi_orchestrator.specs.Model.History.{Item, Accepted, Noted, History, with_items}
 use Rattle.csi_orchestrator.specs.Model.History as wishes
 use Rattle.csi_orchestrator.specs.Model.Readings.{goal_of, open_call, tries}
 use Rattle.csi_orchestrator.specs.Model.WellFormed.{IsWellFormed}

@@ -1,6 +1,6 @@
 -- What a row tells once the thing of a call that was due for it is marked.
-use Rattle.std.proofs.Common.{◌≡◌, ℕ, List, Bool, true, false, cond, not, refl, sym, ◌∙◌, ap, subst}
-use Rattle.std.specs.Prelude.{Option, Some, None, option_map, ◌&&◌}
+use Rattle.std.proofs.Common.{◌≡◌, ℕ, List, ◌∷◌, Bool, true, false, cond, not, refl, sym, ◌∙◌, ap, subst}
+use Rattle.std.specs.Prelude.{Option, Some, None, find, option_map, ◌&&◌}
 use Rattle.std.proofs.lemmas.Bool.{false≢true}
 use Rattle.std.proofs.lemmas.Option.{same_Some}
 use Rattle.csi_types.specs.Model.Call.{kind_of}
@@ -150,6 +150,20 @@ things-marked row node target mark Publication node_entry found spot (Published 
         ap (λ o. mark_in (publication_known t) (option_map (node_marked mark Publication target) o)) here ∙ target-mark node_entry target t mark spot.0 spot.1
         ∙ sym (ap (λ o. cond (same_text target t) mark (mark_in (publication_known t) o)) here)
     by false e = refl
+
+-- so it is where the row's first entry is marked
+pub front-marked : (row : RowShown) (node_entry : NodeEntryShown) (later : List NodeEntryShown) (target : List ℕ) (mark : Known) (aspect : Aspect) → HasSpot aspect node_entry target → (thing : Thing) → name_in thing ≡ row.name
+    → mark_of thing (let r : RowShown = record row { node_entries = node_marked mark aspect target node_entry ∷ later } in r)
+    ≡ cond (same_thing thing (thing_by aspect row.name node_entry.node target)) mark (mark_of thing (let r : RowShown = record row { node_entries = node_entry ∷ later } in r))
+unfolding with-entries
+front-marked row node_entry later target mark aspect spot thing is =
+    ap (λ (es : List NodeEntryShown). mark_of thing (record row { node_entries = es })) (sym front) ∙ things-marked (record row { node_entries = node_entry ∷ later }) node_entry.node target mark aspect node_entry found spot thing is
+  where
+    front : marked_at mark aspect node_entry.node target (node_entry ∷ later) ≡ node_marked mark aspect target node_entry ∷ later
+    front = ap (λ b. cond b (node_marked mark aspect target node_entry ∷ later) (node_entry ∷ marked_at mark aspect node_entry.node target later)) (text-same node_entry.node)
+
+    found : find (λ (e : NodeEntryShown). same_text e.node node_entry.node) (node_entry ∷ later) ≡ Some node_entry
+    found = ap (λ b. cond b (Some node_entry) (find (λ (e : NodeEntryShown). same_text e.node node_entry.node) later)) (text-same node_entry.node)
 
 -- the row is as it was but for the marks, and of these the call's thing alone is marked
 pub record IsMarked (row after : RowShown) (due : Due) (mark : Known) : Type 0 where

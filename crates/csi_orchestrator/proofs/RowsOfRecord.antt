@@ -1,6 +1,6 @@
 -- Rows without open calls, put into a catalog one after the other.
-use Rattle.std.proofs.Common.{◌≡◌, ◌<◌, ℕ, zero, suc, get_or, arith, List, [], ◌∷◌, ◌++◌, false, length, map, sym, ◌∙◌, subst, inl, inr}
-use Rattle.std.specs.Prelude.{◌⊎◌, Option, Some, None, position}
+use Rattle.std.proofs.Common.{◌≡◌, ◌<◌, ℕ, zero, suc, get_or, arith, List, [], ◌∷◌, ◌++◌, false, length, map, sym, ◌∙◌, subst}
+use Rattle.std.specs.Prelude.{Option, Some, None, position}
 use Rattle.std.specs.List.{AllByRecursion}
 use Rattle.csi_lists.specs.Model.Members.{EachTwo}
 use Rattle.csi_types.specs.Model.Same.{same_text}
@@ -10,8 +10,7 @@ use Rattle.csi_orchestrator.specs.declared.row.Row.{Row}
 use Rattle.csi_orchestrator.specs.Model.Shown.{RowShown}
 use Rattle.csi_orchestrator.specs.Public.Restored.{IsRestorable}
 use Rattle.csi_orchestrator.specs.Public.Shown.{row_shown}
-use Rattle.csi_orchestrator.specs.Public.Catalog.{place_noted, IsIndexed}
-use Rattle.csi_orchestrator.specs.Private.Catalog.{IsReady, IsNextFor}
+use Rattle.csi_orchestrator.specs.Private.Catalog.{IsNextFor}
 use Rattle.csi_orchestrator.proofs.SplitLists.{each-right, two-there}
 use Rattle.csi_lists.proofs.Places.{position-none}
 
@@ -22,20 +21,6 @@ none-some x e = cc
 -- a row without a call has none that is sent
 pub next-none : (catalog : Catalog) (own : Option OpenCall) → own ≡ None → IsNextFor catalog own None
 next-none catalog own none = record { is = λ kept e. absurd (none-some kept (sym none ∙ e)); new = λ call e. absurd (none-some call e) }
-
--- where no call is sent, a catalog that is ready for it has its calls noted
-pub ready-indexed : (catalog : Catalog) (place : ℕ) → IsReady catalog place None → IsIndexed catalog
-ready-indexed catalog place ready =
-    record {
-      rows = ready.rows;
-      noted = record { found = λ other row kept at open_. by other kept.number.call (ready.found other row kept at open_); room = ready.room };
-      free = λ some. ready.free;
-      few = ready.few;
-    }
-  where
-    by : (other call : ℕ) → (place_noted catalog call ≡ Some other) ⊎ ((other ≡ place) × (None ≡ Some call)) → place_noted catalog call ≡ Some other
-    by other call (inl noted) = noted
-    by other call (inr sent) = absurd (none-some call sent.1)
 
 -- rows of which each two have different names
 abbrev AreApart : List Row → Type 0

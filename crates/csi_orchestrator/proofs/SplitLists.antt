@@ -3,10 +3,9 @@ use Rattle.std.proofs.Common.{◌≡◌, ℕ, List, [], ◌∷◌, ◌++◌, Boo
 use Rattle.std.specs.Prelude.{Some, None, find, ◌||◌}
 use Rattle.std.specs.List.{AllByRecursion, list_any}
 use Rattle.csi_lists.specs.Model.Members.{EachTwo}
-use Rattle.csi_lists.proofs.Each.{each-append}
 use Rattle.csi_lists.proofs.Searches.{find-missed}
 use Rattle.csi_types.specs.Model.Same.{same_text}
-use Rattle.csi_orchestrator.specs.Private.Keyed.{change_by, put_by}
+use Rattle.csi_orchestrator.specs.Private.Keyed.{put_by}
 
 -- ---- searches and changes
 
@@ -17,10 +16,6 @@ find-behind p (x ∷ front) rest none =
     let parts = find-missed (p x) x (find p front) none in
     ap (λ b. cond b (Some x) (find p (front ++ rest))) parts.0 ∙ find-behind p front rest parts.1
 
--- the first that passes is found
-pub find-at : {X : Type 0} (p : X → Bool) (front : List X) (x : X) (rear : List X) → find p front ≡ None → p x ≡ true → find p (front ++ x ∷ rear) ≡ Some x
-find-at p front x rear none passes = find-behind p front (x ∷ rear) none ∙ ap (λ b. cond b (Some x) (find p rear)) passes
-
 -- none is found where each fails
 pub find-of_none : {X : Type 0} (p : X → Bool) (xs : List X) → AllByRecursion (λ x. p x ≡ false) xs → find p xs ≡ None
 find-of_none p [] all = refl
@@ -30,22 +25,6 @@ find-of_none p (x ∷ xs) all = ap (λ b. cond b (Some x) (find p xs)) all.0 ∙
 pub any-of_none : {X : Type 0} (p : X → Bool) (xs : List X) → AllByRecursion (λ x. p x ≡ false) xs → list_any p xs ≡ false
 any-of_none p [] all = refl
 any-of_none p (x ∷ xs) all = ap (λ b. b || list_any p xs) all.0 ∙ any-of_none p xs all.1
-
--- the first entry of a text is changed
-pub change-at : {X : Type 0} (key : X → List ℕ) (text : List ℕ) (change : X → X) (front : List X) (x : X) (rear : List X) → find (λ x. same_text (key x) text) front ≡ None → same_text (key x) text ≡ true
-    → change_by key text change (front ++ x ∷ rear) ≡ front ++ change x ∷ rear
-change-at key text change [] x rear none own = ap (λ b. cond b (change x ∷ rear) (x ∷ change_by key text change rear)) own
-change-at key text change (y ∷ front) x rear none own =
-    let parts = find-missed (same_text (key y) text) y (find (λ x. same_text (key x) text) front) none in
-    ap (λ b. cond b (change y ∷ (front ++ x ∷ rear)) (y ∷ change_by key text change (front ++ x ∷ rear))) parts.0 ∙ ap (λ ys. y ∷ ys) (change-at key text change front x rear parts.1 own)
-
--- it is replaced
-pub put-at : {X : Type 0} (key : X → List ℕ) (entry : X) (front : List X) (x : X) (rear : List X) → find (λ x. same_text (key x) (key entry)) front ≡ None → same_text (key x) (key entry) ≡ true
-    → put_by key entry (front ++ x ∷ rear) ≡ front ++ entry ∷ rear
-put-at key entry [] x rear none own = ap (λ b. cond b (entry ∷ rear) (x ∷ put_by key entry rear)) own
-put-at key entry (y ∷ front) x rear none own =
-    let parts = find-missed (same_text (key y) (key entry)) y (find (λ x. same_text (key x) (key entry)) front) none in
-    ap (λ b. cond b (entry ∷ (front ++ x ∷ rear)) (y ∷ put_by key entry (front ++ x ∷ rear))) parts.0 ∙ ap (λ ys. y ∷ ys) (put-at key entry front x rear parts.1 own)
 
 -- an entry of a text that none has comes last
 pub put-last : {X : Type 0} (key : X → List ℕ) (entry : X) (front : List X) → find (λ x. same_text (key x) (key entry)) front ≡ None → put_by key entry front ≡ front ++ entry ∷ []
@@ -66,10 +45,6 @@ pub each-right : {X : Type 0} (P : X → Type 0) (xs ys : List X) → AllByRecur
 each-right P [] ys all = all
 each-right P (x ∷ xs) ys all = each-right P xs ys all.1
 
--- one is replaced
-pub each-put_at : {X : Type 0} (P : X → Type 0) (front : List X) (x y : X) (rear : List X) → AllByRecursion P (front ++ x ∷ rear) → P y → AllByRecursion P (front ++ y ∷ rear)
-each-put_at P front x y rear all own = each-append P front (y ∷ rear) (each-left P front (x ∷ rear) all) (own, (each-right P front (x ∷ rear) all).1)
-
 -- what holds of any two holds of any two in front
 pub two-left : {X : Type 0} (R : X → X → Type 0) (xs ys : List X) → EachTwo R (xs ++ ys) → EachTwo R xs
 two-left R [] ys two = tt
@@ -81,15 +56,3 @@ two-there R [] x rear two = (tt, two.0)
 two-there R (y ∷ front) x rear two =
     let rest = two-there R front x rear two.1 in
     (((each-right (R y) front (x ∷ rear) two.0).0, rest.0), rest.1)
-
--- one is replaced by one that stands so to whatever the other stood so to
-pub two-put_at : {X : Type 0} (R : X → X → Type 0) (front : List X) (x y : X) (rear : List X) → EachTwo R (front ++ x ∷ rear) → ((z : X) → R z x → R z y) → ((z : X) → R x z → R y z) → EachTwo R (front ++ y ∷ rear)
-two-put_at R [] x y rear two before then = (weaker rear two.0, two.1)
-  where
-    weaker : (zs : List _) → AllByRecursion (R x) zs → AllByRecursion (R y) zs
-    weaker [] all = tt
-    weaker (z ∷ zs) all = (then z all.0, weaker zs all.1)
-two-put_at R (z ∷ front) x y rear two before then = (
-  each-put_at (R z) front x y rear two.0 (before z (each-right (R z) front (x ∷ rear) two.0).0),
-  two-put_at R front x y rear two.1 before then,
-)

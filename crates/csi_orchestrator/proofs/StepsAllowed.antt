@@ -18,7 +18,6 @@ use Rattle.csi_orchestrator.specs.Public.Steps.{IsReached, Begins, Opens, GoesOn
 use Rattle.csi_orchestrator.proofs.AddedItems.{TakesReplies, ArePassing, AreAdded, moves-add, stays-formed}
 use Rattle.csi_orchestrator.proofs.SendingAgrees.{Guards, Tells}
 use Rattle.csi_orchestrator.proofs.KeptRows.{any-fit, steady-any, rows-stay-steady-if}
-use Rattle.csi_orchestrator.proofs.RestorableRows.{restorable-sound, restorable-steady}
 use Rattle.csi_orchestrator.proofs.RulesStay.{rows-stay-sound}
 use Rattle.csi_orchestrator.proofs.RepliesAgree.{all-tell}
 
@@ -76,8 +75,8 @@ shown-by _ (Begins nodes last) =
 shown-by _ (Opens parts history kept form agrees) =
     record {
       parts = parts;
-      rows = record { names = kept.names; each = each-weaker (IsRestorable parts.nodes) IsSoundRow parts.rows (restorable-sound parts.nodes) kept.each };
-      steady = each-weaker (IsRestorable parts.nodes) (IsSteadyRowIf (Unit {0})) parts.rows (λ row own. steady-any row (restorable-steady parts.nodes row own)) kept.each;
+      rows = record { names = kept.names; each = each-weaker (IsRestorable parts.nodes) IsSoundRow parts.rows (λ row own. own.sound) kept.each };
+      steady = each-weaker (IsRestorable parts.nodes) (IsSteadyRowIf (Unit {0})) parts.rows (λ row own. steady-any row own.steady) kept.each;
       agrees = agrees;
       form = form;
     }

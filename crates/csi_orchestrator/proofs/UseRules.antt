@@ -55,7 +55,7 @@ with-target-found target target_entries = by (find (λ (a : TargetEntry). same_t
     by None e = (new_target_entry target, find-append_one (λ (a : TargetEntry). same_text a.target target) target_entries (new_target_entry target) (text-same target) e)
 
 -- flags that pass the test are equal
-flag-same : (a b : Bool) → same_flag a b ≡ true → a ≡ b
+pub flag-same : (a b : Bool) → same_flag a b ≡ true → a ≡ b
 flag-same true b h = sym h
 flag-same false true h = absurd (false≢true h)
 flag-same false false h = refl

@@ -15,9 +15,6 @@ pub mod Hearing
 pub mod Worked
 pub mod RowSteps
 pub mod Decisions
-pub mod Unlost
-pub mod Restored
-pub mod Opened
 pub mod Judging
 pub mod Judged
 pub mod WorkedRecords

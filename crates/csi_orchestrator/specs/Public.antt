@@ -7,6 +7,7 @@ pub mod RowMoves
 pub mod RowRefusals
 pub mod Bounds
 pub mod Steady
+pub mod RowRules
 pub mod Sound
 pub mod Restored
 pub mod Steps

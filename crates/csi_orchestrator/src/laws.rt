@@ -5,8 +5,6 @@ ghost use Rattle.csi_orchestrator.specs.Private.RowDue.{DueIsTold};
 ghost use Rattle.csi_orchestrator.specs.Public.Steps.{MovesLaw};
 ghost use Rattle.std.specs.List.{AllByRecursion};
 ghost use Rattle.csi_orchestrator.specs.Public.Bounds.{IsBounded};
-ghost use Rattle.csi_orchestrator.specs.Private.Opened.{RecordsAreOpened};
-ghost use Rattle.csi_orchestrator.specs.Private.Restored.{RecordsAreReached};
 ghost use Rattle.csi_orchestrator.specs.Private.Sound.{RowsTell, RowsStaySound, MovesAreGuarded};
 ghost use Rattle.csi_orchestrator.specs.Public.Restored.{AreRestorable};
 ghost use Rattle.csi_orchestrator.specs.Public.Shown.{closed};
@@ -31,13 +29,6 @@ fn rows_follow()
     ensures rows_tell { RowsTell }
     ensures rows_stay_sound { RowsStaySound }
     ensures moves_are_guarded { MovesAreGuarded }
-{}
-
-// Whatever rows keep the rules of rows without open calls, with each list of nodes that leaves out no node at which a volume may be
-// attached they keep all that an orchestrator's type keeps, and are told by a history. If no node was lost, some orchestrator came to them.
-fn records_are_opened()
-    ensures opened { RecordsAreOpened }
-    ensures reached { RecordsAreReached }
 {}
 
 /// A law, and nothing that runs: whatever comes, each call that an orchestrator sends has the next number and may be sent
@@ -76,14 +67,10 @@ pub fn rows_law(orchestrator: &Orchestrator)
 
 /// A law, and nothing that runs: whatever rows keep the rules of rows (`rows_law`), what is opened from a record of them has a history, in
 /// the next session if one is left, with each list of nodes that leaves out none at which a volume may be attached, so that what
-/// contracts say of an orchestrator is said of it. If no node was lost, there are no other rules to keep: some orchestrator of these
-/// nodes, in this session, came to the rows, but for open calls, which it gives up. Every `OrchestratorRecord` is such a record. This
-/// profile's own.
+/// contracts say of an orchestrator is said of it. Every `OrchestratorRecord` is such a record. This profile's own.
 pub fn records_law()
     ensures { RecordsLaw }
-{
-    records_are_opened();
-}
+{}
 
 /// A law, and nothing that runs: from each history that an orchestrator shows, a restart with a list of nodes that isn't refused (`restart`) is
 /// what the history tells. It speaks of the orchestrator before that. This profile's own.

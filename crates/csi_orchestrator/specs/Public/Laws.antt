@@ -1,6 +1,5 @@
 -- Laws of what an orchestrator does. This profile's own.
-use Rattle.std.specs.Prelude.{◌≡◌, ℕ, ◌+◌, List, [], ◌∷◌, map, None}
-use Rattle.std.specs.List.{AllByRecursion}
+use Rattle.std.specs.Prelude.{◌≡◌, ℕ, ◌+◌, List, None}
 use Rattle.csi_types.specs.declared.number.Number.{Number}
 use Rattle.csi_orchestrator.specs.Model.History.{History, history_after}
 use Rattle.csi_orchestrator.specs.Model.WellFormed.{IsWellFormed}
@@ -10,8 +9,7 @@ use Rattle.csi_orchestrator.specs.Public.Beginning.{remembered, restart_refusal,
 use Rattle.csi_orchestrator.specs.Public.Moves.{moved_to}
 use Rattle.csi_orchestrator.specs.Public.Promises.{FollowsUnrefused}
 use Rattle.csi_orchestrator.specs.Public.Record.{RecordParts}
-use Rattle.csi_orchestrator.specs.Public.Restored.{IsUnlost, AreRestorable}
-use Rattle.csi_orchestrator.specs.Public.Shown.{closed}
+use Rattle.csi_orchestrator.specs.Public.Restored.{AreRestorable}
 use Rattle.csi_orchestrator.specs.Public.Sound.{HasHistory}
 
 -- the history of an orchestrator that did nothing is well-formed, and stays so whatever comes
@@ -23,29 +21,10 @@ pub record MovesKeepForm : Type 0 where
 abbrev pub opened_parts : RecordParts → List (List ℕ) → OrchestratorParts
 opened_parts kept nodes = record { nodes = nodes; last = record { session = kept.session + 1; call = 0 }; rows = remembered kept.rows }
 
--- the history to which these inputs led, the newest first
-abbrev pub led_to : History → List Input → History
-led_to history [] = history
-led_to history (input ∷ older) = let before = led_to history older in moved_to before (moves before input)
-
--- some orchestrator, which did nothing, came by inputs to parts of which this is the record
-pub record IsRecordReached (kept : RecordParts) : Type 0 where
-  pub parts : OrchestratorParts
-  pub inputs : List Input
-  pub agrees : Shows parts (led_to (history_after kept.nodes (record { session = kept.session; call = 0 })) inputs)
-  pub same_nodes : parts.nodes ≡ kept.nodes
-  pub same_session : parts.last.session ≡ kept.session
-  pub same_rows : map closed parts.rows ≡ kept.rows
-
--- What is opened from the record has a history, with each list of nodes with which it isn't refused. If no node was lost, some orchestrator
--- came to it.
-pub record IsRecordTold (kept : RecordParts) : Type 0 where
-  pub opened : (nodes : List (List ℕ)) → restart_refusal kept.session kept.nodes nodes kept.rows ≡ None → HasHistory (opened_parts kept nodes)
-  pub reached : AllByRecursion IsUnlost kept.rows → IsRecordReached kept
-
--- so it is with each record whose rows keep the rules, as those of every `OrchestratorRecord` do
+-- what is opened from a record has a history, with each list of nodes with which it isn't refused, if the record's rows keep the rules, as those of
+-- every `OrchestratorRecord` do
 abbrev pub RecordsLaw : Type 0
-RecordsLaw = (kept : RecordParts) → AreRestorable kept.nodes kept.rows → IsRecordTold kept
+RecordsLaw = (kept : RecordParts) (nodes : List (List ℕ)) → AreRestorable kept.nodes kept.rows → restart_refusal kept.session kept.nodes nodes kept.rows ≡ None → HasHistory (opened_parts kept nodes)
 
 -- from each history that the parts show, a restart with a list of nodes that isn't refused is what `moves` says, and leads to parts that are shown then
 abbrev pub RestartsAreTold : OrchestratorParts → Type 0

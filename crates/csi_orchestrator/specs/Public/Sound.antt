@@ -1,50 +1,19 @@
 -- The rules of an orchestrator's rows, which its type keeps, and what follows from them. This profile's own.
-use Rattle.std.specs.Prelude.{◌≡◌, ◌≢◌, List, [], ◌∷◌, false, Option, Some, None}
+use Rattle.std.specs.Prelude.{◌≡◌, ◌≢◌, List, [], ◌∷◌, false, None}
 use Rattle.std.specs.List.{AllByRecursion}
 use Rattle.csi_lists.specs.Model.Members.{EachTwo}
 use Rattle.csi_types.specs.Model.Same.{same_text}
-use Rattle.csi_orchestrator.specs.declared.row.Goal.{Goal}
-use Rattle.csi_orchestrator.specs.declared.row.Goal.TheVariants.{Create, Use, Stop, Delete}
 use Rattle.csi_orchestrator.specs.declared.row.TargetEntry.{TargetEntry}
-use Rattle.csi_orchestrator.specs.declared.request.Usage.{Usage}
-use Rattle.csi_orchestrator.specs.declared.thing.Known.TheVariants.{Yes, No}
-use Rattle.csi_orchestrator.specs.Model.Commands.{is_for_one_node, uses_as_second_writer}
+use Rattle.csi_orchestrator.specs.declared.thing.Known.TheVariants.{No}
 use Rattle.csi_orchestrator.specs.Model.History.{History, with_items, Item, Started, Lost, Forgotten, Sent, Accepted, Closed, Noted}
-use Rattle.csi_orchestrator.specs.Public.Guards.{MayIssue}
-use Rattle.csi_orchestrator.specs.Model.Due.{Due}
-use Rattle.csi_orchestrator.specs.Model.Shown.{NodeEntryShown, RowShown, OrchestratorParts, node_entry_of, target_entry_of, Shows}
-use Rattle.csi_orchestrator.specs.Public.Shown.{AreTargetsApart}
-pub use Rattle.csi_orchestrator.specs.Public.Shown.{AreNodesApart}
-use Rattle.csi_orchestrator.specs.Public.RowDue.{due_in, due_open}
-use Rattle.csi_orchestrator.specs.Public.RowRefusals.{has_elsewhere}
-use Rattle.csi_orchestrator.specs.Public.Steps.{IsReached}
+use Rattle.csi_orchestrator.specs.Model.Shown.{NodeEntryShown, RowShown, OrchestratorParts, Shows}
 use Rattle.csi_orchestrator.specs.Model.WellFormed.{IsWellFormed}
 use Rattle.csi_orchestrator.specs.Public.Bounds.{IsWithin}
+use Rattle.csi_orchestrator.specs.Public.Guards.{MayIssue}
 use Rattle.csi_orchestrator.specs.Public.Steady.{AreSteadyRows}
-
--- the entries of a use
-pub record HasEntry (row : RowShown) (usage : Usage) : Type 0 where
-  pub node_entry : NodeEntryShown
-  pub target_entry : TargetEntry
-  pub at_node : node_entry_of row usage.node ≡ Some node_entry
-  pub at_target : target_entry_of node_entry usage.target ≡ Some target_entry
-  pub same_capability : node_entry.capability ≡ usage.capability
-  pub same_flag : node_entry.readonly ≡ usage.readonly
-
--- a use that may be brought about: the volume is made, and can be held so beside the other holdings
-pub record IsUsable (row : RowShown) (usage : Usage) : Type 0 where
-  pub made : row.exists ≡ Yes
-  pub entry : HasEntry row usage
-  pub shared : has_elsewhere (is_for_one_node usage) usage.node row ≡ false
-  pub one_writer : has_elsewhere (uses_as_second_writer usage) usage.node row ≡ false
-
--- what is wanted may be wanted
-abbrev pub MayBeWanted : RowShown → Option Goal → Type 0
-MayBeWanted row None = Unit {0}
-MayBeWanted row (Some Create) = row.id ≡ None
-MayBeWanted row (Some (Use usage)) = IsUsable row usage
-MayBeWanted row (Some (Stop node target)) = Unit {0}
-MayBeWanted row (Some Delete) = AllByRecursion (λ (entry : NodeEntryShown). entry.attached ≡ No) row.node_entries
+use Rattle.csi_orchestrator.specs.Public.Steps.{IsReached}
+pub use Rattle.csi_orchestrator.specs.Public.Shown.{AreNodesApart}
+pub use Rattle.csi_orchestrator.specs.Public.RowRules.{HasEntry, IsUsable, MayBeWanted, IsSoundRow}
 
 -- an entry of a node is needed: where the volume isn't attached or staged there, it may be published there, and so it may be at each
 -- target that has an entry
@@ -55,13 +24,6 @@ pub record IsNeeded (entry : NodeEntryShown) : Type 0 where
 -- where nothing is wanted of the volume, each entry is needed
 abbrev pub KeepsWhatIsNeeded : RowShown → Type 0
 KeepsWhatIsNeeded row = row.goal ≡ None → AllByRecursion IsNeeded row.node_entries
-
--- the rules of one row; the open call, if it has one, is the one that is due
-pub record IsSoundRow (row : RowShown) : Type 0 where
-  pub nodes : AreNodesApart row.node_entries
-  pub targets : AllByRecursion AreTargetsApart row.node_entries
-  pub goal : MayBeWanted row row.goal
-  pub open_due : (due : Due) → due_open row ≡ Some due → due_in row ≡ Some due
 
 -- the rules of all rows: a name has one, and each keeps its own
 pub record AreSoundRows (rows : List RowShown) : Type 0 where

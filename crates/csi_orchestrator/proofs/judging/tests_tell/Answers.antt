@@ -1,6 +1,5 @@
 -- Rule by rule.
-use Rattle.csi_orchestrator.proofs.JudgedPlaces.{restorable-from}
-use Rattle.csi_orchestrator.proofs.PassedTests.{from-restorable}
+use Rattle.csi_orchestrator.proofs.JudgedRows.{restorable-from, from-restorable}
 use Rattle.csi_orchestrator.proofs.judging.tests_tell.Goals as goal
 
 pub returns-clause-passing : goal.returns-clause-passing

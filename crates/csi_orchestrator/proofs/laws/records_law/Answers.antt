@@ -1,5 +1,6 @@
--- By what is kept of what is opened.
+-- What is opened keeps what its type keeps, which is told.
+use Rattle.csi_orchestrator.proofs.Opened.{opened}
 use Rattle.csi_orchestrator.proofs.laws.records_law.Goals as goal
 
 pub returns : goal.returns
-returns c = λ kept rules. record { opened = λ nodes e. (c.records_are_opened.ensures.opened kept nodes rules e).told; reached = c.records_are_opened.ensures.reached kept rules }
+returns c = λ kept nodes rules ok. (opened kept nodes rules ok).told

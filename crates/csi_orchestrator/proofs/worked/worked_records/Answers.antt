@@ -2,7 +2,7 @@
 use Rattle.std.proofs.Common.{◌≡◌, ◌≢◌, List, [], ◌∷◌, length, refl, sym, ap, inl, inr, arith}
 use Rattle.std.specs.Prelude.{Some, codes}
 use Rattle.std.proofs.lemmas.Bool.{false≢true}
-use Rattle.std.proofs.lemmas.Option.{same_Some}
+use Rattle.std.proofs.lemmas.Option.{none-some, same_Some}
 use Rattle.csi_orchestrator.specs.declared.row.TargetEntry.{TargetEntry}
 use Rattle.csi_orchestrator.specs.Model.Shown.{NodeEntryShown}
 use Rattle.csi_orchestrator.specs.declared.thing.Known.{Known}
@@ -40,19 +40,20 @@ returns c =
             each = (
               record {
                 quiet = refl;
-                tries = refl;
-                untried = λ none. tt;
-                life = (inr (record { attached = yes-no; staged = refl; targets = refl }), (inl (record { attached = refl; staged = refl; published = (refl, tt); some = omega arith }), tt));
-                entries =
+                sound = record { nodes = ((refl, tt), (tt, tt)); targets = (tt, ((tt, tt), tt)); goal = tt; open_due = λ due e. absurd (none-some due e) };
+                steady =
                     record {
-                      each = (
-                        record { among = λ some. absurd (some refl); capable = refl; few = omega arith; apart = tt; one = λ e. omega arith },
-                        (record { among = λ some. refl; capable = refl; few = omega arith; apart = (tt, tt); one = λ e. omega arith }, tt),
-                      );
-                      apart = ((refl, tt), (tt, tt));
-                      together = ((record { then = record { one_node = refl; one_writer = refl }; before = record { one_node = refl; one_writer = refl } }, tt), (tt, tt));
+                      tries = refl;
+                      untried = λ none. tt;
+                      standing = tt;
+                      bare = λ e. absurd (none-some 1 (sym e));
+                      empty = λ other. absurd (other refl);
+                      marked = (inr (record { attached = yes-no; staged = refl; targets = refl }), (inl (record { attached = refl; staged = refl; published = (refl, tt); some = not-empty (at_a_known Yes) [] }), tt));
+                      last = tt;
+                      allowed = (record { capable = refl; one_target = λ e. omega arith }, (record { capable = refl; one_target = λ e. omega arith }, tt));
+                      beside = ((record { several = refl; one_writer = refl }, tt), (tt, tt));
                     };
-                few = omega arith;
+                within = record { each = (record { among = λ some. absurd (some refl); targets = omega arith }, (record { among = λ some. refl; targets = omega arith }, tt)); few = omega arith };
               },
               tt,
             );
@@ -64,15 +65,24 @@ returns c =
             each = (
               record {
                 quiet = refl;
-                tries = omega arith;
-                untried = λ none entry found. nothing-there entry found;
-                life = inr (record { front = []; entry = entry_at (codes "n1") Maybe No []; rear = []; entries_are = refl; of_node = refl; left = record { attached = maybe-no; staged = refl; targets = refl }; resting_front = tt; resting_rear = tt });
-                entries = record { each = (record { among = λ some. absurd (some refl); capable = refl; few = omega arith; apart = tt; one = λ e. omega arith }, tt); apart = (tt, tt); together = (tt, tt) };
-                few = omega arith;
+                sound = record { nodes = (tt, tt); targets = (tt, tt); goal = tt; open_due = λ due e. absurd (none-some due e) };
+                steady =
+                    record {
+                      tries = omega arith;
+                      untried = λ none entry found. nothing-there entry found;
+                      standing = tt;
+                      bare = λ e. absurd (none-some 1 (sym e));
+                      empty = λ other. absurd (other refl);
+                      marked = inl (refl, inr (record { attached = maybe-no; staged = refl; targets = refl }), tt);
+                      last = tt;
+                      allowed = (record { capable = refl; one_target = λ e. omega arith }, tt);
+                      beside = (tt, tt);
+                    };
+                within = record { each = (record { among = λ some. absurd (some refl); targets = omega arith }, tt); few = omega arith };
               },
               tt,
             );
           };
-      published = λ kept. false≢true (((((kept.each).0).entries).each).0.among (not-empty (at_a_known Yes) []));
-      untried = λ kept. not-empty (at_a_known Maybe) [] (((kept.each).0).untried refl (entry_at (codes "n2") Yes Yes (at_a_known Maybe ∷ [])) refl);
+      published = λ kept. false≢true (((((kept.each).0).within).each).0.among (not-empty (at_a_known Yes) []));
+      untried = λ kept. not-empty (at_a_known Maybe) [] ((((kept.each).0).steady).untried refl (entry_at (codes "n2") Yes Yes (at_a_known Maybe ∷ [])) refl);
     }

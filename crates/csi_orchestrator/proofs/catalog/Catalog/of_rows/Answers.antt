@@ -5,7 +5,8 @@ use Rattle.std.proofs.lemmas.List.{append_assoc}
 use Rattle.std.specs.Vec.Iter.{into_iter_items}
 use Rattle.csi_orchestrator.specs.declared.row.Row.{Row}
 use Rattle.csi_orchestrator.specs.Public.Catalog.{rows_of}
-use Rattle.csi_orchestrator.proofs.RowsOfRecord.{new-name, next-none, no-call, ready-indexed}
+use Rattle.csi_orchestrator.proofs.RowsOfRecord.{new-name, next-none, no-call}
+use Rattle.csi_orchestrator.proofs.RowsUnderNames.{ready-none}
 use Rattle.csi_orchestrator.proofs.catalog.Catalog.of_rows.Goals as goal
 
 pub loop-row-init : goal.loop-row-init
@@ -25,7 +26,7 @@ loop-row-preserved c =
     let whole : rows ++ c.in-Some.row ∷ into_iter_items c.next.new.self ≡ c.args.rows.items = ap (λ (l : List Row). rows ++ l) (sym c.in-Some.ensures.steps.0) ∙ at.invariant.0 in
     let closed = no-call rows c.in-Some.row (into_iter_items c.next.new.self) c.args.rows.items whole c.requires.closed in (
       ap (λ (l : List Row). l ++ into_iter_items c.next.new.self) c.in_ok-add.ensures.added ∙ append_assoc rows (c.in-Some.row ∷ []) (into_iter_items c.next.new.self) ∙ whole,
-      ready-indexed c.add.new.self (length rows) (c.in_ok-add.ensures.ready None (next-none at.catalog (c.in-Some.row).open_call closed)),
+      ready-none c.add.new.self (length rows) (c.in_ok-add.ensures.ready None (next-none at.catalog (c.in-Some.row).open_call closed)),
       λ call place e. at.invariant.2 call place (c.add.ensures.kept call place e),
       search rules,
     )

@@ -14,7 +14,7 @@ pub returns-clause-err : goal.returns-clause-err
 returns-clause-err c = err-promised c.self.view_is c.self.invariant.0 c.create.ensures.told
 
 pub returns-clause-nodes : goal.returns-clause-nodes
-returns-clause-nodes c = nodes-promised c.self.view_is c.create.ensures.told tt
+returns-clause-nodes c = nodes-promised c.self.view_is c.self.invariant.0 c.create.ensures.told tt
 
 pub returns-clause-changed : goal.returns-clause-changed
 returns-clause-changed c = changed-promised c.args.name c.self.view_is refl c.create.ensures.told

@@ -16,7 +16,7 @@ pub returns-clause-err : goal.returns-clause-err
 returns-clause-err c = err-promised c.self.view_is c.self.invariant.0 c.deliver.ensures.told
 
 pub returns-clause-nodes : goal.returns-clause-nodes
-returns-clause-nodes c = nodes-promised c.self.view_is c.deliver.ensures.told tt
+returns-clause-nodes c = nodes-promised c.self.view_is c.self.invariant.0 c.deliver.ensures.told tt
 
 pub returns-clause-ignored : goal.returns-clause-ignored
 returns-clause-ignored c = λ history form agrees heard. c.deliver.ensures.ignored

@@ -14,7 +14,7 @@ pub returns-clause-err : goal.returns-clause-err
 returns-clause-err c = err-promised c.self.view_is c.self.invariant.0 (c.ask.ensures.told _ refl)
 
 pub returns-clause-nodes : goal.returns-clause-nodes
-returns-clause-nodes c = nodes-promised c.self.view_is (c.ask.ensures.told _ refl) tt
+returns-clause-nodes c = nodes-promised c.self.view_is c.self.invariant.0 (c.ask.ensures.told _ refl) tt
 
 pub returns-clause-changed : goal.returns-clause-changed
 returns-clause-changed c = changed-promised c.args.name.now c.self.view_is refl (c.ask.ensures.told _ refl)

@@ -16,7 +16,7 @@ pub returns-clause-err : goal.returns-clause-err
 returns-clause-err c = err-promised c.self.view_is c.self.invariant.0 (c.ask.ensures.told _ refl)
 
 pub returns-clause-nodes : goal.returns-clause-nodes
-returns-clause-nodes c = nodes-promised c.self.view_is (c.ask.ensures.told _ refl) tt
+returns-clause-nodes c = nodes-promised c.self.view_is c.self.invariant.0 (c.ask.ensures.told _ refl) tt
 
 pub returns-clause-met : goal.returns-clause-met
 returns-clause-met c = λ history form agrees answered. c.ask.ensures.quiet _ refl
