@@ -1,7 +1,7 @@
 //! Stores of parts, in memory and in SQLite: what is committed is there, also where the store is opened again; what doesn't fit, or isn't done,
 //! isn't. Two tests bear a refusal at any allocation (`tools/refusals`): a commit that sees one leaves what was there, and is done then.
 use csi_stores::{Keep, KeepFault, MemoryKeep, Part};
-use csi_test_disks::{DiskKeep, Image, NO_STOP, Opened, Stopping, TableKeep};
+use csi_test_disks::{DiskKeep, Image, NO_STOP, Opened, TableKeep};
 use std::process::Abort;
 
 // A key, and its value; none where it is taken out.
@@ -165,42 +165,6 @@ fn files_keep_what_is_committed(rt: HostRuntime) {
     let mut once_more = opened(&rt, &alone);
     assert!(&rt; is_put_back && has(&mut once_more, LAST));
     drop((left, alone, once_more));
-}
-
-// What new files hold where the database file stops, and the log is lost then; none where the store was opened before.
-fn unfinished(rt: &(impl Abort + AllocGlobal), calls: u64, power_fails: bool) -> Option<Image> {
-    let new = Image::new(rt.alloc());
-    let stop = Stopping::Database.after(calls, power_fails);
-    match DiskKeep::open(rt.alloc(), &new, stop).expect(rt, "memory") {
-        Opened::Stopped(left) => Some(left.without_log(rt.alloc())),
-        Opened::Open(_keep) => None,
-    }
-}
-
-// How many of them get their log again, as the file stops after any of its calls; each is a new store then.
-fn begun_again(rt: &(impl Abort + AllocGlobal), power_fails: bool) -> u64 {
-    let mut count = 0u64;
-    for calls in 0..100 {
-        let Some(left) = unfinished(rt, calls, power_fails) else {
-            return count;
-        };
-        let (is_begun, image) = left.begun_again(rt.alloc()).expect(rt, "memory");
-        if is_begun {
-            let mut keep = opened(rt, &image);
-            assert!(rt; has(&mut keep, &[]));
-            drop(keep);
-            count = count.saturating_add(1);
-        }
-        drop(image);
-    }
-    count
-}
-
-#[test]
-fn a_new_file_that_stopped_and_lost_its_log_is_a_new_store(rt: HostRuntime) {
-    let killed = begun_again(&rt, false);
-    let cut = begun_again(&rt, true);
-    assert!(&rt; killed.saturating_add(cut) > 0);
 }
 
 // What a connection is in the middle of, by which it is refused.

@@ -1,5 +1,4 @@
 //! What the files of a store hold.
-use csi_sqlite::{BEGUN_LOG, is_half_made};
 use csi_types::NoMemory;
 use std::alloc::Global;
 
@@ -39,19 +38,6 @@ impl Image {
             log: Vec::new(alloc),
             db,
         }
-    }
-
-    /// The same, as opening a store in a file begins: a new file that got its first page in part, and lost its log, gets it again; and whether it
-    /// did.
-    pub fn begun_again(self, alloc: Global) -> Result<(bool, Image), NoMemory> {
-        let Image { log, db } = self;
-        let is_begun = is_half_made(&db, &log);
-        let log = if is_begun {
-            Vec::from_slice(alloc, &BEGUN_LOG)?
-        } else {
-            log
-        };
-        Ok((is_begun, Image { log, db }))
     }
 
     /// From which byte of the log on, and up to which, it differs from what was there before.
