@@ -145,6 +145,25 @@ def blank(box, name, line):
         box.wants(ended(0, out=line), "record", path)
 
 
+def half_made(box, name, line):
+    """A new file that was cut off while it got its first page, and lost its log, is no store until it is opened again: whole, short, and with an
+    empty log. One that begins otherwise, one with more than a page and one with a log stay as they are."""
+    box.put("config", PLAIN)
+    page = bytes(1) + b"QLite format 3\0" + bytes(4096 - 16)
+    for path, content, log in (("page.db", page, None), ("short.db", page[:2], None), ("logged.db", page, b"")):
+        box.put(path, content)
+        if log is not None:
+            box.put(f"{path}-wal", log)
+        box.wants(NOT_OPENED, "record", path)
+        box.wants(ended(0), name, path, PLUGINS[name][0])
+        box.wants(ended(0, out=line), "record", path)
+    for path, content in (("other.db", b"S" + page[1:]), ("longer.db", page + bytes(1))):
+        box.put(path, content)
+        box.wants(NOT_OPENED, name, path, PLUGINS[name][0])
+        with open(box.at(path), "rb") as file:
+            wanted("the file", file.read(), content)
+
+
 def found(box, name, parts, line):
     """A store that SQLite made is opened, with each kind of row; nothing is changed in it."""
     box.put("config", CONFIG)
@@ -408,6 +427,7 @@ def cases():
             ("a store of version 2", older, name, 2),
             ("a new store", new, name, new_line),
             ("a blank database", blank, name, new_line),
+            ("a new file that was cut off", half_made, name, new_line),
             ("a store that SQLite made", found, name, parts, line),
         ]
         yield from of_rows(name, rows)
