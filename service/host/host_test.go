@@ -128,6 +128,7 @@ func TestSideBySide(t *testing.T) {
 		return frames.Reply{}, nil, false
 	}}
 	kept := hosttest.NewStore()
+	kept.Pause = 3 * time.Millisecond // what comes meanwhile waits
 	made := open(t, kept, carrier, quick, "n1", "n2")
 	var group sync.WaitGroup
 	for caller := 0; caller < callers; caller++ {

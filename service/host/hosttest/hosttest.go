@@ -18,6 +18,8 @@ type Store struct {
 	commits int
 	fault   error
 	lost    chan struct{}
+
+	Pause time.Duration // how long a commit takes, beside what it does
 }
 
 // NewStore makes an empty one.
@@ -37,6 +39,7 @@ func (kept *Store) Load(context.Context) ([]store.Part, error) {
 
 // Commit makes the changes, unless the store fails.
 func (kept *Store) Commit(_ context.Context, _ bool, changes []store.Change) error {
+	time.Sleep(kept.Pause)
 	kept.mutex.Lock()
 	defer kept.mutex.Unlock()
 	if kept.fault != nil {
