@@ -53,10 +53,10 @@ def closed_pipe():
 
 
 def output(box, how):
-    """Each ends so where its output fails; a plugin's commit stays, and another run replies."""
+    """Each ends so where its output fails; a plugin's commit of one call stays, and another run replies."""
     prepare(box)
     for words in with_output():
-        given = {} if words[0] not in PLUGINS or words[1] == "--help" else {"given": given_of(PLUGINS[words[0]][1])}
+        given = {} if words[0] not in PLUGINS or words[1] == "--help" else {"given": given_of(PLUGINS[words[0]][1][:1])}
         box.wants(DEVICE, *words, **given, **how())
         if len(words) > 2:
             box.is_closed(words[1], DEVICE)

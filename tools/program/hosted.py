@@ -225,7 +225,7 @@ def untold(box):
         wanted("what it says that the host doesn't answer", (said, running.returncode), ("n2: down\n", 1))
         cluster.start("n1, n3")
         cluster.until("the orchestrator is told", lambda: json.loads(cluster.text("losing")) == [])
-        wanted("what the host says last", cluster.text("log").splitlines()[-1], "n2: lost, session 8")
+        cluster.until("the host says so last", lambda: cluster.text("log").splitlines()[-1] == "n2: lost, session 8")
         wanted("the nodes that are there", json.loads(cluster.text("nodes")), {"n1": None, "n3": None})
         cluster.says(["n2: joined, session 8"], "join", "n2")
         cluster.says(["v: ControllerUnpublishVolume 9.1 to controller: OK", "v: at rest"], "stop", "v", "n2", "/b")
