@@ -356,3 +356,31 @@ func TestRecordOfBefore(t *testing.T) {
 		t.Errorf("a copy of before: %v", err)
 	}
 }
+
+// One that another has overtaken ends by that, or, over a copy, since a plugin finds its open call stale: nothing is committed of it.
+func TestOvertaken(t *testing.T) {
+	for _, fault := range []error{nil, store.ErrLost} {
+		kept := hosttest.NewStore()
+		carrier := &hosttest.Carrier{Answer: func(_ context.Context, call frames.Call, _ time.Time) (frames.Reply, error, bool) {
+			if call.Kind() == frames.NodeStageVolumeKind {
+				kept.Fail(fault)
+				return hosttest.Refused(call, 10, "stale"), nil, true
+			}
+			return frames.Reply{}, nil, false
+		}}
+		made := open(t, kept, carrier, quick, "n1")
+		does(t, made, create("v"))
+		made.Do(ctx, use("v", "n1", "/a"))
+		<-made.Done()
+		want := fault
+		if want == nil {
+			want = store.ErrOlder
+		}
+		if !errors.Is(made.Err(), want) {
+			t.Errorf("it ended by %v, not %v", made.Err(), want)
+		}
+		if volume, _ := made.Get("v"); volume.Goal != records.ToUse {
+			t.Errorf("of the volume it has %+v", volume.Row)
+		}
+	}
+}
