@@ -1,6 +1,10 @@
 package records
 
-import "tufayon/service/frames"
+import (
+	"encoding/binary"
+
+	"tufayon/service/frames"
+)
 
 // A Goal says what is wanted of a volume.
 type Goal uint8
@@ -58,4 +62,32 @@ func OrchestratorSession(head []byte) (uint64, error) {
 	}
 	session := from.number()
 	return session, from.err
+}
+
+// OrchestratorNodes are the nodes that an orchestrator's head lists.
+func OrchestratorNodes(head []byte) ([]string, error) {
+	if _, err := OrchestratorSession(head); err != nil {
+		return nil, err
+	}
+	from := &fields{rest: head[10:]} // behind the version, the kind and the session
+	var nodes []string
+	for count := from.byte(); count > 0 && from.err == nil; count-- {
+		nodes = append(nodes, from.text())
+	}
+	return nodes, from.err
+}
+
+// OrchestratorBefore is an orchestrator's head, or a new one's where there is none, as it is before a session begins: of the session before, if its own
+// isn't a later one.
+func OrchestratorBefore(head []byte, session uint64) ([]byte, error) {
+	if head == nil {
+		head = append([]byte{version, orchestrator}, make([]byte, 9)...) // session 0, and no nodes
+	}
+	last, err := OrchestratorSession(head)
+	if err != nil || session == 0 || last >= session-1 {
+		return head, err
+	}
+	raised := append([]byte(nil), head...)
+	binary.BigEndian.PutUint64(raised[2:], session-1)
+	return raised, nil
 }

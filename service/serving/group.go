@@ -37,6 +37,7 @@ type group struct {
 	bytes   int
 	notes   []store.Note // committed before the changes
 	taken   []uint64     // volumes that aren't staged any more, once the changes are committed
+	sides   []store.Side
 	confirm bool
 }
 
@@ -131,8 +132,8 @@ func (core *Core) settle(group *group) {
 			core.err = err
 		}
 	}
-	if core.err == nil && (group.confirm || len(group.order) > 0) {
-		if err := core.config.Store.Commit(ctx, false, group.list()); err != nil {
+	if core.err == nil && (group.confirm || len(group.order)+len(group.sides) > 0) {
+		if err := store.CommitWith(ctx, core.config.Store, group.sides, group.list()); err != nil {
 			core.err = err
 		}
 	}
@@ -201,6 +202,9 @@ func (core *Core) load(ctx context.Context) error {
 		}
 		core.apply(changes)
 	}
+	if err := core.loadBegun(ctx); err != nil {
+		return err
+	}
 	return core.loadPaths(ctx)
 }
 
@@ -238,6 +242,7 @@ func (core *Core) apply(changes []store.Change) {
 	for _, change := range changes {
 		if change.Out {
 			delete(core.parts, change.Key)
+			delete(core.last, change.Key)
 		} else {
 			core.parts[change.Key] = change.Value
 		}
@@ -262,6 +267,9 @@ func (core *Core) known(number frames.Number, volume uint64) Known {
 func (core *Core) number(ctx context.Context, request Request, judged bool) (frames.Number, error) {
 	known := core.known(frames.Number{}, request.Body.Volume())
 	number, err := core.source.Number(ctx, numbers.Of{Kind: request.Body.Kind(), HasRow: known.Row != nil, Latest: known.Session})
+	if err == nil && !core.isBegun(number.Session) {
+		err = errNotBegun
+	}
 	if err != nil || !judged || request.Judge == nil {
 		return number, err
 	}
@@ -292,7 +300,8 @@ func (core *Core) ask(group *group, request Request, number frames.Number) (aske
 	if reply.Volume != 0 {
 		volume = reply.Volume
 	}
-	result := asked{known: core.known(number, volume), isFresh: touches(changes, volume), isAnothers: reply.Kind != request.Body.Kind()}
+	result := asked{known: core.known(number, volume), isFresh: touches(changes, volume)}
+	result.isAnothers = reply.Kind != request.Body.Kind() || !core.isLast(volume, number, request, result.isFresh)
 	result.isOK = reply.Status == 0 && !result.isAnothers
 	group.add(changes)
 	core.apply(changes)

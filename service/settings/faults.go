@@ -42,23 +42,33 @@ func (settings *Settings) faults() Faults {
 	settings.Set.check(set)
 	process := &checking{file: settings.File}
 	settings.Process.check(process)
-	faults := append(set.faults, process.faults...)
-	if settings.Process.IsTLS() {
-		return faults
-	}
-	var open Faults
-	for place, address := range settings.addresses() {
-		if _, _, err := net.SplitHostPort(address); err == nil && !carrying.IsLocal(address) {
-			open = append(open, fmt.Sprintf("%s: over TCP there have to be a certificate, its key and authorities in %s", place, settings.File))
+	return append(append(set.faults, process.faults...), settings.Process.open(settings.File, settings.addresses())...)
+}
+
+// open are the addresses, by their places, at which a process without certificates would speak with whoever is there.
+func (place *Place) open(file string, addresses map[string]string) Faults {
+	var faults Faults
+	for at, address := range addresses {
+		if _, _, err := net.SplitHostPort(address); err == nil && !place.IsTLS() && !carrying.IsLocal(address) {
+			faults = append(faults, fmt.Sprintf("%s: over TCP there have to be a certificate, its key and authorities in %s", at, file))
 		}
 	}
-	sort.Strings(open)
-	return append(faults, open...)
+	sort.Strings(faults)
+	return faults
 }
 
 // addresses are all addresses, by their places.
 func (settings *Settings) addresses() map[string]string {
-	addresses := map[string]string{settings.File + ": listen": settings.Process.Listen, settings.Process.Set + ": controller": settings.Set.Controller}
+	addresses := map[string]string{settings.File + ": listen": settings.Process.Listen}
+	if settings.Process.Address != settings.Process.Listen {
+		addresses[settings.File+": address"] = settings.Process.Address
+	}
+	if settings.Set.Controller != "" {
+		addresses[settings.Process.Set+": controller"] = settings.Set.Controller
+	}
+	for at, it := range settings.Set.Controllers {
+		addresses[fmt.Sprintf("%s: controllers[%d]", settings.Process.Set, at)] = it
+	}
 	for at, it := range settings.Set.Nodes {
 		addresses[fmt.Sprintf("%s: nodes[%d].address", settings.Process.Set, at)] = it.Address
 	}
@@ -75,11 +85,10 @@ func (set *Set) check(to *checking) {
 	if !filepath.IsAbs(set.Staging) {
 		to.refuse("staging", "%q is no absolute path", set.Staging)
 	}
-	checkAddress(to, "controller", set.Controller)
 	if len(set.Nodes) > mostNodes {
 		to.refuse("nodes", "%d are more than %d", len(set.Nodes), mostNodes)
 	}
-	ids, addresses := map[string]int{}, map[string]string{set.Controller: "controller"}
+	ids, addresses := map[string]int{}, set.checkControllers(to)
 	for at, it := range set.Nodes {
 		place := fmt.Sprintf("nodes[%d]", at)
 		if it.ID == "" || len(it.ID) > frames.MaxNode || strings.ContainsRune(it.ID, 0) {
@@ -100,6 +109,30 @@ func (set *Set) check(to *checking) {
 	set.Times.check(to)
 }
 
+// checkControllers gives the places of the controllers' addresses, by these.
+func (set *Set) checkControllers(to *checking) map[string]string {
+	if (set.Controller == "") == (len(set.Controllers) == 0) {
+		to.refuse("controller", "either it is there, or controllers")
+	}
+	places := map[string]string{}
+	if set.Controller != "" {
+		checkAddress(to, "controller", set.Controller)
+		places[set.Controller] = "controller"
+	}
+	for at, it := range set.Controllers {
+		place := fmt.Sprintf("controllers[%d]", at)
+		checkAddress(to, place, it)
+		if other, isThere := places[it]; isThere {
+			to.refuse(place, "%q is that of %s too", it, other)
+		}
+		if carrying.IsLocal(it) != carrying.IsLocal(set.Controllers[0]) {
+			to.refuse(place, "they are all at Unix sockets, or none")
+		}
+		places[it] = place
+	}
+	return places
+}
+
 func (times Times) check(to *checking) {
 	if times.Answer <= 0 {
 		to.refuse("times.answer", "%v isn't above 0", times.Answer)
@@ -115,22 +148,32 @@ func (times Times) check(to *checking) {
 	}
 }
 
-func (process *Process) check(to *checking) {
-	if (process.Store == "") == (process.Etcd == nil) {
+func (place *Place) check(to *checking) {
+	if (place.Store == "") == (place.Etcd == nil) {
 		to.refuse("store", "either this file is there, or etcd")
 	}
-	if etcd := process.Etcd; etcd != nil {
+	if etcd := place.Etcd; etcd != nil {
 		etcd.check(to)
 	}
-	checkAddress(to, "listen", process.Listen)
-	if process.IsTLS() && (process.Certificate == "" || process.Key == "" || process.Authorities == "") {
+	checkAddress(to, "listen", place.Listen)
+	if place.IsTLS() && (place.Certificate == "" || place.Key == "" || place.Authorities == "") {
 		to.refuse("certificate", "certificate, key and authorities are there together, or none of them")
+	}
+}
+
+func (process *Process) check(to *checking) {
+	process.Place.check(to)
+	if process.Etcd != nil { // others tell it to their callers
+		checkAddress(to, "address", process.Address)
 	}
 	if process.Calls.Controller < 1 {
 		to.refuse("calls.controller", "%d isn't above 0", process.Calls.Controller)
 	}
 	if process.Calls.Node < 1 {
 		to.refuse("calls.node", "%d isn't above 0", process.Calls.Node)
+	}
+	if process.Calls.Caller < 1 {
+		to.refuse("calls.caller", "%d isn't above 0", process.Calls.Caller)
 	}
 	for name, role := range process.Clients {
 		if _, isOne := api.ParseRole(role); !isOne || name == "" {
@@ -180,15 +223,6 @@ func (settings *Settings) Name() secure.Name {
 	return secure.Name{Set: settings.Set.Name, Role: secure.Orchestrator}
 }
 
-// Files are those of this process's certificate, nil where it has none.
-func (settings *Settings) Files() *secure.Files {
-	process := settings.Process
-	if !process.IsTLS() {
-		return nil
-	}
-	return &secure.Files{Certificate: process.Certificate, Key: process.Key, Authorities: process.Authorities}
-}
-
 // Roles are those of clients and users. Where the file lists no users, root and the process's own may do all.
 func (settings *Settings) Roles(own int) (clients map[string]api.Role, users map[uint32]api.Role) {
 	clients, users = map[string]api.Role{}, map[uint32]api.Role{}
@@ -205,10 +239,13 @@ func (settings *Settings) Roles(own int) (clients map[string]api.Role, users map
 	return clients, users
 }
 
-// Addresses are the plugins', by their names.
-func (settings *Settings) Addresses() map[string]string {
-	addresses := map[string]string{carrying.Controller: settings.Set.Controller}
-	for _, it := range settings.Set.Nodes {
+// Addresses are the plugins', by their names: of several controllers all, with commas between.
+func (set *Set) Addresses() map[string]string {
+	addresses := map[string]string{carrying.Controller: set.Controller}
+	if set.Controller == "" {
+		addresses[carrying.Controller] = strings.Join(set.Controllers, ",")
+	}
+	for _, it := range set.Nodes {
 		addresses[carrying.NodeName(it.ID)] = it.Address
 	}
 	return addresses
@@ -217,21 +254,26 @@ func (settings *Settings) Addresses() map[string]string {
 // Check checks what is outside of the files: that addresses of machines can be looked up, and that the certificate names this process and is valid. It
 // tells until when that is, if there is one.
 func (settings *Settings) Check(ctx context.Context) (until time.Time, err error) {
+	return settings.Process.outside(ctx, settings.File, settings.Name(), settings.addresses())
+}
+
+// outside checks what is outside of the files of a process of this name, which uses these addresses, by their places.
+func (place *Place) outside(ctx context.Context, file string, name secure.Name, addresses map[string]string) (until time.Time, err error) {
 	var faults Faults
-	for place, address := range settings.addresses() {
+	for at, address := range addresses {
 		host, _, err := net.SplitHostPort(address)
 		if carrying.IsLocal(address) || err != nil || host == "" {
 			continue
 		}
 		looking, cancel := context.WithTimeout(ctx, 5*time.Second)
 		if _, err := net.DefaultResolver.LookupHost(looking, host); err != nil {
-			faults = append(faults, fmt.Sprintf("%s: %v", place, err))
+			faults = append(faults, fmt.Sprintf("%s: %v", at, err))
 		}
 		cancel()
 	}
-	if files := settings.Files(); files != nil {
-		if until, err = files.Check(settings.Name()); err != nil {
-			faults = append(faults, fmt.Sprintf("%s: certificate: %v", settings.File, err))
+	if files := place.Files(); files != nil {
+		if until, err = files.Check(name); err != nil {
+			faults = append(faults, fmt.Sprintf("%s: certificate: %v", file, err))
 		}
 	}
 	if len(faults) > 0 {

@@ -15,6 +15,7 @@ import (
 
 	"tufayon/service/api/wire"
 	"tufayon/service/carrying/carryingtest"
+	"tufayon/service/program"
 	"tufayon/service/secure"
 )
 
@@ -64,13 +65,13 @@ func (made *files) start(leads bool) (wire.OrchestratorClient, func() int) {
 	made.t.Helper()
 	ctx, stop := context.WithCancel(context.Background())
 	ended := make(chan int, 1)
-	go func() { ended <- statusOf(run(ctx, []string{made.path(made.process)}, os.Stdout)) }()
+	go func() { ended <- program.StatusOf(run(ctx, []string{made.path(made.process)}, os.Stdout)) }()
 	for end := time.Now().Add(within); time.Now().Before(end); time.Sleep(5 * time.Millisecond) {
 		if _, err := os.Stat(strings.TrimPrefix(made.address, "unix://")); err == nil {
 			break
 		}
 	}
-	connection, err := grpc.Dial(made.address, grpc.WithTransportCredentials(secure.Local{May: own}))
+	connection, err := grpc.Dial(made.address, grpc.WithTransportCredentials(secure.Local{May: program.IsOwn}))
 	if err != nil {
 		made.t.Fatal(err)
 	}
@@ -105,30 +106,34 @@ func TestService(t *testing.T) {
 	if volume, err = client.Use(ctx, use("n1")); err != nil || !volume.Reached {
 		t.Fatalf("used: %v, %v", volume, err)
 	}
-	anew := func(session uint64, ids ...string) {
+	anew := func(ids ...string) {
 		t.Helper()
+		before, err := client.Nodes(ctx, &wire.NodesRequest{})
+		if err != nil || before.Session < 1_600_000_000 { // it is by the clock
+			t.Fatalf("%v, %v", before, err)
+		}
 		made.list(ids...)
 		if err := syscall.Kill(os.Getpid(), syscall.SIGHUP); err != nil {
 			t.Fatal(err)
 		}
 		for end := time.Now().Add(within); ; time.Sleep(5 * time.Millisecond) {
 			nodes, err := client.Nodes(ctx, &wire.NodesRequest{})
-			if err == nil && nodes.Session == session {
+			if err == nil && nodes.Session > before.Session {
 				return
 			}
 			if time.Now().After(end) {
-				t.Fatalf("no session %d: %v, %v", session, nodes, err)
+				t.Fatalf("no session after %d: %v, %v", before.Session, nodes, err)
 			}
 		}
 	}
-	anew(2, "n1", "n2")
+	anew("n1", "n2")
 	made.list("n2") // n1 is in use, so all stays as it is
 	syscall.Kill(os.Getpid(), syscall.SIGHUP)
 	time.Sleep(100 * time.Millisecond)
 	if volume, err = client.Stop(ctx, &wire.StopRequest{Name: "v", Node: "n1", Target: "/a", Wait: wire.Wait_AT_REST}); err != nil || !volume.Reached {
 		t.Fatalf("stopped: %v, %v", volume, err)
 	}
-	anew(3, "n2")
+	anew("n2")
 	if volume, err = client.Use(ctx, use("n2")); err != nil || !volume.Reached {
 		t.Fatalf("used at n2: %v, %v", volume, err)
 	}
@@ -160,12 +165,12 @@ func TestWords(t *testing.T) {
 	} {
 		var output bytes.Buffer
 		err := run(context.Background(), it.words, &output)
-		if status := statusOf(err); status != it.status || !strings.Contains(output.String()+fmt.Sprint(err), it.says) {
+		if status := program.StatusOf(err); status != it.status || !strings.Contains(output.String()+fmt.Sprint(err), it.says) {
 			t.Errorf("%v: %d, %v, %s", it.words, status, err, output.String())
 		}
 	}
 	made.write("o.db", "this is no database of SQLite, and long enough to be read as one")
-	if err := run(context.Background(), []string{made.path("process.json")}, os.Stdout); statusOf(err) != 3 {
+	if err := run(context.Background(), []string{made.path("process.json")}, os.Stdout); program.StatusOf(err) != 3 {
 		t.Errorf("another file as store: %v", err)
 	}
 }
