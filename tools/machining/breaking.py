@@ -1,0 +1,3 @@
+"""What is broken on purpose, to see that it is found."""
+
+BREAKS = {}

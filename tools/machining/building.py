@@ -1,0 +1,1 @@
+"""Builds what a run needs, and says what there isn't."""
