@@ -48,19 +48,23 @@ func (backend *Backend) tell(how grpc_health_v1.HealthCheckResponse_ServingStatu
 
 // Serve has the services serve over the core, from now until it is done, or Stop.
 func (backend *Backend) Serve(core Core) {
-	backend.put(core)
+	backend.put(core, nil)
 	go func() {
 		<-core.Done()
-		backend.Stop()
+		backend.put(nil, core)
 	}()
 }
 
 // Stop has no further call get to the core. Those that are under way go on.
-func (backend *Backend) Stop() { backend.put(nil) }
+func (backend *Backend) Stop() { backend.put(nil, nil) }
 
-func (backend *Backend) put(core Core) {
+// put puts a core, or none, in place of another one, or of any.
+func (backend *Backend) put(core, other Core) {
 	backend.mutex.Lock()
 	defer backend.mutex.Unlock()
+	if other != nil && backend.served != other {
+		return
+	}
 	backend.served = core
 	how := grpc_health_v1.HealthCheckResponse_SERVING
 	if core == nil {

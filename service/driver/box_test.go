@@ -106,7 +106,7 @@ type box struct {
 func newBox(t *testing.T) *box {
 	t.Helper()
 	box := &box{T: t, core: &core{done: make(chan struct{})}, told: &told{}, backend: NewBackend()}
-	server := NewServer(box.backend, limiting.New())
+	server := NewServer(box.backend, limiting.New(), "a test")
 	RegisterIdentity(server, box.backend, "a.example", "1.2.3")
 	RegisterController(server, box.backend, box.told)
 	RegisterNode(server, box.backend, NodeOptions{ID: "n1", Hooks: box.told})

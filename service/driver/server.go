@@ -29,11 +29,11 @@ var numbered = map[string]bool{
 }
 
 // NewServer makes a server with the health service alone, which judges of each request first its number, if it is of a call that has one, and then
-// whether the proto has its fields. A panic ends the call alone, and is told on standard error.
-func NewServer(backend *Backend, limits *limiting.Limits) *grpc.Server {
+// whether the proto has its fields. A panic ends the call alone, and is told on standard error, after the program's name.
+func NewServer(backend *Backend, limits *limiting.Limits, program string, more ...grpc.ServerOption) *grpc.Server {
 	options := append(limits.Options(), grpc.MaxRecvMsgSize(maxMessage), grpc.MaxHeaderListSize(maxMetadata),
-		grpc.ChainUnaryInterceptor(limits.Intercept, recovering(os.Stderr), backend.admit))
-	server := grpc.NewServer(options...)
+		grpc.ChainUnaryInterceptor(limits.Intercept, recovering(os.Stderr, program), backend.admit))
+	server := grpc.NewServer(append(options, more...)...)
 	grpc_health_v1.RegisterHealthServer(server, backend.health)
 	return server
 }
@@ -56,11 +56,11 @@ func (backend *Backend) admit(ctx context.Context, request any, info *grpc.Unary
 }
 
 // recovering answers a call that panics. What it panicked of isn't told, since it may show what is private.
-func recovering(log io.Writer) grpc.UnaryServerInterceptor {
+func recovering(log io.Writer, program string) grpc.UnaryServerInterceptor {
 	return func(ctx context.Context, request any, info *grpc.UnaryServerInfo, handle grpc.UnaryHandler) (response any, err error) {
 		defer func() {
 			if why := recover(); why != nil {
-				fmt.Fprintf(log, "csi-driver: a panic (%T) in %s\n%s", why, info.FullMethod, debug.Stack())
+				fmt.Fprintf(log, "%s: a panic (%T) in %s\n%s", program, why, info.FullMethod, debug.Stack())
 				response, err = nil, status.Error(codes.Internal, "panic")
 			}
 		}()

@@ -72,7 +72,7 @@ func TestDone(t *testing.T) {
 func TestPanic(t *testing.T) {
 	var log bytes.Buffer
 	info := &grpc.UnaryServerInfo{FullMethod: "/csi.v1.Controller/DeleteVolume"}
-	_, err := recovering(&log)(context.Background(), nil, info, func(context.Context, any) (any, error) {
+	_, err := recovering(&log, "csi-driver")(context.Background(), nil, info, func(context.Context, any) (any, error) {
 		panic("s3cret")
 	})
 	if status.Code(err) != codes.Internal || status.Convert(err).Message() != "panic" {

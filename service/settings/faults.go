@@ -42,18 +42,19 @@ func (settings *Settings) faults() Faults {
 	settings.Set.check(set)
 	process := &checking{file: settings.File}
 	settings.Process.check(process)
-	faults := append(set.faults, process.faults...)
-	if settings.Process.IsTLS() {
-		return faults
-	}
-	var open Faults
-	for place, address := range settings.addresses() {
-		if _, _, err := net.SplitHostPort(address); err == nil && !carrying.IsLocal(address) {
-			open = append(open, fmt.Sprintf("%s: over TCP there have to be a certificate, its key and authorities in %s", place, settings.File))
+	return append(append(set.faults, process.faults...), settings.Process.open(settings.File, settings.addresses())...)
+}
+
+// open are the addresses, by their places, at which a process without certificates would speak with whoever is there.
+func (place *Place) open(file string, addresses map[string]string) Faults {
+	var faults Faults
+	for at, address := range addresses {
+		if _, _, err := net.SplitHostPort(address); err == nil && !place.IsTLS() && !carrying.IsLocal(address) {
+			faults = append(faults, fmt.Sprintf("%s: over TCP there have to be a certificate, its key and authorities in %s", at, file))
 		}
 	}
-	sort.Strings(open)
-	return append(faults, open...)
+	sort.Strings(faults)
+	return faults
 }
 
 // addresses are all addresses, by their places.
@@ -115,17 +116,21 @@ func (times Times) check(to *checking) {
 	}
 }
 
-func (process *Process) check(to *checking) {
-	if (process.Store == "") == (process.Etcd == nil) {
+func (place *Place) check(to *checking) {
+	if (place.Store == "") == (place.Etcd == nil) {
 		to.refuse("store", "either this file is there, or etcd")
 	}
-	if etcd := process.Etcd; etcd != nil {
+	if etcd := place.Etcd; etcd != nil {
 		etcd.check(to)
 	}
-	checkAddress(to, "listen", process.Listen)
-	if process.IsTLS() && (process.Certificate == "" || process.Key == "" || process.Authorities == "") {
+	checkAddress(to, "listen", place.Listen)
+	if place.IsTLS() && (place.Certificate == "" || place.Key == "" || place.Authorities == "") {
 		to.refuse("certificate", "certificate, key and authorities are there together, or none of them")
 	}
+}
+
+func (process *Process) check(to *checking) {
+	process.Place.check(to)
 	if process.Calls.Controller < 1 {
 		to.refuse("calls.controller", "%d isn't above 0", process.Calls.Controller)
 	}
@@ -180,15 +185,6 @@ func (settings *Settings) Name() secure.Name {
 	return secure.Name{Set: settings.Set.Name, Role: secure.Orchestrator}
 }
 
-// Files are those of this process's certificate, nil where it has none.
-func (settings *Settings) Files() *secure.Files {
-	process := settings.Process
-	if !process.IsTLS() {
-		return nil
-	}
-	return &secure.Files{Certificate: process.Certificate, Key: process.Key, Authorities: process.Authorities}
-}
-
 // Roles are those of clients and users. Where the file lists no users, root and the process's own may do all.
 func (settings *Settings) Roles(own int) (clients map[string]api.Role, users map[uint32]api.Role) {
 	clients, users = map[string]api.Role{}, map[uint32]api.Role{}
@@ -206,9 +202,9 @@ func (settings *Settings) Roles(own int) (clients map[string]api.Role, users map
 }
 
 // Addresses are the plugins', by their names.
-func (settings *Settings) Addresses() map[string]string {
-	addresses := map[string]string{carrying.Controller: settings.Set.Controller}
-	for _, it := range settings.Set.Nodes {
+func (set *Set) Addresses() map[string]string {
+	addresses := map[string]string{carrying.Controller: set.Controller}
+	for _, it := range set.Nodes {
 		addresses[carrying.NodeName(it.ID)] = it.Address
 	}
 	return addresses
@@ -217,21 +213,26 @@ func (settings *Settings) Addresses() map[string]string {
 // Check checks what is outside of the files: that addresses of machines can be looked up, and that the certificate names this process and is valid. It
 // tells until when that is, if there is one.
 func (settings *Settings) Check(ctx context.Context) (until time.Time, err error) {
+	return settings.Process.outside(ctx, settings.File, settings.Name(), settings.addresses())
+}
+
+// outside checks what is outside of the files of a process of this name, which uses these addresses, by their places.
+func (place *Place) outside(ctx context.Context, file string, name secure.Name, addresses map[string]string) (until time.Time, err error) {
 	var faults Faults
-	for place, address := range settings.addresses() {
+	for at, address := range addresses {
 		host, _, err := net.SplitHostPort(address)
 		if carrying.IsLocal(address) || err != nil || host == "" {
 			continue
 		}
 		looking, cancel := context.WithTimeout(ctx, 5*time.Second)
 		if _, err := net.DefaultResolver.LookupHost(looking, host); err != nil {
-			faults = append(faults, fmt.Sprintf("%s: %v", place, err))
+			faults = append(faults, fmt.Sprintf("%s: %v", at, err))
 		}
 		cancel()
 	}
-	if files := settings.Files(); files != nil {
-		if until, err = files.Check(settings.Name()); err != nil {
-			faults = append(faults, fmt.Sprintf("%s: certificate: %v", settings.File, err))
+	if files := place.Files(); files != nil {
+		if until, err = files.Check(name); err != nil {
+			faults = append(faults, fmt.Sprintf("%s: certificate: %v", file, err))
 		}
 	}
 	if len(faults) > 0 {

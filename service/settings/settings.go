@@ -1,5 +1,5 @@
-// Package settings reads and checks the two files of the orchestrator's service, and tells each fault with its place: the file of the set, which is the
-// same for all of its processes, and the file of this process. docs/SERVICE.md has their keys.
+// Package settings reads and checks the two files of a process of a set, and tells each fault with its place: the file of the set, which is the same for
+// all of its processes, and the file of this process, the orchestrator's service or a plugin. docs/SERVICE.md has their keys.
 package settings
 
 import (
@@ -11,6 +11,8 @@ import (
 	"path/filepath"
 	"strings"
 	"time"
+
+	"tufayon/service/secure"
 )
 
 // A Set is the file of a set.
@@ -38,21 +40,26 @@ type Times struct {
 	MostRetry float64 `json:"most_retry"` // and at most
 }
 
-// A Process is the file of a process.
-type Process struct {
-	Set         string            `json:"set"`   // the set's file
-	Store       string            `json:"store"` // the orchestrator's file of SQLite; or
-	Etcd        *Etcd             `json:"etcd"`
-	Listen      string            `json:"listen"` // unix://PATH, or HOST:PORT
-	Certificate string            `json:"certificate"`
-	Key         string            `json:"key"`
-	Authorities string            `json:"authorities"`
-	Clients     map[string]string `json:"clients"` // the role of each client of the set, by its name
-	Users       map[string]string `json:"users"`   // the role of each user of this machine, by its number
-	Calls       Calls             `json:"calls"`
+// A Place is what the file of each process has: the set's file, its store, and where and as whom it serves.
+type Place struct {
+	Set         string `json:"set"`   // the set's file
+	Store       string `json:"store"` // its file of SQLite; or
+	Etcd        *Etcd  `json:"etcd"`
+	Listen      string `json:"listen"` // unix://PATH, or HOST:PORT
+	Certificate string `json:"certificate"`
+	Key         string `json:"key"`
+	Authorities string `json:"authorities"`
 }
 
-// Etcd says where the orchestrator's store is in etcd, and how this process leads.
+// A Process is the file of the orchestrator's service.
+type Process struct {
+	Place
+	Clients map[string]string `json:"clients"` // the role of each client of the set, by its name
+	Users   map[string]string `json:"users"`   // the role of each user of this machine, by its number
+	Calls   Calls             `json:"calls"`
+}
+
+// Etcd says where a store is in etcd, and how this process leads.
 type Etcd struct {
 	Endpoints   []string `json:"endpoints"`
 	Prefix      string   `json:"prefix"`
@@ -68,7 +75,7 @@ type Calls struct {
 	Node       int `json:"node"` // at each
 }
 
-// Settings are both files.
+// Settings are both files of the orchestrator's service.
 type Settings struct {
 	Set     Set
 	Process Process
@@ -79,8 +86,16 @@ type Settings struct {
 func Seconds(count float64) time.Duration { return time.Duration(count * float64(time.Second)) }
 
 // IsTLS says whether there are certificates.
-func (process *Process) IsTLS() bool {
-	return process.Certificate != "" || process.Key != "" || process.Authorities != ""
+func (place *Place) IsTLS() bool {
+	return place.Certificate != "" || place.Key != "" || place.Authorities != ""
+}
+
+// Files are those of this process's certificate, nil where it has none.
+func (place *Place) Files() *secure.Files {
+	if !place.IsTLS() {
+		return nil
+	}
+	return &secure.Files{Certificate: place.Certificate, Key: place.Key, Authorities: place.Authorities}
 }
 
 // Faults are all that is wrong, each with its place.
@@ -88,23 +103,31 @@ type Faults []string
 
 func (faults Faults) Error() string { return strings.Join(faults, "\n") }
 
-// Read reads both files. What is wrong with them in themselves is told, each fault with its place: Faults.
+// Read reads both files of the orchestrator's service. What is wrong with them in themselves is told, each fault with its place: Faults.
 func Read(file string) (*Settings, error) {
-	settings := &Settings{
-		File:    file,
-		Set:     Set{Times: Times{Patience: 300, Answer: 150, Retry: 1, MostRetry: 60}},
-		Process: Process{Calls: Calls{Controller: 64, Node: 32}},
+	settings := &Settings{File: file, Set: usualSet(), Process: Process{Calls: Calls{Controller: 64, Node: 32}}}
+	if err := readBoth(file, &settings.Process, &settings.Process.Place, &settings.Set); err != nil {
+		return nil, err
 	}
-	if err := readJSON(file, &settings.Process); err != nil {
-		return nil, Faults{err.Error()}
+	if faults := settings.faults(); len(faults) > 0 {
+		return nil, faults
 	}
-	if settings.Process.Set == "" {
-		return nil, Faults{file + ": set: the set's file is missing"}
+	return settings, nil
+}
+
+// usualSet has what a set's file may leave out.
+func usualSet() Set { return Set{Times: Times{Patience: 300, Answer: 150, Retry: 1, MostRetry: 60}} }
+
+// readBoth reads the file of a process, in which this place is, and the set's, and has the paths of the former count from its folder.
+func readBoth(file string, process any, place *Place, set *Set) error {
+	if err := readJSON(file, process); err != nil {
+		return Faults{err.Error()}
 	}
-	paths := []*string{
-		&settings.Process.Set, &settings.Process.Store, &settings.Process.Certificate, &settings.Process.Key, &settings.Process.Authorities,
+	if place.Set == "" {
+		return Faults{file + ": set: the set's file is missing"}
 	}
-	if etcd := settings.Process.Etcd; etcd != nil {
+	paths := []*string{&place.Set, &place.Store, &place.Certificate, &place.Key, &place.Authorities}
+	if etcd := place.Etcd; etcd != nil {
 		paths = append(paths, &etcd.CA, &etcd.Certificate, &etcd.Key)
 	}
 	for _, path := range paths {
@@ -112,13 +135,10 @@ func Read(file string) (*Settings, error) {
 			*path = filepath.Join(filepath.Dir(file), *path)
 		}
 	}
-	if err := readJSON(settings.Process.Set, &settings.Set); err != nil {
-		return nil, Faults{err.Error()}
+	if err := readJSON(place.Set, set); err != nil {
+		return Faults{err.Error()}
 	}
-	if faults := settings.faults(); len(faults) > 0 {
-		return nil, faults
-	}
-	return settings, nil
+	return nil
 }
 
 // readJSON reads the one object that a file has, which has no key that isn't known.

@@ -10,6 +10,7 @@ import (
 	"time"
 
 	"tufayon/service/api"
+	"tufayon/service/secure"
 	"tufayon/service/secure/securetest"
 	"tufayon/service/settings"
 )
@@ -44,7 +45,7 @@ func TestRead(t *testing.T) {
 	if read.Process.Store != filepath.Join(filepath.Dir(file), "orchestrator.db") || read.Set.Times.Patience != 300 || read.Process.Calls.Node != 32 {
 		t.Errorf("%+v", read)
 	}
-	if addresses := read.Addresses(); len(addresses) != 3 || addresses["node:n2"] != "unix:///run/n2.sock" || addresses["controller"] != "unix:///run/c.sock" {
+	if addresses := read.Set.Addresses(); len(addresses) != 3 || addresses["node:n2"] != "unix:///run/n2.sock" || addresses["controller"] != "unix:///run/c.sock" {
 		t.Errorf("%v", addresses)
 	}
 	if _, users := read.Roles(7); len(users) != 2 || users[7] != api.Loses || users[0] != api.Loses {
@@ -116,5 +117,53 @@ func TestCheck(t *testing.T) {
 	want := file + ": certificate: " + files.Certificate + ": the peer is of another set: tufayon://s2/orchestrator, not tufayon://s1/orchestrator"
 	if _, err := read.Check(context.Background()); err == nil || err.Error() != want {
 		t.Errorf("%v, not %s", err, want)
+	}
+}
+
+const node = `{"set": "set.json", "store": "n1.db", "node": "n1", "commands": {"stage": "/bin/stage"}, "users": [7]}`
+
+// The file of a plugin's process: what is left out, and each fault with its place.
+func TestReadPlugin(t *testing.T) {
+	file := write(t, set, node)
+	read, err := settings.ReadPlugin(file, secure.Node)
+	if err != nil {
+		t.Fatal(err)
+	}
+	its := read.Plugin
+	if its.Listen != "unix:///run/n1.sock" || its.Hooks != settings.Mounts || its.CommandSeconds != 120 || its.Store != filepath.Join(filepath.Dir(file), "n1.db") ||
+		read.CertificateName().String() != "tufayon://s1/node/n1" {
+		t.Errorf("%+v", read)
+	}
+	other := its
+	other.Users, other.Session, other.Key = []uint32{8}, 3, "k"
+	if keys := its.Others(&other); strings.Join(keys, " ") != "key session" {
+		t.Errorf("others are %v", keys)
+	}
+	for _, it := range []struct {
+		role    secure.Role
+		process string
+		want    []string
+	}{
+		{secure.Node, strings.Replace(node, `"n1",`, `"n3",`, 1), []string{`process.json: node: "n3" isn't listed in`, "process.json: listen: "}},
+		{secure.Node, strings.Replace(node, `"store": "n1.db"`, `"etcd": {"endpoints": ["http://127.0.0.1:1"], "prefix": "/p", "lease": 1}`, 1), []string{"etcd: a node's store is a file"}},
+		{secure.Node, strings.Replace(node, `"users": [7]`, `"hooks": "some", "max_volumes": -1, "command_seconds": 0, "name": "a_b", "local": "unix://l"`, 1), []string{
+			`local: "unix://l" is no`, `name: "a_b" is no name`, "command_seconds: 0 isn't", `hooks: "some" is neither mounts nor none`, "max_volumes: -1 is below 0",
+		}},
+		{secure.Node, strings.Replace(node, `"stage": "/bin/stage"`, `"attach": "bin"`, 1), []string{"commands.attach: a node has no such deed", `commands.attach: "bin" is no absolute path`}},
+		{secure.Node, strings.Replace(node, `"users": [7]`, `"listen": ":7102"`, 1), []string{"process.json: listen: over TCP there have to be"}},
+		{secure.Controller, node, []string{"commands.stage: a controller has no such deed", "node: node, session, hooks and max_volumes are a node's"}},
+		{secure.Controller, `{"set": "set.json"}`, []string{"store: either this file is there, or etcd"}},
+	} {
+		_, err := settings.ReadPlugin(write(t, set, it.process), it.role)
+		var faults settings.Faults
+		if !errors.As(err, &faults) || len(faults) != len(it.want) {
+			t.Errorf("%s: %v", it.process, err)
+			continue
+		}
+		for _, want := range it.want {
+			if !strings.Contains(err.Error(), want) {
+				t.Errorf("%v doesn't say %s", err, want)
+			}
+		}
 	}
 }

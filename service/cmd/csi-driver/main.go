@@ -9,6 +9,7 @@ import (
 	"os/signal"
 	"syscall"
 
+	"tufayon/service/life"
 	"tufayon/service/numbers"
 	"tufayon/service/plugin"
 	"tufayon/service/store"
@@ -48,19 +49,5 @@ func run(ctx context.Context, words []string) error {
 	if err != nil {
 		return err
 	}
-	if err := options.maker.Check(); err != nil {
-		return err // before there is a store
-	}
-	life := newLife(options)
-	if options.waits() {
-		if err := life.listen(); err != nil {
-			return err // its socket is there while it waits to lead, and tells that it isn't ready
-		}
-		fmt.Fprintf(os.Stderr, "csi-driver: waits at %s\n", options.socket)
-	}
-	err = life.serve(ctx)
-	if ended := life.end(); err == nil {
-		err = ended
-	}
-	return err
+	return life.New(options.driver()).Run(ctx)
 }

@@ -6,21 +6,19 @@ import (
 	"flag"
 	"fmt"
 	"io"
+	"net"
 	"os"
 	"path/filepath"
-	"regexp"
 	"strings"
 	"time"
 
-	"google.golang.org/grpc"
-
 	"tufayon/service/driver"
 	"tufayon/service/etcd"
-	"tufayon/service/hooks"
-	"tufayon/service/mounting"
+	"tufayon/service/life"
 	"tufayon/service/numbers"
 	"tufayon/service/plugin"
-	"tufayon/service/serving"
+	"tufayon/service/secure"
+	"tufayon/service/settings"
 	"tufayon/service/store"
 )
 
@@ -55,8 +53,8 @@ func parse(words []string) (*options, error) {
 	flags.SetOutput(io.Discard)
 	endpoint := flags.String("endpoint", os.Getenv("CSI_ENDPOINT"), "the socket, unix://PATH")
 	source := flags.String("numbers", "metadata", "metadata, or arrival")
-	flags.StringVar(&options.name, "name", "csi.tufayon.example", "the plugin's name")
-	flags.Uint64Var(&options.mostAbove, "sessions-above", 1000000, "how far a call's session may be above the latest one; 0 for any")
+	flags.StringVar(&options.name, "name", settings.UsualName, "the plugin's name")
+	flags.Uint64Var(&options.mostAbove, "sessions-above", settings.UsualAbove, "how far a call's session may be above the latest one; 0 for any")
 	endpoints := ""
 	if options.maker.IsController {
 		options.addController(flags, &endpoints)
@@ -91,16 +89,13 @@ func parse(words []string) (*options, error) {
 	return options, nil
 }
 
-// pluginName is what CSI has a plugin's name be: as a domain name, and at most 63 characters.
-var pluginName = regexp.MustCompile(`^[A-Za-z0-9]([-.A-Za-z0-9]{0,61}[A-Za-z0-9])?$`)
-
 // fit says whether the options have values that they may have, and each that another one needs.
 func (options *options) fit() bool {
-	if !pluginName.MatchString(options.name) || options.hookSeconds <= 0 {
+	if !settings.PluginName.MatchString(options.name) || options.hookSeconds <= 0 {
 		return false
 	}
 	if !options.maker.IsController {
-		return (options.hooks == "mounts" || options.hooks == "none") && options.maxVolumes >= 0
+		return (options.hooks == settings.Mounts || options.hooks == settings.NoHooks) && options.maxVolumes >= 0
 	}
 	etcd := options.etcd
 	isTLS := etcd.CA != "" && etcd.Certificate != "" && etcd.Key != ""
@@ -128,9 +123,7 @@ func (options *options) words(words []string) (name string, ok bool) {
 }
 
 func (options *options) addController(flags *flag.FlagSet, endpoints *string) {
-	options.addCommands(flags, map[string]string{
-		"CreateVolume": "on-create", "DeleteVolume": "on-delete", "ControllerPublishVolume": "on-attach", "ControllerUnpublishVolume": "on-detach",
-	})
+	options.addCommands(flags, settings.Deeds[secure.Controller])
 	flags.StringVar(endpoints, "etcd", "", "etcd's endpoints, with commas between")
 	flags.StringVar(&options.etcd.Prefix, "prefix", "", "what the keys of this store begin with in etcd")
 	flags.StringVar(&options.etcd.CA, "etcd-ca", "", "the certificate of who signed etcd's")
@@ -140,16 +133,14 @@ func (options *options) addController(flags *flag.FlagSet, endpoints *string) {
 }
 
 func (options *options) addNode(flags *flag.FlagSet) {
-	options.addCommands(flags, map[string]string{
-		"NodeStageVolume": "on-stage", "NodeUnstageVolume": "on-unstage", "NodePublishVolume": "on-publish", "NodeUnpublishVolume": "on-unpublish",
-	})
+	options.addCommands(flags, settings.Deeds[secure.Node])
 	flags.Int64Var(&options.maxVolumes, "max-volumes", 0, "what NodeGetInfo tells")
-	flags.StringVar(&options.hooks, "hooks", "mounts", "mounts, or none")
+	flags.StringVar(&options.hooks, "hooks", settings.Mounts, "mounts, or none")
 }
 
-func (options *options) addCommands(flags *flag.FlagSet, names map[string]string) {
-	for call, name := range names {
-		options.commands[call] = flags.String(name, "", "the command that does it")
+func (options *options) addCommands(flags *flag.FlagSet, deeds map[string]string) {
+	for deed, call := range deeds {
+		options.commands[call] = flags.String("on-"+deed, "", "the command that does it")
 	}
 }
 
@@ -164,58 +155,39 @@ func (options *options) open(ctx context.Context) (store.Store, error) {
 	return store.OpenSQLite(ctx, options.database)
 }
 
-// plugin makes the plugin of a record.
-func (options *options) plugin(record []byte) (serving.Plugin, bool, error) {
-	made, renewed, err := options.maker.Make(record)
-	if err != nil {
-		return nil, false, err
+// driver is what the options say.
+func (options *options) driver() life.Driver {
+	it := life.Driver{
+		Program: "csi-driver", Name: options.name, Maker: options.maker, Numbering: life.ByMetadata(options.mostAbove), Open: options.open,
+		Waits: options.waits(), Hooks: options.deeds().Hooks(), MaxVolumes: options.maxVolumes,
+		Doors: []life.Door{{Address: options.socket, Listen: func() (net.Listener, error) { return driver.Listen(options.socket) }}},
 	}
-	return made, renewed, nil
-}
-
-// notes is the file of a node's notes; none of a controller.
-func (options *options) notes() string {
-	if options.maker.IsController {
-		return ""
+	if !it.Maker.IsController {
+		it.Notes = options.database + ".driver"
 	}
-	return options.database + ".driver"
-}
-
-func (options *options) numbering() serving.Numbering {
-	return func(latest uint64) (numbers.Source, error) {
-		if options.byArrival {
-			return numbers.NewArrival(latest)
+	if options.byArrival {
+		it.Numbering = life.ByArrival
+	}
+	it.Say = func(line string) {
+		if options.byArrival && strings.HasPrefix(line, "serves") {
+			fmt.Fprintf(os.Stderr, "csi-driver: %s\n", numbers.SmallerPromise)
 		}
-		return numbers.Metadata{MostAbove: options.mostAbove}, nil
+		fmt.Fprintf(os.Stderr, "csi-driver: %s\n", line)
 	}
+	return it
 }
 
-// register adds the services of the plugin to the server.
-func (options *options) register(server *grpc.Server, backend *driver.Backend) {
-	if options.maker.IsController {
-		driver.RegisterController(server, backend, options.deeds())
-		return
+// deeds say what does what calls ask for.
+func (options *options) deeds() life.Deeds {
+	deeds := life.Deeds{
+		Commands: map[string]string{}, Within: time.Duration(options.hookSeconds) * time.Second, IsMounts: options.hooks == settings.Mounts,
+		Locks: options.database + ".hooks",
 	}
-	driver.RegisterNode(server, backend, driver.NodeOptions{ID: string(options.maker.Name), MaxVolumes: options.maxVolumes, Hooks: options.deeds()})
-}
-
-// deeds is what does what calls ask for: nil where nothing does.
-func (options *options) deeds() hooks.Hooks {
-	commands := hooks.Commands{Of: map[string]string{}, Rest: hooks.None{}, Within: time.Duration(options.hookSeconds) * time.Second}
 	for call, command := range options.commands {
-		if *command != "" {
-			commands.Of[call] = *command
-		}
+		deeds.Commands[call] = *command
 	}
-	if options.hooks == "mounts" {
-		commands.Rest = mounting.Mounts{}
-	}
-	if len(commands.Of) == 0 && options.hooks != "mounts" {
-		return nil
-	}
-	commands.Locks.Folder = options.database + ".hooks"
 	if options.database == "" {
-		commands.Locks.Folder = filepath.Join(filepath.Dir(options.socket), "hooks")
+		deeds.Locks = filepath.Join(filepath.Dir(options.socket), "hooks")
 	}
-	return commands
+	return deeds
 }

@@ -15,6 +15,7 @@ import (
 
 	"tufayon/service/api/wire"
 	"tufayon/service/carrying/carryingtest"
+	"tufayon/service/program"
 	"tufayon/service/secure"
 )
 
@@ -64,13 +65,13 @@ func (made *files) start(leads bool) (wire.OrchestratorClient, func() int) {
 	made.t.Helper()
 	ctx, stop := context.WithCancel(context.Background())
 	ended := make(chan int, 1)
-	go func() { ended <- statusOf(run(ctx, []string{made.path(made.process)}, os.Stdout)) }()
+	go func() { ended <- program.StatusOf(run(ctx, []string{made.path(made.process)}, os.Stdout)) }()
 	for end := time.Now().Add(within); time.Now().Before(end); time.Sleep(5 * time.Millisecond) {
 		if _, err := os.Stat(strings.TrimPrefix(made.address, "unix://")); err == nil {
 			break
 		}
 	}
-	connection, err := grpc.Dial(made.address, grpc.WithTransportCredentials(secure.Local{May: own}))
+	connection, err := grpc.Dial(made.address, grpc.WithTransportCredentials(secure.Local{May: program.IsOwn}))
 	if err != nil {
 		made.t.Fatal(err)
 	}
@@ -160,12 +161,12 @@ func TestWords(t *testing.T) {
 	} {
 		var output bytes.Buffer
 		err := run(context.Background(), it.words, &output)
-		if status := statusOf(err); status != it.status || !strings.Contains(output.String()+fmt.Sprint(err), it.says) {
+		if status := program.StatusOf(err); status != it.status || !strings.Contains(output.String()+fmt.Sprint(err), it.says) {
 			t.Errorf("%v: %d, %v, %s", it.words, status, err, output.String())
 		}
 	}
 	made.write("o.db", "this is no database of SQLite, and long enough to be read as one")
-	if err := run(context.Background(), []string{made.path("process.json")}, os.Stdout); statusOf(err) != 3 {
+	if err := run(context.Background(), []string{made.path("process.json")}, os.Stdout); program.StatusOf(err) != 3 {
 		t.Errorf("another file as store: %v", err)
 	}
 }

@@ -7,7 +7,6 @@ import (
 	"os"
 	"os/signal"
 	"reflect"
-	"strings"
 	"syscall"
 	"time"
 
@@ -17,8 +16,8 @@ import (
 
 	"tufayon/service/api"
 	"tufayon/service/carrying"
-	"tufayon/service/etcd"
 	"tufayon/service/host"
+	"tufayon/service/program"
 	"tufayon/service/secure"
 	"tufayon/service/settings"
 	"tufayon/service/store"
@@ -52,7 +51,7 @@ func serve(ctx context.Context, read *settings.Settings, log *zap.Logger) error 
 		return err
 	}
 	defer running.carrier.Close()
-	listener, err := listen(read.Process.Listen)
+	listener, err := program.Listen(read.Process.Listen)
 	if err != nil {
 		return err
 	}
@@ -62,7 +61,7 @@ func serve(ctx context.Context, read *settings.Settings, log *zap.Logger) error 
 	served := make(chan error, 1)
 	go func() { served <- running.grpc.Serve(listener) }()
 	log.Info("waits for the store", zap.String("address", read.Process.Listen))
-	kept, err := open(ctx, read.Process)
+	kept, err := program.OpenStore(ctx, &read.Process.Place)
 	if err != nil {
 		if ctx.Err() != nil {
 			return nil // it was ended while it waited to lead
@@ -76,21 +75,10 @@ func serve(ctx context.Context, read *settings.Settings, log *zap.Logger) error 
 	return err
 }
 
-// open opens the store, and waits until this process leads where it is in etcd.
-func open(ctx context.Context, process settings.Process) (store.Store, error) {
-	if process.Etcd == nil {
-		return store.OpenSQLite(ctx, process.Store)
-	}
-	its := process.Etcd
-	return etcd.Config{
-		Endpoints: its.Endpoints, Prefix: its.Prefix, CA: its.CA, Certificate: its.Certificate, Key: its.Key, LeaseSeconds: its.Lease,
-	}.Open(ctx)
-}
-
 // connect makes connections to the plugins.
 func (running *service) connect() error {
 	read := running.settings
-	peers := carrying.Peers{Set: read.Set.Name, Files: read.Files(), May: own, Refused: func(plugin string) secure.Refused {
+	peers := carrying.Peers{Set: read.Set.Name, Files: read.Process.Files(), May: program.IsOwn, Refused: func(plugin string) secure.Refused {
 		return func(_ net.Addr, why error) {
 			running.log.Warn("a plugin is refused", zap.String("plugin", plugin), zap.Error(why))
 		}
@@ -99,7 +87,7 @@ func (running *service) connect() error {
 		AtController: read.Process.Calls.Controller, AtNode: read.Process.Calls.Node, Answer: settings.Seconds(read.Set.Times.Answer), Reach: reach,
 	}
 	running.carrier = carrying.New(limits, read.Set.Staging, peers.Dial)
-	return running.carrier.Set(read.Addresses())
+	return running.carrier.Set(read.Set.Addresses())
 }
 
 // lead begins the orchestrator's next session over the store, and serves.
@@ -119,16 +107,6 @@ func (running *service) lead(ctx context.Context, kept store.Store, served <-cha
 	return running.wait(ctx, served)
 }
 
-// own says whether a user at the other end of a plugin's socket is this one, or root.
-func own(uid uint32) bool { return uid == 0 || int(uid) == os.Geteuid() }
-
-func listen(address string) (net.Listener, error) {
-	if carrying.IsLocal(address) {
-		return secure.Listen(strings.TrimPrefix(address, "unix://"))
-	}
-	return net.Listen("tcp", address)
-}
-
 // credentials are those by which callers are known.
 func (running *service) credentials() credentials.TransportCredentials {
 	refused := func(from net.Addr, why error) {
@@ -137,7 +115,7 @@ func (running *service) credentials() credentials.TransportCredentials {
 	if carrying.IsLocal(running.settings.Process.Listen) {
 		return secure.Local{May: running.roles.MayConnect, Refused: refused}
 	}
-	return running.settings.Files().Server(secure.Those(running.settings.Set.Name, secure.Client), refused)
+	return running.settings.Process.Files().Server(secure.Those(running.settings.Set.Name, secure.Client), refused)
 }
 
 // wait serves until the process is to end, or can't go on, and reads the files anew at SIGHUP.
@@ -189,8 +167,8 @@ func (running *service) readAnew(ctx context.Context) error {
 	if err := running.stays(read); err != nil {
 		return err
 	}
-	both := running.settings.Addresses()
-	for plugin, address := range read.Addresses() {
+	both := running.settings.Set.Addresses()
+	for plugin, address := range read.Set.Addresses() {
 		both[plugin] = address
 	}
 	if err := running.carrier.Set(both); err != nil {
@@ -198,11 +176,11 @@ func (running *service) readAnew(ctx context.Context) error {
 	}
 	if !same(read.Set.IDs(), running.host.Nodes()) {
 		if _, err := running.host.Begin(ctx, read.Set.IDs(), "the list of nodes is another one"); err != nil {
-			running.carrier.Set(running.settings.Addresses())
-			return settings.Faults{fmt.Sprintf("%s: nodes: %v", read.Process.Set, err)}
+			running.carrier.Set(running.settings.Set.Addresses())
+			return settings.Faults{fmt.Sprintf("%s: nodes: %v", read.Process.Place.Set, err)}
 		}
 	}
-	if err := running.carrier.Set(read.Addresses()); err != nil {
+	if err := running.carrier.Set(read.Set.Addresses()); err != nil {
 		return err
 	}
 	running.roles.Set(read.Roles(os.Geteuid()))
@@ -219,9 +197,9 @@ func (running *service) stays(read *settings.Settings) error {
 		place     string
 		isAnother bool
 	}{
-		{anew.Process.Set + ": set", old.Set.Name != anew.Set.Name},
-		{anew.Process.Set + ": staging", old.Set.Staging != anew.Set.Staging},
-		{anew.Process.Set + ": times", old.Set.Times != anew.Set.Times},
+		{anew.Process.Place.Set + ": set", old.Set.Name != anew.Set.Name},
+		{anew.Process.Place.Set + ": staging", old.Set.Staging != anew.Set.Staging},
+		{anew.Process.Place.Set + ": times", old.Set.Times != anew.Set.Times},
 		{anew.File + ": store", old.Process.Store != anew.Process.Store},
 		{anew.File + ": etcd", !reflect.DeepEqual(old.Process.Etcd, anew.Process.Etcd)},
 		{anew.File + ": listen", old.Process.Listen != anew.Process.Listen},

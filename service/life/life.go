@@ -1,0 +1,269 @@
+// Package life runs a CSI driver from its start to its end: its store, its plugin, and the servers at which it is called.
+package life
+
+import (
+	"context"
+	"fmt"
+	"net"
+	"time"
+
+	"google.golang.org/grpc"
+
+	"tufayon/service/driver"
+	"tufayon/service/hooks"
+	"tufayon/service/limiting"
+	"tufayon/service/numbers"
+	"tufayon/service/plugin"
+	"tufayon/service/serving"
+	"tufayon/service/store"
+	"tufayon/service/version"
+)
+
+const (
+	callsEnd = 10 * time.Second // how long calls that are under way may go on once the driver is to end
+	mostEnd  = 8 * time.Second  // how long all the rest of an end may take
+)
+
+// A Driver says what is run.
+type Driver struct {
+	Program    string // its name
+	Name       string // the plugin's, as Identity tells it
+	Maker      plugin.Maker
+	Numbering  serving.Numbering
+	Open       func(context.Context) (store.Store, error)
+	Waits      bool        // opening waits to lead
+	Notes      string      // a node's file of staging paths; none of a controller
+	Hooks      hooks.Hooks // what does what calls ask for; nil where nothing does: the ledger alone is kept
+	MaxVolumes int64       // as NodeGetInfo tells it
+	Doors      []Door
+	Say        func(line string) // tells whoever runs it how far it is
+}
+
+// A Door is where a driver is called.
+type Door struct {
+	Address string
+	Listen  func() (net.Listener, error)
+	Options []grpc.ServerOption // who may call, ..
+	IsLocal bool                // tells of the driver's health and Identity alone
+}
+
+// A Life is a driver's, from its start to its end.
+type Life struct {
+	driver  Driver
+	backend *driver.Backend
+	servers []*grpc.Server
+	served  chan error // what ended a server, where nothing here did
+	anew    chan remade
+
+	// What there is by now.
+	listens bool
+	store   store.Store
+	notes   *store.Notes
+	core    *serving.Core
+}
+
+// remade asks for a plugin that is made anew.
+type remade struct {
+	maker    plugin.Maker
+	answered chan<- error
+}
+
+// New makes a life that has not begun.
+func New(it Driver) *Life {
+	return &Life{driver: it, backend: driver.NewBackend(), served: make(chan error, len(it.Doors)), anew: make(chan remade)}
+}
+
+// Run runs the driver until the context ends, or it can't go on.
+func (life *Life) Run(ctx context.Context) error {
+	if err := life.driver.Maker.Check(); err != nil {
+		return err // before there is a store
+	}
+	var err error
+	if life.driver.Waits { // its sockets are there meanwhile, and tell that it isn't ready
+		if err = life.listen(); err == nil {
+			life.say("waits at %s")
+		}
+	}
+	if err == nil {
+		err = life.serve(ctx)
+	}
+	if ended := life.end(); err == nil {
+		err = ended
+	}
+	return err
+}
+
+// say tells how far it is, with where it is called.
+func (life *Life) say(line string) { life.driver.Say(fmt.Sprintf(line, life.driver.Doors[0].Address)) }
+
+// listen makes the sockets, and begins to answer there.
+func (life *Life) listen() error {
+	life.listens = true
+	for _, door := range life.driver.Doors {
+		listener, err := door.Listen()
+		if err != nil {
+			return err
+		}
+		limits := limiting.New()
+		server := driver.NewServer(life.backend, limits, life.driver.Program, door.Options...)
+		driver.RegisterIdentity(server, life.backend, life.driver.Name, version.Number)
+		if !door.IsLocal {
+			life.register(server)
+		}
+		life.servers = append(life.servers, server)
+		go func() { life.served <- server.Serve(limits.Listen(listener)) }()
+	}
+	return nil
+}
+
+// register adds the plugin's services to a server.
+func (life *Life) register(server *grpc.Server) {
+	it := &life.driver
+	if it.Maker.IsController {
+		driver.RegisterController(server, life.backend, it.Hooks)
+		return
+	}
+	driver.RegisterNode(server, life.backend, driver.NodeOptions{ID: string(it.Maker.Name), MaxVolumes: it.MaxVolumes, Hooks: it.Hooks})
+}
+
+// serve serves until it is to end, or can't go on.
+func (life *Life) serve(ctx context.Context) error {
+	var err error
+	if life.store, err = life.driver.Open(ctx); err == nil {
+		err = life.open(ctx)
+	}
+	if err != nil {
+		if ctx.Err() != nil && life.core == nil {
+			return nil // it was ended while it waited to lead
+		}
+		return err
+	}
+	if !life.listens {
+		if err := life.listen(); err != nil {
+			return err
+		}
+	}
+	life.say("serves at %s")
+	for {
+		select {
+		case err := <-life.served:
+			return err
+		case it := <-life.anew:
+			err := life.remake(ctx, it.maker)
+			it.answered <- err
+			if life.core == nil {
+				return err
+			}
+		case <-life.core.Done():
+			return nil
+		case <-ctx.Done():
+			return nil
+		}
+	}
+}
+
+// open makes the plugin of what the store has, and has the servers serve it.
+func (life *Life) open(ctx context.Context) error {
+	config := serving.Config{
+		Store: life.store, Numbering: life.driver.Numbering,
+		Make: func(record []byte) (serving.Plugin, bool, error) {
+			made, renewed, err := life.driver.Maker.Make(record)
+			if err != nil {
+				return nil, false, err
+			}
+			return made, renewed, nil
+		},
+	}
+	if file := life.driver.Notes; file != "" {
+		config.Notes = func(ctx context.Context) (serving.Notes, error) {
+			var err error
+			if life.notes == nil {
+				life.notes, err = store.OpenNotes(ctx, file)
+			}
+			return life.notes, err
+		}
+	}
+	core, err := serving.Open(ctx, config)
+	if err != nil {
+		return err
+	}
+	life.core = core
+	life.backend.Serve(core)
+	return nil
+}
+
+// end ends it in time: what is under way may go on for a while, then hooks are killed, then all else is given up.
+func (life *Life) end() error {
+	ended := make(chan error, 1)
+	go func() { ended <- life.endAll() }()
+	select {
+	case err := <-ended:
+		return err
+	case <-time.After(callsEnd + mostEnd):
+		return fmt.Errorf("%w: something under way can't be ended", store.ErrDevice)
+	}
+}
+
+func (life *Life) endAll() error {
+	err := life.endCore()
+	life.finish()
+	for _, it := range life.stores() {
+		if closed := it.Close(); err == nil {
+			err = closed
+		}
+	}
+	return err
+}
+
+// endCore has the plugin answer nobody any more, and ends it. It tells what the plugin failed of.
+func (life *Life) endCore() error {
+	life.backend.Stop()
+	if life.core == nil {
+		return nil
+	}
+	ctx, cancel := context.WithTimeout(context.Background(), callsEnd)
+	defer cancel()
+	life.core.Finish(ctx)
+	life.core.Close()
+	return life.core.Err()
+}
+
+// finish has each call's refusal, or its answer, go out, and closes the sockets.
+func (life *Life) finish() {
+	finished := make(chan struct{})
+	go func() {
+		for _, server := range life.servers {
+			server.GracefulStop()
+		}
+		close(finished)
+	}()
+	select {
+	case <-finished:
+	case <-time.After(time.Second):
+		for _, server := range life.servers {
+			server.Stop()
+		}
+	}
+}
+
+// A closer is a store that is open.
+type closer interface{ Close() error }
+
+func (life *Life) stores() []closer {
+	var stores []closer
+	if life.store != nil {
+		stores = append(stores, life.store)
+	}
+	if life.notes != nil {
+		stores = append(stores, life.notes)
+	}
+	return stores
+}
+
+// ByMetadata takes calls' numbers from their metadata: of sessions that are at most so far above the latest one, or any where that is 0.
+func ByMetadata(mostAbove uint64) serving.Numbering {
+	return func(uint64) (numbers.Source, error) { return numbers.Metadata{MostAbove: mostAbove}, nil }
+}
+
+// ByArrival numbers calls as they arrive.
+func ByArrival(latest uint64) (numbers.Source, error) { return numbers.NewArrival(latest) }

@@ -1,0 +1,223 @@
+package program
+
+import (
+	"context"
+	"fmt"
+	"io"
+	"net"
+	"os"
+	"os/signal"
+	"path/filepath"
+	"strings"
+	"sync/atomic"
+	"syscall"
+	"time"
+
+	"go.uber.org/zap"
+	"google.golang.org/grpc"
+	"google.golang.org/grpc/credentials"
+	"google.golang.org/grpc/keepalive"
+
+	"tufayon/service/carrying"
+	"tufayon/service/life"
+	"tufayon/service/plugin"
+	"tufayon/service/secure"
+	"tufayon/service/settings"
+	"tufayon/service/store"
+	"tufayon/service/version"
+)
+
+// Main is the program of a plugin of this role: it ends the process.
+func Main(program string, role secure.Role) {
+	if version.Told(program, os.Args[1:], os.Stdout) {
+		return
+	}
+	ctx, stop := signal.NotifyContext(context.Background(), syscall.SIGINT, syscall.SIGTERM)
+	err := RunPlugin(ctx, program, role, os.Args[1:], os.Stdout)
+	stop()
+	if err != nil {
+		fmt.Fprintf(os.Stderr, "%s: %v\n", program, err)
+	}
+	os.Exit(StatusOf(err))
+}
+
+// RunPlugin does what the words of a plugin's program say.
+func RunPlugin(ctx context.Context, program string, role secure.Role, words []string, output io.Writer) error {
+	parsed, err := Parse(program, words, "check")
+	if err != nil {
+		return err
+	}
+	read, err := settings.ReadPlugin(parsed.File, role)
+	if err != nil {
+		return err
+	}
+	until, err := read.Check(ctx)
+	if err != nil {
+		return err
+	}
+	if err := makerOf(read).Check(); err != nil {
+		return err
+	}
+	if parsed.Has["check"] {
+		Checked(output, read.File, read.Plugin.Place.Set, read.CertificateName(), until)
+		return nil
+	}
+	log, err := Logger()
+	if err != nil {
+		return err
+	}
+	defer log.Sync()
+	return servePlugin(ctx, program, read, log)
+}
+
+// makerOf says which plugin is made.
+func makerOf(read *settings.PluginSettings) plugin.Maker {
+	if read.Role == secure.Controller {
+		return plugin.Maker{IsController: true, Name: read.Set.Config()}
+	}
+	return plugin.Maker{Name: []byte(read.Plugin.Node), Session: read.Plugin.Session}
+}
+
+// serving is a plugin that is served.
+type serving struct {
+	read  *settings.PluginSettings
+	log   *zap.Logger
+	life  *life.Life
+	users atomic.Value // []uint32: who may call at a Unix socket
+}
+
+func servePlugin(ctx context.Context, program string, read *settings.PluginSettings, log *zap.Logger) error {
+	anew := make(chan os.Signal, 1)
+	signal.Notify(anew, syscall.SIGHUP)
+	defer signal.Stop(anew)
+	running := &serving{read: read, log: log}
+	running.users.Store(read.Plugin.Users)
+	running.life = life.New(running.driver(program))
+	ctx, end := context.WithCancel(ctx)
+	ended := make(chan error, 1)
+	go func() { ended <- running.life.Run(ctx) }()
+	defer end()
+	for {
+		select {
+		case err := <-ended:
+			return err
+		case <-anew:
+			if err := running.readAnew(ctx); err != nil && ctx.Err() == nil {
+				log.Error("all stays as it was", zap.Error(err))
+			}
+		}
+	}
+}
+
+// driver is what the settings say.
+func (running *serving) driver(program string) life.Driver {
+	read := &running.read.Plugin
+	it := life.Driver{
+		Program: program, Name: read.Name, Maker: makerOf(running.read), Numbering: life.ByMetadata(read.SessionsAbove),
+		Open:  func(ctx context.Context) (store.Store, error) { return OpenStore(ctx, &read.Place) },
+		Waits: read.Etcd != nil, Hooks: deedsOf(running.read).Hooks(), MaxVolumes: read.MaxVolumes,
+		Doors: running.doors(), Say: func(line string) { running.log.Info(line) },
+	}
+	if running.read.Role == secure.Node {
+		it.Notes = read.Store + ".driver"
+	}
+	return it
+}
+
+// deedsOf say what does what calls ask for. Whatever takes the place of commands and mounts is put in here.
+func deedsOf(read *settings.PluginSettings) life.Deeds {
+	its := &read.Plugin
+	deeds := life.Deeds{
+		Commands: map[string]string{}, Within: settings.Seconds(its.CommandSeconds), IsMounts: its.Hooks == settings.Mounts, Locks: its.Store + ".hooks",
+	}
+	for deed, command := range its.Commands {
+		deeds.Commands[settings.Deeds[read.Role][deed]] = command
+	}
+	if its.Store == "" { // in etcd
+		deeds.Locks = filepath.Join(filepath.Dir(read.File), "hooks")
+	}
+	return deeds
+}
+
+// doors are where it is called: by the orchestrator of its set alone, or at a Unix socket by users of this machine.
+func (running *serving) doors() []life.Door {
+	read := &running.read.Plugin
+	called := life.Door{
+		Address: read.Listen,
+		Listen:  func() (net.Listener, error) { return Listen(read.Listen) },
+		Options: []grpc.ServerOption{
+			grpc.Creds(running.known(read.Listen)), grpc.ConnectionTimeout(10 * time.Second),
+			grpc.KeepaliveEnforcementPolicy(keepalive.EnforcementPolicy{MinTime: 5 * time.Second, PermitWithoutStream: true}),
+			grpc.KeepaliveParams(keepalive.ServerParameters{Time: 30 * time.Second, Timeout: 10 * time.Second}),
+		},
+	}
+	if read.Local == "" {
+		return []life.Door{called}
+	}
+	return []life.Door{called, {
+		Address: read.Local, IsLocal: true,
+		Listen:  func() (net.Listener, error) { return Listen(read.Local) },
+		Options: []grpc.ServerOption{grpc.Creds(secure.Local{May: IsOwn, Refused: running.refused})},
+	}}
+}
+
+func (running *serving) refused(from net.Addr, why error) {
+	running.log.Warn("a caller is refused", zap.Stringer("from", from), zap.Error(why))
+}
+
+// known are the credentials by which callers are known.
+func (running *serving) known(address string) credentials.TransportCredentials {
+	if carrying.IsLocal(address) {
+		return secure.Local{May: running.may, Refused: running.refused}
+	}
+	orchestrator := secure.Name{Set: running.read.Set.Name, Role: secure.Orchestrator}
+	return running.read.Plugin.Files().Server(secure.Only(orchestrator), running.refused)
+}
+
+// may says whether a user may call.
+func (running *serving) may(uid uint32) bool {
+	for _, it := range running.users.Load().([]uint32) {
+		if it == uid {
+			return true
+		}
+	}
+	return IsOwn(uid)
+}
+
+// readAnew reads the files anew. Other users count at once, and of a controller another list of nodes, or another greatest size: its plugin is made anew.
+func (running *serving) readAnew(ctx context.Context) error {
+	read, err := settings.ReadPlugin(running.read.File, running.read.Role)
+	if err != nil {
+		return err
+	}
+	if _, err := read.Check(ctx); err != nil {
+		return err
+	}
+	if err := running.stays(read); err != nil {
+		return err
+	}
+	if maker := makerOf(read); string(maker.Name) != string(makerOf(running.read).Name) {
+		if err := running.life.Remake(ctx, maker); err != nil {
+			return settings.Faults{fmt.Sprintf("%s: nodes: %v", read.Plugin.Place.Set, err)}
+		}
+	}
+	running.users.Store(read.Plugin.Users)
+	running.read = read
+	running.log.Info("the files were read anew", zap.Strings("nodes", read.Set.IDs()))
+	return nil
+}
+
+// stays says what isn't changed without a restart of the process.
+func (running *serving) stays(read *settings.PluginSettings) error {
+	var faults settings.Faults
+	if running.read.Set.Name != read.Set.Name {
+		faults = append(faults, read.Plugin.Place.Set+": set: it changes at a restart only")
+	}
+	for _, key := range running.read.Plugin.Others(&read.Plugin) {
+		faults = append(faults, strings.Join([]string{read.File, key, "it changes at a restart only"}, ": "))
+	}
+	if len(faults) > 0 {
+		return faults
+	}
+	return nil
+}

@@ -1,0 +1,108 @@
+// Package program has what the programs of a set have in common, and the two of its plugins: tufayon-controller and tufayon-node. docs/SERVICE.md, "The
+// plugins", says what these are.
+package program
+
+import (
+	"context"
+	"errors"
+	"flag"
+	"fmt"
+	"io"
+	"net"
+	"os"
+	"strings"
+	"time"
+
+	"go.uber.org/zap"
+
+	"tufayon/service/carrying"
+	"tufayon/service/etcd"
+	"tufayon/service/numbers"
+	"tufayon/service/plugin"
+	"tufayon/service/secure"
+	"tufayon/service/settings"
+	"tufayon/service/store"
+)
+
+// ErrUsage says that the words of a command line are none that the program takes.
+var ErrUsage = errors.New("usage")
+
+// StatusOf is the exit status of an end.
+func StatusOf(err error) int {
+	var faults settings.Faults
+	switch {
+	case err == nil:
+		return 0
+	case errors.Is(err, ErrUsage):
+		return 2
+	case errors.As(err, &faults), errors.Is(err, plugin.BadName), errors.Is(err, plugin.BadRecord), errors.Is(err, plugin.NodeInUse),
+		errors.Is(err, plugin.EarlierSession), errors.Is(err, numbers.ErrSpent), errors.Is(err, store.ErrNotes):
+		return 1
+	}
+	return 3
+}
+
+// Words are a program's: flags, of which each is there or not, and a file.
+type Words struct {
+	File string
+	Has  map[string]bool
+}
+
+// Parse reads the words of a program which has these flags, of which one at most may be there.
+func Parse(program string, words []string, flags ...string) (Words, error) {
+	parsed := Words{Has: map[string]bool{}}
+	set := flag.NewFlagSet(program, flag.ContinueOnError)
+	set.SetOutput(io.Discard)
+	there := map[string]*bool{}
+	for _, it := range flags {
+		there[it] = set.Bool(it, false, "")
+	}
+	err := set.Parse(words)
+	for name, is := range there {
+		if *is {
+			parsed.Has[name] = true
+		}
+	}
+	if err != nil || set.NArg() != 1 || len(parsed.Has) > 1 {
+		return Words{}, fmt.Errorf("%w: %s [--%s] FILE", ErrUsage, program, strings.Join(flags, " | --"))
+	}
+	parsed.File = set.Arg(0)
+	return parsed, nil
+}
+
+// Checked says that nothing is wrong with the files of a process, whose certificate, if it has one, is valid until a time.
+func Checked(output io.Writer, file, set string, name secure.Name, until time.Time) {
+	fmt.Fprintf(output, "nothing is wrong with %s and %s\n", file, set)
+	if !until.IsZero() {
+		fmt.Fprintf(output, "the certificate of %v is valid until %v\n", name, until)
+	}
+}
+
+// Logger writes lines of JSON to standard error, all of them.
+func Logger() (*zap.Logger, error) {
+	config := zap.NewProductionConfig()
+	config.Sampling, config.DisableCaller, config.DisableStacktrace = nil, true, true
+	return config.Build()
+}
+
+// OpenStore opens a process's store, and waits until the process leads where that is in etcd.
+func OpenStore(ctx context.Context, place *settings.Place) (store.Store, error) {
+	its := place.Etcd
+	if its == nil {
+		return store.OpenSQLite(ctx, place.Store)
+	}
+	return etcd.Config{
+		Endpoints: its.Endpoints, Prefix: its.Prefix, CA: its.CA, Certificate: its.Certificate, Key: its.Key, LeaseSeconds: its.Lease,
+	}.Open(ctx)
+}
+
+// Listen listens at an address, unix://PATH or HOST:PORT. To a Unix socket anybody may connect: credentials say who is there.
+func Listen(address string) (net.Listener, error) {
+	if carrying.IsLocal(address) {
+		return secure.Listen(strings.TrimPrefix(address, "unix://"))
+	}
+	return net.Listen("tcp", address)
+}
+
+// IsOwn says whether a user is this process's, or root.
+func IsOwn(uid uint32) bool { return uid == 0 || int(uid) == os.Geteuid() }
