@@ -81,8 +81,8 @@ class System:
 
     def write_set(self):
         nodes = [{"id": name, "slots": 16, "address": f"{HOSTS[host]}:{PORT['node']}"} for name, host in NODES.items()]
-        controllers = ",".join(f"{HOSTS[it]}:{PORT['controller']}" for it in PLACES["controller"])
-        self.set = {"set": SET, "greatest": 1 << 40, "staging": "/staging", "controller": controllers, "nodes": nodes, "times": TIMES}
+        controllers = [f"{HOSTS[it]}:{PORT['controller']}" for it in PLACES["controller"]]
+        self.set = {"set": SET, "greatest": 1 << 40, "staging": "/staging", "controllers": controllers, "nodes": nodes, "times": TIMES}
         self.write("set.json", self.set)
 
     def etcd(self, role, prefix=None):
