@@ -16,3 +16,12 @@ service_environment() {
     export GO111MODULE=off GOPATH="$1:/usr/share/gocode" GOFLAGS="-p=2 -trimpath" GOCACHE="${CSI_GOCACHE:-$1/cache}"
     export CGO_CFLAGS="-O2 -I$top/include" CGO_LDFLAGS="$2 $(dirname "$(rt doc)")/c/liblibc_c.a"
 }
+
+# Runs a command that builds, one at a time of those that share a cache: who comes second finds what the first has built.
+in_turn() {
+    if [ -n "${CSI_GOCACHE-}" ]; then
+        flock "$CSI_GOCACHE.lock" "$@"
+    else
+        "$@"
+    fi
+}

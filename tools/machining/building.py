@@ -89,7 +89,7 @@ class Building:
         before = Edit(edit).apply(self.tree) if edit else {}
         try:
             names = "tufayon-orchestrator tufayon-controller tufayon-node tufayonctl"
-            self.go(f'cd "$1/go/src/tufayon/service"; for it in {names}; do go build -o "$2/$it" "./cmd/$it"; done', self.folder, built)
+            self.go(f'cd "$1/go/src/tufayon/service"; for it in {names}; do in_turn go build -o "$2/$it" "./cmd/$it"; done', self.folder, built)
         finally:
             for path, text in before.items():
                 with open(path, "w", encoding="utf-8") as it:

@@ -101,7 +101,7 @@ class Run:
         except (OSError, subprocess.SubprocessError, ValueError, KeyError, TypeError, AttributeError) as it:
             error = f"{type(it).__name__}: {it}\n{traceback.format_exc()}"
         for client in getattr(self, "clients", ()):
-            for since, until, words, status, said in client.log:
+            for since, until, words, status, said, _ in client.log:
                 self.events.write(f"{since - self.begun:.2f} to {until - self.begun:.2f} {client.name}: {words}: {status} {said}\n")
         return {"found": self.found, "error": error, "counts": self.counts, "changed": bool(self.broken and self.broken.changed)}
 
