@@ -1,4 +1,5 @@
 """What is broken on purpose, to see that it is found: a program that was edited (`edit`, a file of broken/), or something that no operator may do."""
+import base64
 import threading
 import time
 
@@ -7,10 +8,12 @@ from .system import PREFIX, coded
 
 
 class Break:
-    """What a break does of itself. `changed` is whether it came to anything; `kinds` are the faults that are drawn, all where it is None."""
+    """What a break does of itself. `changed` is whether it came to anything; `kinds` are the faults that are drawn, all where it is None; `looks` is which
+    share of commands only asks."""
 
     edit = kinds = None
     changed = False
+    looks = 0.1
 
     def prepare(self, system):
         """Before anything runs."""
@@ -31,7 +34,7 @@ class Unconditional(Break):
 class Granted(Break):
     """a lease that is taken for granted: who slept through it answers whatever changes nothing"""
 
-    edit, kinds = "granted", ["leader asleep"]
+    edit, kinds, looks = "granted", ["leader asleep"], 0.5
 
     def begin(self, run, faults):
         self.changed = any(it.kind == "leader asleep" for it in faults.faults)
@@ -70,7 +73,7 @@ class Copied(Break):
             return
         prefix = PREFIX["orchestrator"] + "s"
         for key, value in kept.items():
-            system.asked("v3/kv/put", key=coded(key.replace(PREFIX["orchestrator"], prefix)), value=coded(value.decode("latin-1")))
+            system.asked("v3/kv/put", key=coded(key.replace(PREFIX["orchestrator"], prefix)), value=base64.b64encode(value).decode())
         tell(f"a service over a copy of {len(kept)} parts")
         system.add("orchestrator-h4", "orchestrator", "h4", prefix).start()
         self.changed = True

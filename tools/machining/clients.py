@@ -18,9 +18,9 @@ WITHIN = 9  # seconds that a command may take
 class Client(threading.Thread):
     """One client. A fact is of a volume, (NAME,), that it exists, or of a target, (NAME, NODE, TARGET), that it is published there."""
 
-    def __init__(self, system, name, until, seed):
+    def __init__(self, system, name, until, seed, looks=0.1):
         super().__init__(daemon=True)
-        self.system, self.name, self.until = system, name, until
+        self.system, self.name, self.until, self.looks = system, name, until, looks
         self.drawn = random.Random(f"{seed} {name}")
         self.mode = {}
         self.facts = {}
@@ -41,13 +41,13 @@ class Client(threading.Thread):
             time.sleep(self.drawn.random() * 0.2)
 
     def turn(self, name):
-        """One command, of those that make sense by what is known."""
+        """One command, of those that make sense by what is known, or a look."""
         self.take_over()
         used = [key[1:] for key, holds in self.facts.items() if key[0] == name and len(key) == 3 and holds is not False]
+        if self.drawn.random() < self.looks:
+            return self.look(name)
         draw = self.drawn.random()
-        if draw < 0.1:
-            self.look(name)
-        elif draw < 0.12:
+        if draw < 0.02:
             self.ask(("restart",))
         elif not self.facts.get((name,)):
             self.mode[name] = self.drawn.choice(MODES)
@@ -60,6 +60,7 @@ class Client(threading.Thread):
             self.ask(("use", name, *where, "--mode", str(self.mode[name]), "--block"), (name, *where), True)
         else:
             self.ask(("delete", name), (name,), False)
+        return None
 
     def ask(self, words, key=None, wanted=None):
         """Asks for something, by which a fact becomes so, and takes over what came of it."""

@@ -69,7 +69,7 @@ PLACE = {
     "bad": bad,
     "kill": a_part,
     "leader ends": lambda drawn: [drawn.choice(list(PLACES))],
-    "leader asleep": lambda drawn: [drawn.choice(list(PLACES)), LEASE + drawn.random() * 3],
+    "leader asleep": lambda drawn: [drawn.choice(list(PLACES)), LEASE + 0.5 + drawn.random() * 4],
     "host asleep": lambda drawn: [drawn.choice(list(HOSTS))],
     "member down": lambda drawn: [drawn.choice(list(MEMBERS))],
     "certificate": ends_in,

@@ -11,7 +11,7 @@ sys.path.insert(0, os.path.dirname(os.path.dirname(os.path.abspath(__file__))))
 
 from machining.wiring import play  # noqa: E402
 
-MOST = 9  # records of a server's handshake, and an alert
+MOST = 8  # records of a server's handshake, with its alert
 
 def is_answer(came):
     """Whether what came is anything but records of a handshake of TLS 1.3, with a server's part of it and its end."""

@@ -52,7 +52,8 @@ class Run:
         """Clients at work, and what goes wrong meanwhile."""
         asked, since = self.asked, time.monotonic()
         until = since + asked["seconds"]
-        self.clients = [Client(self.system, name, until, asked["seed"]) for name in CLIENTS]
+        looks = self.broken.looks if self.broken else 0.1
+        self.clients = [Client(self.system, name, until, asked["seed"], looks) for name in CLIENTS]
         drawn = [] if asked["calm"] else faults.draw(self.drawn, asked["seconds"], self.broken and self.broken.kinds)
         carried = faults.Faults(self.system, self.clients, drawn, self.tell)
         if self.broken:
