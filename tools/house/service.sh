@@ -6,7 +6,7 @@ service_tree() {
     mkdir -p "$tree/wire" "$tree/api/wire"
     cp -R "$top/service/." "$tree"
     (cd "$tree" && protoc "--go_out=$as_go,Mgoogle/protobuf/wrappers.proto=github.com/golang/protobuf/ptypes/wrappers:wire" csi.proto)
-    (cd "$tree/api" && protoc "--go_out=$as_go:wire" orchestrator.proto)
+    (cd "$tree/api" && protoc "--go_out=$as_go:wire" orchestrator.proto plugin.proto)
     service_environment "$@"
 }
 
