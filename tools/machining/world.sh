@@ -4,7 +4,7 @@
 # attachment is its mode. What may never be is written to TUFAYON_WORLD/wrong.
 # TUFAYON_MACHINE is the node's id; a controller's commands find TUFAYON_NODE.
 set -u
-node="${TUFAYON_NODE:-$TUFAYON_MACHINE}"
+node="${TUFAYON_NODE:-${TUFAYON_MACHINE-}}"
 its="$TUFAYON_WORLD/$TUFAYON_VOLUME"
 target="$(printf %s "${TUFAYON_TARGET-}" | tr / :)"
 wrong() { echo "$TUFAYON_CALL of volume $TUFAYON_VOLUME at ${node:-the storage}: $*" >> "$TUFAYON_WORLD/wrong"; }
@@ -17,7 +17,7 @@ case "$TUFAYON_CALL" in
         ;;
     ControllerPublishVolume)
         for it in "$its"/attached*; do
-            [ -e "$it" ] && [ "$it" != "$its/attached $node" ] || continue
+            if [ ! -e "$it" ] || [ "$it" = "$its/attached $node" ]; then continue; fi
             mode="$(cat "$it" 2> /dev/null)" || continue
             case "$mode$TUFAYON_MODE" in *[1267]*) wrong "it is ${it##*/} in mode $mode, and now in mode $TUFAYON_MODE" ;; esac
         done
