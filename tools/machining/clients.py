@@ -22,7 +22,11 @@ class Client(threading.Thread):
         super().__init__(daemon=True)
         self.system, self.name, self.until, self.looks = system, name, until, looks
         self.drawn = random.Random(f"{seed} {name}")
+        self.names = [f"{name}{at}" for at in range(VOLUMES)]
+        self.made = VOLUMES  # so many names there were
         self.mode = {}
+        self.seen = {}  # each volume, as it was told last
+        self.unsure = set()  # names of volumes of which that may be otherwise now
         self.facts = {}
         self.settled = set()  # facts that are so now, and not only at the end
         self.open = set()  # facts that a command may change whose outcome isn't known, at any time
@@ -34,53 +38,71 @@ class Client(threading.Thread):
     def run(self):
         while time.monotonic() < self.until:
             try:
-                self.turn(f"{self.name}{self.drawn.randrange(VOLUMES)}")
+                self.turn(self.drawn.randrange(VOLUMES))
             except Found as it:
                 self.found.append(str(it))
                 return
             time.sleep(self.drawn.random() * 0.2)
 
-    def turn(self, name):
-        """One command, of those that make sense by what is known, or a look."""
+    def turn(self, at):
+        """One command about the volume at a place, of those that make sense by what was told last; or a look at it."""
         self.take_over()
-        used = [key[1:] for key, holds in self.facts.items() if key[0] == name and len(key) == 3 and holds is not False]
-        if self.drawn.random() < self.looks:
+        name = self.names[at]
+        if self.drawn.random() < self.looks or name in self.unsure and self.drawn.random() < 0.7:
             return self.look(name)
-        draw = self.drawn.random()
+        volume, draw = self.seen.get(name), self.drawn.random()
+        used = [(it["node"], target["path"]) for it in volume["at"] for target in it["targets"]] if volume else []
+        where = (self.drawn.choice(list(NODES)), self.drawn.choice(TARGETS))
+        how = ("--mode", str(self.mode.get(name, 1)), "--block")
         if draw < 0.02:
             self.ask(("restart",))
-        elif not self.facts.get((name,)):
-            self.mode[name] = self.drawn.choice(MODES)
-            self.ask(("create", name, "--mode", str(self.mode[name]), "--block"), (name,), True)
-        elif used and draw < 0.7:
+        elif volume is None or volume["exists"] != "YES":
+            self.create(at)
+        elif used and draw < 0.6:
             where = self.drawn.choice(used)
             self.ask(("stop", name, *where), (name, *where), False)
         elif draw < 0.9:
-            where = (self.drawn.choice(list(NODES)), self.drawn.choice(TARGETS))
-            self.ask(("use", name, *where, "--mode", str(self.mode[name]), "--block"), (name, *where), True)
+            self.ask(("use", name, *where, *how), (name, *where), True)
         else:
             self.ask(("delete", name), (name,), False)
         return None
+
+    def create(self, at):
+        """A new volume, of a new name for the most part: that of a deleted one is free again in the next session."""
+        if self.names[at] in self.mode and self.drawn.random() < 0.8:
+            self.made += 1
+            self.names[at] = f"{self.name}{self.made}"
+        name = self.names[at]
+        self.mode[name] = self.drawn.choice(MODES)
+        self.ask(("create", name, "--mode", str(self.mode[name]), "--block"), (name,), True)
 
     def ask(self, words, key=None, wanted=None):
         """Asks for something, by which a fact becomes so, and takes over what came of it."""
         waits = key is not None and self.drawn.random() < 0.7
         clashes = key is not None and any(it[0] == key[0] and len(it) == 3 and it != key and holds is not False for it, holds in self.facts.items())
         status, output, error = self.told((*words, "--wait") if waits else words, clashes)
+        if key is None:
+            return
+        self.unsure.add(key[0])
+        if output:
+            self.seen[key[0]] = json.loads(output)
+        if status == 1 and any(it in error for it in REFUSED):
+            return
         self.settled.discard(key)
         if status == 3:
             self.forget(key)
-        elif key is None or key in self.open:
+        elif key in self.open:
             pass
         elif status == 0:
             self.facts[key] = wanted if waits or not wanted else None
             if waits:
                 self.settled.add(key)
+                self.unsure.discard(key[0])
         elif "it was given up" in error:
             self.facts[key] = False if len(key) == 3 else None
-        elif not any(it in error for it in REFUSED):
+        else:
             raise Found(f"{' '.join(words)}: status {status}, {error} {output}")
-        if key and len(key) == 1 and self.facts.get(key) is False:
+        if len(key) == 1 and self.facts.get(key) is False:
             self.facts = {it: holds for it, holds in self.facts.items() if it[0] != key[0] or it == key}
 
     def forget(self, key):
@@ -111,10 +133,17 @@ class Client(threading.Thread):
 
     def look(self, name):
         """What the service shows has to be what it answered before."""
-        status, output, _ = self.told(("get", name))
+        status, output, error = self.told(("get", name))
+        if status == 1 and "NotFound" not in error:
+            raise Found(f"get {name}: status 1, {error}")
         self.take_over()
+        if status == 1:
+            self.seen.pop(name, None)
+        if status != 3:
+            self.unsure.discard(name)
         if status == 0:
-            self.judge(json.loads(output), {key: holds for key, holds in self.facts.items() if key in self.settled}, "shown")
+            self.seen[name] = json.loads(output)
+            self.judge(self.seen[name], {key: holds for key, holds in self.facts.items() if key in self.settled}, "shown")
 
     def judge(self, volume, facts, when):
         """Whether a volume, as it is told, is as facts have it."""
