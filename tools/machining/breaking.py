@@ -68,13 +68,13 @@ class Copied(Break):
     def copy(self, system, tell):
         time.sleep(4)
         try:
-            kept = system.below(PREFIX["orchestrator"] + "/parts/")
+            kept = {key: value for key, value in system.below(PREFIX["orchestrator"] + "/").items() if "/leader/" not in key}
         except Found:
             return
         prefix = PREFIX["orchestrator"] + "s"
         for key, value in kept.items():
             system.asked("v3/kv/put", key=coded(key.replace(PREFIX["orchestrator"], prefix)), value=base64.b64encode(value).decode())
-        tell(f"a service over a copy of {len(kept)} parts")
+        tell(f"a service over a copy of {len(kept)} keys")
         system.add("orchestrator-h4", "orchestrator", "h4", prefix).start()
         self.changed = True
 

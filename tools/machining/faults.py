@@ -32,7 +32,7 @@ class Fault:
 def draw(drawn, seconds, kinds=None):
     """The faults of a run of so many seconds, by their beginnings."""
     faults = []
-    for _ in range(drawn.randint(4, 9)):
+    for _ in range(drawn.randint(5, 12)):
         kind = drawn.choice(kinds or KINDS)
         at = drawn.random() * (seconds - 2)
         lasts = min(0.5 + drawn.random() * 7, seconds - at)
@@ -79,7 +79,7 @@ PLACE = {
     "read anew": lambda drawn: [],
     "lost": lambda drawn: [drawn.choice(list(NODES))],
 }
-KINDS = [*PLACE, "kill", "kill", "leader asleep", "leader asleep", "cut", "cut half", "bad", "bad"]
+KINDS = [*PLACE, "kill", "kill", "leader asleep", "leader asleep", "cut", "cut half", "bad"]
 
 
 class Faults:
