@@ -1,5 +1,6 @@
 """What is broken on purpose, to see that it is found: a program that was edited (`edit`, a file of broken/), or something that no operator may do."""
 import base64
+import os
 import threading
 import time
 
@@ -57,6 +58,18 @@ class Played(Break):
     edit, kinds, changed = "plain", ["played again"], True
 
 
+class Unfenced(Break):
+    """a storage does what comes late to it: the command of a controller that was stopped, and went on after another had led"""
+
+    kinds = ["host asleep"]
+
+    def prepare(self, system):
+        os.environ["TUFAYON_UNFENCED"] = "yes"
+
+    def begin(self, run, faults):
+        self.changed = bool(faults.faults)
+
+
 class Copied(Break):
     """a second service runs over a copy of the first one's store"""
 
@@ -79,4 +92,4 @@ class Copied(Break):
         self.changed = True
 
 
-BREAKS = {"unconditional": Unconditional, "granted": Granted, "unnamed": Unnamed, "played": Played, "copied": Copied}
+BREAKS = {"unconditional": Unconditional, "granted": Granted, "unnamed": Unnamed, "played": Played, "unfenced": Unfenced, "copied": Copied}

@@ -103,6 +103,14 @@ def in_world(system, records):
     return found + [f"in a record, and not in the world: volume {volume} {what}" for volume, what in sorted(kept - there)]
 
 
+def late(system):
+    """How many commands came late to the storage, which refused them."""
+    if not os.path.exists(system.at("world", "late")):
+        return 0
+    with open(system.at("world", "late"), encoding="utf-8") as file:
+        return len(file.readlines())
+
+
 def bad_ends(system):
     """How programs ended that nothing may end so."""
     found = []

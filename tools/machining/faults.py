@@ -1,4 +1,5 @@
 """What goes wrong: each fault begins, and ends. A seed draws which, where, when and for how long."""
+import contextlib
 import json
 import os
 import signal
@@ -70,7 +71,7 @@ PLACE = {
     "kill": a_part,
     "leader ends": lambda drawn: [drawn.choice(list(PLACES))],
     "leader asleep": lambda drawn: [drawn.choice(list(PLACES)), LEASE + 0.5 + drawn.random() * 4],
-    "host asleep": lambda drawn: [drawn.choice(list(HOSTS))],
+    "host asleep": lambda drawn: [drawn.choice(list(HOSTS)), drawn.choice([0.5, LEASE]) + drawn.random() * 4],
     "member down": lambda drawn: [drawn.choice(list(MEMBERS))],
     "certificate": ends_in,
     "renewed": lambda drawn: [ends_in(drawn)[0]],
@@ -111,7 +112,7 @@ class Faults:
         self.counts[fault.kind] = self.counts.get(fault.kind, 0) + 1
         undo = getattr(self, fault.kind.replace(" ", "_"))(*fault.where)
         if undo:
-            lasts = fault.where[1] if fault.kind == "leader asleep" else fault.lasts
+            lasts = fault.where[1] if fault.kind.endswith("asleep") else fault.lasts
             self.undo.append((since + fault.at + lasts, fault, undo))
 
     def end(self, end):
@@ -184,9 +185,17 @@ class Faults:
         if part:
             part.signal(signal.SIGTERM)
 
-    def host_asleep(self, host):
-        parts = [it for it in self.system.parts.values() if it.machine == host and it.put_to_sleep()]
-        return lambda: [it.wake() for it in parts]
+    def host_asleep(self, host, _):
+        """Whatever runs there stands still, commands too."""
+        pids = [int(it) for it in subprocess.run(["ip", "netns", "pids", host], capture_output=True, text=True, check=True).stdout.split()]
+
+        def tell(number):
+            for pid in pids:
+                with contextlib.suppress(ProcessLookupError):
+                    os.kill(pid, number)
+
+        tell(signal.SIGSTOP)
+        return lambda: tell(signal.SIGCONT)
 
     def member_down(self, name):
         part = self.system.parts[name]

@@ -91,6 +91,7 @@ class Run:
         self.counts.update({"frames": passed, "frames lost": lost, "frames twice": twice})
         for part in self.system.parts.values():
             self.counts["starts"] += part.starts
+        self.counts["late commands refused"] = ending.late(self.system)
 
     def came(self):
         """Plays it, and says what came of it."""

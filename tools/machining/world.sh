@@ -3,11 +3,27 @@
 # that is there: `volume`, `attached NODE`, `staged NODE`, `published NODE TARGET`, where a slash of the target is a colon; and what stands in the file of an
 # attachment is its mode. What may never be is written to TUFAYON_WORLD/wrong.
 # TUFAYON_MACHINE is the node's id; a controller's commands find TUFAYON_NODE.
+# As a storage has to, it refuses what comes late to it: a controller's command whose call has a lower number than the last one of the volume. A controller
+# that was stopped may run one once another has gone on. TUFAYON_UNFENCED has it not do so.
 set -u
 node="${TUFAYON_NODE:-${TUFAYON_MACHINE-}}"
 its="$TUFAYON_WORLD/$TUFAYON_VOLUME"
 target="$(printf %s "${TUFAYON_TARGET-}" | tr / :)"
 wrong() { echo "$TUFAYON_CALL of volume $TUFAYON_VOLUME at ${node:-the storage}: $*" >> "$TUFAYON_WORLD/wrong"; }
+
+if [ -z "${TUFAYON_MACHINE-}" ] && [ -z "${TUFAYON_UNFENCED-}" ]; then
+    mkdir -p "$TUFAYON_WORLD/numbers"
+    exec 9>> "$TUFAYON_WORLD/numbers/$TUFAYON_VOLUME"
+    flock 9
+    last="$(cat "$TUFAYON_WORLD/numbers/$TUFAYON_VOLUME")"
+    last="${last:-0.0}"
+    if [ "${TUFAYON_NUMBER%.*}" -lt "${last%.*}" ] || { [ "${TUFAYON_NUMBER%.*}" = "${last%.*}" ] && [ "${TUFAYON_NUMBER#*.}" -lt "${last#*.}" ]; }; then
+        echo "late: $TUFAYON_NUMBER after $last" >&2
+        echo "$TUFAYON_CALL of volume $TUFAYON_VOLUME: $TUFAYON_NUMBER after $last" >> "$TUFAYON_WORLD/late"
+        exit 1
+    fi
+    printf %s "$TUFAYON_NUMBER" > "$TUFAYON_WORLD/numbers/$TUFAYON_VOLUME"
+fi
 
 case "$TUFAYON_CALL" in
     CreateVolume) mkdir -p "$its" && : > "$its/volume" ;;
