@@ -3,6 +3,7 @@ package program
 import (
 	"bytes"
 	"context"
+	"errors"
 	"fmt"
 	"net"
 	"os"
@@ -18,6 +19,7 @@ import (
 	"google.golang.org/grpc/metadata"
 	"google.golang.org/grpc/status"
 
+	told "tufayon/service/api/wire"
 	"tufayon/service/carrying"
 	"tufayon/service/frames"
 	"tufayon/service/numbers"
@@ -149,6 +151,12 @@ func TestNode(t *testing.T) {
 		t.Fatal(err)
 	}
 	call := frames.Call{Number: frames.Number{Session: 1, Call: 1}, Node: "n1", Body: frames.NodeStageVolume{ID: 1, Capability: frames.Capability{Mode: 1}}}
+	if _, err := carrier.Carry(ctx, call, time.Time{}); !errors.Is(err, carrying.ErrRefused) || !strings.Contains(err.Error(), "session not begun") {
+		t.Errorf("staged before the session has begun: %v", err)
+	}
+	if err := carrier.Begin(ctx, carrying.NodeName("n1"), numbers.Opening{Session: 1}); err != nil {
+		t.Fatal(err)
+	}
 	if reply, err := carrier.Carry(ctx, call, time.Time{}); err != nil || reply.Status != 0 {
 		t.Fatalf("staged: %+v, %v", reply, err)
 	}
@@ -182,7 +190,11 @@ func TestController(t *testing.T) {
 	set.nodes = []string{"n1 127.0.0.1:1"}
 	set.list()
 	end := set.start(secure.Controller, set.process("c.json", "tufayon://s1/controller", `"store": "c.db", "name": "storage.example"`))
-	client := wire.NewControllerClient(set.dial(orchestrator, set.controller, carrying.Controller))
+	at := set.dial(orchestrator, set.controller, carrying.Controller)
+	if _, err := told.NewPluginClient(at).Begin(ctx, &told.BeginRequest{Session: 1}, grpc.WaitForReady(true)); err != nil {
+		t.Fatal(err)
+	}
+	client := wire.NewControllerClient(at)
 	var trailer metadata.MD
 	made, err := client.CreateVolume(numbered(ctx, "1.1"), &wire.CreateVolumeRequest{Name: "v", VolumeCapabilities: []*wire.VolumeCapability{how},
 		CapacityRange: &wire.CapacityRange{RequiredBytes: 10}}, grpc.WaitForReady(true), grpc.Trailer(&trailer))

@@ -268,7 +268,7 @@ func (core *Core) known(number frames.Number, volume uint64) Known {
 func (core *Core) number(ctx context.Context, request Request, judged bool) (frames.Number, error) {
 	known := core.known(frames.Number{}, request.Body.Volume())
 	number, err := core.source.Number(ctx, numbers.Of{Kind: request.Body.Kind(), HasRow: known.Row != nil, Latest: known.Session})
-	if core.begun.Session > 0 && number.Session > core.begun.Session && err == nil {
+	if err == nil && !core.isBegun(number.Session) {
 		err = errNotBegun
 	}
 	if err != nil || !judged || request.Judge == nil {

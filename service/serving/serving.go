@@ -44,7 +44,8 @@ type Config struct {
 	Store     store.Store
 	Notes     func(context.Context) (Notes, error) // opens them, once the plugin is made; nil of a controller
 	Numbering Numbering
-	Calls     int // how many may wait or be under way: 0 for 2,048
+	MustBegin bool // no call is taken of a session that wasn't begun (Begin)
+	Calls     int  // how many may wait or be under way: 0 for 2,048
 }
 
 // A Request is a call, and what the driver does besides. Judge and Act may be nil.
