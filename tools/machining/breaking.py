@@ -4,17 +4,19 @@ import os
 import threading
 import time
 
+from .faults import Fault
 from .parts import Found
 from .system import PREFIX, coded
 
 
 class Break:
-    """What a break does of itself. `changed` is whether it came to anything; `kinds` are the faults that are drawn, all where it is None; `looks` is which
-    share of commands only asks."""
+    """What a break does of itself. `changed` is whether it came to anything; `kinds` are the faults that are drawn, all where it is None, and `faults` those
+    that there are in place of drawn ones; `looks` is which share of commands only asks, and `seconds` how long clients work, where it has to be longer."""
 
-    edit = kinds = None
+    edit = kinds = faults = None
     changed = False
     looks = 0.1
+    seconds = 0
 
     def prepare(self, system):
         """Before anything runs."""
@@ -61,13 +63,11 @@ class Played(Break):
 class Unfenced(Break):
     """a storage does what comes late to it: the command of a controller that was stopped, and went on after another had led"""
 
-    kinds = ["host asleep"]
+    # It stands still with a command under way, and until that was given up and undone.
+    faults, seconds, changed = [Fault(3, 18, "machine asleep", ["controller", 18])], 24, True
 
     def prepare(self, system):
-        os.environ["TUFAYON_UNFENCED"] = "yes"
-
-    def begin(self, run, faults):
-        self.changed = bool(faults.faults)
+        os.environ["TUFAYON_UNFENCED"], os.environ["TUFAYON_SLOW"] = "yes", "0.5"
 
 
 class Copied(Break):

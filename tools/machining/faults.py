@@ -71,6 +71,7 @@ PLACE = {
     "kill": a_part,
     "leader ends": lambda drawn: [drawn.choice(list(PLACES))],
     "leader asleep": lambda drawn: [drawn.choice(list(PLACES)), LEASE + 0.5 + drawn.random() * 4],
+    "machine asleep": lambda drawn: [drawn.choice(list(PLACES)), LEASE + 0.5 + drawn.random() * drawn.choice([4, 14])],
     "host asleep": lambda drawn: [drawn.choice(list(HOSTS)), drawn.choice([0.5, LEASE]) + drawn.random() * 4],
     "member down": lambda drawn: [drawn.choice(list(MEMBERS))],
     "certificate": ends_in,
@@ -184,6 +185,11 @@ class Faults:
         part = self.leader(role)
         if part:
             part.signal(signal.SIGTERM)
+
+    def machine_asleep(self, role, seconds):
+        """The leader, and whatever else runs on its host."""
+        part = self.leader(role)
+        return self.host_asleep(part.machine, seconds) if part else None
 
     def host_asleep(self, host, _):
         """Whatever runs there stands still, commands too."""

@@ -12,7 +12,7 @@ sys.dont_write_bytecode = True
 sys.path.insert(0, os.path.dirname(os.path.dirname(os.path.abspath(__file__))))
 
 from machining import ending, faults  # noqa: E402
-from machining.breaking import BREAKS  # noqa: E402
+from machining.breaking import BREAKS, Break  # noqa: E402
 from machining.clients import Client  # noqa: E402
 from machining.parts import Found  # noqa: E402
 from machining.system import CLIENTS, PORT, System  # noqa: E402
@@ -38,6 +38,8 @@ class Run:
         self.system = System(asked["top"], asked["programs"], asked["wire"], asked["folder"], asked["seed"])
         if self.broken:
             self.broken.prepare(self.system)
+        elif self.drawn.random() < 0.25:
+            os.environ["TUFAYON_SLOW"] = "0.3"  # the storage takes its time
         try:
             for port in PORT.values():
                 self.system.wire.tell("tape", port)
@@ -51,10 +53,11 @@ class Run:
     def work(self):
         """Clients at work, and what goes wrong meanwhile."""
         asked, since = self.asked, time.monotonic()
-        until = since + asked["seconds"]
-        looks = self.broken.looks if self.broken else 0.1
-        self.clients = [Client(self.system, name, until, asked["seed"], looks) for name in CLIENTS]
-        drawn = [] if asked["calm"] else faults.draw(self.drawn, asked["seconds"], self.broken and self.broken.kinds)
+        its = self.broken or Break()
+        seconds = max(asked["seconds"], its.seconds)
+        until = since + seconds
+        self.clients = [Client(self.system, name, until, asked["seed"], its.looks) for name in CLIENTS]
+        drawn = [] if asked["calm"] else its.faults or faults.draw(self.drawn, seconds, its.kinds)
         carried = faults.Faults(self.system, self.clients, drawn, self.tell)
         if self.broken:
             self.broken.begin(self, carried)

@@ -4,7 +4,7 @@
 # attachment is its mode. What may never be is written to TUFAYON_WORLD/wrong.
 # TUFAYON_MACHINE is the node's id; a controller's commands find TUFAYON_NODE.
 # As a storage has to, it refuses what comes late to it: a controller's command whose call has a lower number than the last one of the volume. A controller
-# that was stopped may run one once another has gone on. TUFAYON_UNFENCED has it not do so.
+# that was stopped may run one once another has gone on. TUFAYON_UNFENCED has it not do so; with TUFAYON_SLOW it takes so many seconds.
 set -u
 node="${TUFAYON_NODE:-${TUFAYON_MACHINE-}}"
 its="$TUFAYON_WORLD/$TUFAYON_VOLUME"
@@ -24,6 +24,7 @@ if [ -z "${TUFAYON_MACHINE-}" ] && [ -z "${TUFAYON_UNFENCED-}" ]; then
     fi
     printf %s "$TUFAYON_NUMBER" > "$TUFAYON_WORLD/numbers/$TUFAYON_VOLUME"
 fi
+[ -n "${TUFAYON_MACHINE-}" ] || [ -z "${TUFAYON_SLOW-}" ] || sleep "$TUFAYON_SLOW"
 
 case "$TUFAYON_CALL" in
     CreateVolume) mkdir -p "$its" && : > "$its/volume" ;;
