@@ -100,7 +100,8 @@ func (shard *shard) Carry(ctx context.Context, call frames.Call, _ time.Time) (f
 	shard.mutex.Lock()
 	shard.calls = append(shard.calls, call)
 	shard.mutex.Unlock()
-	answer, err := core.Carry(metadata.NewIncomingContext(ctx, metadata.Pairs(numbers.Key, numbers.Text(call.Number))), serving.Request{Node: call.Node, Body: call.Body})
+	numbered := metadata.NewIncomingContext(ctx, metadata.Pairs(numbers.Key, numbers.Text(call.Number)))
+	answer, err := core.Carry(numbered, serving.Request{Node: call.Node, Body: call.Body})
 	return answer.Reply, err
 }
 

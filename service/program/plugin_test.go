@@ -106,15 +106,21 @@ func (set *set) start(role secure.Role, file string) func() error {
 	return once
 }
 
-// dial connects to a plugin's address as a peer of this name.
-func (set *set) dial(uri, address, plugin string) *grpc.ClientConn {
+// peers are those whom a peer of this name knows.
+func (set *set) peers(uri string) carrying.Peers {
 	set.Helper()
 	peers := carrying.Peers{Set: "s1", May: IsOwn, Refused: func(string) secure.Refused { return nil }}
 	if uri != "" {
 		files := set.files(uri)
 		peers.Files = &files
 	}
-	connection, err := peers.Dial(plugin, address, func() uint64 { return 1 })
+	return peers
+}
+
+// dial connects to a plugin's address as a peer of this name.
+func (set *set) dial(uri, address, plugin string) *grpc.ClientConn {
+	set.Helper()
+	connection, err := set.peers(uri).Dial(plugin, address, func() uint64 { return 1 })
 	if err != nil {
 		set.Fatal(err)
 	}
@@ -144,8 +150,7 @@ func TestNode(t *testing.T) {
 	local := "unix://" + set.path("local.sock")
 	set.start(secure.Node, set.process("n1.json", "tufayon://s1/node/n1",
 		fmt.Sprintf(`"node": "n1", "store": "n1.db", "hooks": "none", "local": %q`, local)))
-	carrier := carrying.New(carrying.Limits{AtController: 1, AtNode: 1, Answer: within, Reach: within}, "/staging",
-		carrying.Peers{Set: "s1", Files: func() *secure.Files { it := set.files(orchestrator); return &it }(), Refused: func(string) secure.Refused { return nil }}.Dial)
+	carrier := carrying.New(carrying.Limits{AtController: 1, AtNode: 1, Answer: within, Reach: within}, "/staging", set.peers(orchestrator).Dial)
 	defer carrier.Close()
 	if err := carrier.Set(map[string]string{carrying.NodeName("n1"): address}); err != nil {
 		t.Fatal(err)
@@ -202,7 +207,8 @@ func TestController(t *testing.T) {
 		t.Fatalf("created: %v, %v, %v", made, err, trailer)
 	}
 	attach := func(number string) error {
-		_, err := client.ControllerPublishVolume(numbered(ctx, number), &wire.ControllerPublishVolumeRequest{VolumeId: "1", NodeId: "n2", VolumeCapability: how}, grpc.WaitForReady(true))
+		request := &wire.ControllerPublishVolumeRequest{VolumeId: "1", NodeId: "n2", VolumeCapability: how}
+		_, err := client.ControllerPublishVolume(numbered(ctx, number), request, grpc.WaitForReady(true))
 		return err
 	}
 	if err := attach("1.2"); status.Code(err) != codes.NotFound {
