@@ -111,6 +111,16 @@ def late(system):
         return len(file.readlines())
 
 
+def took_over(system, role):
+    """How many of a role have led, beside the first."""
+    count = -1
+    for name, part in system.parts.items():
+        if name.startswith(role):
+            with open(part.log, encoding="utf-8", errors="replace") as said:
+                count += sum('"msg":"serves' in line for line in said)
+    return count
+
+
 def bad_ends(system):
     """How programs ended that nothing may end so."""
     found = []

@@ -15,7 +15,7 @@ from machining import ending, faults  # noqa: E402
 from machining.breaking import BREAKS, Break  # noqa: E402
 from machining.clients import Client  # noqa: E402
 from machining.parts import Found  # noqa: E402
-from machining.system import CLIENTS, PORT, System  # noqa: E402
+from machining.system import CLIENTS, PLACES, PORT, System  # noqa: E402
 
 
 class Run:
@@ -95,6 +95,7 @@ class Run:
         for part in self.system.parts.values():
             self.counts["starts"] += part.starts
         self.counts["late commands refused"] = ending.late(self.system)
+        self.counts.update({f"takeovers: {role}": ending.took_over(self.system, role) for role in PLACES})
 
     def came(self):
         """Plays it, and says what came of it."""

@@ -216,3 +216,7 @@ class System:
         for part in self.parts.values():
             part.stop()
         self.wire.process.kill()
+        self.wire.process.wait()
+        for part in self.parts.values():
+            if part.starts:
+                part.thread.join(5)
