@@ -41,7 +41,7 @@ func asking(does hooks.Hooks, body frames.Body, deed hooks.Deed, had had) servin
 
 // do has a deed done, and keeps what it answers. What it fails with tells nothing private.
 func do(ctx context.Context, does hooks.Hooks, deed hooks.Deed, known serving.Known) ([]byte, error) {
-	deed.Volume = known.Volume
+	deed.Volume, deed.Number = known.Volume, known.Number
 	if deed.Staging == "" {
 		deed.Staging = known.Staging // of a NodeUnpublishVolume, which doesn't say it
 	}

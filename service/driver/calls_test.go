@@ -86,13 +86,16 @@ func TestLedgerOnly(t *testing.T) {
 		}
 		for _, deed := range box.told.deeds {
 			calls += deed.Call + deed.Target + deed.Node + deed.Staging + " "
+			if deed.Number != box.core.known.Number {
+				t.Errorf("%s has the number %v", deed.Call, deed.Number)
+			}
 		}
 		return calls
 	}
 	if calls := undo("/t", "n1"); calls != "" {
 		t.Errorf("without a row: %s", calls)
 	}
-	box.core.known.Staging = "/s"
+	box.core.known.Staging, box.core.known.Number = "/s", frames.Number{Session: 3, Call: 9}
 	box.row(staged)
 	if calls := undo("/t", "n1"); !strings.HasPrefix(calls, "NodeUnpublishVolume/t/s NodeUnstageVolume/s ") {
 		t.Errorf("of a node's row: %s", calls)

@@ -10,13 +10,15 @@ import (
 	"strings"
 
 	"tufayon/service/frames"
+	"tufayon/service/numbers"
 )
 
 // A Deed is what a call asks for. Each may be asked for again when it is done already.
 type Deed struct {
 	Call            string // CSI's name of the call
 	Volume          uint64
-	Name            string // of a CreateVolume, with the next two: the bytes that the call asks for
+	Number          frames.Number // the call's
+	Name            string        // of a CreateVolume, with the next two: the bytes that the call asks for
 	Required, Limit uint64
 	Capabilities    []frames.Capability
 	Node            string             // of an attachment, or of its undoing
@@ -66,7 +68,9 @@ func (None) Do(context.Context, Deed) (Answer, error) { return Answer{}, nil }
 
 // Environment is what a command finds of the deed in its environment.
 func (deed Deed) Environment() []string {
-	variables := []string{"TUFAYON_CALL=" + deed.Call, "TUFAYON_VOLUME=" + strconv.FormatUint(deed.Volume, 10)}
+	variables := []string{
+		"TUFAYON_CALL=" + deed.Call, "TUFAYON_VOLUME=" + strconv.FormatUint(deed.Volume, 10), "TUFAYON_NUMBER=" + numbers.Text(deed.Number),
+	}
 	if deed.isOfController() {
 		variables = append(variables, "TUFAYON_NODE="+deed.Node)
 	} else {

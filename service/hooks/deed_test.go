@@ -15,7 +15,7 @@ var private = Private{
 // What is private stands on the standard input alone.
 func TestInput(t *testing.T) {
 	deed := Deed{
-		Call: "NodeStageVolume", Volume: 7, Staging: "/s", Capability: &frames.Capability{Mount: true, FsType: "ext4", Mode: 5}, Private: private,
+		Call: "NodeStageVolume", Volume: 7, Number: frames.Number{Session: 3, Call: 12}, Staging: "/s", Capability: &frames.Capability{Mount: true, FsType: "ext4", Mode: 5}, Private: private,
 	}
 	const want = `{"secrets":{"key":"s3cret","long":"s3cret-and-more","none":""},"parameters":{"pool":"fast"},` +
 		`"volume_context":{"v":"1"},"publish_context":{"p":"2"},"mount_flags":["ro","data=ordered"]}` + "\n"
@@ -23,7 +23,7 @@ func TestInput(t *testing.T) {
 		t.Errorf("it reads %s", input)
 	}
 	environment := strings.Join(deed.Environment(), " ")
-	const wanted = "TUFAYON_CALL=NodeStageVolume TUFAYON_VOLUME=7 TUFAYON_STAGING=/s TUFAYON_TARGET= TUFAYON_ACCESS=mount TUFAYON_FS_TYPE=ext4 TUFAYON_MODE=5 TUFAYON_READONLY=false"
+	const wanted = "TUFAYON_CALL=NodeStageVolume TUFAYON_VOLUME=7 TUFAYON_NUMBER=3.12 TUFAYON_STAGING=/s TUFAYON_TARGET= TUFAYON_ACCESS=mount TUFAYON_FS_TYPE=ext4 TUFAYON_MODE=5 TUFAYON_READONLY=false"
 	if environment != wanted {
 		t.Errorf("its environment: %s", environment)
 	}
@@ -34,7 +34,7 @@ func TestInput(t *testing.T) {
 		t.Errorf("it reads %s", input)
 	}
 	if environment := strings.Join(create.Environment(), " "); environment !=
-		"TUFAYON_CALL=CreateVolume TUFAYON_VOLUME=7 TUFAYON_NODE= TUFAYON_NAME=v TUFAYON_REQUIRED=10 TUFAYON_LIMIT=20" {
+		"TUFAYON_CALL=CreateVolume TUFAYON_VOLUME=7 TUFAYON_NUMBER=0.0 TUFAYON_NODE= TUFAYON_NAME=v TUFAYON_REQUIRED=10 TUFAYON_LIMIT=20" {
 		t.Errorf("its environment: %s", environment)
 	}
 }
