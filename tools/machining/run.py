@@ -106,6 +106,8 @@ class Run:
             self.found.append(str(it))
         except (OSError, subprocess.SubprocessError, ValueError, KeyError, TypeError, AttributeError) as it:
             error = f"{type(it).__name__}: {it}\n{traceback.format_exc()}"
+        if self.found or error or self.asked.get("keep"):
+            self.system.keep_disks()
         for client in getattr(self, "clients", ()):
             for since, until, words, status, said, _ in client.log:
                 self.events.write(f"{since - self.begun:.2f} to {until - self.begun:.2f} {client.name}: {words}: {status} {said}\n")

@@ -2,6 +2,7 @@
 import base64
 import json
 import os
+import shutil
 import ssl
 import subprocess
 import time
@@ -210,6 +211,11 @@ class System:
         for name, part in self.parts.items():
             if name not in MEMBERS:
                 part.end(END)
+
+    def keep_disks(self):
+        """Puts what is on the nodes' disks, which go with this process, into the folder `disks`."""
+        for name in NODES:
+            shutil.copytree(self.at(name), self.at("disks", name), ignore=shutil.ignore_patterns("filling"))
 
     def stop(self):
         """Whatever runs is ended, at once."""
