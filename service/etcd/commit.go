@@ -79,6 +79,15 @@ func (leading *leading) try(ctx context.Context) error {
 // Commit makes changes under the condition that this process leads: by one transaction, or where they are too many, or too large, by several, of which
 // one makes them all.
 func (leading *leading) Commit(ctx context.Context, anew bool, changes []store.Change) error {
+	return leading.commit(ctx, anew, nil, changes)
+}
+
+// CommitWith puts sides with changes.
+func (leading *leading) CommitWith(ctx context.Context, sides []store.Side, changes []store.Change) error {
+	return leading.commit(ctx, false, sides, changes)
+}
+
+func (leading *leading) commit(ctx context.Context, anew bool, sides []store.Side, changes []store.Change) error {
 	if anew {
 		parts, err := leading.Load(ctx)
 		if err != nil {
@@ -91,14 +100,18 @@ func (leading *leading) Commit(ctx context.Context, anew bool, changes []store.C
 		changes = append(removals, changes...)
 	}
 	changes = lastOfEach(changes)
-	if len(changes) == 0 {
+	if len(changes)+len(sides) == 0 {
 		return leading.confirm(ctx)
 	}
-	operations := leading.operations(changes)
+	puts := make([]clientv3.Op, 0, len(sides))
+	for _, side := range sides {
+		puts = append(puts, clientv3.OpPut(leading.sidesKey()+side.Name, string(side.Value)))
+	}
+	operations := append(leading.operations(changes), puts...)
 	if len(split(operations)) == 1 {
 		return leading.change(ctx, operations)
 	}
-	return leading.commitInParts(ctx, changes)
+	return leading.commitInParts(ctx, changes, puts)
 }
 
 // lastOfEach has one change for each key, since a transaction may name none twice.
@@ -147,8 +160,8 @@ func split(operations []clientv3.Op) [][]clientv3.Op {
 // sizeOf is as many bytes as an operation has in a transaction at most.
 func sizeOf(it clientv3.Op) int { return len(it.KeyBytes()) + len(it.ValueBytes()) + 32 }
 
-// commitInParts writes the changes beside the record first, and makes them by a last transaction. Then they are carried over.
-func (leading *leading) commitInParts(ctx context.Context, changes []store.Change) error {
+// commitInParts writes the changes beside the record first, and makes them by a last transaction, which puts the sides too. Then they are carried over.
+func (leading *leading) commitInParts(ctx context.Context, changes []store.Change, sides []clientv3.Op) error {
 	notes := make([]clientv3.Op, 0, len(changes))
 	for _, change := range changes {
 		value := "-"
@@ -165,7 +178,7 @@ func (leading *leading) commitInParts(ctx context.Context, changes []store.Chang
 			return err
 		}
 	}
-	if err := leading.change(ctx, []clientv3.Op{clientv3.OpPut(leading.wholeKey(), "")}); err != nil {
+	if err := leading.change(ctx, append(sides, clientv3.OpPut(leading.wholeKey(), ""))); err != nil {
 		return err
 	}
 	return leading.carryOver(ctx, changes)

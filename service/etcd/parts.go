@@ -15,7 +15,8 @@ import (
 const page = 500 // keys that are read at once
 
 // Part K is the value of PREFIX/parts/K in 16 hexadecimal digits. A commit that is too large for a transaction has its changes below PREFIX/next/
-// first, each a "+" and a value, or a "-"; it is made once PREFIX/whole is there, and is carried over then.
+// first, each a "+" and a value, or a "-"; it is made once PREFIX/whole is there, and is carried over then. A side is the value of PREFIX/beside/ and its
+// name.
 func (leading *leading) partKey(part uint64) string {
 	return fmt.Sprintf("%s/parts/%016x", leading.prefix, part)
 }
@@ -24,6 +25,20 @@ func (leading *leading) nextKey(part uint64) string {
 }
 func (leading *leading) wholeKey() string { return leading.prefix + "/whole" }
 func (leading *leading) countKey() string { return leading.prefix + "/commits" }
+func (leading *leading) sidesKey() string { return leading.prefix + "/beside/" }
+
+// Sides reads all sides.
+func (leading *leading) Sides(ctx context.Context) (map[string][]byte, error) {
+	got, err := leading.get(ctx, leading.sidesKey(), clientv3.WithPrefix())
+	if err != nil {
+		return nil, err
+	}
+	sides := make(map[string][]byte, len(got.Kvs))
+	for _, it := range got.Kvs {
+		sides[strings.TrimPrefix(string(it.Key), leading.sidesKey())] = it.Value
+	}
+	return sides, nil
+}
 
 // Load reads all parts at one revision, by rising key.
 func (leading *leading) Load(ctx context.Context) ([]store.Part, error) {

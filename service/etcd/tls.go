@@ -10,7 +10,8 @@ import (
 	"strings"
 )
 
-// secure gives what TLS needs: a client's certificate, unless etcd is on loopback.
+// secure gives what TLS needs: a client's certificate, unless etcd is on loopback. The certificate is read at each handshake, so a renewed one needs no
+// restart; the authority of etcd's own certificates is read once.
 func (config Config) secure() (*tls.Config, error) {
 	if config.Certificate == "" {
 		for _, endpoint := range config.Endpoints {
@@ -25,8 +26,7 @@ func (config Config) secure() (*tls.Config, error) {
 			return nil, fmt.Errorf("%s isn't spoken to by TLS", endpoint)
 		}
 	}
-	certificate, err := tls.LoadX509KeyPair(config.Certificate, config.Key)
-	if err != nil {
+	if _, err := config.own(nil); err != nil {
 		return nil, err
 	}
 	signer, err := os.ReadFile(config.CA)
@@ -37,7 +37,16 @@ func (config Config) secure() (*tls.Config, error) {
 	if !pool.AppendCertsFromPEM(signer) {
 		return nil, fmt.Errorf("%s has no certificate", config.CA)
 	}
-	return &tls.Config{Certificates: []tls.Certificate{certificate}, RootCAs: pool, MinVersion: tls.VersionTLS12}, nil
+	return &tls.Config{GetClientCertificate: config.own, RootCAs: pool, MinVersion: tls.VersionTLS12}, nil
+}
+
+// own reads this client's certificate.
+func (config Config) own(*tls.CertificateRequestInfo) (*tls.Certificate, error) {
+	own, err := tls.LoadX509KeyPair(config.Certificate, config.Key)
+	if err != nil {
+		return nil, err
+	}
+	return &own, nil
 }
 
 func isLoopback(endpoint string) bool {

@@ -20,11 +20,32 @@ type board struct {
 	count    uint64 // of the events since this process serves
 	nodes    []string
 	volumes  map[string]Volume
+	troubles map[string]string // why plugins haven't begun the session, by their names
 	watchers map[*Watching]bool
 	isClosed bool
 }
 
-func newBoard() *board { return &board{volumes: map[string]Volume{}, watchers: map[*Watching]bool{}} }
+func newBoard() *board {
+	return &board{volumes: map[string]Volume{}, troubles: map[string]string{}, watchers: map[*Watching]bool{}}
+}
+
+// note notes why a plugin hasn't begun the session, or with no text that it has.
+func (board *board) note(plugin, why string) {
+	board.mutex.Lock()
+	defer board.mutex.Unlock()
+	if why == "" {
+		delete(board.troubles, plugin)
+		return
+	}
+	board.troubles[plugin] = why
+}
+
+// Trouble is why a plugin hasn't begun the present session, and so isn't used: nothing where it has, or wasn't asked yet.
+func (host *Host) Trouble(plugin string) string {
+	host.board.mutex.RLock()
+	defer host.board.mutex.RUnlock()
+	return host.board.troubles[plugin]
+}
 
 // An Event is what became of a volume, or of a node. One of the last three fields counts.
 type Event struct {
@@ -156,16 +177,22 @@ func (host *Host) Watch(current bool, name string) *Watching {
 	return it
 }
 
-// Next waits for the next event. It fails with ErrSlow, ErrEnded, or the context's error.
-func (it *Watching) Next(ctx context.Context) (Event, error) {
+// Next waits for the next events, and gives all that are there. It fails with ErrSlow, ErrEnded, or the context's error.
+func (it *Watching) Next(ctx context.Context) ([]Event, error) {
 	select {
 	case event, more := <-it.events:
 		if !more {
-			return Event{}, it.err
+			return nil, it.err
 		}
-		return event, nil
+		events := []Event{event}
+		for len(it.events) > 0 {
+			if event, more = <-it.events; more {
+				events = append(events, event)
+			}
+		}
+		return events, nil
 	case <-ctx.Done():
-		return Event{}, ctx.Err()
+		return nil, ctx.Err()
 	}
 }
 

@@ -28,6 +28,7 @@ type sqlite struct {
 	db        *sql.DB
 	put, take *sql.Stmt
 	lost      chan struct{}
+	beside    beside
 }
 
 // OpenSQLite opens the file of a store, and makes it where it is missing. It holds the file's lock until it is closed.
@@ -42,7 +43,7 @@ func OpenSQLite(ctx context.Context, path string) (Store, error) {
 		return nil, fmt.Errorf("%w: %v", ErrNotOpened, err)
 	}
 	db.SetMaxOpenConns(1) // one connection, which has the lock
-	store := &sqlite{db: db, lost: make(chan struct{})}
+	store := &sqlite{db: db, lost: make(chan struct{}), beside: beside{path: path + ".beside"}}
 	err = prepare(ctx, db, listOther, makeTable)
 	if err == nil {
 		store.put, err = db.PrepareContext(ctx, putPart)
@@ -119,6 +120,11 @@ func (store *sqlite) Commit(ctx context.Context, anew bool, changes []Change) er
 	if !anew && len(changes) == 0 {
 		return nil // the file's lock says that it is ours
 	}
+	return store.commit(ctx, anew, changes, "")
+}
+
+// commit makes changes, and has the file's user_version set by a statement, where there is one.
+func (store *sqlite) commit(ctx context.Context, anew bool, changes []Change, mark string) error {
 	err := transact(ctx, store.db, func(tx *sql.Tx) error {
 		if anew {
 			if _, err := tx.ExecContext(ctx, takeAll); err != nil {
@@ -131,7 +137,11 @@ func (store *sqlite) Commit(ctx context.Context, anew bool, changes []Change) er
 				return err
 			}
 		}
-		return nil
+		if mark == "" {
+			return nil
+		}
+		_, err := tx.ExecContext(ctx, mark)
+		return err
 	})
 	if err != nil {
 		return fmt.Errorf("%w: %v", ErrDevice, err)
@@ -153,7 +163,13 @@ func (store *sqlite) Lost() <-chan struct{} { return store.lost }
 
 // Close puts the log back into the file, which alone is the store then.
 func (store *sqlite) Close() error {
-	if err := closeFile(store.db); err != nil {
+	err := closeFile(store.db)
+	if store.beside.db != nil {
+		if closed := closeFile(store.beside.db); err == nil {
+			err = closed
+		}
+	}
+	if err != nil {
 		return fmt.Errorf("%w: the last checkpoint: %v", ErrDevice, err)
 	}
 	return nil

@@ -1,13 +1,27 @@
 # Lays service/ out as Go wants it. Sourced by scripts that have `top`, the repository's folder.
 
-# Copies service/ to $1/src/tufayon/service, with what protoc makes of its protos, has Go find it there and in Debian's packages, and has it link the
-# library $2. Go's cache is CSI_GOCACHE, or below $1: with the former, who builds the same later has it at once, from whatever folder.
+# Copies service/ to $1/src/tufayon/service, with what protoc makes of its protos, and has Go build it there, as service_environment says.
 service_tree() {
     local tree="$1/src/tufayon/service" as_go=plugins=grpc,paths=source_relative
     mkdir -p "$tree/wire" "$tree/api/wire"
     cp -R "$top/service/." "$tree"
     (cd "$tree" && protoc "--go_out=$as_go,Mgoogle/protobuf/wrappers.proto=github.com/golang/protobuf/ptypes/wrappers:wire" csi.proto)
-    (cd "$tree/api" && protoc "--go_out=$as_go:wire" orchestrator.proto)
+    (cd "$tree/api" && protoc "--go_out=$as_go:wire" orchestrator.proto plugin.proto)
+    service_environment "$@"
+}
+
+# Has Go find packages below $1 and Debian's, and link the library $2. Go's cache is CSI_GOCACHE, or below $1: with the former, who builds the same later
+# has it at once, from whatever folder.
+service_environment() {
     export GO111MODULE=off GOPATH="$1:/usr/share/gocode" GOFLAGS="-p=2 -trimpath" GOCACHE="${CSI_GOCACHE:-$1/cache}"
     export CGO_CFLAGS="-O2 -I$top/include" CGO_LDFLAGS="$2 $(dirname "$(rt doc)")/c/liblibc_c.a"
+}
+
+# Runs a command that builds, one at a time of those that share a cache: who comes second finds what the first has built.
+in_turn() {
+    if [ -n "${CSI_GOCACHE-}" ]; then
+        flock "$CSI_GOCACHE.lock" "$@"
+    else
+        "$@"
+    fi
 }

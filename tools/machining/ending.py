@@ -13,8 +13,7 @@ from .system import CLIENTS, MEMBERS, NODES, PLACES, PREFIX
 REST = 60  # seconds
 # How programs may end: by itself only with one of these lines, when something was wrong with the machines.
 LINES = re.compile(
-    r"leadership lost|outcome isn't known|store not opened|device|serving ended|certificate|etcd takes no commit|notes of staging paths|older store|"
-    r"bind: |no route|i/o timeout|connection refused"
+    r"leadership lost|outcome isn't known|store not opened|device|serving ended|certificate|notes of staging paths"
 )
 
 
@@ -40,8 +39,8 @@ def not_calm(clients):
     return [
         f"nothing was wrong, and {words} was answered {status} {said}"
         for client in clients
-        for _, _, words, status, said in client.log
-        if status not in (0, 1) or "given up" in said
+        for _, _, words, status, said, clashes in client.log
+        if status not in (0, 1) or "given up" in said and not clashes
     ]
 
 
@@ -109,7 +108,7 @@ def bad_ends(system):
     found = []
     for name, part in system.parts.items():
         for end in part.ends:
-            if name in MEMBERS or end.status in (0, -9) or end.status in (1, 3) and LINES.search(end.line):
+            if name in MEMBERS or end.status in (0, -9, -15) or end.status in (1, 3) and LINES.search(end.line):
                 continue
             found.append(f"{name} ended with {end.status}: {end.line}")
         if name.startswith(tuple(PLACES)) or name in NODES:

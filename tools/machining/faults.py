@@ -3,6 +3,7 @@ import json
 import os
 import signal
 import subprocess
+import sys
 import threading
 import time
 from dataclasses import dataclass, field
@@ -10,6 +11,9 @@ from dataclasses import dataclass, field
 from .parts import Found
 from .system import CLIENTS, LEASE, NODES, PLACES, PROMISE
 from .wiring import HOSTS, MACHINES, MEMBERS
+
+
+HERE = os.path.dirname(os.path.abspath(__file__))
 
 
 @dataclass
@@ -65,7 +69,7 @@ PLACE = {
     "bad": bad,
     "kill": a_part,
     "leader ends": lambda drawn: [drawn.choice(list(PLACES))],
-    "leader asleep": lambda drawn: [drawn.choice(list(PLACES)), LEASE + drawn.random() * 3],
+    "leader asleep": lambda drawn: [drawn.choice(list(PLACES)), LEASE + 0.5 + drawn.random() * 4],
     "host asleep": lambda drawn: [drawn.choice(list(HOSTS))],
     "member down": lambda drawn: [drawn.choice(list(MEMBERS))],
     "certificate": ends_in,
@@ -87,6 +91,7 @@ class Faults:
         self.undo = []  # (when, fault, what ends it)
         self.on_wire = []
         self.losing = None
+        self.played = []
         self.found = []
         self.counts = {}
 
@@ -121,6 +126,7 @@ class Faults:
             self.losing.join(60)
             if self.losing.is_alive():
                 raise Found("a lost node doesn't join again within 60 seconds")
+        self.judge_played()
 
     # ---- the wire
 
@@ -217,11 +223,18 @@ class Faults:
     # ---- what is on the wire, and files
 
     def played_again(self):
+        """Whatever the wire has seen is played again, by a program of its own: nobody may answer it."""
         folder = self.system.made("tapes")
         self.system.wire.tell("write", folder)
-        words = ["/usr/bin/env", "python3", os.path.join(os.path.dirname(os.path.abspath(__file__)), "playing.py"), folder]
-        player = subprocess.Popen(words, stdout=subprocess.DEVNULL, stderr=subprocess.DEVNULL)
-        return lambda: (player.kill(), player.wait())
+        self.played.append(subprocess.Popen([sys.executable, f"{HERE}/playing.py", folder], stdout=subprocess.PIPE, text=True))
+
+    def judge_played(self):
+        for player in self.played:
+            for line in player.communicate(timeout=300)[0].splitlines():
+                name, came = line.split()
+                self.counts[f"played again, {came}"] = self.counts.get(f"played again, {came}", 0) + 1
+                if came == "answered":
+                    self.found.append(f"what {name} carried was played again, and was answered")
 
     def read_anew(self):
         for name, part in self.system.parts.items():

@@ -1,4 +1,9 @@
-"""playing.py FOLDER: plays what clients sent once, as the wire wrote it, to those to whom it was sent, over connections of its own, one after another."""
+"""playing.py FOLDER: plays what clients sent once, as the wire wrote it, to those to whom it was sent, over connections of its own, one after another.
+
+It prints a line for each: `nobody`, where nobody is there, `refused`, where the other end closed, or has shaken hands and no more, or `answered`. TLS
+answers with records, of which those of a handshake begin with 22 3, those that end it with 21 3, and what is secret with 23 3, which is the rest of the
+handshake, as long as it comes before the end.
+"""
 import os
 import sys
 
@@ -6,13 +11,24 @@ sys.path.insert(0, os.path.dirname(os.path.dirname(os.path.abspath(__file__))))
 
 from machining.wiring import play  # noqa: E402
 
+MOST = 8  # records of a server's handshake, with its alert
+
+def is_answer(came):
+    """Whether what came is anything but records of a handshake of TLS 1.3, with a server's part of it and its end."""
+    kinds = []
+    while came:
+        kinds.append(came[:2])
+        came = came[5 + int.from_bytes(came[3:5], "big") :]
+    return bool(kinds) and (kinds[0] != b"\x16\x03" or len(kinds) > MOST)
+
 
 def main():
     folder = sys.argv[1]
     for name in sorted(os.listdir(folder)):
         address, port = name.split("-")[3:5]
         with open(os.path.join(folder, name), "rb") as file:
-            play(file.read(), address, int(port), 0.5)
+            came = play(file.read(), address, int(port), 0.7)
+        print(name, "nobody" if came is None else "answered" if is_answer(came) else "refused", flush=True)
 
 
 main()

@@ -52,7 +52,8 @@ class Run:
         """Clients at work, and what goes wrong meanwhile."""
         asked, since = self.asked, time.monotonic()
         until = since + asked["seconds"]
-        self.clients = [Client(self.system, name, until, asked["seed"]) for name in CLIENTS]
+        looks = self.broken.looks if self.broken else 0.1
+        self.clients = [Client(self.system, name, until, asked["seed"], looks) for name in CLIENTS]
         drawn = [] if asked["calm"] else faults.draw(self.drawn, asked["seconds"], self.broken and self.broken.kinds)
         carried = faults.Faults(self.system, self.clients, drawn, self.tell)
         if self.broken:
@@ -101,7 +102,7 @@ class Run:
         except (OSError, subprocess.SubprocessError, ValueError, KeyError, TypeError, AttributeError) as it:
             error = f"{type(it).__name__}: {it}\n{traceback.format_exc()}"
         for client in getattr(self, "clients", ()):
-            for since, until, words, status, said in client.log:
+            for since, until, words, status, said, _ in client.log:
                 self.events.write(f"{since - self.begun:.2f} to {until - self.begun:.2f} {client.name}: {words}: {status} {said}\n")
         return {"found": self.found, "error": error, "counts": self.counts, "changed": bool(self.broken and self.broken.changed)}
 

@@ -18,7 +18,7 @@ PORT = {"orchestrator": 7001, "controller": 7002, "node": 7003}
 CLIENTS = ("ann", "bob", "eve")
 LEASE = 3  # seconds
 TIMES = {"patience": 12, "answer": 8, "retry": 0.2, "most_retry": 2}
-DISK = "1m"  # of a node
+DISK = "8m"  # of a node
 START, END = 60, 25  # seconds
 PROMISE = "off for good, and its store never comes back"
 ETCD = (
@@ -188,8 +188,9 @@ class System:
         came = self.asked("v3/kv/range", key=coded(f"{PREFIX[role]}/leader/"), range_end=coded(f"{PREFIX[role]}/leader0"), sort_target="CREATE", limit=1)
         if not came or not came.get("kvs"):
             return None
-        pid = base64.b64decode(came["kvs"][0]["value"]).decode().split()[-1]
-        return next((it for name, it in self.parts.items() if name.startswith(role) and str(it.pid) == pid), None)
+        who = base64.b64decode(came["kvs"][0]["value"]).decode().split()[-1]  # its address, or its process
+        parts = [it for name, it in self.parts.items() if name.startswith(role)]
+        return next((it for it in parts if who in (str(it.pid), f"{HOSTS[it.machine]}:{PORT[role]}")), None)
 
     def control(self, client, *words, within=10):
         """What tufayonctl answers to a client: its exit status, and what it printed on standard output and on standard error."""

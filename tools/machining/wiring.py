@@ -49,15 +49,18 @@ class Wire:
 
 
 def play(content, address, port, within=2.0):
-    """Plays what a client sent once, over a connection of its own. Whether the other end took all and closed nothing."""
+    """Plays what a client sent once, over a connection of its own: what the other end said to it, or None where nobody is there."""
+    came = b""
     with socket.socket() as connection:
         connection.settimeout(within)
         try:
             connection.connect((address, port))
-            connection.sendall(content)
-            connection.shutdown(socket.SHUT_WR)
-            while connection.recv(65536):
-                pass
         except OSError:
-            return False
-    return True
+            return None
+        try:
+            connection.sendall(content)
+            while piece := connection.recv(65536):
+                came += piece
+        except OSError:
+            pass
+    return came

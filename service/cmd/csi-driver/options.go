@@ -166,7 +166,7 @@ func (options *options) driver() life.Driver {
 		it.Notes = options.database + ".driver"
 	}
 	if options.byArrival {
-		it.Numbering = life.ByArrival
+		it.Numbering, it.IsByArrival = life.ByArrival, true
 	}
 	it.Say = func(line string) {
 		if options.byArrival && strings.HasPrefix(line, "serves") {
