@@ -72,7 +72,7 @@ var (
 func open(maker plugin.Maker, kept store.Store) (*serving.Core, error) {
 	return serving.Open(context.Background(), serving.Config{
 		Store:     kept,
-		Numbering: func(uint64) (numbers.Source, error) { return numbers.Metadata{}, nil },
+		Numbering: func(uint64) (numbers.Source, error) { return numbers.Metadata{MostAbove: 1000000}, nil },
 		Make: func(record []byte) (serving.Plugin, bool, error) {
 			made, renewed, err := maker.Make(record)
 			if err != nil {
