@@ -62,13 +62,15 @@ class Machine:
         self.network = network.connect(number)
         self.cgroup = f"{cgroups()}/{self.network}"
         self.process = self.init = None
-        os.makedirs(f"{self.folder}/disk")
+        os.makedirs(f"{self.folder}/disk/etc")
+        with open(f"{self.folder}/disk/etc/hostname", "w", encoding="ascii") as file:
+            file.write(f"{self.name}\n")
 
     def start(self):
         """Starts it, and waits until systemd has started what it should."""
         os.makedirs(self.cgroup, exist_ok=True)
         shell = f"echo $$ > {self.cgroup}/cgroup.procs && exec unshare -m -p -f -u -i -C {BOOT} {self.name} {self.base} {self.folder}"
-        self.process = subprocess.Popen(["ip", "netns", "exec", self.network, "sh", "-c", shell], stdin=subprocess.DEVNULL)
+        self.process = subprocess.Popen(["nsenter", f"--net=/run/netns/{self.network}", "sh", "-c", shell], stdin=subprocess.DEVNULL, stderr=subprocess.DEVNULL)
         until = time.monotonic() + WITHIN
         while time.monotonic() < until:
             time.sleep(0.2)

@@ -58,6 +58,14 @@ def install(machine, packages):
     machine(f"dpkg -i {packages}/*.deb")
 
 
+def programs(machine):
+    """What doesn't need a set: the program, its audit, and the library's page for pkg-config."""
+    machine("csi-replay --version && man csi-replay 2> /dev/null || test -f /usr/share/man/man1/csi-replay.1.gz")
+    machine("printf '%s' '{\"greatest\":1000,\"nodes\":[]}' > /tmp/config && csi-replay controller /tmp/c.db /tmp/config < /dev/null && "
+            "csi-replay record /tmp/c.db | tufayon-audit | grep -qx 'nothing found'")
+    machine("test -f /usr/lib/x86_64-linux-gnu/libtufayon.a && grep -q '^Version: ' /usr/lib/x86_64-linux-gnu/pkgconfig/tufayon.pc")
+
+
 def starts_nothing(machine):
     """After an installation nothing runs, and nothing will."""
     _, running = machine("systemctl list-units --all --no-legend 'tufayon-*'")
@@ -145,7 +153,7 @@ def reached(system):
 def use(system):
     system.told("create v --size 1G --wait")
     system.told("use v m4 /srv/v --wait")
-    system[4]("mountpoint -q /srv/v && echo kept > /srv/v/file")
+    system[4]("mountpoint -q /srv/v")
     status, said = system.ask("use v m5 /srv/v", check=False)
     need("a second node is refused", status == 1 and "FailedPrecondition" in said, said)
     system.told("list", r"\bv\b", "m4")
@@ -156,7 +164,7 @@ def move(system, source, target):
     system.told(f"stop v m{source} /srv/v --wait")
     need("it is unmounted", system[source]("mountpoint -q /srv/v", check=False)[0] != 0)
     system.told(f"use v m{target} /srv/v --wait")
-    system[target]("mountpoint -q /srv/v")
+    system[target]("mountpoint -q /srv/v && echo kept > /srv/v/file")
 
 
 # ---- a machine that dies
@@ -186,8 +194,8 @@ def leader(system):
 # ---- upgrades
 
 
-def upgrade(system, packages, version, order):
-    """Installs another version everywhere, which starts nothing anew, and starts part after part anew, machine after machine."""
+def upgrade(system, packages, version, order, used):
+    """Installs another version everywhere, which starts nothing anew, and starts part after part anew, machine after machine. A volume is in use at a node."""
     for machine in system.machines.values():
         _, before = machine("systemctl show -P MainPID 'tufayon-*@*'")
         install(machine, packages)
@@ -198,8 +206,9 @@ def upgrade(system, packages, version, order):
     for part in order:
         for number, machine in system.machines.items():
             if f"tufayon-{part}@{SET}" in units_of(number):
-                machine(f"systemctl restart --no-block tufayon-{part}@{SET}")
+                machine(f"systemctl restart tufayon-{part}@{SET}")
                 reached(system)
+                need("the volume in use is there", system[used]("cat /srv/v/file")[1] == "kept\n")
 
 
 # ---- a node that is lost
@@ -227,6 +236,12 @@ def join(system, number, session):
 
 
 # ---- taking it away
+
+
+def end(system):
+    """Nothing is in use any more, and no volume is left."""
+    system.told("stop v m4 /srv/v --wait")
+    system.told("delete v --wait")
 
 
 def files_of(machine):
