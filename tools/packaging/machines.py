@@ -7,7 +7,7 @@ import time
 
 BOOT = f"{os.path.dirname(os.path.realpath(__file__))}/boot.sh"
 WITHIN = 120  # seconds that a machine may take to start, and a command to end
-NETWORK = "10.77.80"
+NETWORK = "192.0.2"
 
 
 class Failed(Exception):
@@ -56,6 +56,8 @@ class Network:
 class Machine:
     """One machine. Its disk outlives it."""
 
+    commands = []  # those that were run, on all machines
+
     def __init__(self, network, number, base, folder):
         self.name, self.address = f"m{number}", f"{NETWORK}.{number}"
         self.base, self.folder = base, f"{folder}/m{number}"
@@ -82,6 +84,7 @@ class Machine:
 
     def __call__(self, command, check=True, within=WITHIN):
         """Runs a command of a shell there, and gives its exit status and what it said."""
+        self.commands.append(command)
         words = ["nsenter", "-t", str(self.init), "-m", "-p", "-u", "-i", "-n", "-C", "-r", "-w", "env", "-i", "HOME=/root", "LC_ALL=C.UTF-8",
                  "PATH=/usr/local/sbin:/usr/local/bin:/usr/sbin:/usr/bin:/sbin:/bin", "DEBIAN_FRONTEND=noninteractive", "sh", "-c", command]
         try:

@@ -1,15 +1,16 @@
-"""What an operator does with a set on five machines, in the words of docs/SERVICE.md: three have a server of etcd and an orchestrator, two of these a
+"""What an operator does with a set on five machines, by the commands of docs/SERVICE.md: three have a server of etcd and an orchestrator, two of these a
 controller, and each is a node."""
 import re
 import time
 
 from .machines import NETWORK, Failed
 
-SET, STORES, FILES = "s1", "/var/lib/tufayon/s1", "/etc/tufayon/s1"
-ETCD, ORCHESTRATORS, CONTROLLERS = (1, 2, 3), (1, 2, 3), (1, 2)
-PROMISE = "its machine is off for good, and its store will never be used again"
-CLIENT = (f"export TUFAYON_ADDRESS={','.join(f'{NETWORK}.{it}:7000' for it in ORCHESTRATORS)} TUFAYON_SET={SET} TUFAYON_CERTIFICATE=/root/ca/client-admin/cert.pem "
-          "TUFAYON_KEY=/root/ca/client-admin/key.pem TUFAYON_AUTHORITIES=/root/ca/client-admin/ca.pem")
+SET = "s1"
+FILES, STORES = f"/etc/tufayon/{SET}", f"/var/lib/tufayon/{SET}"
+THREE, CONTROLLERS = (1, 2, 3), (1, 2)
+PROMISE = "off for good, and its store never comes back"
+CLIENT = (f"cd /root; export TUFAYON_ADDRESS={','.join(f'{NETWORK}.{it}:7000' for it in THREE)} TUFAYON_SET={SET}; "
+          "export TUFAYON_CERTIFICATE=ca/client-admin/cert.pem TUFAYON_KEY=ca/client-admin/key.pem TUFAYON_AUTHORITIES=ca/client-admin/ca.pem; ")
 
 
 def need(told, is_so, *more):
@@ -27,7 +28,7 @@ def soon(told, ask, within=60):
 
 
 class Set:
-    """The machines, by their numbers, and who asks: the client `admin`, on the first that is up."""
+    """The machines, by their numbers. Who asks is the client `admin`, on the first that is up."""
 
     def __init__(self, machines):
         self.machines = machines
@@ -35,11 +36,16 @@ class Set:
     def __getitem__(self, number):
         return self.machines[number]
 
+    def of(self, part):
+        """The numbers of the machines that are up and have a part."""
+        where = {"node": tuple(self.machines), "controller": CONTROLLERS, "orchestrator": THREE}[part]
+        return [it for it in where if self.machines[it].process]
+
     def up(self):
         return [it for it in self.machines.values() if it.process]
 
     def ask(self, words, check=True):
-        return self.up()[0](f"{CLIENT}; tufayonctl {words}", check=check)
+        return self.up()[0](f"{CLIENT}tufayonctl {words}", check=check)
 
     def told(self, words, *texts):
         """Asks, and needs these words in what is said."""
@@ -48,22 +54,11 @@ class Set:
             need(f"tufayonctl {words}: there is no {text!r}", re.search(text, said), said)
 
 
-def units_of(number):
-    """The units of a machine, those of its plugins first."""
-    parts = ["node", *(["controller"] if number in CONTROLLERS else []), *(["orchestrator"] if number in ORCHESTRATORS else [])]
-    return [f"tufayon-{it}@{SET}" for it in parts]
+# ---- installing
 
 
-def install(machine, packages):
-    machine(f"dpkg -i {packages}/*.deb")
-
-
-def programs(machine):
-    """What doesn't need a set: the program, its audit, and the library's page for pkg-config."""
-    machine("csi-replay --version && man csi-replay 2> /dev/null || test -f /usr/share/man/man1/csi-replay.1.gz")
-    machine("printf '%s' '{\"greatest\":1000,\"nodes\":[]}' > /tmp/config && csi-replay controller /tmp/c.db /tmp/config < /dev/null && "
-            "csi-replay record /tmp/c.db | tufayon-audit | grep -qx 'nothing found'")
-    machine("test -f /usr/lib/x86_64-linux-gnu/libtufayon.a && grep -q '^Version: ' /usr/lib/x86_64-linux-gnu/pkgconfig/tufayon.pc")
+def install(machine, packages, back=""):
+    machine(f"cd {packages} && apt-get install -y {back}./tufayon*.deb")
 
 
 def starts_nothing(machine):
@@ -74,34 +69,46 @@ def starts_nothing(machine):
     need(f"{machine.name}: it is enabled after its installation", "tufayon" not in enabled, enabled)
 
 
+def programs(machine):
+    """What needs no set: the program, its audit, the demonstration, and the library's file for pkg-config."""
+    machine("csi-replay --version && test -f /usr/share/man/man1/csi-replay.1.gz")
+    machine("printf '%s' '{\"greatest\":1000,\"nodes\":[]}' > /tmp/config && csi-replay controller /tmp/c.db /tmp/config < /dev/null && "
+            "csi-replay record /tmp/c.db | tufayon-audit | grep -qx 'nothing found'")
+    machine("grep -q '^Version: ' /usr/lib/x86_64-linux-gnu/pkgconfig/tufayon.pc")
+    machine("tufayon-demo start && tufayon-demo show && tufayon-demo stop")
+
+
 # ---- names and certificates
 
 
 def certify(system):
-    """On the first machine the certificates, which are then brought to where they belong."""
-    names = ["orchestrator", "controller", "client/admin", *(f"node/m{it}" for it in system.machines), *(f"etcd/{NETWORK}.{it}" for it in ETCD)]
-    system[1](f"tufayon-certificates /root/ca {SET} {' '.join(names)}")
+    """On the first machine all certificates, which are then brought to where they belong."""
+    system[1](f"cd /root && tufayon-certificates ca {SET} orchestrator controller client/admin node/m1 node/m2 node/m3 node/m4 node/m5")
+    system[1](f"cd /root && tufayon-certificates ca {SET} " + " ".join(f"etcd/{NETWORK}.{it}" for it in THREE))
     for number, machine in system.machines.items():
         machine(f"cp -R /etc/tufayon/example {FILES}")
-        wanted = {"node": f"node-m{number}"}
-        if number in ORCHESTRATORS:
-            wanted["orchestrator"] = "orchestrator"
+        bring(system, f"node-m{number}", number, f"{FILES}/node", "root")
+        bring(system, "client-admin", number, "/root/ca/client-admin", "root")
+        if number in THREE:
+            bring(system, "orchestrator", number, f"{FILES}/orchestrator", "tufayon-orchestrator")
+            bring(system, f"etcd-{NETWORK}.{number}", number, "/etc/etcd", "etcd")
         if number in CONTROLLERS:
-            wanted["controller"] = "controller"
-        if number in ETCD:
-            wanted["etcd"] = f"etcd-{NETWORK}.{number}"
-        for part, name in wanted.items():
-            bring(system[1], f"/root/ca/{name}", machine, f"/etc/etcd-{SET}" if part == "etcd" else f"{FILES}/{part}")
-            user = {"node": "root", "etcd": "etcd"}.get(part, f"tufayon-{part}")
-            machine(f"chown -R {user}: {'/etc/etcd-' + SET if part == 'etcd' else FILES + '/' + part}")
-        if number != 1:
-            bring(system[1], "/root/ca/client-admin", machine, "/root/ca/client-admin")
+            bring(system, "controller", number, f"{FILES}/controller", "tufayon-controller")
 
 
-def bring(from_machine, folder, to_machine, into):
-    """Copies a folder from one machine to another."""
-    _, packed = from_machine(f"tar -C {folder} -c . | base64 -w 0")
-    to_machine(f"mkdir -p -m 700 {into} && echo {packed} | base64 -d | tar -C {into} -x")
+def bring(system, name, number, folder, user):
+    """Copies a certificate, with its key, from where all are made to a folder of a machine, whose user reads it."""
+    if folder != f"/root/ca/{name}" or number != 1:
+        _, packed = system[1](f"tar -C /root/ca/{name} -c . | base64 -w 0")
+        system[number](f"mkdir -p -m 700 {folder} && echo {packed} | base64 -d | tar -C {folder} -x")
+    system[number](f"chown -R {user}: {folder}")
+
+
+def renew(system, number):
+    """A node's certificate, while it runs: it is of use from the next connection on."""
+    system[1](f"cd /root && tufayon-certificates ca {SET} node/m{number}")
+    bring(system, f"node-m{number}", number, f"{FILES}/node", "root")
+    system.told("nodes", "node:m4 +READY")
 
 
 # ---- the first start
@@ -109,128 +116,148 @@ def bring(from_machine, folder, to_machine, into):
 
 def configure(system):
     for number, machine in system.machines.items():
-        machine(f"sed -i -e 's/192[.]0[.]2/{NETWORK}/g' -e 's,example,{SET},g' {FILES}/*.json")
+        machine(f"sed -i 's,example,{SET},g' {FILES}/*.json")
         machine(f"sed -i 's/\"address\": \"[^\"]*\"/\"address\": \"{NETWORK}.{number}:7000\"/' {FILES}/orchestrator.json")
         machine(f"sed -i 's/\"node\": \"m1\"/\"node\": \"m{number}\"/' {FILES}/node.json")
 
 
+def etcd_file(number):
+    """What /etc/default/etcd of a machine has."""
+    own, every = f"https://{NETWORK}.{number}", ",".join(f"m{it}=https://{NETWORK}.{it}:2380" for it in THREE)
+    files = "\n".join(f"ETCD{of}_{what}_FILE=/etc/etcd/{file}.pem" for of in ("", "_PEER") for what, file in (("CERT", "cert"), ("KEY", "key"), ("TRUSTED_CA", "ca")))
+    return (f"ETCD_DATA_DIR=/var/lib/etcd/{SET}\nETCD_INITIAL_CLUSTER={every}\nETCD_INITIAL_CLUSTER_TOKEN={SET}\n"
+            f"ETCD_LISTEN_PEER_URLS={own}:2380\nETCD_INITIAL_ADVERTISE_PEER_URLS={own}:2380\n"
+            f"ETCD_LISTEN_CLIENT_URLS={own}:2379\nETCD_ADVERTISE_CLIENT_URLS={own}:2379\n"
+            f"ETCD_CLIENT_CERT_AUTH=true\nETCD_PEER_CLIENT_CERT_AUTH=true\n{files}\n")
+
+
 def start_etcd(system):
-    every = ",".join(f"m{it}=https://{NETWORK}.{it}:2380" for it in ETCD)
-    for number in ETCD:
-        lines = [f"ETCD_DATA_DIR=/var/lib/etcd/{SET}", f"ETCD_INITIAL_CLUSTER={every}"]
-        for what, port in (("PEER", 2380), ("CLIENT", 2379)):
-            url = f"https://{NETWORK}.{number}:{port}"
-            lines += [f"ETCD_LISTEN_{what}_URLS={url}", f"ETCD_{'INITIAL_ADVERTISE_PEER' if what == 'PEER' else 'ADVERTISE_CLIENT'}_URLS={url}"]
-            prefix = "ETCD_PEER_" if what == "PEER" else "ETCD_"
-            lines += [f"{prefix}CERT_FILE=/etc/etcd-{SET}/cert.pem", f"{prefix}KEY_FILE=/etc/etcd-{SET}/key.pem", f"{prefix}TRUSTED_CA_FILE=/etc/etcd-{SET}/ca.pem",
-                      f"{prefix}CLIENT_CERT_AUTH=true"]
-        system[number](f"printf '%s\\n' {' '.join(lines)} > /etc/default/etcd && systemctl --no-block restart etcd")
-    for number in ETCD:
+    for number in THREE:
+        system[number](f"cat > /etc/default/etcd << 'END'\n{etcd_file(number)}END\nsystemctl --no-block restart etcd")
+    for number in THREE:
         soon(f"etcd at m{number}", lambda at=number: system[at]("systemctl is-active etcd", check=False)[1].strip() == "active")
 
 
 def start(system):
-    for number, machine in system.machines.items():
-        for unit in units_of(number):
-            part = unit[len("tufayon-"):].split("@", maxsplit=1)[0]
-            _, said = machine(f"tufayon-{part} --check {FILES}/{part}.json")
-            need(f"{machine.name}: --check", "nothing is wrong" in said and "valid until" in said, said)
-        machine(f"systemctl enable --now --no-block {' '.join(units_of(number))}")
+    """First the nodes, then the controllers, last the orchestrators."""
+    for part in ("node", "controller", "orchestrator"):
+        for number in system.of(part):
+            _, said = system[number](f"tufayon-{part} --check {FILES}/{part}.json")
+            need(f"m{number}: --check", "nothing is wrong" in said and "is valid until" in said, said)
+            system[number](f"systemctl enable --now tufayon-{part}@{SET}")
     reached(system)
 
 
 def reached(system):
-    """Each node that is up is reached."""
+    """Each plugin that is up is reached."""
     def is_so():
         status, said = system.ask("nodes", check=False)
-        return status == 0 and all(re.search(rf"^{it.name} .*\breached\b|^{it.name} +yes", said, re.M) for it in system.up())
-    soon("each node is reached", is_so)
+        return status == 0 and all(re.search(rf"^{name} +READY", said, re.M) for name in ("controller", *(f"node:{it.name}" for it in system.up())))
+    soon("each plugin is reached", is_so)
 
 
 # ---- each day
 
 
 def use(system):
-    system.told("create v --size 1G --wait")
-    system.told("use v m4 /srv/v --wait")
+    system.told("create v --size 10G --wait", "v .* yes")
+    system.told("use v m4 /srv/v --wait", "m4:/srv/v")
     system[4]("mountpoint -q /srv/v")
-    status, said = system.ask("use v m5 /srv/v", check=False)
-    need("a second node is refused", status == 1 and "FailedPrecondition" in said, said)
-    system.told("list", r"\bv\b", "m4")
-    system.told("get v", "/srv/v")
+    status, said = system.ask("use v m5 /srv/v --wait", check=False)
+    need("a second node is refused", status == 1 and "HeldElsewhere" in said, said)
+    system.told("list", r"v .* m4:/srv/v")
+    system.told("get v", "m4:/srv/v")
 
 
 def move(system, source, target):
     system.told(f"stop v m{source} /srv/v --wait")
-    need("it is unmounted", system[source]("mountpoint -q /srv/v", check=False)[0] != 0)
-    system.told(f"use v m{target} /srv/v --wait")
+    if system[source].process:
+        need("it is unmounted", system[source]("mountpoint -q /srv/v", check=False)[0] != 0)
+    system.told(f"use v m{target} /srv/v --wait", f"m{target}:/srv/v")
     system[target]("mountpoint -q /srv/v && echo kept > /srv/v/file")
 
 
-# ---- a machine that dies
+def logs(system):
+    """What happened can be read where it did."""
+    _, said = system[4](f"journalctl -u tufayon-node@{SET} --no-pager")
+    need("the log of a node", "serves at" in said, said)
+
+
+# ---- machines that die
+
+
+def leader(system):
+    """The machine of the orchestrator that leads, by the others' answers."""
+    for number in system.of("orchestrator"):
+        if system[number](f"journalctl -u tufayon-orchestrator@{SET} -o cat --no-pager | grep -q '\"msg\":\"serves\"\\|^serves$'", check=False)[0] == 0:
+            return number
+    raise Failed("nobody leads")
 
 
 def lose_power(system, number):
-    """The machine of a leader goes, and comes back."""
+    """The machine of a leader dies, and comes back. Others lead meanwhile."""
     system[number].kill()
     soon("another leads", lambda: system.ask("list", check=False)[0] == 0)
-    system.told("create w --size 1G --wait")
+    system.told("create w --size 1G --wait", "w .* yes")
     system.told("delete w --wait")
     system[number].start()
     reached(system)
 
 
-def leader(system):
-    """The machine whose orchestrator leads."""
-    for number in ORCHESTRATORS:
-        if system[number].process:
-            status, _ = system.up()[0](f"{CLIENT}; TUFAYON_ADDRESS={NETWORK}.{number}:7000 tufayonctl --timeout 3s nodes", check=False)
-            _, health = system[number](f"journalctl -u tufayon-orchestrator@{SET} -o cat -n 200", check=False)
-            if status == 0 and '"msg":"serves"' in health.rsplit('"msg":"waits for the store"', maxsplit=1)[-1]:
-                return number
-    raise Failed("nobody leads")
+# ---- another list of nodes
+
+
+def listed(system, without):
+    """Leaves a node out of the list, and takes it in again."""
+    for command in (f"sed -i.before '/\"id\": \"m{without}\"/d' {FILES}/set.json", f"mv {FILES}/set.json.before {FILES}/set.json"):
+        for part in ("controller", "orchestrator"):
+            for number in system.of(part):
+                if part == "controller" or number not in CONTROLLERS:
+                    system[number](command)
+                system[number](f"systemctl reload tufayon-{part}@{SET}")
+        is_there = "mv" in command
+        soon("another list", lambda want=is_there: (f"node:m{without} " in system.ask("nodes")[1]) == want)
+    reached(system)
 
 
 # ---- upgrades
 
 
-def upgrade(system, packages, version, order, used):
+def upgrade(system, packages, version, parts, used, back=""):
     """Installs another version everywhere, which starts nothing anew, and starts part after part anew, machine after machine. A volume is in use at a node."""
-    for machine in system.machines.values():
+    for machine in system.up():
         _, before = machine("systemctl show -P MainPID 'tufayon-*@*'")
-        install(machine, packages)
+        install(machine, packages, back)
         _, after = machine("systemctl show -P MainPID 'tufayon-*@*'")
         need(f"{machine.name}: an installation started something anew", before == after, before, after)
         _, said = machine("dpkg-query -W -f '${Version}' tufayon-service")
         need(f"{machine.name}: its version", said == version, said)
-    for part in order:
-        for number, machine in system.machines.items():
-            if f"tufayon-{part}@{SET}" in units_of(number):
-                machine(f"systemctl restart tufayon-{part}@{SET}")
-                reached(system)
-                need("the volume in use is there", system[used]("cat /srv/v/file")[1] == "kept\n")
+    for part in parts:
+        for number in system.of(part):
+            system[number](f"systemctl restart tufayon-{part}@{SET}")
+            reached(system)
+            need("the volume in use is there", system[used]("cat /srv/v/file")[1] == "kept\n")
 
 
 # ---- a node that is lost
 
 
 def lose(system, number, successor):
-    """A node's machine is off for good while a volume is used there; then another machine joins under its id."""
+    """A node's machine is off for good while a volume is used there. It gives the session with which another may join under its id."""
     system[number].kill()
     _, said = system.ask(f"lose m{number} --promise '{PROMISE}'")
     session = re.search(r"session (\d+)", said)
     need("lose tells a session", session, said)
-    system.told(f"stop v m{number} /srv/v --wait")
-    system.told(f"use v m{successor} /srv/v --wait")
+    move(system, number, successor)
     return session.group(1)
 
 
 def join(system, number, session):
-    """A new machine under this id: its disk has no store."""
+    """A new machine under this id, which has no store."""
     machine = system[number].start()
-    machine(f"systemctl stop tufayon-node@{SET}; rm -rf {STORES}/node {STORES}/staging")
-    machine(f"sed -i 's/\"node\": /\"session\": {session}, \"node\": /' {FILES}/node.json && systemctl start --no-block tufayon-node@{SET}")
-    for it in ORCHESTRATORS:
+    machine(f"systemctl stop tufayon-node@{SET}; rm -rf {STORES}")
+    machine(f"sed -i 's/\"node\": /\"session\": {session}, \"node\": /' {FILES}/node.json && systemctl start tufayon-node@{SET}")
+    for it in system.of("orchestrator"):
         system[it](f"systemctl reload tufayon-orchestrator@{SET}")
     reached(system)
 
@@ -238,27 +265,29 @@ def join(system, number, session):
 # ---- taking it away
 
 
-def end(system):
-    """Nothing is in use any more, and no volume is left."""
-    system.told("stop v m4 /srv/v --wait")
+def end(system, used):
+    system.told(f"stop v m{used} /srv/v --wait")
     system.told("delete v --wait")
+    for part in ("orchestrator", "controller", "node"):
+        for number in system.of(part):
+            system[number](f"systemctl disable --now tufayon-{part}@{SET}")
 
 
 def files_of(machine):
-    """Each file and folder of the machine's own disk, but for what dpkg, debconf and the journal keep."""
-    kept = "-path /var/lib/dpkg -o -path /var/cache -o -path /var/log -o -path /var/lib/systemd -o -path /root -o -path /tmp -o -path '/etc/*-' -o -path /var/lib/etcd -o -path /etc/default"
-    return set(machine(f"find / -xdev \\( {kept} \\) -prune -o -print")[1].splitlines())
+    """Each file and folder of the machine's own disk, but for what Debian's own programs keep, and what this operator made elsewhere."""
+    others = ("/var/lib/dpkg", "/var/lib/apt", "/var/cache", "/var/log", "/var/lib/systemd", "/var/lib/etcd", "/etc/etcd", "/root", "/tmp", "/var/tmp", "/etc/.pwd.lock")
+    pruned = " -o ".join(f"-path {it}" for it in others)
+    return set(machine(f"find / -xdev \\( {pruned} \\) -prune -o ! -name '*-' -print")[1].splitlines())
 
 
 def purge(machine, before, asks):
     """Purges, and judges what is left."""
     if asks:
         machine("echo tufayon-service tufayon-service/remove_stores boolean true | debconf-set-selections")
-    machine("dpkg --purge tufayon-service tufayon libtufayon-dev")
-    left = sorted(files_of(machine) - before)
+    machine("apt-get purge -y tufayon tufayon-service libtufayon-dev")
+    left = sorted(files_of(machine) - before - {"/srv/v"})
     stores = [it for it in left if it.startswith("/var/lib/tufayon")]
-    need(f"{machine.name}: something is left", left == stores or set(left) - set(stores) <= {f"/etc/etcd-{SET}"} | {f"/etc/etcd-{SET}/{it}.pem" for it in ("ca", "cert", "key")},
-         *left)
+    need(f"{machine.name}: something is left", left == stores, *left)
     need(f"{machine.name}: the stores", bool(stores) != asks, *stores)
     _, users = machine("getent passwd | grep -c tufayon", check=False)
     need(f"{machine.name}: the users", int(users) == (0 if asks else 2), users)
