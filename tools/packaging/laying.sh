@@ -21,7 +21,7 @@ lay_service() {
     lay "$top/deploy/demo" usr/bin/tufayon-demo 755
     for it in "$top"/deploy/systemd/*.service; do lay "$it" "lib/systemd/system/${it##*/}"; done
     # A program that tells systemd nothing is taken as started once it runs.
-    grep -q NOTIFY_SOCKET "$1/tufayon-node" || sed -i 's/^Type=notify$/Type=exec/' "$tree"/lib/systemd/system/*.service
+    grep -q NOTIFY_SOCKET "$1/tufayon-node" || sed -i -e 's/^Type=notify$/Type=exec/' -e '/^# A commit that hangs/,/^WatchdogSec=/d' "$tree"/lib/systemd/system/*.service
     lay "$top/deploy/systemd/tufayon.sysusers" usr/lib/sysusers.d/tufayon-service.conf
     lay "$top/deploy/systemd/tufayon.tmpfiles" usr/lib/tmpfiles.d/tufayon-service.conf
     for it in "$top"/deploy/example/*; do lay "$it" "etc/tufayon/example/${it##*/}"; done

@@ -74,7 +74,7 @@ def programs(machine):
     machine("csi-replay --version && test -f /usr/share/man/man1/csi-replay.1.gz")
     machine("printf '%s' '{\"greatest\":1000,\"nodes\":[]}' > /tmp/config && csi-replay controller /tmp/c.db /tmp/config < /dev/null && "
             "csi-replay record /tmp/c.db | tufayon-audit | grep -qx 'nothing found'")
-    machine("grep -q '^Version: ' /usr/lib/x86_64-linux-gnu/pkgconfig/tufayon.pc")
+    machine("cd /packages/old && apt-get install -y ./libtufayon-dev*.deb && grep -q '^Version: ' /usr/lib/x86_64-linux-gnu/pkgconfig/tufayon.pc")
     machine("tufayon-demo start && tufayon-demo show && tufayon-demo stop")
 
 
