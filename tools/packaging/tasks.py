@@ -1,6 +1,7 @@
 """What an operator does with a set on five machines, by the commands of docs/SERVICE.md: three have a server of etcd and an orchestrator, two of these a
 controller, and each is a node."""
 import re
+import shutil
 import time
 
 from .machines import NETWORK, Failed
@@ -253,10 +254,15 @@ def lose(system, number, successor):
 
 
 def join(system, number, session):
-    """A new machine under this id, which has no store."""
-    machine = system[number].start()
-    machine(f"systemctl stop tufayon-node@{SET}; rm -rf {STORES}")
-    machine(f"sed -i 's/\"node\": /\"session\": {session}, \"node\": /' {FILES}/node.json && systemctl start tufayon-node@{SET}")
+    """A new machine under this id: it has the files, with the session, and no store."""
+    machine = system[number]
+    disk = f"{machine.folder}/disk"
+    shutil.rmtree(f"{disk}{STORES}")
+    with open(f"{disk}{FILES}/node.json", "r+", encoding="utf-8") as file:
+        text = file.read().replace('"node": ', f'"session": {session}, "node": ')
+        file.seek(0)
+        file.write(text)
+    machine.start()
     for it in system.of("orchestrator"):
         system[it](f"systemctl reload tufayon-orchestrator@{SET}")
     reached(system)
@@ -275,7 +281,7 @@ def end(system, used):
 
 def files_of(machine):
     """Each file and folder of the machine's own disk, but for what Debian's own programs keep, and what this operator made elsewhere."""
-    others = ("/var/lib/dpkg", "/var/lib/apt", "/var/cache", "/var/log", "/var/lib/systemd", "/var/lib/etcd", "/etc/etcd", "/root", "/tmp", "/var/tmp", "/etc/.pwd.lock")
+    others = ("/var/lib/dpkg", "/var/lib/apt", "/var/cache", "/var/log", "/var/lib/systemd", "/var/lib/etcd", "/etc/etcd", "/root", "/tmp", "/var/tmp", "/etc/.pwd.lock", "/etc/default/etcd")
     pruned = " -o ".join(f"-path {it}" for it in others)
     return set(machine(f"find / -xdev \\( {pruned} \\) -prune -o ! -name '*-' -print")[1].splitlines())
 
@@ -284,7 +290,8 @@ def purge(machine, before, asks):
     """Purges, and judges what is left."""
     if asks:
         machine("echo tufayon-service tufayon-service/remove_stores boolean true | debconf-set-selections")
-    machine("apt-get purge -y tufayon tufayon-service libtufayon-dev")
+    machine("apt-get purge -y tufayon tufayon-service")
+    machine("dpkg --purge libtufayon-dev", check=False)
     left = sorted(files_of(machine) - before - {"/srv/v"})
     stores = [it for it in left if it.startswith("/var/lib/tufayon")]
     need(f"{machine.name}: something is left", left == stores, *left)
