@@ -1,0 +1,1 @@
+"""What tools/package and tools/check_package are made of."""

@@ -1,0 +1,37 @@
+"""Which files each package has to have, beside what Debian asks for in each."""
+import subprocess
+
+FORMATS = ("FORMATS", "FRAMES", "RECORDS", "LINES", "DRIVER", "SERVICE")
+EMBED = ("orchestrator.c", "orchestrator.go", "orchestrator.rs", "plugin.c", "plugin.go", "plugin.rs", "store.go", "store.h", "store.rs", "tufayon.rs")
+PARTS = ("orchestrator", "controller", "node")
+
+CONTENTS = {
+    "tufayon": {
+        "usr/bin/csi-replay", "usr/bin/tufayon-audit", "usr/share/man/man1/csi-replay.1.gz", "usr/share/bash-completion/completions/csi-replay",
+        "usr/share/tufayon/audit", *(f"usr/share/tufayon/auditing/{it}.py" for it in ("__init__", "clauses", "lines", "worked")),
+        *(f"usr/share/doc/tufayon/{it}.md" for it in FORMATS),
+    },
+    "libtufayon-dev": {
+        "usr/include/tufayon.h", "usr/lib/x86_64-linux-gnu/libtufayon.a", "usr/lib/x86_64-linux-gnu/pkgconfig/tufayon.pc",
+        *(f"usr/share/doc/libtufayon-dev/examples/{it}" for it in EMBED),
+    },
+    "tufayon-service": {
+        *(f"usr/bin/tufayon-{it}" for it in (*PARTS, "certificates", "demo")), "usr/bin/tufayonctl",
+        *(f"lib/systemd/system/tufayon-{it}@.service" for it in PARTS), "usr/lib/sysusers.d/tufayon-service.conf", "usr/lib/tmpfiles.d/tufayon-service.conf",
+        *(f"etc/tufayon/example/{it}.json" for it in (*PARTS, "set")),
+        "usr/share/bash-completion/completions/tufayonctl", "usr/share/zsh/vendor-completions/_tufayonctl", "usr/share/fish/vendor_completions.d/tufayonctl.fish",
+        *(f"usr/share/doc/tufayon-service/{it}.md" for it in ("OPERATING", "SERVICE", "DRIVER")),
+    },
+}
+
+
+def files_of(package):
+    """The files of a package, without what each has to have: what says who may copy it, and what is new."""
+    said = subprocess.run(["dpkg-deb", "--contents", package], stdout=subprocess.PIPE, text=True, check=True).stdout
+    found = set()
+    for line in said.splitlines():
+        path = line.split(None, 5)[5].split(" -> ")[0].removeprefix("./")
+        folder, _, name = path.rpartition("/")
+        if not path.endswith("/") and not (folder.startswith("usr/share/doc/") and name.split(".")[0] in ("copyright", "changelog", "THIRD-PARTIES")):
+            found.add(path)
+    return {it.removesuffix(".gz") if it.startswith("usr/share/doc/") else it for it in found}

@@ -1,0 +1,300 @@
+"""What an operator does with a set on five machines, by the commands of docs/SERVICE.md: three have a server of etcd and an orchestrator, two of these a
+controller, and each is a node."""
+import re
+import shutil
+import time
+
+from .machines import NETWORK, Failed
+
+SET = "s1"
+FILES, STORES = f"/etc/tufayon/{SET}", f"/var/lib/tufayon/{SET}"
+THREE, CONTROLLERS = (1, 2, 3), (1, 2)
+PROMISE = "off for good, and its store never comes back"
+CLIENT = (f"cd /root; export TUFAYON_ADDRESS={','.join(f'{NETWORK}.{it}:7000' for it in THREE)} TUFAYON_SET={SET}; "
+          "export TUFAYON_CERTIFICATE=ca/client-admin/cert.pem TUFAYON_KEY=ca/client-admin/key.pem TUFAYON_AUTHORITIES=ca/client-admin/ca.pem; ")
+
+
+def need(told, is_so, *more):
+    """Fails where something isn't so."""
+    if not is_so:
+        raise Failed("\n".join([told, *map(str, more)]))
+
+
+def soon(told, ask, within=60):
+    """Waits until something is so."""
+    until = time.monotonic() + within
+    while not ask():
+        need(f"{told}: not within {within} s", time.monotonic() < until)
+        time.sleep(0.3)
+
+
+class Set:
+    """The machines, by their numbers. Who asks is the client `admin`, on the first that is up."""
+
+    def __init__(self, machines):
+        self.machines = machines
+
+    def __getitem__(self, number):
+        return self.machines[number]
+
+    def of(self, part):
+        """The numbers of the machines that are up and have a part."""
+        where = {"node": tuple(self.machines), "controller": CONTROLLERS, "orchestrator": THREE}[part]
+        return [it for it in where if self.machines[it].process]
+
+    def up(self):
+        return [it for it in self.machines.values() if it.process]
+
+    def ask(self, words, check=True):
+        return self.up()[0](f"{CLIENT}tufayonctl {words}", check=check)
+
+    def told(self, words, *texts):
+        """Asks, and needs these words in what is said."""
+        _, said = self.ask(words)
+        for text in texts:
+            need(f"tufayonctl {words}: there is no {text!r}", re.search(text, said), said)
+
+
+# ---- installing
+
+
+def install(machine, packages, back=""):
+    machine(f"cd {packages} && apt-get install -y {back}./tufayon*.deb")
+
+
+def starts_nothing(machine):
+    """After an installation nothing runs, and nothing will."""
+    _, running = machine("systemctl list-units --all --no-legend 'tufayon-*'")
+    need(f"{machine.name}: it runs after its installation", not running.strip(), running)
+    _, enabled = machine("ls /etc/systemd/system/*.wants")
+    need(f"{machine.name}: it is enabled after its installation", "tufayon" not in enabled, enabled)
+
+
+def programs(machine):
+    """What needs no set: the program, its audit, the demonstration, and the library's file for pkg-config."""
+    machine("csi-replay --version && test -f /usr/share/man/man1/csi-replay.1.gz")
+    machine("printf '%s' '{\"greatest\":1000,\"nodes\":[]}' > /tmp/config && csi-replay controller /tmp/c.db /tmp/config < /dev/null && "
+            "csi-replay record /tmp/c.db | tufayon-audit | grep -qx 'nothing found'")
+    machine("cd /packages/old && apt-get install -y ./libtufayon-dev*.deb && grep -q '^Version: ' /usr/lib/x86_64-linux-gnu/pkgconfig/tufayon.pc")
+    machine("tufayon-demo start && tufayon-demo show && tufayon-demo stop")
+
+
+# ---- names and certificates
+
+
+def certify(system):
+    """On the first machine all certificates, which are then brought to where they belong."""
+    system[1](f"cd /root && tufayon-certificates ca {SET} orchestrator controller client/admin node/m1 node/m2 node/m3 node/m4 node/m5")
+    system[1](f"cd /root && tufayon-certificates ca {SET} " + " ".join(f"etcd/{NETWORK}.{it}" for it in THREE))
+    for number, machine in system.machines.items():
+        machine(f"cp -R /etc/tufayon/example {FILES}")
+        bring(system, f"node-m{number}", number, f"{FILES}/node", "root")
+        bring(system, "client-admin", number, "/root/ca/client-admin", "root")
+        if number in THREE:
+            bring(system, "orchestrator", number, f"{FILES}/orchestrator", "tufayon-orchestrator")
+            bring(system, f"etcd-{NETWORK}.{number}", number, "/etc/etcd", "etcd")
+        if number in CONTROLLERS:
+            bring(system, "controller", number, f"{FILES}/controller", "tufayon-controller")
+
+
+def bring(system, name, number, folder, user):
+    """Copies a certificate, with its key, from where all are made to a folder of a machine, whose user reads it."""
+    if folder != f"/root/ca/{name}" or number != 1:
+        _, packed = system[1](f"tar -C /root/ca/{name} -c . | base64 -w 0")
+        system[number](f"mkdir -p -m 700 {folder} && echo {packed} | base64 -d | tar -C {folder} -x")
+    system[number](f"chown -R {user}: {folder}")
+
+
+def renew(system, number):
+    """A node's certificate, while it runs: it is of use from the next connection on."""
+    system[1](f"cd /root && tufayon-certificates ca {SET} node/m{number}")
+    bring(system, f"node-m{number}", number, f"{FILES}/node", "root")
+    system.told("nodes", "node:m4 +READY")
+
+
+# ---- the first start
+
+
+def configure(system):
+    for number, machine in system.machines.items():
+        machine(f"sed -i 's,example,{SET},g' {FILES}/*.json")
+        machine(f"sed -i 's/\"address\": \"[^\"]*\"/\"address\": \"{NETWORK}.{number}:7000\"/' {FILES}/orchestrator.json")
+        machine(f"sed -i 's/\"node\": \"m1\"/\"node\": \"m{number}\"/' {FILES}/node.json")
+
+
+def etcd_file(number):
+    """What /etc/default/etcd of a machine has."""
+    own, every = f"https://{NETWORK}.{number}", ",".join(f"m{it}=https://{NETWORK}.{it}:2380" for it in THREE)
+    files = "\n".join(f"ETCD{of}_{what}_FILE=/etc/etcd/{file}.pem" for of in ("", "_PEER") for what, file in (("CERT", "cert"), ("KEY", "key"), ("TRUSTED_CA", "ca")))
+    return (f"ETCD_DATA_DIR=/var/lib/etcd/{SET}\nETCD_INITIAL_CLUSTER={every}\nETCD_INITIAL_CLUSTER_TOKEN={SET}\n"
+            f"ETCD_LISTEN_PEER_URLS={own}:2380\nETCD_INITIAL_ADVERTISE_PEER_URLS={own}:2380\n"
+            f"ETCD_LISTEN_CLIENT_URLS={own}:2379\nETCD_ADVERTISE_CLIENT_URLS={own}:2379\n"
+            f"ETCD_CLIENT_CERT_AUTH=true\nETCD_PEER_CLIENT_CERT_AUTH=true\n{files}\n")
+
+
+def start_etcd(system):
+    for number in THREE:
+        system[number](f"cat > /etc/default/etcd << 'END'\n{etcd_file(number)}END\nsystemctl --no-block restart etcd")
+    for number in THREE:
+        soon(f"etcd at m{number}", lambda at=number: system[at]("systemctl is-active etcd", check=False)[1].strip() == "active")
+
+
+def start(system):
+    """First the nodes, then the controllers, last the orchestrators."""
+    for part in ("node", "controller", "orchestrator"):
+        for number in system.of(part):
+            _, said = system[number](f"tufayon-{part} --check {FILES}/{part}.json")
+            need(f"m{number}: --check", "nothing is wrong" in said and "is valid until" in said, said)
+            system[number](f"systemctl enable --now tufayon-{part}@{SET}")
+    reached(system)
+
+
+def reached(system):
+    """Each plugin that is up is reached."""
+    def is_so():
+        status, said = system.ask("nodes", check=False)
+        return status == 0 and all(re.search(rf"^{name} +READY", said, re.M) for name in ("controller", *(f"node:{it.name}" for it in system.up())))
+    soon("each plugin is reached", is_so)
+
+
+# ---- each day
+
+
+def use(system):
+    system.told("create v --size 10G --wait", "v .* yes")
+    system.told("use v m4 /srv/v --wait", "m4:/srv/v")
+    system[4]("mountpoint -q /srv/v")
+    status, said = system.ask("use v m5 /srv/v --wait", check=False)
+    need("a second node is refused", status == 1 and "HeldElsewhere" in said, said)
+    system.told("list", r"v .* m4:/srv/v")
+    system.told("get v", "m4:/srv/v")
+
+
+def move(system, source, target):
+    system.told(f"stop v m{source} /srv/v --wait")
+    if system[source].process:
+        need("it is unmounted", system[source]("mountpoint -q /srv/v", check=False)[0] != 0)
+    system.told(f"use v m{target} /srv/v --wait", f"m{target}:/srv/v")
+    system[target]("mountpoint -q /srv/v && echo kept > /srv/v/file")
+
+
+def logs(system):
+    """What happened can be read where it did."""
+    _, said = system[4](f"journalctl -u tufayon-node@{SET} --no-pager")
+    need("the log of a node", "serves at" in said, said)
+
+
+# ---- machines that die
+
+
+def leader(system):
+    """The machine of the orchestrator that leads, by the others' answers."""
+    for number in system.of("orchestrator"):
+        if system[number](f"journalctl -u tufayon-orchestrator@{SET} -o cat --no-pager | grep -q '\"msg\":\"serves\"\\|^serves$'", check=False)[0] == 0:
+            return number
+    raise Failed("nobody leads")
+
+
+def lose_power(system, number):
+    """The machine of a leader dies, and comes back. Others lead meanwhile."""
+    system[number].kill()
+    soon("another leads", lambda: system.ask("list", check=False)[0] == 0)
+    system.told("create w --size 1G --wait", "w .* yes")
+    system.told("delete w --wait")
+    system[number].start()
+    reached(system)
+
+
+# ---- another list of nodes
+
+
+def listed(system, without):
+    """Leaves a node out of the list, and takes it in again."""
+    for command in (f"sed -i.before '/\"id\": \"m{without}\"/d' {FILES}/set.json", f"mv {FILES}/set.json.before {FILES}/set.json"):
+        for part in ("controller", "orchestrator"):
+            for number in system.of(part):
+                if part == "controller" or number not in CONTROLLERS:
+                    system[number](command)
+                system[number](f"systemctl reload tufayon-{part}@{SET}")
+        is_there = "mv" in command
+        soon("another list", lambda want=is_there: (f"node:m{without} " in system.ask("nodes")[1]) == want)
+    reached(system)
+
+
+# ---- upgrades
+
+
+def upgrade(system, packages, version, parts, used, back=""):
+    """Installs another version everywhere, which starts nothing anew, and starts part after part anew, machine after machine. A volume is in use at a node."""
+    for machine in system.up():
+        _, before = machine("systemctl show -P MainPID 'tufayon-*@*'")
+        install(machine, packages, back)
+        _, after = machine("systemctl show -P MainPID 'tufayon-*@*'")
+        need(f"{machine.name}: an installation started something anew", before == after, before, after)
+        _, said = machine("dpkg-query -W -f '${Version}' tufayon-service")
+        need(f"{machine.name}: its version", said == version, said)
+    for part in parts:
+        for number in system.of(part):
+            system[number](f"systemctl restart tufayon-{part}@{SET}")
+            reached(system)
+            need("the volume in use is there", system[used]("cat /srv/v/file")[1] == "kept\n")
+
+
+# ---- a node that is lost
+
+
+def lose(system, number, successor):
+    """A node's machine is off for good while a volume is used there. It gives the session with which another may join under its id."""
+    system[number].kill()
+    _, said = system.ask(f"lose m{number} --promise '{PROMISE}'")
+    session = re.search(r"session (\d+)", said)
+    need("lose tells a session", session, said)
+    move(system, number, successor)
+    return session.group(1)
+
+
+def join(system, number, session):
+    """A new machine under this id: it has the files, with the session, and no store."""
+    machine = system[number]
+    disk = f"{machine.folder}/disk"
+    shutil.rmtree(f"{disk}{STORES}")
+    with open(f"{disk}{FILES}/node.json", "r+", encoding="utf-8") as file:
+        text = file.read().replace('"node": ', f'"session": {session}, "node": ')
+        file.seek(0)
+        file.write(text)
+    machine.start()
+    for it in system.of("orchestrator"):
+        system[it](f"systemctl reload tufayon-orchestrator@{SET}")
+    reached(system)
+
+
+# ---- taking it away
+
+
+def end(system, used):
+    system.told(f"stop v m{used} /srv/v --wait")
+    system.told("delete v --wait")
+    for part in ("orchestrator", "controller", "node"):
+        for number in system.of(part):
+            system[number](f"systemctl disable --now tufayon-{part}@{SET}")
+
+
+def files_of(machine):
+    """Each file and folder of the machine's own disk, but for what Debian's own programs keep, and what this operator made elsewhere."""
+    others = ("/var/lib/dpkg", "/var/lib/apt", "/var/cache", "/var/log", "/var/lib/systemd", "/var/lib/etcd", "/etc/etcd", "/root", "/tmp", "/var/tmp", "/etc/.pwd.lock", "/etc/default/etcd")
+    pruned = " -o ".join(f"-path {it}" for it in others)
+    return set(machine(f"find / -xdev \\( {pruned} \\) -prune -o ! -name '*-' -print")[1].splitlines())
+
+
+def purge(machine, before, asks):
+    """Purges, and judges what is left."""
+    if asks:
+        machine("echo tufayon-service tufayon-service/remove_stores boolean true | debconf-set-selections")
+    machine("apt-get purge -y tufayon tufayon-service")
+    machine("dpkg --purge libtufayon-dev", check=False)
+    left = sorted(files_of(machine) - before - {"/srv/v"})
+    stores = [it for it in left if it.startswith("/var/lib/tufayon")]
+    need(f"{machine.name}: something is left", left == stores, *left)
+    need(f"{machine.name}: the stores", bool(stores) != asks, *stores)
+    _, users = machine("getent passwd | grep -c tufayon", check=False)
+    need(f"{machine.name}: the users", int(users) == (0 if asks else 2), users)
