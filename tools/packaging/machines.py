@@ -16,7 +16,10 @@ class Failed(Exception):
 
 def run(*words, within=WITHIN, check=True, **how):
     """Runs a command, and gives its exit status and all that it said."""
-    came = subprocess.run(words, stdout=subprocess.PIPE, stderr=subprocess.STDOUT, text=True, errors="replace", timeout=within, check=False, **how)
+    try:
+        came = subprocess.run(words, stdout=subprocess.PIPE, stderr=subprocess.STDOUT, text=True, errors="replace", timeout=within, check=False, **how)
+    except subprocess.TimeoutExpired as late:
+        raise Failed(f"{' '.join(words)}: not within {within} s\n{(late.stdout or b'').decode(errors='replace')}") from None
     if check and came.returncode:
         raise Failed(f"{' '.join(words)}: status {came.returncode}\n{came.stdout}")
     return came.returncode, came.stdout

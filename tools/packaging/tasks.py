@@ -178,21 +178,27 @@ def move(system, source, target):
     system[target]("mountpoint -q /srv/v && echo kept > /srv/v/file")
 
 
-def logs(system):
-    """What happened can be read where it did."""
+def watch(system):
+    """What happened can be read where it did, and how each process does."""
     _, said = system[4](f"journalctl -u tufayon-node@{SET} --no-pager")
     need("the log of a node", "serves at" in said, said)
-
-
-# ---- machines that die
+    _, said = system[leader(system)]("journalctl TUFAYON_VOLUME=v --no-pager")
+    need("what the log has of a volume", len(said.splitlines()) > 3, said)
+    system.told("history v", "m4")
+    for port, metric in ((9480, "tufayon_session"), (9481, "tufayon_driver_rows"), (9482, "tufayon_driver_rows")):
+        _, said = system[1](f"python3 -c 'import urllib.request as it; print(it.urlopen(\"http://127.0.0.1:{port}/metrics\").read().decode())'")
+        need(f"metrics at {port}", metric in said, said)
 
 
 def leader(system):
-    """The machine of the orchestrator that leads, by the others' answers."""
+    """The machine of the orchestrator that leads, as systemd is told."""
     for number in system.of("orchestrator"):
-        if system[number](f"journalctl -u tufayon-orchestrator@{SET} -o cat --no-pager | grep -q '\"msg\":\"serves\"\\|^serves$'", check=False)[0] == 0:
+        if "leads" in system[number](f"systemctl show -P StatusText tufayon-orchestrator@{SET}")[1]:
             return number
     raise Failed("nobody leads")
+
+
+# ---- machines that die
 
 
 def lose_power(system, number):
