@@ -20,6 +20,7 @@ CONTENTS = {
         *(f"lib/systemd/system/tufayon-{it}@.service" for it in PARTS), "usr/lib/sysusers.d/tufayon-service.conf", "usr/lib/tmpfiles.d/tufayon-service.conf",
         *(f"etc/tufayon/example/{it}.json" for it in (*PARTS, "set")),
         "usr/share/bash-completion/completions/tufayonctl", "usr/share/zsh/vendor-completions/_tufayonctl", "usr/share/fish/vendor_completions.d/tufayonctl.fish",
+        *(f"usr/share/tufayon/prometheus/{it}.yml" for it in ("alerts", "prometheus")),
         *(f"usr/share/doc/tufayon-service/{it}.md" for it in ("OPERATING", "SERVICE", "DRIVER")),
     },
 }
@@ -32,6 +33,6 @@ def files_of(package):
     for line in said.splitlines():
         path = line.split(None, 5)[5].split(" -> ")[0].removeprefix("./")
         folder, _, name = path.rpartition("/")
-        if not path.endswith("/") and not (folder.startswith("usr/share/doc/") and name.split(".")[0] in ("copyright", "changelog", "THIRD-PARTIES")):
+        if path and not path.endswith("/") and not (folder.startswith("usr/share/doc/") and name.split(".")[0] in ("copyright", "changelog", "THIRD-PARTIES")):
             found.add(path)
     return {it.removesuffix(".gz") if it.startswith("usr/share/doc/") else it for it in found}
