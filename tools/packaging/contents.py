@@ -1,6 +1,9 @@
 """Which files each package has to have, beside what Debian asks for in each."""
+import glob
+import os
 import subprocess
 
+TOP = os.path.dirname(os.path.dirname(os.path.dirname(os.path.realpath(__file__))))
 FORMATS = ("FORMATS", "FRAMES", "RECORDS", "LINES", "DRIVER", "SERVICE")
 EMBED = ("orchestrator.c", "orchestrator.go", "orchestrator.rs", "plugin.c", "plugin.go", "plugin.rs", "store.go", "store.h", "store.rs", "tufayon.rs")
 PARTS = ("orchestrator", "controller", "node")
@@ -20,7 +23,7 @@ CONTENTS = {
         *(f"lib/systemd/system/tufayon-{it}@.service" for it in PARTS), "usr/lib/sysusers.d/tufayon-service.conf", "usr/lib/tmpfiles.d/tufayon-service.conf",
         *(f"etc/tufayon/example/{it}.json" for it in (*PARTS, "set")),
         "usr/share/bash-completion/completions/tufayonctl", "usr/share/zsh/vendor-completions/_tufayonctl", "usr/share/fish/vendor_completions.d/tufayonctl.fish",
-        *(f"usr/share/tufayon/prometheus/{it}.yml" for it in ("alerts", "prometheus")),
+        *(f"usr/share/tufayon/prometheus/{os.path.basename(it)}" for it in glob.glob(f"{TOP}/deploy/prometheus/*") if not it.endswith("_test.yml")),
         *(f"usr/share/doc/tufayon-service/{it}.md" for it in ("OPERATING", "SERVICE", "DRIVER")),
     },
 }

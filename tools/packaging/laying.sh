@@ -25,7 +25,10 @@ lay_service() {
     lay "$top/deploy/systemd/tufayon.sysusers" usr/lib/sysusers.d/tufayon-service.conf
     lay "$top/deploy/systemd/tufayon.tmpfiles" usr/lib/tmpfiles.d/tufayon-service.conf
     for it in "$top"/deploy/example/*; do lay "$it" "etc/tufayon/example/${it##*/}"; done
-    for it in alerts prometheus; do lay "$top/deploy/prometheus/$it.yml" "usr/share/tufayon/prometheus/$it.yml"; done
+    mkdir -p "$tree/usr/share/tufayon/prometheus"
+    for it in "$top"/deploy/prometheus/*; do
+        case "$it" in *'/*' | *_test.yml) ;; *) lay "$it" "usr/share/tufayon/prometheus/${it##*/}" ;; esac
+    done
     for it in OPERATING SERVICE DRIVER; do lay "$top/docs/$it.md" "usr/share/doc/tufayon-service/$it.md"; done
     "$1/tufayonctl" completion bash > "$work/completion" && lay "$work/completion" usr/share/bash-completion/completions/tufayonctl
     "$1/tufayonctl" completion zsh > "$work/completion" && lay "$work/completion" usr/share/zsh/vendor-completions/_tufayonctl
