@@ -11,6 +11,7 @@ from . import (
     joined,
     kills,
     largest,
+    opening,
     orchestrators,
     pages,
     pictures,
@@ -27,7 +28,7 @@ from . import (
 
 # Those that draw nothing, the longest first.
 SUBJECTS = (
-    *(hosted, devices, faults, streams, full, largest, groups, worlds, records, rows, plugins, orchestrators, changes, configs, schedules),
+    *(hosted, devices, faults, streams, full, opening, largest, groups, worlds, records, rows, plugins, orchestrators, changes, configs, schedules),
     *(words, help, shown, pages, script),
 )
 
