@@ -188,7 +188,7 @@ module _ (laws : PluginLaws) (world : World) (controller : ControllerState) (nod
           (subst (λ p. CallBecomes thing (delivery_of call kind reply) (plugin_view world p) (plugin_view next p)) (sym its.of_party) delivered.becomes)
 
 -- a controller that gets no frame keeps its names
-names-stay : (controller : ControllerState) → controllers.KeepsNames controller controller
+pub names-stay : (controller : ControllerState) → controllers.KeepsNames controller controller
 names-stay controller =
     record { grows = omega arith; comes = λ id volume is. inl (there id volume is); stays = λ id volume is live. there id volume is; stays_ended = λ id given none. none }
   where

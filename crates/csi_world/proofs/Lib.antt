@@ -32,6 +32,16 @@ pub mod NodesLost
 pub mod NodesJoined
 pub mod ChoicesRight
 pub mod WorldSafety
+pub mod MoreFrames
+pub mod CallsTold
+pub mod RaisedPlugins
+pub mod RecoveredRows
+pub mod RecoveredNumbers
+pub mod RecoveredPlugins
+pub mod RecoveredThings
+pub mod RecoveredWorlds
+pub mod RaisedWorlds
+pub mod RecoverySafety
 pub mod RunSteps
 pub mod CarriedFrames
 pub mod SystemInputs

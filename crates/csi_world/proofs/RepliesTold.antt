@@ -147,7 +147,7 @@ one-thing call a b p q = by (plugin_thing_at call.name call.party call.call) p q
     by (Some k) p q = (same_plugin_thing-tells a k).0 p ∙ sym ((same_plugin_thing-tells b k).0 q)
 
 -- the frame of a reply tells its kind and what it says
-reply-parts : (a b : Number) (p q : Party) (k l : Kind) (r s : Reply) → reply_frame a p k r ≡ reply_frame b q l s → (k ≡ l) × (r ≡ s)
+pub reply-parts : (a b : Number) (p q : Party) (k l : Kind) (r s : Reply) → reply_frame a p k r ≡ reply_frame b q l s → (k ≡ l) × (r ≡ s)
 reply-parts a b p q k l r s e = let body : bodies.Reply k r ≡ bodies.Reply l s = ap (λ (f : Frame). f.body) e in (cc, cc)
 
 -- the status OK passes the test

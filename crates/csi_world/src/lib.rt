@@ -22,7 +22,7 @@ mod world;
 pub use assembling::AssembleFault;
 pub use auditing::audit;
 pub use csi_types::Event;
-pub use laws::{audit_law, runs_law, safety_law, settling_law, table_law};
+pub use laws::{audit_law, recovery_law, runs_law, safety_law, settling_law, table_law};
 pub use outcomes::{Outcome, text_of};
 pub use settling::Settled;
 pub use simulation::simulate;

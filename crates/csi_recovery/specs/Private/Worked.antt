@@ -9,12 +9,13 @@ use Rattle.csi_types.specs.declared.mode.Mode.TheVariants.{MultiNodeMultiWriter}
 use Rattle.csi_types.specs.Model.Replies.{ok_reply}
 use Rattle.csi_fence.specs.Model.Fence.{Kept}
 use Rattle.csi_controller.specs.Model.State.{Volume, ControllerState}
+use Rattle.csi_node.specs.Model.State.{StagedVolume}
 use Rattle.csi_orchestrator.specs.declared.row.Goal.TheVariants.{Stop}
 use Rattle.csi_orchestrator.specs.declared.row.TargetEntry.{TargetEntry}
 use Rattle.csi_orchestrator.specs.declared.thing.Known.{Known}
 use Rattle.csi_orchestrator.specs.declared.thing.Known.TheVariants.{Yes, No, Maybe}
 use Rattle.csi_orchestrator.specs.Model.Shown.{NodeEntryShown}
-use Rattle.csi_recovery.specs.Public.Recovered.{GivenNode, recovered}
+use Rattle.csi_recovery.specs.Public.Recovered.{GivenNode, recovered, MayRecover}
 
 -- block access at several nodes, which may all write
 abbrev pub block : Capability
@@ -36,18 +37,25 @@ volume id name = record { id = id; name = name; capacity = 10; capabilities = bl
 abbrev pub controller : ControllerState
 controller = record { volumes = volume 1 (codes "v") ∷ (record (volume 2 (codes "w")) { is_live = false }) ∷ []; next_id = 3; session = 2; holdings = held (codes "n1") ∷ held (codes "n2") ∷ held (codes "n3") ∷ [] }
 
--- n1 and n2
-abbrev pub given : List GivenNode
-given =
-    (record {
+-- v is staged so
+abbrev pub staged : StagedVolume
+staged = record { volume = 1; capability = block }
+
+-- n1, at which it is published
+abbrev pub first_given : GivenNode
+first_given =
+    record {
       id = codes "n1";
-      state = record {
-        rows = [];
-        session = 2;
-        staged = (record { volume = 1; capability = block }) ∷ [];
-        published = (record { volume = 1; target = codes "/a"; capability = block; readonly = false }) ∷ [];
-      };
-    }) ∷ (record { id = codes "n2"; state = record { rows = []; session = 2; staged = (record { volume = 1; capability = block }) ∷ []; published = [] } }) ∷ []
+      state = record { rows = []; session = 2; staged = staged ∷ []; published = (record { volume = 1; target = codes "/a"; capability = block; readonly = false }) ∷ [] };
+    }
+
+-- n2
+abbrev pub second_given : GivenNode
+second_given = record { id = codes "n2"; state = record { rows = []; session = 2; staged = staged ∷ []; published = [] } }
+
+-- both
+abbrev pub given : List GivenNode
+given = first_given ∷ second_given ∷ []
 
 -- an entry of v
 abbrev pub entry : List ℕ → Known → List TargetEntry → NodeEntryShown
@@ -71,3 +79,7 @@ WorkedRows =
         node_entries = entry (codes "n1") Yes ((record { target = codes "/a"; published = Yes }) ∷ []) ∷ entry (codes "n2") Maybe ((record { target = codes "/"; published = No }) ∷ []) ∷ entry (codes "n3") No [] ∷ [];
       }) ∷ [];
     }
+
+-- nothing is refused
+abbrev pub WorkedMay : Type 0
+WorkedMay = MayRecover (codes "n1" ∷ codes "n2" ∷ []) 5 controller given
