@@ -1,0 +1,6 @@
+//! Worked recoveries. Each function proves a statement, and does nothing.
+ghost use Rattle.csi_recovery.specs.Private.Worked.{WorkedRows};
+
+fn rows()
+    ensures { WorkedRows }
+{}
