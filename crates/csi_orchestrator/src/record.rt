@@ -43,7 +43,7 @@ impl OrchestratorRecord {
     ghost use Rattle.csi_orchestrator.specs.Public.Catalog.{rows_of};
     ghost use Rattle.csi_orchestrator.specs.Public.CoreParts.{orchestrator_parts_shown, IsFiled};
     ghost use Rattle.csi_orchestrator.specs.Public.Record.{AreNodesFit, IsRecordRefusal};
-    ghost use Rattle.csi_orchestrator.specs.Public.Skipping.{skipped_record};
+    ghost use Rattle.csi_orchestrator.specs.Public.Raised.{raised_record};
     ghost use Rattle.csi_orchestrator.specs.Public.Restored.{AreRestorable};
     ghost use Rattle.csi_orchestrator.specs.Public.Shown.{row_shown, closed};
     ghost use Rattle.csi_orchestrator.specs.Public.Sound.{AreSoundParts};
@@ -108,13 +108,13 @@ impl OrchestratorRecord {
         self.catalog.rows()
     }
 
-    /// Sessions are skipped, so that the one that is begun of this record is at least this one: a copy of the record that begins another one
-    /// then uses none of its numbers. Where it is the next one or an earlier one nothing is changed. It takes no memory.
-    pub fn skip_to(&mut self, least: u64)
-        ensures { self.new ≡ skipped_record least self.old }
+    /// Raises its session to this one, where that is later: what is opened from it is in a later session still, and uses no number of one that
+    /// this record doesn't know of. It takes no memory.
+    pub fn raise(&mut self, session: u64)
+        ensures { self.new ≡ raised_record session self.old }
     {
-        if self.session < least && least - self.session > 1 {
-            self.session = least - 1;
+        if self.session < session {
+            self.session = session;
         }
     }
 
