@@ -22,6 +22,8 @@ pub mod Forgotten
 pub mod GuardedCalls
 pub mod RecordedRight
 pub mod PluginsReached
+pub mod JudgedCalls
+pub mod Floors
 pub mod DeliveredCalls
 pub mod Deliveries
 pub mod RightWorlds
