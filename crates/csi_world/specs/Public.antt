@@ -6,3 +6,4 @@ pub mod Simulating
 pub mod System
 pub mod Laws
 pub mod Outcomes
+pub mod Stale
