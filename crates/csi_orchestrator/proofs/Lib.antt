@@ -86,3 +86,4 @@ pub mod PutPlaces
 pub mod ChangedRows
 pub mod RestingRows
 pub mod FewRows
+pub mod StaleReplies

@@ -71,3 +71,7 @@ pub mod SettledFrames
 pub mod GoalCalls
 pub mod WaitingWorlds
 pub mod AnsweredWaits
+pub mod PlainReplies
+pub mod KeptCalls
+pub mod OpenCalls
+pub mod NeverStale

@@ -7,3 +7,4 @@ pub mod System
 pub mod Laws
 pub mod Recovery
 pub mod Outcomes
+pub mod Stale

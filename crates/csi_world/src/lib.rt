@@ -13,6 +13,7 @@ mod plugins;
 mod sending;
 mod settling;
 mod simulation;
+mod stale;
 mod system;
 mod telling;
 mod violation;
@@ -26,6 +27,7 @@ pub use laws::{audit_law, recovery_law, runs_law, safety_law, settling_law, tabl
 pub use outcomes::{Outcome, text_of};
 pub use settling::Settled;
 pub use simulation::simulate;
+pub use stale::stale_law;
 pub use telling::told_one_by_one;
 pub use violation::Violation;
 pub use world::World;
