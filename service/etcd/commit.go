@@ -245,7 +245,7 @@ func (leading *leading) transact(ctx context.Context, mark string, operations []
 		}
 		select {
 		case <-leading.session.Done():
-			return false, fmt.Errorf("%w: %v", store.ErrUnknown, err)
+			return false, fmt.Errorf("%w: %v: %v", store.ErrUnknown, store.ErrLost, err)
 		case <-ctx.Done():
 			return false, fmt.Errorf("%w: %v", store.ErrUnknown, err)
 		case <-time.After(again):
