@@ -11,3 +11,4 @@ pub mod StoreCalls
 pub mod GrowingAnswers
 pub mod Groups
 pub mod WaitingStops
+pub mod IdleParts

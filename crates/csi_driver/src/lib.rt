@@ -11,6 +11,7 @@ mod laws;
 mod line_buffer;
 mod line_handler;
 mod lines;
+mod merging;
 mod source;
 mod waiting;
 

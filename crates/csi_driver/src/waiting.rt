@@ -2,6 +2,7 @@
 ghost use Rattle.std.specs.Prelude.{◌≡◌, [], OnOk, IfErr};
 ghost use Rattle.csi_driver.specs.Public.Waiting.{Settles, SettleStops};
 
+use crate::merging::merge_heads;
 use csi_stores::{Counted, Keep, KeepFault, Part, WriteFailed, write_out};
 use std::alloc::Global;
 use std::io::Write;
@@ -83,6 +84,7 @@ impl Waiting {
         if self.items == 0 {
             return Ok(());
         }
+        merge_heads(&mut self.parts);
         match keep.commit(&self.parts) {
             Ok(()) => {}
             Err(fault) => return Err(AnswerFault::Keep(fault)),

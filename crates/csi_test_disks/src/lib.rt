@@ -4,6 +4,7 @@
 #![tactic(auto)]
 
 mod disk_keep;
+mod file_keep;
 mod image;
 mod stop;
 mod table_keep;
