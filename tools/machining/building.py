@@ -59,6 +59,12 @@ class Edit:
         return before
 
 
+def put_back(files):
+    for path, text in files.items():
+        with open(path, "w", encoding="utf-8") as it:
+            it.write(text)
+
+
 class Building:
     """The programs in a folder: `programs` as they are, and those with an edit below `broken`."""
 
@@ -91,12 +97,16 @@ class Building:
             names = "tufayon-orchestrator tufayon-controller tufayon-node tufayonctl"
             self.go(f'cd "$1/go/src/tufayon/service"; for it in {names}; do in_turn go build -o "$2/$it" "./cmd/$it"; done', self.folder, built)
         finally:
-            for path, text in before.items():
-                with open(path, "w", encoding="utf-8") as it:
-                    it.write(text)
+            put_back(before)
         if not os.path.exists(self.wire):
             self.go('cd "$top/tools/machining/wire"; test -z "$(gofmt -l .)"; go vet .; go build -o "$3" .', self.folder, self.library, self.wire)
         return built
+
+    def try_edits(self):
+        """Tries that each edit can be applied, and builds nothing."""
+        self.lay_out()
+        for name in os.listdir(f"{HERE}/broken"):
+            put_back(Edit(name.removesuffix(".edit")).apply(self.tree))
 
     def go(self, script, folder, *words):
         self.run(f'service_environment "$1/go" "{self.library}"; {script}', folder, *words)
