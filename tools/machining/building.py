@@ -5,11 +5,12 @@ import shutil
 import subprocess
 
 HERE = os.path.dirname(os.path.abspath(__file__))
-NEEDED = ("ip", "unshare", "etcd", "openssl", "mount", "protoc", "protoc-gen-go", "go", "cc", "rt")
+NEEDED = ("ip", "setpriv", "unshare", "etcd", "openssl", "mount", "protoc", "protoc-gen-go", "go", "cc", "rt")
 SOURCES = "/usr/share/gocode/src"
 PACKAGES = ("google.golang.org/grpc", "go.etcd.io/etcd/clientv3", "github.com/mattn/go-sqlite3", "github.com/spf13/cobra", "go.uber.org/zap", "golang.org/x/sys/unix")
 TRY = "mount -t tmpfs tmpfs /run && ip netns add h1 && ip tuntap add dev wire0 mode tap && ip link set wire0 netns h1"
-SPACES = ("unshare", "--net", "--mount", "--pid", "--fork", "--mount-proc", "--kill-child")  # of a run
+# What a run is started with: namespaces of its own, with which all of it goes, also where the one who started it is killed.
+SPACES = ("setpriv", "--pdeathsig", "KILL", "unshare", "--net", "--mount", "--pid", "--fork", "--mount-proc", "--kill-child")
 
 
 def missing():
