@@ -44,30 +44,37 @@ func (leading *leading) begin(ctx context.Context) error {
 	if got, err = leading.get(ctx, leading.wholeKey()); err != nil || len(got.Kvs) == 0 {
 		return err
 	}
-	kept, err := leading.read(ctx, leading.prefix+"/next/")
+	edits, err := leading.early(ctx)
 	if err != nil {
 		return err
 	}
-	changes := make([]store.Change, 0, len(kept))
-	for _, it := range kept {
-		isPut := strings.HasPrefix(string(it.Value), "+")
-		if !isPut && string(it.Value) != "-" {
-			return fmt.Errorf("%w: it has another value under %s", store.ErrNotOpened, leading.nextKey(it.Key))
+	return leading.carryOver(ctx, edits)
+}
+
+// early reads the changes of a large commit.
+func (leading *leading) early(ctx context.Context) ([]edit, error) {
+	var edits []edit
+	for folder, place := range map[string]string{nextFolder: partsFolder, nextTextsFolder: textsFolder} {
+		kept, err := leading.read(ctx, leading.prefix+folder)
+		if err != nil {
+			return nil, err
 		}
-		change := store.Change{Key: it.Key, Out: !isPut}
-		if isPut {
-			change.Value = it.Value[1:]
+		for _, it := range kept {
+			key, value := strings.TrimPrefix(string(it.Key), leading.prefix+folder), string(it.Value)
+			if value != "-" && !strings.HasPrefix(value, "+") {
+				return nil, fmt.Errorf("%w: it has another value under %s", store.ErrNotOpened, it.Key)
+			}
+			edits = append(edits, edit{leading.prefix + place + key, string(it.Key), value[1:], value == "-"})
 		}
-		changes = append(changes, change)
 	}
-	return leading.carryOver(ctx, changes)
+	return edits, nil
 }
 
 // try asks for a transaction that is as large as any. It isn't carried out.
 func (leading *leading) try(ctx context.Context) error {
 	operations := make([]clientv3.Op, 0, mostOperations+1)
 	for row := uint64(0); row <= mostOperations; row++ {
-		operations = append(operations, clientv3.OpPut(leading.nextKey(row), strings.Repeat(" ", mostBytes/(mostOperations+1))))
+		operations = append(operations, clientv3.OpPut(fmt.Sprintf("%s%s%016x", leading.prefix, nextFolder, row), strings.Repeat(" ", mostBytes/(mostOperations+1))))
 	}
 	_, err := leading.transact(ctx, "", operations, leading.leads, leading.never)
 	if err != nil && !errors.Is(err, store.ErrTooSmall) {
@@ -90,15 +97,24 @@ func (leading *leading) Commit(ctx context.Context, anew bool, changes []store.C
 		}
 		changes = append(removals, changes...)
 	}
-	changes = lastOfEach(changes)
-	if len(changes) == 0 {
+	return leading.commit(ctx, leading.editsOf(lastOfEach(changes)))
+}
+
+// CommitBoth makes the changes of both in the same way.
+func (leading *leading) CommitBoth(ctx context.Context, changes []store.Change, texts []store.Text) error {
+	return leading.commit(ctx, append(leading.editsOf(lastOfEach(changes)), leading.textEditsOf(texts)...))
+}
+
+// commit makes edits, of which no two are of one key.
+func (leading *leading) commit(ctx context.Context, edits []edit) error {
+	if len(edits) == 0 {
 		return leading.confirm(ctx)
 	}
-	operations := leading.operations(changes)
+	operations := operationsOf(edits)
 	if len(split(operations)) == 1 {
 		return leading.change(ctx, operations)
 	}
-	return leading.commitInParts(ctx, changes)
+	return leading.commitInParts(ctx, edits)
 }
 
 // lastOfEach has one change for each key, since a transaction may name none twice.
@@ -116,14 +132,14 @@ func lastOfEach(changes []store.Change) []store.Change {
 	return last
 }
 
-// operations carry changes out.
-func (leading *leading) operations(changes []store.Change) []clientv3.Op {
-	operations := make([]clientv3.Op, 0, len(changes))
-	for _, change := range changes {
-		if change.Out {
-			operations = append(operations, clientv3.OpDelete(leading.partKey(change.Key)))
+// operationsOf carry edits out.
+func operationsOf(edits []edit) []clientv3.Op {
+	operations := make([]clientv3.Op, 0, len(edits))
+	for _, it := range edits {
+		if it.out {
+			operations = append(operations, clientv3.OpDelete(it.key))
 		} else {
-			operations = append(operations, clientv3.OpPut(leading.partKey(change.Key), string(change.Value)))
+			operations = append(operations, clientv3.OpPut(it.key, it.value))
 		}
 	}
 	return operations
@@ -148,16 +164,16 @@ func split(operations []clientv3.Op) [][]clientv3.Op {
 func sizeOf(it clientv3.Op) int { return len(it.KeyBytes()) + len(it.ValueBytes()) + 32 }
 
 // commitInParts writes the changes beside the record first, and makes them by a last transaction. Then they are carried over.
-func (leading *leading) commitInParts(ctx context.Context, changes []store.Change) error {
-	notes := make([]clientv3.Op, 0, len(changes))
-	for _, change := range changes {
+func (leading *leading) commitInParts(ctx context.Context, edits []edit) error {
+	notes := make([]clientv3.Op, 0, len(edits))
+	for _, it := range edits {
 		value := "-"
-		if !change.Out {
-			value = "+" + string(change.Value)
+		if !it.out {
+			value = "+" + it.value
 		}
-		notes = append(notes, clientv3.OpPut(leading.nextKey(change.Key), value))
+		notes = append(notes, clientv3.OpPut(it.early, value))
 	}
-	if err := leading.change(ctx, []clientv3.Op{leading.forgetNext()}); err != nil {
+	if err := leading.change(ctx, leading.forgetEarly()); err != nil {
 		return err
 	}
 	for _, piece := range split(notes) {
@@ -168,21 +184,23 @@ func (leading *leading) commitInParts(ctx context.Context, changes []store.Chang
 	if err := leading.change(ctx, []clientv3.Op{clientv3.OpPut(leading.wholeKey(), "")}); err != nil {
 		return err
 	}
-	return leading.carryOver(ctx, changes)
+	return leading.carryOver(ctx, edits)
 }
 
-// carryOver has a large commit, which was made, in the parts themselves.
-func (leading *leading) carryOver(ctx context.Context, changes []store.Change) error {
-	for _, piece := range split(leading.operations(changes)) {
+// carryOver has a large commit, which was made, in the parts and texts themselves.
+func (leading *leading) carryOver(ctx context.Context, edits []edit) error {
+	for _, piece := range split(operationsOf(edits)) {
 		if err := leading.change(ctx, piece); err != nil {
 			return err
 		}
 	}
-	return leading.change(ctx, []clientv3.Op{clientv3.OpDelete(leading.wholeKey()), leading.forgetNext()})
+	return leading.change(ctx, append(leading.forgetEarly(), clientv3.OpDelete(leading.wholeKey())))
 }
 
-func (leading *leading) forgetNext() clientv3.Op {
-	return clientv3.OpDelete(leading.prefix+"/next/", clientv3.WithPrefix())
+func (leading *leading) forgetEarly() []clientv3.Op {
+	return []clientv3.Op{
+		clientv3.OpDelete(leading.prefix+nextFolder, clientv3.WithPrefix()), clientv3.OpDelete(leading.prefix+nextTextsFolder, clientv3.WithPrefix()),
+	}
 }
 
 // confirm says whether this process leads.
