@@ -16,6 +16,7 @@ import (
 	"tufayon/service/plugin"
 	"tufayon/service/serving"
 	"tufayon/service/store"
+	"tufayon/service/upstream"
 	"tufayon/service/version"
 )
 
@@ -31,10 +32,11 @@ type Driver struct {
 	Maker      plugin.Maker
 	Numbering  serving.Numbering
 	Open       func(context.Context) (store.Store, error)
-	Waits      bool        // opening waits to lead
-	Notes      string      // a node's file of staging paths; none of a controller
-	Hooks      hooks.Hooks // what does what calls ask for; nil where nothing does: the ledger alone is kept
-	MaxVolumes int64       // as NodeGetInfo tells it
+	Waits      bool            // opening waits to lead
+	Notes      string          // a node's file of staging paths; none of a controller
+	Hooks      hooks.Hooks     // what does what calls ask for; nil where nothing does: the ledger alone is kept
+	MaxVolumes int64           // as NodeGetInfo tells it
+	Upstream   *upstream.Proxy // the driver behind, to which calls go in place of all this; nil where there is none. Its store is a store.Keeper
 	Doors      []Door
 	Say        func(line string) // tells whoever runs it how far it is
 }
@@ -105,15 +107,25 @@ func (life *Life) listen() error {
 			return err
 		}
 		limits := limiting.New()
-		server := driver.NewServer(life.backend, limits, life.driver.Program, door.Options...)
-		driver.RegisterIdentity(server, life.backend, life.driver.Name, version.Number)
-		if !door.IsLocal {
-			life.register(server)
-		}
+		server := life.server(door, limits)
 		life.servers = append(life.servers, server)
 		go func() { life.served <- server.Serve(limits.Listen(listener)) }()
 	}
 	return nil
+}
+
+// server makes the server of a door.
+func (life *Life) server(door Door, limits *limiting.Limits) *grpc.Server {
+	it := &life.driver
+	if it.Upstream != nil && !door.IsLocal {
+		return it.Upstream.Server(life.backend, limits, it.Program, door.Options...)
+	}
+	server := driver.NewServer(life.backend, limits, it.Program, door.Options...)
+	driver.RegisterIdentity(server, life.backend, it.Name, version.Number)
+	if !door.IsLocal {
+		life.register(server)
+	}
+	return server
 }
 
 // register adds the plugin's services to a server.
@@ -165,7 +177,7 @@ func (life *Life) serve(ctx context.Context) error {
 // open makes the plugin of what the store has, and has the servers serve it.
 func (life *Life) open(ctx context.Context) error {
 	config := serving.Config{
-		Store: life.store, Numbering: life.driver.Numbering,
+		Store: life.store, Numbering: life.driver.Numbering, Texts: life.driver.Upstream != nil,
 		Make: func(record []byte) (serving.Plugin, bool, error) {
 			made, renewed, err := life.driver.Maker.Make(record)
 			if err != nil {
@@ -188,6 +200,11 @@ func (life *Life) open(ctx context.Context) error {
 		return err
 	}
 	life.core = core
+	if behind := life.driver.Upstream; behind != nil {
+		if err := behind.Opened(ctx, core, life.driver.Maker); err != nil {
+			return err
+		}
+	}
 	life.backend.Serve(core)
 	return nil
 }
@@ -246,7 +263,7 @@ func (life *Life) finish() {
 	}
 }
 
-// A closer is a store that is open.
+// A closer is a store that is open, or a connection.
 type closer interface{ Close() error }
 
 func (life *Life) stores() []closer {
@@ -256,6 +273,9 @@ func (life *Life) stores() []closer {
 	}
 	if life.notes != nil {
 		stores = append(stores, life.notes)
+	}
+	if life.driver.Upstream != nil {
+		stores = append(stores, life.driver.Upstream)
 	}
 	return stores
 }

@@ -35,12 +35,16 @@ type group struct {
 	order   []uint64
 	changes map[uint64]store.Change // the last one of each key
 	bytes   int
+	texts   []store.Text // committed with the changes: the last one of each key
+	textAt  map[string]int
 	notes   []store.Note // committed before the changes
 	taken   []uint64     // volumes that aren't staged any more, once the changes are committed
 	confirm bool
 }
 
-func newGroup() *group { return &group{changes: map[uint64]store.Change{}} }
+func newGroup() *group {
+	return &group{changes: map[uint64]store.Change{}, textAt: map[string]int{}}
+}
 
 func (group *group) add(changes []store.Change) {
 	for _, change := range changes {
@@ -52,7 +56,22 @@ func (group *group) add(changes []store.Change) {
 	}
 }
 
-func (group *group) isFull() bool { return len(group.order) >= mostChanges || group.bytes >= mostBytes }
+// addTexts adds changes of texts.
+func (group *group) addTexts(texts []store.Text) {
+	for _, it := range texts {
+		at, there := group.textAt[it.Key]
+		if !there {
+			at, group.texts = len(group.texts), append(group.texts, store.Text{})
+			group.textAt[it.Key] = at
+		}
+		group.texts[at] = it
+		group.bytes += len(it.Key) + len(it.Value) + 64
+	}
+}
+
+func (group *group) isFull() bool {
+	return len(group.order)+len(group.texts) >= mostChanges || group.bytes >= mostBytes
+}
 
 func (group *group) list() []store.Change {
 	changes := make([]store.Change, 0, len(group.order))
@@ -131,8 +150,8 @@ func (core *Core) settle(group *group) {
 			core.err = err
 		}
 	}
-	if core.err == nil && (group.confirm || len(group.order) > 0) {
-		if err := core.config.Store.Commit(ctx, false, group.list()); err != nil {
+	if core.err == nil && (group.confirm || len(group.order)+len(group.texts) > 0) {
+		if err := core.commit(ctx, false, group.list(), group.texts); err != nil {
 			core.err = err
 		}
 	}
@@ -192,8 +211,12 @@ func (core *Core) load(ctx context.Context) error {
 	if err != nil {
 		return err
 	}
-	if len(changes) > 0 {
-		if err := core.config.Store.Commit(ctx, renewed, changes); err != nil {
+	texts, err := core.loadTexts(ctx, parts)
+	if err != nil {
+		return err
+	}
+	if len(changes)+len(texts) > 0 {
+		if err := core.commit(ctx, renewed, changes, texts); err != nil {
 			return err
 		}
 		if renewed {
@@ -296,6 +319,7 @@ func (core *Core) ask(group *group, request Request, number frames.Number) (aske
 	result.isOK = reply.Status == 0 && !result.isAnothers
 	group.add(changes)
 	core.apply(changes)
+	core.takeOut(group, changes)
 	result.answer = Answer{Reply: reply, Row: core.known(number, volume).Row}
 	core.note(group, request, result)
 	return result, nil
@@ -337,9 +361,9 @@ func (core *Core) answerOf(plugin Plugin, request Request, number frames.Number)
 	return reply, nil
 }
 
-// allows asks a copy of the plugin, with the row of the call's volume alone, whether the plugin would carry out a call that undoes something: what it
-// answers to such a call hangs on nothing else.
-func (core *Core) allows(request Request, known Known) (bool, error) {
+// allows asks a copy of the plugin, with the row of the calls' volume alone, whether the plugin would carry out calls that undo something: what it
+// answers to them hangs on nothing else.
+func (core *Core) allows(plan plan, known Known) (bool, error) {
 	if known.Row == nil {
 		return false, nil
 	}
@@ -352,15 +376,20 @@ func (core *Core) allows(request Request, known Known) (bool, error) {
 		return false, core.end(fmt.Errorf("a copy of the plugin: %w", err))
 	}
 	defer scratch.Free()
-	reply, err := core.answerOf(scratch, request, known.Number)
-	if err != nil {
-		return false, err
+	for _, it := range plan.steps {
+		reply, err := core.answerOf(scratch, it.request, it.number)
+		if err != nil {
+			return false, err
+		}
+		changes, err := scratch.Changes()
+		if err != nil {
+			return false, errMemory
+		}
+		if reply.Status != 0 || reply.Kind != it.request.Body.Kind() || !touches(changes, known.Volume) {
+			return false, nil
+		}
 	}
-	changes, err := scratch.Changes()
-	if err != nil {
-		return false, errMemory
-	}
-	return reply.Status == 0 && reply.Kind == request.Body.Kind() && touches(changes, known.Volume), nil
+	return true, nil
 }
 
 // touches says whether the volume's row was put in: each call that the fence let through is kept there, and no other.

@@ -49,5 +49,9 @@ func run(ctx context.Context, words []string) error {
 	if err != nil {
 		return err
 	}
-	return life.New(options.driver()).Run(ctx)
+	driver, err := options.driver()
+	if err != nil {
+		return err
+	}
+	return life.New(driver).Run(ctx)
 }

@@ -20,6 +20,7 @@ import (
 	"tufayon/service/secure"
 	"tufayon/service/settings"
 	"tufayon/service/store"
+	"tufayon/service/upstream"
 )
 
 var errUsage = errors.New("usage: csi-driver controller [OPTION..] DB CONFIG, " +
@@ -41,6 +42,8 @@ type options struct {
 
 	maxVolumes int64 // of a node
 	hooks      string
+
+	upstream upstream.Options
 }
 
 func parse(words []string) (*options, error) {
@@ -62,6 +65,7 @@ func parse(words []string) (*options, error) {
 		options.addNode(flags)
 	}
 	flags.IntVar(&options.hookSeconds, "hook-seconds", 120, "how long a command may take")
+	flags.StringVar(&options.upstream.Address, "upstream", "", "the driver behind, unix://PATH")
 	if err := flags.Parse(words[1:]); err != nil {
 		return nil, fmt.Errorf("%w (%v)", errUsage, err)
 	}
@@ -73,6 +77,9 @@ func parse(words []string) (*options, error) {
 		return nil, errUsage
 	}
 	options.byArrival = *source == "arrival"
+	if fault := options.upstreamFault(flags); fault != "" {
+		return nil, fmt.Errorf("%w (%s)", errUsage, fault)
+	}
 	if options.byArrival && options.maker.Session > 0 {
 		return nil, fmt.Errorf("%w (by arrival there is no session of a joining)", errUsage)
 	}
@@ -81,6 +88,9 @@ func parse(words []string) (*options, error) {
 		return nil, fmt.Errorf("%w (%v)", errUsage, err)
 	}
 	options.maker.Name = []byte(name)
+	if !options.maker.IsController {
+		options.upstream.Node = name
+	}
 	if options.maker.IsController {
 		if options.maker.Name, err = os.ReadFile(name); err != nil {
 			return nil, fmt.Errorf("device: %w", err)
@@ -103,6 +113,31 @@ func (options *options) fit() bool {
 		return etcd.Prefix+etcd.CA+etcd.Certificate+etcd.Key == ""
 	}
 	return etcd.Prefix != "" && etcd.LeaseSeconds > 0 && (isTLS || etcd.CA+etcd.Certificate+etcd.Key == "")
+}
+
+// upstreamFault says what is wrong with the words of a driver that stands before another one.
+func (options *options) upstreamFault(flags *flag.FlagSet) string {
+	its, given := options.upstream, map[string]bool{}
+	flags.Visit(func(it *flag.Flag) { given[it.Name] = true })
+	if its.Address == "" {
+		if given["adopt"] || given["lost"] || given["upstream"] {
+			return "--adopt and --lost are of a driver before an --upstream"
+		}
+		return ""
+	}
+	if _, err := driver.SocketOf(its.Address); err != nil {
+		return err.Error()
+	}
+	if len(its.Lost) > 0 && !options.byArrival {
+		return "--lost is for --numbers arrival: who numbers calls detaches what is lost"
+	}
+	for name := range given {
+		if strings.HasPrefix(name, "on-") || name == "hooks" || name == "hook-seconds" || name == "max-volumes" || name == "name" {
+			return "with --upstream there is no --" + name
+		}
+	}
+	options.hooks = settings.NoHooks
+	return ""
 }
 
 // words takes what stands behind the options: DB, unless the store is in etcd, CONFIG or ID, which it gives, and of a node SESSION, where it is said.
@@ -129,6 +164,11 @@ func (options *options) addController(flags *flag.FlagSet, endpoints *string) {
 	flags.StringVar(&options.etcd.CA, "etcd-ca", "", "the certificate of who signed etcd's")
 	flags.StringVar(&options.etcd.Certificate, "etcd-cert", "", "this client's certificate")
 	flags.StringVar(&options.etcd.Key, "etcd-key", "", "its key")
+	flags.BoolVar(&options.upstream.Adopt, "adopt", false, "volumes that were there before are taken up when they are attached")
+	flags.Func("lost", "a node that is gone for good", func(node string) error {
+		options.upstream.Lost = append(options.upstream.Lost, node)
+		return nil
+	})
 	flags.IntVar(&options.etcd.LeaseSeconds, "lease-seconds", 10, "how long this process leads after it was heard of last")
 }
 
@@ -149,14 +189,17 @@ func (options *options) waits() bool { return len(options.etcd.Endpoints) > 0 }
 
 // open opens the store, and waits until this process leads where it is in etcd.
 func (options *options) open(ctx context.Context) (store.Store, error) {
-	if options.waits() {
+	if options.etcd.Texts = options.upstream.Address != ""; options.waits() {
 		return options.etcd.Open(ctx)
+	}
+	if options.etcd.Texts {
+		return store.OpenKeeper(ctx, options.database)
 	}
 	return store.OpenSQLite(ctx, options.database)
 }
 
 // driver is what the options say.
-func (options *options) driver() life.Driver {
+func (options *options) driver() (life.Driver, error) {
 	it := life.Driver{
 		Program: "csi-driver", Name: options.name, Maker: options.maker, Numbering: life.ByMetadata(options.mostAbove), Open: options.open,
 		Waits: options.waits(), Hooks: options.deeds().Hooks(), MaxVolumes: options.maxVolumes,
@@ -168,13 +211,19 @@ func (options *options) driver() life.Driver {
 	if options.byArrival {
 		it.Numbering = life.ByArrival
 	}
+	if options.upstream.Address != "" {
+		var err error
+		if it.Upstream, err = upstream.New(options.upstream); err != nil {
+			return life.Driver{}, err
+		}
+	}
 	it.Say = func(line string) {
 		if options.byArrival && strings.HasPrefix(line, "serves") {
 			fmt.Fprintf(os.Stderr, "csi-driver: %s\n", numbers.SmallerPromise)
 		}
 		fmt.Fprintf(os.Stderr, "csi-driver: %s\n", line)
 	}
-	return it
+	return it, nil
 }
 
 // deeds say what does what calls ask for.
