@@ -2,6 +2,7 @@ package api_test
 
 import (
 	"context"
+	"errors"
 	"fmt"
 	"net"
 	"os"
@@ -14,6 +15,7 @@ import (
 	"google.golang.org/grpc/codes"
 	"google.golang.org/grpc/credentials"
 	"google.golang.org/grpc/health/grpc_health_v1"
+	"google.golang.org/grpc/metadata"
 	"google.golang.org/grpc/reflection/grpc_reflection_v1alpha"
 	"google.golang.org/grpc/status"
 
@@ -50,7 +52,7 @@ func serve(t testing.TB, kept store.Store, carrier host.Carrier, nodes int, list
 	if err != nil {
 		t.Fatal(err)
 	}
-	leading, server := api.New(states, roles, known, zap.NewNop())
+	leading, server := api.New(states, nil, roles, known, zap.NewNop())
 	leading.Lead(made)
 	go server.Serve(listener)
 	t.Cleanup(func() { server.Stop(); made.Close() })
@@ -162,20 +164,51 @@ func TestWaits(t *testing.T) {
 	}
 	roles, own := &api.Roles{}, uint32(os.Geteuid())
 	roles.Set(nil, map[uint32]api.Role{own: api.Loses})
-	_, server := api.New(plugins{}, roles, secure.Local{May: roles.MayConnect}, zap.NewNop())
+	where := ""
+	_, server := api.New(plugins{}, func(context.Context) string { return where }, roles, secure.Local{May: roles.MayConnect}, zap.NewNop())
 	go server.Serve(listener)
 	defer server.Stop()
 	connection := dial(t, "unix://"+listener.Addr().String(), secure.Local{May: func(uid uint32) bool { return uid == own }})
 	client := wire.NewOrchestratorClient(connection)
 	_, err = client.Delete(ctx, &wire.DeleteRequest{Name: "v"})
 	wants(t, "a command", err, codes.Unavailable, "this service doesn't lead")
-	_, err = client.Nodes(ctx, &wire.NodesRequest{})
-	wants(t, "the nodes", err, codes.Unavailable, "this service doesn't lead")
+	where = "10.0.0.2:7101"
+	var trailer metadata.MD
+	_, err = client.Nodes(ctx, &wire.NodesRequest{}, grpc.Trailer(&trailer))
+	wants(t, "the nodes", err, codes.Unavailable, "this service doesn't lead: 10.0.0.2:7101 does")
+	if said := trailer.Get(api.LeaderKey); len(said) != 1 || said[0] != where {
+		t.Errorf("the trailer says %v", said)
+	}
 	for _, service := range []string{"", api.Service} {
 		told, err := grpc_health_v1.NewHealthClient(connection).Check(ctx, &grpc_health_v1.HealthCheckRequest{Service: service})
 		if err != nil || told.Status != grpc_health_v1.HealthCheckResponse_NOT_SERVING {
 			t.Errorf("its health: %v, %v", told, err)
 		}
+	}
+}
+
+// A service whose store is another's by now answers no reader, whatever it has in memory: it ends. One that doesn't know is unsure.
+func TestLate(t *testing.T) {
+	kept := hosttest.NewStore()
+	connection, made, _ := serveLocal(t, kept, &hosttest.Carrier{}, 1, api.Reads)
+	client := wire.NewOrchestratorClient(connection)
+	watch := func() error {
+		stream, err := client.Watch(ctx, &wire.WatchRequest{Current: true})
+		if err == nil {
+			_, err = stream.Recv()
+		}
+		return err
+	}
+	kept.Fail(store.ErrUnknown)
+	_, err := client.Get(ctx, &wire.GetRequest{Name: "v"})
+	wants(t, "unsure", err, codes.Unavailable, "it isn't known whether this service leads: a commit's outcome isn't known")
+	wants(t, "a watcher", watch(), codes.Unavailable, "it isn't known whether this service leads: a commit's outcome isn't known")
+	kept.Fail(store.ErrLost)
+	_, err = client.List(ctx, &wire.ListRequest{})
+	wants(t, "late", err, codes.Unavailable, host.ErrEnded.Error())
+	<-made.Done()
+	if !errors.Is(made.Err(), store.ErrLost) {
+		t.Errorf("it ended by %v", made.Err())
 	}
 }
 

@@ -48,7 +48,7 @@ func statusOf(err error) error {
 		return status.Error(codes.InvalidArgument, err.Error())
 	case errors.Is(err, host.ErrBusy):
 		return status.Error(codes.ResourceExhausted, err.Error())
-	case errors.Is(err, host.ErrEnded):
+	case errors.Is(err, host.ErrEnded), errors.Is(err, host.ErrUnsure):
 		return status.Error(codes.Unavailable, err.Error())
 	case errors.Is(err, host.ErrSlow):
 		return status.Error(codes.OutOfRange, err.Error())

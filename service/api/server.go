@@ -37,23 +37,34 @@ type Plugins interface {
 	States() map[string]carrying.State
 }
 
+// LeaderKey is the key of gRPC's trailer that each call gets which a service refuses since it doesn't lead: its value is the address of the one that does,
+// or nothing where that isn't known. Nothing was done.
+const LeaderKey = "tufayon-leader"
+
 // Server serves an orchestrator, once this process leads.
 type Server struct {
 	plugins Plugins
+	leader  func(context.Context) string
 	health  *health.Server
 	mutex   sync.RWMutex
 	leads   *host.Host // nil while this process doesn't lead
 }
 
-// New makes a server, which doesn't lead, and a gRPC server of its service, its health and its reflection. Who may call what, the roles say.
-func New(plugins Plugins, roles *Roles, known credentials.TransportCredentials, log *zap.Logger) (*Server, *grpc.Server) {
+// New makes a server, which doesn't lead, and a gRPC server of its service, its health and its reflection. Who may call what, the roles say. The address of
+// the service that leads is nothing where it isn't known, or nil where there is no other service.
+func New(
+	plugins Plugins, leader func(context.Context) string, roles *Roles, known credentials.TransportCredentials, log *zap.Logger,
+) (*Server, *grpc.Server) {
 	guard := &guard{roles: roles, log: log}
 	made := grpc.NewServer(
 		grpc.Creds(known), grpc.UnaryInterceptor(guard.unary), grpc.StreamInterceptor(guard.stream),
 		grpc.KeepaliveEnforcementPolicy(keepalive.EnforcementPolicy{MinTime: 5 * time.Second, PermitWithoutStream: true}),
 		grpc.KeepaliveParams(keepalive.ServerParameters{Time: 30 * time.Second, Timeout: 10 * time.Second}),
 	)
-	server := &Server{plugins: plugins, health: health.NewServer()}
+	if leader == nil {
+		leader = func(context.Context) string { return "" }
+	}
+	server := &Server{plugins: plugins, leader: leader, health: health.NewServer()}
 	server.tell(grpc_health_v1.HealthCheckResponse_NOT_SERVING)
 	wire.RegisterOrchestratorServer(made, server)
 	grpc_health_v1.RegisterHealthServer(made, server.health)
@@ -77,22 +88,33 @@ func (server *Server) Lead(leads *host.Host) {
 // Leave has its health say that it serves no more. What came is answered.
 func (server *Server) Leave() { server.tell(grpc_health_v1.HealthCheckResponse_NOT_SERVING) }
 
-// errWaits is what callers get while this process doesn't lead: nothing was done.
-var errWaits = status.Error(codes.Unavailable, "this service doesn't lead")
-
-// host is the orchestrator, if this process leads.
-func (server *Server) host() (*host.Host, error) {
+// host is the orchestrator, if this process leads. Else the call is refused, and its trailer says where the one is that leads.
+func (server *Server) host(ctx context.Context) (*host.Host, error) {
 	server.mutex.RLock()
-	defer server.mutex.RUnlock()
-	if server.leads == nil {
-		return nil, errWaits
+	leads := server.leads
+	server.mutex.RUnlock()
+	if leads != nil {
+		return leads, nil
 	}
-	return server.leads, nil
+	leader, message := server.leader(ctx), "this service doesn't lead"
+	if leader != "" {
+		message += ": " + leader + " does"
+	}
+	_ = grpc.SetTrailer(ctx, metadata.Pairs(LeaderKey, leader)) // fails where gRPC isn't what calls
+	return nil, status.Error(codes.Unavailable, message)
+}
+
+// current fails unless what was read of an orchestrator was no older copy: this process led after that.
+func current(ctx context.Context, leads *host.Host) error {
+	if err := leads.Confirm(ctx); err != nil {
+		return statusOf(err)
+	}
+	return nil
 }
 
 // do has a command carried out.
 func (server *Server) do(ctx context.Context, command host.Command) (*wire.Volume, error) {
-	leads, err := server.host()
+	leads, err := server.host(ctx)
 	if err != nil {
 		return nil, err
 	}
@@ -161,7 +183,7 @@ func (server *Server) Delete(ctx context.Context, request *wire.DeleteRequest) (
 
 // Restart has the next session begin, with the same nodes.
 func (server *Server) Restart(ctx context.Context, _ *wire.RestartRequest) (*wire.RestartResponse, error) {
-	leads, err := server.host()
+	leads, err := server.host(ctx)
 	if err != nil {
 		return nil, err
 	}
@@ -182,7 +204,7 @@ func (server *Server) Lose(ctx context.Context, request *wire.LoseRequest) (*wir
 	if judged.err != nil {
 		return nil, judged.err
 	}
-	leads, err := server.host()
+	leads, err := server.host(ctx)
 	if err != nil {
 		return nil, err
 	}
@@ -195,7 +217,7 @@ func (server *Server) Lose(ctx context.Context, request *wire.LoseRequest) (*wir
 
 // Get gives a volume as it is, or once nothing is wanted of it any more.
 func (server *Server) Get(ctx context.Context, request *wire.GetRequest) (*wire.Volume, error) {
-	leads, err := server.host()
+	leads, err := server.host(ctx)
 	if err != nil {
 		return nil, err
 	}
@@ -204,9 +226,12 @@ func (server *Server) Get(ctx context.Context, request *wire.GetRequest) (*wire.
 		if err != nil {
 			return nil, statusOf(err)
 		}
-		return volumeOf(answer.Volume), nil
+		return volumeOf(answer.Volume), current(ctx, leads)
 	}
 	volume, isThere := leads.Get(request.Name)
+	if err := current(ctx, leads); err != nil {
+		return nil, err
+	}
 	if !isThere {
 		return nil, status.Error(codes.NotFound, "NoSuchVolume")
 	}
@@ -214,8 +239,8 @@ func (server *Server) Get(ctx context.Context, request *wire.GetRequest) (*wire.
 }
 
 // List gives a page of volumes.
-func (server *Server) List(_ context.Context, request *wire.ListRequest) (*wire.ListResponse, error) {
-	leads, err := server.host()
+func (server *Server) List(ctx context.Context, request *wire.ListRequest) (*wire.ListResponse, error) {
+	leads, err := server.host(ctx)
 	if err != nil {
 		return nil, err
 	}
@@ -237,40 +262,44 @@ func (server *Server) List(_ context.Context, request *wire.ListRequest) (*wire.
 	if more {
 		response.Next = volumes[len(volumes)-1].Name
 	}
-	return response, nil
+	return response, current(ctx, leads)
 }
 
 // Watch gives what happens, until the caller goes.
 func (server *Server) Watch(request *wire.WatchRequest, stream wire.Orchestrator_WatchServer) error {
-	leads, err := server.host()
+	ctx := stream.Context()
+	leads, err := server.host(ctx)
 	if err != nil {
 		return err
 	}
 	watching := leads.Watch(request.Current, request.Name)
 	defer watching.End()
+	if err := current(ctx, leads); err != nil {
+		return err
+	}
 	if err := stream.SendHeader(metadata.MD{}); err != nil { // so that a caller knows from when on it sees all
 		return err
 	}
-	for _, event := range watching.Current {
-		if err := stream.Send(eventOf(event)); err != nil {
-			return err
-		}
-	}
+	events := watching.Current
 	watching.Current = nil
 	for {
-		event, err := watching.Next(stream.Context())
-		if err != nil {
+		for _, event := range events {
+			if err := stream.Send(eventOf(event)); err != nil {
+				return err
+			}
+		}
+		if events, err = watching.Next(ctx); err != nil {
 			return statusOf(err)
 		}
-		if err := stream.Send(eventOf(event)); err != nil {
+		if err := current(ctx, leads); err != nil {
 			return err
 		}
 	}
 }
 
 // Nodes says how it stands with the controller and the nodes.
-func (server *Server) Nodes(context.Context, *wire.NodesRequest) (*wire.NodesResponse, error) {
-	leads, err := server.host()
+func (server *Server) Nodes(ctx context.Context, _ *wire.NodesRequest) (*wire.NodesResponse, error) {
+	leads, err := server.host(ctx)
 	if err != nil {
 		return nil, err
 	}
@@ -296,5 +325,5 @@ func (server *Server) Nodes(context.Context, *wire.NodesRequest) (*wire.NodesRes
 	for _, id := range leads.Nodes() {
 		add(id, carrying.NodeName(id))
 	}
-	return response, nil
+	return response, current(ctx, leads)
 }

@@ -283,3 +283,30 @@ func TestTLS(t *testing.T) {
 		t.Errorf("TCP without certificates: %v", err)
 	}
 }
+
+// Of several controllers calls go to the one that serves, also after another took over.
+func TestSeveral(t *testing.T) {
+	first := (&carryingtest.Plugin{}).Serve(t, socket(t, "c1"), nil)
+	second := (&carryingtest.Plugin{}).Serve(t, socket(t, "c2"), nil)
+	tell := func(leads, waits *carryingtest.Plugin) {
+		waits.Health.SetServingStatus("", grpc_health_v1.HealthCheckResponse_NOT_SERVING)
+		leads.Health.SetServingStatus("", grpc_health_v1.HealthCheckResponse_SERVING)
+	}
+	tell(second, first)
+	carrier := carry(t, carrying.Peers{}, carrying.Limits{}, map[string]string{carrying.Controller: first.Address + "," + second.Address})
+	call := func(leads *carryingtest.Plugin) {
+		t.Helper()
+		for end, before := time.Now().Add(within), len(leads.Calls()); len(leads.Calls()) == before; {
+			number := frames.Number{Session: 3, Call: atomic.AddUint64(&calls, 1)}
+			if _, err := carrier.Carry(ctx, frames.Call{Number: number, Body: frames.DeleteVolume{ID: 1}}, end); err != nil || time.Now().After(end) {
+				t.Fatal(err)
+			}
+		}
+	}
+	call(second)
+	if count := len(first.Calls()); count != 0 {
+		t.Errorf("one that waits got %d calls", count)
+	}
+	tell(first, second)
+	call(first)
+}

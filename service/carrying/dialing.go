@@ -10,6 +10,8 @@ import (
 	"google.golang.org/grpc/credentials"
 	_ "google.golang.org/grpc/health" // has connections watch what a server says of its health
 	"google.golang.org/grpc/keepalive"
+	"google.golang.org/grpc/resolver"
+	"google.golang.org/grpc/resolver/manual"
 
 	"tufayon/service/secure"
 )
@@ -28,7 +30,8 @@ type Peers struct {
 	Refused func(plugin string) secure.Refused
 }
 
-// Dial makes a connection to a plugin, which takes no other one for it.
+// Dial makes a connection to a plugin, which takes no other one for it. Of several addresses, with commas between, calls go where it serves, as its health
+// says.
 func (peers Peers) Dial(plugin, address string, connects func() uint64) (*grpc.ClientConn, error) {
 	known, err := peers.credentials(plugin, address)
 	if err != nil {
@@ -45,7 +48,23 @@ func (peers Peers) Dial(plugin, address string, connects func() uint64) (*grpc.C
 	if !IsLocal(address) { // a kernel tells at once that a socket's server is gone; a network doesn't
 		options = append(options, grpc.WithKeepaliveParams(keepalive.ClientParameters{Time: 10 * time.Second, Timeout: 5 * time.Second, PermitWithoutStream: true}))
 	}
-	return grpc.Dial(address, options...)
+	target, more := Target(address)
+	return grpc.Dial(target, append(options, more...)...)
+}
+
+// Target is what gRPC dials to reach whoever serves at an address, or at those of several, with commas between.
+func Target(address string) (string, []grpc.DialOption) {
+	addresses := strings.Split(address, ",")
+	if len(addresses) == 1 {
+		return address, nil
+	}
+	var state resolver.State
+	for _, it := range addresses {
+		state.Addresses = append(state.Addresses, resolver.Address{Addr: it})
+	}
+	all := manual.NewBuilderWithScheme("tufayon")
+	all.InitialState(state)
+	return "tufayon:///several", []grpc.DialOption{grpc.WithResolvers(all)}
 }
 
 func (peers Peers) credentials(plugin, address string) (credentials.TransportCredentials, error) {

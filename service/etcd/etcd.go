@@ -30,7 +30,8 @@ type Config struct {
 	Prefix               string
 	CA, Certificate, Key string // files of TLS
 	LeaseSeconds         int
-	Texts                bool // a keeper's: texts beside the record, without which it is refused, or with which
+	Texts                bool   // a keeper's: texts beside the record, without which it is refused, or with which
+	Says                 string // what this process says of itself while it waits or leads: where it is. Nothing is the machine and the process
 }
 
 // leading is a store that this process leads: a commit is a transaction under the condition that it still does.
@@ -48,16 +49,9 @@ type leading struct {
 // Open waits until this process leads, and gives a store, which keeps texts (store.Keeper) where that is asked for.
 // It tries that etcd takes the largest transaction, and finishes a commit that an earlier process left half way.
 func (config Config) Open(ctx context.Context) (store.Store, error) {
-	secure, err := config.secure()
+	client, err := config.client()
 	if err != nil {
-		return nil, fmt.Errorf("%w: %v", store.ErrNotOpened, err)
-	}
-	client, err := clientv3.New(clientv3.Config{
-		Endpoints: config.Endpoints, TLS: secure, DialTimeout: dialWithin, MaxCallSendMsgSize: math.MaxInt32, LogConfig: silent(),
-		DialKeepAliveTime: pingAfter, DialKeepAliveTimeout: pingWithin, PermitWithoutStream: true,
-	})
-	if err != nil {
-		return nil, fmt.Errorf("%w: %v", store.ErrNotOpened, err)
+		return nil, err
 	}
 	opened, err := config.lead(ctx, client)
 	if err == nil {
@@ -72,6 +66,22 @@ func (config Config) Open(ctx context.Context) (store.Store, error) {
 	}
 	client.Close()
 	return nil, fmt.Errorf("%w: %v", store.ErrNotOpened, err)
+}
+
+// client makes a client of etcd, which connects by itself.
+func (config Config) client() (*clientv3.Client, error) {
+	secure, err := config.secure()
+	if err != nil {
+		return nil, fmt.Errorf("%w: %v", store.ErrNotOpened, err)
+	}
+	client, err := clientv3.New(clientv3.Config{
+		Endpoints: config.Endpoints, TLS: secure, DialTimeout: dialWithin, MaxCallSendMsgSize: math.MaxInt32, LogConfig: silent(),
+		DialKeepAliveTime: pingAfter, DialKeepAliveTimeout: pingWithin, PermitWithoutStream: true,
+	})
+	if err != nil {
+		return nil, fmt.Errorf("%w: %v", store.ErrNotOpened, err)
+	}
+	return client, nil
 }
 
 // errWaited says that what a process waited with is over: it begins to wait again.
@@ -98,7 +108,7 @@ func (config Config) lead(ctx context.Context, client *clientv3.Client) (*leadin
 func (config Config) reach(ctx context.Context, client *clientv3.Client) error {
 	ctx, cancel := context.WithTimeout(ctx, within)
 	defer cancel()
-	_, err := client.Get(ctx, config.Prefix+"/leader", clientv3.WithCountOnly())
+	_, err := client.Get(ctx, config.leaderKey(), clientv3.WithCountOnly())
 	return err
 }
 
@@ -120,9 +130,8 @@ func (config Config) campaign(ctx context.Context, client *clientv3.Client) (*le
 		stop()
 	}()
 	defer stop()
-	election := concurrency.NewElection(session, config.Prefix+"/leader")
-	host, _ := os.Hostname()
-	if err := election.Campaign(waiting, fmt.Sprintf("%s %d", host, os.Getpid())); err != nil {
+	election := concurrency.NewElection(session, config.leaderKey())
+	if err := election.Campaign(waiting, config.says()); err != nil {
 		session.Close()
 		end()
 		return nil, fmt.Errorf("%w: %v", errWaited, err)
@@ -135,6 +144,14 @@ func (config Config) campaign(ctx context.Context, client *clientv3.Client) (*le
 		never:   clientv3.Compare(clientv3.CreateRevision(election.Key()), "<", election.Rev()),
 		prefix:  config.Prefix,
 	}, nil
+}
+
+func (config Config) says() string {
+	if config.Says != "" {
+		return config.Says
+	}
+	host, _ := os.Hostname()
+	return fmt.Sprintf("%s %d", host, os.Getpid())
 }
 
 // lease begins a session with a lease, if etcd can be reached.

@@ -156,16 +156,22 @@ func (host *Host) Watch(current bool, name string) *Watching {
 	return it
 }
 
-// Next waits for the next event. It fails with ErrSlow, ErrEnded, or the context's error.
-func (it *Watching) Next(ctx context.Context) (Event, error) {
+// Next waits for the next events, and gives all that are there. It fails with ErrSlow, ErrEnded, or the context's error.
+func (it *Watching) Next(ctx context.Context) ([]Event, error) {
 	select {
 	case event, more := <-it.events:
 		if !more {
-			return Event{}, it.err
+			return nil, it.err
 		}
-		return event, nil
+		events := []Event{event}
+		for len(it.events) > 0 {
+			if event, more = <-it.events; more {
+				events = append(events, event)
+			}
+		}
+		return events, nil
 	case <-ctx.Done():
-		return Event{}, ctx.Err()
+		return nil, ctx.Err()
 	}
 }
 

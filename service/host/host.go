@@ -59,8 +59,9 @@ type Host struct {
 	done     chan struct{}
 	err      error // why it ended, read once done is closed
 
-	waiters *waiters
-	board   *board
+	waiters  *waiters
+	board    *board
+	confirms confirming
 
 	// What only the loop uses.
 	core    *core
@@ -80,6 +81,7 @@ func Open(ctx context.Context, options Options) (*Host, error) {
 		waiters: newWaiters(), board: newBoard(),
 		core: &core{store: options.Store}, volumes: map[string]*volume{},
 	}
+	host.confirms.ask = func(ctx context.Context) error { return options.Store.Commit(ctx, false, nil) }
 	host.calls, host.giveUp = context.WithCancel(context.Background())
 	opened := make(chan error)
 	go host.run(ctx, options.Nodes, opened)

@@ -202,12 +202,17 @@ func TestWatch(t *testing.T) {
 	var last uint64
 	var goals []records.Goal
 	for len(goals) == 0 || goals[len(goals)-1] != records.None {
-		event, err := watching.Next(ctx)
-		if err != nil || event.Volume.Name != "v" || event.Count <= last {
-			t.Fatalf("%+v, %v", event, err)
+		events, err := watching.Next(ctx)
+		if err != nil {
+			t.Fatal(err)
 		}
-		last = event.Count
-		goals = append(goals, event.Volume.Goal)
+		for _, event := range events {
+			if event.Volume.Name != "v" || event.Count <= last {
+				t.Fatalf("%+v", event)
+			}
+			last = event.Count
+			goals = append(goals, event.Volume.Goal)
+		}
 	}
 	if goals[0] != records.ToUse {
 		t.Errorf("the goals are %v", goals)

@@ -114,7 +114,7 @@ func (running *serving) driver(program string) life.Driver {
 	read := &running.read.Plugin
 	it := life.Driver{
 		Program: program, Name: read.Name, Maker: makerOf(running.read), Numbering: life.ByMetadata(read.SessionsAbove),
-		Open:  func(ctx context.Context) (store.Store, error) { return OpenStore(ctx, &read.Place) },
+		Open:  func(ctx context.Context) (store.Store, error) { return OpenStore(ctx, &read.Place, read.Listen) },
 		Waits: read.Etcd != nil, Hooks: deedsOf(running.read).Hooks(), MaxVolumes: read.MaxVolumes,
 		Doors: running.doors(), Say: func(line string) { running.log.Info(line) },
 	}

@@ -85,15 +85,32 @@ func Logger() (*zap.Logger, error) {
 	return config.Build()
 }
 
-// OpenStore opens a process's store, and waits until the process leads where that is in etcd.
-func OpenStore(ctx context.Context, place *settings.Place) (store.Store, error) {
-	its := place.Etcd
-	if its == nil {
+// OpenStore opens a process's store, and waits until the process leads where that is in etcd. There it says where it is.
+func OpenStore(ctx context.Context, place *settings.Place, says string) (store.Store, error) {
+	if place.Etcd == nil {
 		return store.OpenSQLite(ctx, place.Store)
 	}
+	config := etcdOf(place.Etcd)
+	config.Says = says
+	return config.Open(ctx)
+}
+
+func etcdOf(its *settings.Etcd) etcd.Config {
 	return etcd.Config{
 		Endpoints: its.Endpoints, Prefix: its.Prefix, CA: its.CA, Certificate: its.Certificate, Key: its.Key, LeaseSeconds: its.Lease,
-	}.Open(ctx)
+	}
+}
+
+// Leader says where the process is that leads, where a store is in etcd: nothing where that isn't known. What it has is to be closed.
+func Leader(place *settings.Place) (where func(context.Context) string, end func(), err error) {
+	if place.Etcd == nil {
+		return nil, func() {}, nil
+	}
+	finder, err := etcdOf(place.Etcd).Finder()
+	if err != nil {
+		return nil, nil, err
+	}
+	return finder.Leader, finder.Close, nil
 }
 
 // Listen listens at an address, unix://PATH or HOST:PORT. To a Unix socket anybody may connect: credentials say who is there.

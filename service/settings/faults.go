@@ -59,7 +59,16 @@ func (place *Place) open(file string, addresses map[string]string) Faults {
 
 // addresses are all addresses, by their places.
 func (settings *Settings) addresses() map[string]string {
-	addresses := map[string]string{settings.File + ": listen": settings.Process.Listen, settings.Process.Set + ": controller": settings.Set.Controller}
+	addresses := map[string]string{settings.File + ": listen": settings.Process.Listen}
+	if settings.Process.Address != settings.Process.Listen {
+		addresses[settings.File+": address"] = settings.Process.Address
+	}
+	if settings.Set.Controller != "" {
+		addresses[settings.Process.Set+": controller"] = settings.Set.Controller
+	}
+	for at, it := range settings.Set.Controllers {
+		addresses[fmt.Sprintf("%s: controllers[%d]", settings.Process.Set, at)] = it
+	}
 	for at, it := range settings.Set.Nodes {
 		addresses[fmt.Sprintf("%s: nodes[%d].address", settings.Process.Set, at)] = it.Address
 	}
@@ -76,11 +85,10 @@ func (set *Set) check(to *checking) {
 	if !filepath.IsAbs(set.Staging) {
 		to.refuse("staging", "%q is no absolute path", set.Staging)
 	}
-	checkAddress(to, "controller", set.Controller)
 	if len(set.Nodes) > mostNodes {
 		to.refuse("nodes", "%d are more than %d", len(set.Nodes), mostNodes)
 	}
-	ids, addresses := map[string]int{}, map[string]string{set.Controller: "controller"}
+	ids, addresses := map[string]int{}, set.checkControllers(to)
 	for at, it := range set.Nodes {
 		place := fmt.Sprintf("nodes[%d]", at)
 		if it.ID == "" || len(it.ID) > frames.MaxNode || strings.ContainsRune(it.ID, 0) {
@@ -99,6 +107,30 @@ func (set *Set) check(to *checking) {
 		ids[it.ID], addresses[it.Address] = at, place
 	}
 	set.Times.check(to)
+}
+
+// checkControllers gives the places of the controllers' addresses, by these.
+func (set *Set) checkControllers(to *checking) map[string]string {
+	if (set.Controller == "") == (len(set.Controllers) == 0) {
+		to.refuse("controller", "either it is there, or controllers")
+	}
+	places := map[string]string{}
+	if set.Controller != "" {
+		checkAddress(to, "controller", set.Controller)
+		places[set.Controller] = "controller"
+	}
+	for at, it := range set.Controllers {
+		place := fmt.Sprintf("controllers[%d]", at)
+		checkAddress(to, place, it)
+		if other, isThere := places[it]; isThere {
+			to.refuse(place, "%q is that of %s too", it, other)
+		}
+		if carrying.IsLocal(it) != carrying.IsLocal(set.Controllers[0]) {
+			to.refuse(place, "they are all at Unix sockets, or none")
+		}
+		places[it] = place
+	}
+	return places
 }
 
 func (times Times) check(to *checking) {
@@ -131,6 +163,9 @@ func (place *Place) check(to *checking) {
 
 func (process *Process) check(to *checking) {
 	process.Place.check(to)
+	if process.Etcd != nil { // others tell it to their callers
+		checkAddress(to, "address", process.Address)
+	}
 	if process.Calls.Controller < 1 {
 		to.refuse("calls.controller", "%d isn't above 0", process.Calls.Controller)
 	}
@@ -201,9 +236,12 @@ func (settings *Settings) Roles(own int) (clients map[string]api.Role, users map
 	return clients, users
 }
 
-// Addresses are the plugins', by their names.
+// Addresses are the plugins', by their names: of several controllers all, with commas between.
 func (set *Set) Addresses() map[string]string {
 	addresses := map[string]string{carrying.Controller: set.Controller}
+	if set.Controller == "" {
+		addresses[carrying.Controller] = strings.Join(set.Controllers, ",")
+	}
 	for _, it := range set.Nodes {
 		addresses[carrying.NodeName(it.ID)] = it.Address
 	}

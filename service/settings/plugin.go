@@ -70,7 +70,7 @@ func ReadPlugin(file string, role secure.Role) (*PluginSettings, error) {
 	if err := readBoth(file, plugin, &plugin.Place, &settings.Set); err != nil {
 		return nil, err
 	}
-	if plugin.Listen == "" {
+	if plugin.Listen == "" && (role == secure.Node || settings.Set.Controller != "") {
 		plugin.Listen = settings.Set.Addresses()[settings.plugin()] // as the others find it
 	}
 	set, process := &checking{file: plugin.Place.Set}, &checking{file: file}

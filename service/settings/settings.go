@@ -17,12 +17,13 @@ import (
 
 // A Set is the file of a set.
 type Set struct {
-	Name       string `json:"set"`
-	Greatest   uint64 `json:"greatest"` // bytes of a volume
-	Controller string `json:"controller"`
-	Nodes      []Node `json:"nodes"`
-	Staging    string `json:"staging"`
-	Times      Times  `json:"times"`
+	Name        string   `json:"set"`
+	Greatest    uint64   `json:"greatest"`    // bytes of a volume
+	Controller  string   `json:"controller"`  // its address; or
+	Controllers []string `json:"controllers"` // those of several, of which one leads
+	Nodes       []Node   `json:"nodes"`
+	Staging     string   `json:"staging"`
+	Times       Times    `json:"times"`
 }
 
 // A Node is one of the set's.
@@ -54,6 +55,7 @@ type Place struct {
 // A Process is the file of the orchestrator's service.
 type Process struct {
 	Place
+	Address string            `json:"address"` // where callers reach it
 	Clients map[string]string `json:"clients"` // the role of each client of the set, by its name
 	Users   map[string]string `json:"users"`   // the role of each user of this machine, by its number
 	Calls   Calls             `json:"calls"`
@@ -108,6 +110,9 @@ func Read(file string) (*Settings, error) {
 	settings := &Settings{File: file, Set: usualSet(), Process: Process{Calls: Calls{Controller: 64, Node: 32}}}
 	if err := readBoth(file, &settings.Process, &settings.Process.Place, &settings.Set); err != nil {
 		return nil, err
+	}
+	if settings.Process.Address == "" {
+		settings.Process.Address = settings.Process.Listen
 	}
 	if faults := settings.faults(); len(faults) > 0 {
 		return nil, faults

@@ -70,7 +70,7 @@ func TestFaults(t *testing.T) {
 		{set, `{}`, []string{"process.json: set: "}},
 		{`{"nodes": [{"slots": -1}]}`, process, []string{"set.json:1: nodes.slots: a number -1 where"}},
 		{`{"times": {"patience": 1, "retry": 0, "most_retry": 1}}`, process, []string{
-			"set.json: set: ", "set.json: greatest: 0 ", "set.json: staging: ", "set.json: controller: ", "set.json: times.retry: 0", "set.json: times.patience: 1 is below",
+			"set.json: set: ", "set.json: greatest: 0 ", "set.json: staging: ", "set.json: controller: either it", "set.json: times.retry: 0", "set.json: times.patience: 1 is below",
 		}},
 		{strings.Replace(set, `"n2"`, `"n1"`, 1), process, []string{`set.json: nodes[1].id: "n1" is that of nodes[0] too`}},
 		{strings.Replace(set, `/run/n2`, `/run/n1`, 1), process, []string{`set.json: nodes[1].address: "unix:///run/n1.sock" is that of nodes[0] too`}},
@@ -80,6 +80,12 @@ func TestFaults(t *testing.T) {
 		{strings.Replace(set, `"slots": 4`, `"slots": 5000`, 1), process, []string{"set.json: nodes[1].slots: 5000 are more than 4096"}},
 		{set, `{"set": "set.json", "store": "o.db", "listen": ":7", "key": "k", "users": {"ann": "read", "7": "king"}, "clients": {"bob": ""}, "calls": {"node": 0}}`,
 			[]string{"certificate: certificate, key", "users.ann: it is no", `users.7: "king" is no role`, `clients.bob: "" is no role`, "calls.node: 0"}},
+		{strings.Replace(set, `"controller": "unix:///run/c.sock"`, `"controllers": ["unix:///run/c.sock", "c:1", "unix:///run/c.sock", "unix:///run/n2.sock"]`, 1), process, []string{
+			"set.json: controllers[1]: they are all at Unix sockets, or none", `set.json: controllers[2]: "unix:///run/c.sock" is that of controllers[0] too`,
+			`set.json: nodes[1].address: "unix:///run/n2.sock" is that of controllers[3] too`, "set.json: controllers[1]: over TCP",
+		}},
+		{set, `{"set": "set.json", "listen": ":7101", "etcd": {"endpoints": ["e"], "prefix": "p", "lease": 1}, "certificate": "c", "key": "k", "authorities": "a"}`,
+			[]string{`process.json: address: ":7101" is neither`}},
 		{set, `{"set": "set.json", "listen": "unix:///o"}`, []string{"process.json: store: either this file is there, or etcd"}},
 		{set, `{"set": "set.json", "listen": "unix:///o", "store": "s", "etcd": {"ca": "ca.pem"}}`, []string{
 			"store: either", "etcd.endpoints: there are none", "etcd.prefix: it is missing", "etcd.certificate: ca, certificate and key", "etcd.lease: 0 isn't above 0",

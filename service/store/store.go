@@ -25,7 +25,8 @@ type Store interface {
 	// Load gives all parts, by rising key.
 	Load(ctx context.Context) ([]Part, error)
 	// Commit makes all changes, in order, or none. Where anew is set, nothing else is left in the store. Where it fails, they may be
-	// made or not: then nothing may be answered any more. With no changes it only says whether this process still has the store.
+	// made or not: then nothing may be answered any more. With no changes it only says whether this process still has the store, and may be
+	// called beside others.
 	Commit(ctx context.Context, anew bool, changes []Change) error
 	// Lost is closed once this process knows that it hasn't the store any more.
 	Lost() <-chan struct{}

@@ -56,12 +56,17 @@ func serve(ctx context.Context, read *settings.Settings, log *zap.Logger) error 
 		return err
 	}
 	defer listener.Close()
-	running.server, running.grpc = api.New(running.carrier, running.roles, running.credentials(), log)
+	leader, closeFinder, err := program.Leader(&read.Process.Place)
+	if err != nil {
+		return err
+	}
+	defer closeFinder()
+	running.server, running.grpc = api.New(running.carrier, leader, running.roles, running.credentials(), log)
 	defer running.grpc.Stop()
 	served := make(chan error, 1)
 	go func() { served <- running.grpc.Serve(listener) }()
 	log.Info("waits for the store", zap.String("address", read.Process.Listen))
-	kept, err := program.OpenStore(ctx, &read.Process.Place)
+	kept, err := program.OpenStore(ctx, &read.Process.Place, read.Process.Address)
 	if err != nil {
 		if ctx.Err() != nil {
 			return nil // it was ended while it waited to lead
@@ -203,6 +208,7 @@ func (running *service) stays(read *settings.Settings) error {
 		{anew.File + ": store", old.Process.Store != anew.Process.Store},
 		{anew.File + ": etcd", !reflect.DeepEqual(old.Process.Etcd, anew.Process.Etcd)},
 		{anew.File + ": listen", old.Process.Listen != anew.Process.Listen},
+		{anew.File + ": address", old.Process.Address != anew.Process.Address},
 		{anew.File + ": calls", old.Process.Calls != anew.Process.Calls},
 		{anew.File + ": certificate, key, authorities", old.Process.Certificate != anew.Process.Certificate || old.Process.Key != anew.Process.Key ||
 			old.Process.Authorities != anew.Process.Authorities},

@@ -60,7 +60,7 @@ func TestTakeover(t *testing.T) {
 	}
 	waiting, _ := second.start(false)
 	_, err := waiting.Get(ctx, &wire.GetRequest{Name: "v"})
-	if its := status.Convert(err); its.Code() != codes.Unavailable || its.Message() != "this service doesn't lead" {
+	if its := status.Convert(err); its.Code() != codes.Unavailable || its.Message() != "this service doesn't lead: "+made.address+" does" {
 		t.Errorf("the second: %v", err)
 	}
 	if status := stop(); status != 0 {

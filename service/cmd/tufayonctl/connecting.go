@@ -14,8 +14,6 @@ import (
 	"google.golang.org/grpc/credentials"
 	_ "google.golang.org/grpc/health" // has connections watch what a server says of its health
 	"google.golang.org/grpc/keepalive"
-	"google.golang.org/grpc/resolver"
-	"google.golang.org/grpc/resolver/manual"
 	"google.golang.org/grpc/status"
 
 	"tufayon/service/api"
@@ -37,37 +35,40 @@ type connecting struct {
 const leading = `{"loadBalancingConfig":[{"round_robin":{}}],"healthCheckConfig":{"serviceName":"` + api.Service + `"}}`
 
 // client gives a client of the service, a context for its calls, and what ends both. Of several addresses, with commas between, it is that of the service
-// that leads, which is waited for.
+// that leads, which is waited for; of one that doesn't lead it is that which it says.
 func (it *connecting) client(ctx context.Context) (wire.OrchestratorClient, context.Context, func(), error) {
-	addresses := strings.Split(it.address, ",")
-	known, err := it.credentials(addresses)
+	following := &following{known: map[string]*grpc.ClientConn{}, dial: func(address string) (*grpc.ClientConn, error) { return it.dial(address) }}
+	connection, err := it.dial(it.address, grpc.WithUnaryInterceptor(following.unary), grpc.WithStreamInterceptor(following.stream))
 	if err != nil {
 		return nil, nil, nil, err
-	}
-	options := []grpc.DialOption{grpc.WithTransportCredentials(known)}
-	if !carrying.IsLocal(it.address) {
-		options = append(options, grpc.WithKeepaliveParams(keepalive.ClientParameters{Time: 10 * time.Second, Timeout: 5 * time.Second}))
-	}
-	target := it.address
-	if len(addresses) > 1 {
-		var state resolver.State
-		for _, address := range addresses {
-			state.Addresses = append(state.Addresses, resolver.Address{Addr: address})
-		}
-		all := manual.NewBuilderWithScheme("tufayon")
-		all.InitialState(state)
-		target = "tufayon:///service"
-		options = append(options, grpc.WithResolvers(all), grpc.WithDefaultServiceConfig(leading), grpc.WithDefaultCallOptions(grpc.WaitForReady(true)))
-	}
-	connection, err := grpc.Dial(target, options...)
-	if err != nil {
-		return nil, nil, nil, status.Error(codes.Unavailable, err.Error())
 	}
 	cancel := context.CancelFunc(func() {})
 	if it.timeout > 0 {
 		ctx, cancel = context.WithTimeout(ctx, it.timeout)
 	}
-	return wire.NewOrchestratorClient(connection), ctx, func() { cancel(); connection.Close() }, nil
+	return wire.NewOrchestratorClient(connection), ctx, func() { cancel(); following.close(); connection.Close() }, nil
+}
+
+// dial connects to an address, or to that of several whose service leads.
+func (it *connecting) dial(address string, more ...grpc.DialOption) (*grpc.ClientConn, error) {
+	addresses := strings.Split(address, ",")
+	known, err := it.credentials(addresses)
+	if err != nil {
+		return nil, err
+	}
+	target, options := carrying.Target(address)
+	options = append(append(options, more...), grpc.WithTransportCredentials(known))
+	if !carrying.IsLocal(address) {
+		options = append(options, grpc.WithKeepaliveParams(keepalive.ClientParameters{Time: 10 * time.Second, Timeout: 5 * time.Second}))
+	}
+	if len(addresses) > 1 {
+		options = append(options, grpc.WithDefaultServiceConfig(leading), grpc.WithDefaultCallOptions(grpc.WaitForReady(true)))
+	}
+	connection, err := grpc.Dial(target, options...)
+	if err != nil {
+		return nil, status.Error(codes.Unavailable, err.Error())
+	}
+	return connection, nil
 }
 
 func (it *connecting) credentials(addresses []string) (credentials.TransportCredentials, error) {

@@ -42,7 +42,7 @@ func serve(t *testing.T, carrier host.Carrier) string {
 	roles := &api.Roles{}
 	roles.Set(nil, map[uint32]api.Role{uint32(os.Geteuid()): api.Loses})
 	states := plugins{carrying.Controller: {Address: "unix:///c", Connection: "READY"}, "node:n1": {Address: "unix:///n1", Connection: "CONNECTING"}}
-	leading, server := api.New(states, roles, secure.Local{May: roles.MayConnect}, zap.NewNop())
+	leading, server := api.New(states, nil, roles, secure.Local{May: roles.MayConnect}, zap.NewNop())
 	leading.Lead(made)
 	go server.Serve(listener)
 	t.Cleanup(func() { server.Stop(); made.Close() })
@@ -97,7 +97,7 @@ func TestWords(t *testing.T) {
 	says(t, address, "watch|--current|--timeout|50ms", 3, "DeadlineExceeded")
 }
 
-// Of several services it asks the one that leads.
+// Of several services it asks the one that leads, and of one that doesn't lead that which it says, once it says it.
 func TestLeading(t *testing.T) {
 	listener, err := secure.Listen(filepath.Join(t.TempDir(), "socket"))
 	if err != nil {
@@ -105,14 +105,21 @@ func TestLeading(t *testing.T) {
 	}
 	roles := &api.Roles{}
 	roles.Set(nil, map[uint32]api.Role{uint32(os.Geteuid()): api.Loses})
-	_, server := api.New(plugins{}, roles, secure.Local{May: roles.MayConnect}, zap.NewNop())
+	var where atomic.Value
+	where.Store("")
+	_, server := api.New(plugins{}, func(context.Context) string { return where.Load().(string) }, roles, secure.Local{May: roles.MayConnect}, zap.NewNop())
 	go server.Serve(listener)
 	defer server.Stop()
 	waiting, leads, nobody := "unix://"+listener.Addr().String(), serve(t, &hosttest.Carrier{}), "unix://"+filepath.Join(t.TempDir(), "nobody")
-	says(t, waiting, "list", 3, "this service doesn't lead")
+	says(t, waiting, "list|--timeout|300ms", 3, "this service doesn't lead\n")
 	says(t, strings.Join([]string{nobody, waiting, leads}, ","), "create|v|--block|--wait|--timeout|10s", 0, "yes")
 	says(t, waiting+","+nobody, "list|--timeout|50ms", 3, "DeadlineExceeded")
 	says(t, waiting+",127.0.0.1:1", "list", 2, "all of Unix sockets, or none")
+	time.AfterFunc(500*time.Millisecond, func() { where.Store(leads) })
+	says(t, waiting, "create|w|--block|--wait|--timeout|10s", 0, "w ", "yes")
+	says(t, waiting, "watch|w|--current|--timeout|300ms", 3, "w: at rest, exists yes", "DeadlineExceeded")
+	where.Store("127.0.0.1:1")
+	says(t, waiting, "list|--timeout|10s", 3, "this service doesn't lead: 127.0.0.1:1 does")
 }
 
 func TestUsage(t *testing.T) {

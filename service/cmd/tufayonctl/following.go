@@ -1,0 +1,168 @@
+package main
+
+import (
+	"context"
+	"sync"
+	"time"
+
+	"google.golang.org/grpc"
+	"google.golang.org/grpc/codes"
+	"google.golang.org/grpc/metadata"
+	"google.golang.org/grpc/status"
+
+	"tufayon/service/api"
+)
+
+const (
+	patience = 30 * time.Second       // how long it is looked for a service that leads
+	again    = 200 * time.Millisecond // until one that doesn't know which one that is is asked again
+)
+
+// following has calls made at the service that leads, where the one that was asked says that it doesn't. Then nothing was done.
+type following struct {
+	dial func(address string) (*grpc.ClientConn, error)
+
+	mutex sync.Mutex
+	known map[string]*grpc.ClientConn // by their addresses
+}
+
+// leader is what a refusal's trailer says: where the service is that leads, nothing where that isn't known. It says whether the call is to be made again.
+func leader(err error, trailer metadata.MD) (address string, isRefusal bool) {
+	said := trailer.Get(api.LeaderKey)
+	if status.Code(err) != codes.Unavailable || len(said) != 1 {
+		return "", false
+	}
+	return said[0], true
+}
+
+// next gives the connection at which a refused call is made again, which is the same where it isn't known which service leads: then it waits a while. It
+// gives none where it is too late.
+func (it *following) next(ctx context.Context, same *grpc.ClientConn, address string, until time.Time) *grpc.ClientConn {
+	if time.Now().After(until) {
+		return nil
+	}
+	if address == "" || address == same.Target() {
+		select {
+		case <-ctx.Done():
+			return nil
+		case <-time.After(again):
+			return same
+		}
+	}
+	it.mutex.Lock()
+	defer it.mutex.Unlock()
+	if it.known[address] == nil {
+		made, err := it.dial(address)
+		if err != nil {
+			return nil
+		}
+		it.known[address] = made
+	}
+	return it.known[address]
+}
+
+// close closes the connections that it made.
+func (it *following) close() {
+	it.mutex.Lock()
+	defer it.mutex.Unlock()
+	for _, made := range it.known {
+		made.Close()
+	}
+}
+
+// unary makes a call, again where another service leads. What it fails with is what the last one said.
+func (it *following) unary(
+	ctx context.Context, method string, request, response any, first *grpc.ClientConn, invoke grpc.UnaryInvoker, options ...grpc.CallOption,
+) error {
+	until := time.Now().Add(patience)
+	at := first
+	for {
+		var trailer metadata.MD
+		options := append(options[:len(options):len(options)], grpc.Trailer(&trailer))
+		var err error
+		if at == first {
+			err = invoke(ctx, method, request, response, at, options...)
+		} else {
+			err = at.Invoke(ctx, method, request, response, options...)
+		}
+		address, isRefusal := leader(err, trailer)
+		if !isRefusal {
+			return err
+		}
+		if at = it.next(ctx, at, address, until); at == nil {
+			return err
+		}
+	}
+}
+
+// stream begins a stream, which begins again where another service leads.
+func (it *following) stream(
+	ctx context.Context, description *grpc.StreamDesc, first *grpc.ClientConn, method string, begin grpc.Streamer, options ...grpc.CallOption,
+) (grpc.ClientStream, error) {
+	made, err := begin(ctx, description, first, method, options...)
+	if err != nil {
+		return nil, err
+	}
+	again := func(at *grpc.ClientConn) (grpc.ClientStream, error) {
+		return at.NewStream(ctx, description, method, options...)
+	}
+	return &followed{ClientStream: made, following: it, at: first, again: again, until: time.Now().Add(patience)}, nil
+}
+
+// followed is a stream of one request. Nothing has come of it until the first answer.
+type followed struct {
+	grpc.ClientStream
+	following *following
+	at        *grpc.ClientConn
+	again     func(*grpc.ClientConn) (grpc.ClientStream, error)
+	until     time.Time
+	request   any
+	hasCome   bool
+}
+
+func (it *followed) SendMsg(request any) error {
+	it.request = request
+	return it.ClientStream.SendMsg(request)
+}
+
+// RecvMsg gives the next answer.
+func (it *followed) RecvMsg(answer any) error {
+	for {
+		err := it.ClientStream.RecvMsg(answer)
+		if err == nil {
+			it.hasCome = true
+		}
+		address, isRefusal := leader(err, it.trailer(err))
+		if it.hasCome || !isRefusal {
+			return err
+		}
+		at := it.following.next(it.Context(), it.at, address, it.until)
+		if at == nil {
+			return err
+		}
+		if made, failed := it.begin(at); failed == nil {
+			it.at, it.ClientStream = at, made
+			continue
+		}
+		return err
+	}
+}
+
+// trailer is the stream's, which is there once it ended.
+func (it *followed) trailer(err error) metadata.MD {
+	if err == nil {
+		return nil
+	}
+	return it.ClientStream.Trailer()
+}
+
+func (it *followed) begin(at *grpc.ClientConn) (grpc.ClientStream, error) {
+	made, err := it.again(at)
+	if err == nil {
+		err = made.SendMsg(it.request)
+	}
+	if err == nil {
+		err = made.CloseSend()
+	}
+	return made, err
+}

@@ -1,0 +1,13 @@
+# Lays service/ out as Go wants it. Sourced by scripts that have `top`, the repository's folder.
+
+# Copies service/ to $1/src/tufayon/service, with what protoc makes of its protos, has Go find it there and in Debian's packages, and has it link the
+# library $2. Go's cache is CSI_GOCACHE, or below $1: with the former, who builds the same later has it at once, from whatever folder.
+service_tree() {
+    local tree="$1/src/tufayon/service" as_go=plugins=grpc,paths=source_relative
+    mkdir -p "$tree/wire" "$tree/api/wire"
+    cp -R "$top/service/." "$tree"
+    (cd "$tree" && protoc "--go_out=$as_go,Mgoogle/protobuf/wrappers.proto=github.com/golang/protobuf/ptypes/wrappers:wire" csi.proto)
+    (cd "$tree/api" && protoc "--go_out=$as_go:wire" orchestrator.proto)
+    export GO111MODULE=off GOPATH="$1:/usr/share/gocode" GOFLAGS="-p=2 -trimpath" GOCACHE="${CSI_GOCACHE:-$1/cache}"
+    export CGO_CFLAGS="-O2 -I$top/include" CGO_LDFLAGS="$2 $(dirname "$(rt doc)")/c/liblibc_c.a"
+}
