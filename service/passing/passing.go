@@ -11,6 +11,7 @@ import (
 	"google.golang.org/grpc"
 	_ "google.golang.org/grpc/encoding/gzip" // messages may come so; they are handed on plainly
 	"google.golang.org/grpc/metadata"
+	"google.golang.org/grpc/status"
 )
 
 // MostBytes is how large a message may be, in either direction.
@@ -90,6 +91,9 @@ type Failure struct {
 
 func (failure *Failure) Error() string { return failure.Err.Error() }
 func (failure *Failure) Unwrap() error { return failure.Err }
+
+// GRPCStatus is the error's own.
+func (failure *Failure) GRPCStatus() *status.Status { return status.Convert(failure.Err) }
 
 // Call makes a call with one request and one response. An error of it is a Failure.
 func Call(ctx context.Context, behind *grpc.ClientConn, method string, request []byte) (Response, error) {
