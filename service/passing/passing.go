@@ -96,9 +96,10 @@ func (failure *Failure) Unwrap() error { return failure.Err }
 func (failure *Failure) GRPCStatus() *status.Status { return status.Convert(failure.Err) }
 
 // Call makes a call with one request and one response. An error of it is a Failure.
-func Call(ctx context.Context, behind *grpc.ClientConn, method string, request []byte) (Response, error) {
+func Call(ctx context.Context, behind *grpc.ClientConn, method string, request []byte, more ...grpc.CallOption) (Response, error) {
 	var response Response
-	err := behind.Invoke(ctx, method, &request, &response.Message, callOptions(grpc.Header(&response.Header), grpc.Trailer(&response.Trailer))...)
+	options := append(callOptions(more...), grpc.Header(&response.Header), grpc.Trailer(&response.Trailer))
+	err := behind.Invoke(ctx, method, &request, &response.Message, options...)
 	if err != nil {
 		return Response{}, &Failure{Err: err, Header: response.Header, Trailer: response.Trailer}
 	}

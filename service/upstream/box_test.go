@@ -17,6 +17,7 @@ import (
 	"google.golang.org/grpc/status"
 
 	"tufayon/service/driver"
+	"tufayon/service/etcd"
 	"tufayon/service/life"
 	"tufayon/service/numbers"
 	"tufayon/service/passing"
@@ -43,6 +44,8 @@ type box struct {
 	options  upstream.Options
 	metadata bool   // numbers come as metadata
 	config   string // of a controller
+	etcd     string // where its store is, if it isn't a file
+	socket   string // the driver's, if it isn't the usual one
 	client   *grpc.ClientConn
 	end      func() // the driver
 	count    int    // of calls, each of which has a field of its own
@@ -58,12 +61,15 @@ func newBox(t *testing.T, options upstream.Options) *box {
 }
 
 // driver is what the box says of a driver.
-func (box *box) driver() life.Driver {
+func (box *box) driver() (life.Driver, error) {
 	proxy, err := upstream.New(box.options)
 	if err != nil {
-		box.Fatal(err)
+		return life.Driver{}, err
 	}
-	socket := filepath.Join(box.folder, "d", "csi.sock")
+	socket := box.socket
+	if socket == "" {
+		socket = filepath.Join(box.folder, "d", "csi.sock")
+	}
 	it := life.Driver{
 		Program: "csi-driver", Maker: plugin.Maker{IsController: true, Name: []byte(box.config)}, Numbering: life.ByArrival, Upstream: proxy,
 		Open: func(ctx context.Context) (store.Store, error) {
@@ -77,14 +83,21 @@ func (box *box) driver() life.Driver {
 	if box.metadata {
 		it.Numbering = life.ByMetadata(0)
 	}
-	return it
+	if box.etcd != "" {
+		it.Waits, it.Open = true, etcd.Config{Endpoints: []string{box.etcd}, Prefix: "/t", LeaseSeconds: 2, Texts: true}.Open
+	}
+	return it, nil
 }
 
 // start starts the driver, and waits until it serves.
 func (box *box) start() *box {
 	box.Helper()
+	it, err := box.driver()
+	if err != nil {
+		box.Fatal(err)
+	}
 	ctx, stop := context.WithCancel(context.Background())
-	serves, ended, it := make(chan struct{}), make(chan error, 1), box.driver()
+	serves, ended := make(chan struct{}), make(chan error, 1)
 	it.Say = func(string) { close(serves) }
 	go func() { ended <- life.New(it).Run(ctx) }()
 	select {

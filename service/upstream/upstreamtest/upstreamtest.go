@@ -45,15 +45,17 @@ type Told struct {
 type Upstream struct {
 	testing  testing.TB
 	socket   string
-	Fault    func(method string) Fault // nil for none
+	Fault    func(method string) Fault // nil for none; Set sets it while calls are under way
 	Lists    bool                      // it has LIST_VOLUMES, ..
 	HasNodes bool                      // .. LIST_VOLUMES_PUBLISHED_NODES, and GET_VOLUME
 	ID       func(name string) string  // of a volume that is made; nil for one of its own each time
 
 	mutex   sync.Mutex
 	server  *grpc.Server
-	life    int // how often it was started
+	life    int // how often it was started, or died
+	under   int // calls that are under way
 	told    []*Told
+	by      map[string][]*Told // by the requests' bytes
 	queues  map[string]chan struct{}
 	volumes map[string]*Volume // by their ids
 	wrong   []string
@@ -70,7 +72,7 @@ type Volume struct {
 
 // Start starts one at a socket. It ends with the test.
 func Start(t testing.TB, socket string) *Upstream {
-	upstream := &Upstream{testing: t, socket: socket, queues: map[string]chan struct{}{}, volumes: map[string]*Volume{}}
+	upstream := &Upstream{testing: t, socket: socket, by: map[string][]*Told{}, queues: map[string]chan struct{}{}, volumes: map[string]*Volume{}}
 	upstream.Restart()
 	t.Cleanup(upstream.Die)
 	return upstream
@@ -102,6 +104,26 @@ func (upstream *Upstream) Die() {
 	server.Stop()
 }
 
+// Set sets what goes wrong from now on.
+func (upstream *Upstream) Set(fault func(method string) Fault) {
+	upstream.mutex.Lock()
+	defer upstream.mutex.Unlock()
+	upstream.Fault = fault
+}
+
+// Rest waits until no call is under way.
+func (upstream *Upstream) Rest() {
+	for {
+		upstream.mutex.Lock()
+		rests := upstream.under == 0
+		upstream.mutex.Unlock()
+		if rests {
+			return
+		}
+		time.Sleep(time.Millisecond)
+	}
+}
+
 // Told gives the calls of a method that came, in order.
 func (upstream *Upstream) Told(method string) []Told {
 	upstream.mutex.Lock()
@@ -120,8 +142,8 @@ func (upstream *Upstream) Responses(request []byte) [][]byte {
 	upstream.mutex.Lock()
 	defer upstream.mutex.Unlock()
 	var responses [][]byte
-	for _, it := range upstream.told {
-		if it.Response != nil && string(it.Request) == string(request) {
+	for _, it := range upstream.by[string(request)] {
+		if it.Response != nil {
 			responses = append(responses, it.Response)
 		}
 	}
@@ -186,8 +208,15 @@ func (upstream *Upstream) handle(_ any, stream grpc.ServerStream) error {
 	told := &Told{Method: method, Request: request, Header: header, Deadline: deadline}
 	upstream.mutex.Lock()
 	upstream.told = append(upstream.told, told)
+	upstream.by[string(request)] = append(upstream.by[string(request)], told)
 	life := upstream.life
+	upstream.under++
 	upstream.mutex.Unlock()
+	defer func() {
+		upstream.mutex.Lock()
+		defer upstream.mutex.Unlock()
+		upstream.under--
+	}()
 	stream.SetHeader(metadata.Pairs("upstream-header", method))
 	stream.SetTrailer(metadata.Pairs("upstream-trailer", method))
 	response, err := upstream.answer(method, request, life)
@@ -243,9 +272,11 @@ func (upstream *Upstream) answer(method string, request []byte, life int) ([]byt
 		return nil, err
 	}
 	defer upstream.queue(of)()
-	fault := Fault{}
-	if upstream.Fault != nil {
-		fault = upstream.Fault(method)
+	upstream.mutex.Lock()
+	faulty, fault := upstream.Fault, Fault{}
+	upstream.mutex.Unlock()
+	if faulty != nil {
+		fault = faulty(method)
 	}
 	time.Sleep(fault.Before)
 	if fault.Refuse != nil {
@@ -287,12 +318,17 @@ func Dial(t testing.TB, socket string, options ...grpc.DialOption) *grpc.ClientC
 }
 
 // Call makes a call with a message, and an unknown field behind it. It gives the request's and the response's bytes.
-func Call(ctx context.Context, at *grpc.ClientConn, method string, message proto.Message, unknown string) (request []byte, response passing.Response, err error) {
+func Call(
+	ctx context.Context, at *grpc.ClientConn, method string, message proto.Message, unknown string, options ...grpc.CallOption,
+) (request []byte, response passing.Response, err error) {
 	request, err = proto.Marshal(message)
 	if err != nil {
 		return nil, passing.Response{}, err
 	}
 	request = append(request, Unknown(unknown)...)
-	response, err = passing.Call(ctx, at, method, request)
+	response, err = passing.Call(ctx, at, method, request, options...)
+	if failure, is := err.(*passing.Failure); is {
+		response.Header, response.Trailer = failure.Header, failure.Trailer
+	}
 	return request, response, err
 }
