@@ -4,9 +4,6 @@ import (
 	"context"
 	"errors"
 	"fmt"
-	"net"
-	"os"
-	"os/exec"
 	"reflect"
 	"strings"
 	"testing"
@@ -14,6 +11,7 @@ import (
 
 	"go.etcd.io/etcd/clientv3"
 
+	"tufayon/service/etcd/etcdtest"
 	"tufayon/service/store"
 )
 
@@ -43,27 +41,7 @@ func TestLastOfEach(t *testing.T) {
 // server is etcd as Debian starts it, on loopback.
 func server(t *testing.T) Config {
 	t.Helper()
-	if _, err := exec.LookPath("etcd"); err != nil {
-		t.Skip("there is no etcd")
-	}
-	client, peer := port(t), port(t)
-	running := exec.Command("etcd", "--data-dir", t.TempDir(), "--listen-client-urls", client, "--advertise-client-urls", client,
-		"--listen-peer-urls", peer, "--initial-advertise-peer-urls", peer, "--initial-cluster", "default="+peer)
-	if err := running.Start(); err != nil {
-		t.Fatal(err)
-	}
-	t.Cleanup(func() { running.Process.Kill(); running.Wait() })
-	return Config{Endpoints: []string{client}, Prefix: "/t", LeaseSeconds: 5}
-}
-
-func port(t *testing.T) string {
-	t.Helper()
-	listener, err := net.Listen("tcp", "127.0.0.1:0")
-	if err != nil {
-		t.Fatal(err)
-	}
-	defer listener.Close()
-	return "http://" + listener.Addr().String()
+	return Config{Endpoints: []string{etcdtest.Start(t)}, Prefix: "/t", LeaseSeconds: 5}
 }
 
 func open(t *testing.T, config Config) *leading {
@@ -99,9 +77,6 @@ func (leading *leading) wants(t *testing.T, want map[uint64]string) {
 
 // Small commits and large ones, one that is cut short before and after it is made, and one whose outcome isn't known.
 func TestCommit(t *testing.T) {
-	if os.Getenv("TUFAYON_TEST_ETCD") == "" {
-		t.Skip("it starts etcd only where it is asked to")
-	}
 	ctx, config := context.Background(), server(t)
 	kept := open(t, config)
 	want := map[uint64]string{}
@@ -190,9 +165,6 @@ func TestCommit(t *testing.T) {
 
 // Texts are committed with the record, by one transaction or in pieces; a store that keeps them is opened as one that does, and no other way.
 func TestTexts(t *testing.T) {
-	if os.Getenv("TUFAYON_TEST_ETCD") == "" {
-		t.Skip("left out, since TUFAYON_TEST_ETCD isn't set")
-	}
 	config, ctx := server(t), context.Background()
 	config.Texts = true
 	kept := open(t, config)

@@ -5,6 +5,7 @@ import (
 	"context"
 	"fmt"
 	"net"
+	"os/exec"
 	"path/filepath"
 	"reflect"
 	"testing"
@@ -48,7 +49,8 @@ type box struct {
 	socket   string // the driver's, if it isn't the usual one
 	client   *grpc.ClientConn
 	end      func() // the driver
-	count    int    // of calls, each of which has a field of its own
+	sockets  map[*exec.Cmd]string
+	count    int // of calls, each of which has a field of its own
 }
 
 func newBox(t *testing.T, options upstream.Options) *box {

@@ -4,6 +4,7 @@ import (
 	"bytes"
 	"context"
 	"fmt"
+	"io"
 	"math/rand"
 	"os"
 	"os/exec"
@@ -22,6 +23,7 @@ import (
 	"google.golang.org/grpc/codes"
 	"google.golang.org/grpc/status"
 
+	"tufayon/service/etcd/etcdtest"
 	"tufayon/service/life"
 	"tufayon/service/numbering"
 	"tufayon/service/upstream"
@@ -77,6 +79,11 @@ func (box *box) run() *exec.Cmd {
 	if _, err := output.Read(make([]byte, 100)); err != nil {
 		box.Fatalf("the driver says nothing: %v", err)
 	}
+	go io.Copy(io.Discard, output)
+	if box.sockets == nil {
+		box.sockets = map[*exec.Cmd]string{}
+	}
+	box.sockets[running] = box.socket
 	return running
 }
 
@@ -110,13 +117,74 @@ func TestDrawn(t *testing.T) {
 		box.metadata = isNumbered
 		seed := time.Now().UnixNano()
 		t.Logf("seed %d", seed)
-		(&drawn{box: box, ids: map[string]string{}}).play(rand.New(rand.NewSource(seed)), count)
+		running := box.run()
+		(&drawn{box: box, ids: map[string]string{}}).play(rand.New(rand.NewSource(seed)), count, running, func(running *exec.Cmd) *exec.Cmd {
+			running.Process.Kill()
+			running.Wait()
+			return box.run()
+		})
 	}
 }
 
-func (drawn *drawn) play(draw *rand.Rand, count int) {
-	running := drawn.run()
-	for round := 0; drawn.calls < count && !drawn.Failed(); round++ {
+// Two drivers over etcd before one upstream: where the one that leads is killed, or ends, the other one goes on, and all holds that is drawn above.
+func TestTakeovers(t *testing.T) {
+	box := newBox(t, upstream.Options{})
+	box.etcd = etcdtest.Start(t)
+	count := 1000
+	if set, err := strconv.Atoi(os.Getenv("TUFAYON_TEST_DRAWN")); err == nil {
+		count = set
+	}
+	if err := os.Mkdir(filepath.Join(box.folder, "d"), 0o700); err != nil {
+		t.Fatal(err)
+	}
+	started, taken := 0, 0
+	start := func() *exec.Cmd {
+		started++
+		box.socket = filepath.Join(box.folder, fmt.Sprint("driver", started), "s")
+		return box.run() // it waits
+	}
+	lead := func(running *exec.Cmd) *exec.Cmd {
+		socket := box.sockets[running]
+		for until := time.Now().Add(within); ; time.Sleep(10 * time.Millisecond) {
+			probed, err := wire.NewIdentityClient(upstreamtest.Dial(t, socket)).Probe(soon(t), &wire.ProbeRequest{})
+			if err == nil && probed.GetReady() == nil { // the upstream's answer
+				break
+			}
+			if time.Now().After(until) {
+				t.Fatalf("it doesn't lead: %v, %v", probed, err)
+			}
+		}
+		link := filepath.Join(box.folder, "d", "csi.sock")
+		os.Remove(link)
+		if err := os.Symlink(socket, link); err != nil {
+			t.Fatal(err)
+		}
+		return running
+	}
+	first := lead(start())
+	second := start()
+	seed := time.Now().UnixNano()
+	t.Logf("seed %d", seed)
+	draw := rand.New(rand.NewSource(seed))
+	(&drawn{box: box, ids: map[string]string{}}).play(draw, count, first, func(running *exec.Cmd) *exec.Cmd {
+		if taken++; taken%3 == 0 {
+			running.Process.Signal(syscall.SIGTERM)
+		} else {
+			running.Process.Kill()
+		}
+		running.Wait()
+		running = lead(second)
+		second = start()
+		return running
+	})
+	second.Process.Kill()
+	second.Wait()
+	t.Logf("%d takeovers", taken)
+}
+
+// play has clients make so many calls, and kills the driver at times, as kill does, which gives the next one.
+func (drawn *drawn) play(draw *rand.Rand, count int, running *exec.Cmd, kill func(*exec.Cmd) *exec.Cmd) {
+	for drawn.calls < count && !drawn.Failed() {
 		drawn.maybe = map[string]bool{}
 		drawn.session()
 		drawn.breaks(rand.New(rand.NewSource(draw.Int63())))
@@ -132,9 +200,7 @@ func (drawn *drawn) play(draw *rand.Rand, count int) {
 		}
 		time.Sleep(time.Duration(draw.Intn(40)) * time.Millisecond)
 		if draw.Intn(2) == 0 {
-			running.Process.Kill()
-			running.Wait()
-			running = drawn.run()
+			running = kill(running)
 		}
 		time.Sleep(time.Duration(draw.Intn(40)) * time.Millisecond)
 		if draw.Intn(2) == 0 {
@@ -260,9 +326,14 @@ func (drawn *drawn) books() map[string][]string {
 	drawn.Helper()
 	ctx, cancel := context.WithTimeout(context.Background(), within)
 	defer cancel()
-	listed, err := wire.NewControllerClient(drawn.client).ControllerGetCapabilities(ctx, &wire.ControllerGetCapabilitiesRequest{}, grpc.WaitForReady(true))
-	if err != nil || len(listed.GetCapabilities()) == 0 {
-		drawn.Fatalf("the capabilities: %v", err)
+	for { // the driver finds an upstream again that died
+		_, err := wire.NewControllerClient(drawn.client).ControllerGetCapabilities(ctx, &wire.ControllerGetCapabilitiesRequest{}, grpc.WaitForReady(true))
+		if err == nil {
+			break
+		}
+		if time.Sleep(10 * time.Millisecond); ctx.Err() != nil {
+			drawn.Fatalf("the capabilities: %v", err)
+		}
 	}
 	response := &wire.ListVolumesResponse{}
 	if err := drawn.client.Invoke(ctx, "/csi.v1.Controller/ListVolumes", &wire.ListVolumesRequest{}, response, grpc.WaitForReady(true)); err != nil {
