@@ -51,16 +51,16 @@ type Server struct {
 }
 
 // New makes a server, which doesn't lead, and a gRPC server of its service, its health and its reflection. Who may call what, the roles say. The address of
-// the service that leads is nothing where it isn't known, or nil where there is no other service.
+// the service that leads is nothing where it isn't known, or nil where there is no other service. Interceptors among other options come before all else.
 func New(
-	plugins Plugins, leader func(context.Context) string, roles *Roles, known credentials.TransportCredentials, log *zap.Logger,
+	plugins Plugins, leader func(context.Context) string, roles *Roles, known credentials.TransportCredentials, log *zap.Logger, more ...grpc.ServerOption,
 ) (*Server, *grpc.Server) {
 	guard := &guard{roles: roles, log: log}
-	made := grpc.NewServer(
-		grpc.Creds(known), grpc.UnaryInterceptor(guard.unary), grpc.StreamInterceptor(guard.stream),
+	made := grpc.NewServer(append(more,
+		grpc.Creds(known), grpc.ChainUnaryInterceptor(guard.unary), grpc.ChainStreamInterceptor(guard.stream),
 		grpc.KeepaliveEnforcementPolicy(keepalive.EnforcementPolicy{MinTime: 5 * time.Second, PermitWithoutStream: true}),
 		grpc.KeepaliveParams(keepalive.ServerParameters{Time: 30 * time.Second, Timeout: 10 * time.Second}),
-	)
+	)...)
 	if leader == nil {
 		leader = func(context.Context) string { return "" }
 	}
@@ -316,6 +316,9 @@ func (server *Server) Nodes(ctx context.Context, _ *wire.NodesRequest) (*wire.No
 	response := &wire.NodesResponse{Session: leads.Session()}
 	add := func(id, plugin string) {
 		state := states[plugin]
+		if state.Trouble == "" {
+			state.Trouble = leads.Trouble(plugin)
+		}
 		response.Nodes = append(response.Nodes, &wire.Node{
 			Id: id, Address: state.Address, Connection: state.Connection, UnderWay: uint32(state.UnderWay), Queued: uint32(state.Queued),
 			Attached: attached[id], Trouble: state.Trouble,

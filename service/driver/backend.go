@@ -11,6 +11,7 @@ import (
 	"google.golang.org/grpc/metadata"
 	"google.golang.org/grpc/status"
 
+	"tufayon/service/frames"
 	"tufayon/service/numbers"
 	"tufayon/service/serving"
 	"tufayon/service/translate"
@@ -21,6 +22,7 @@ type Core interface {
 	Admit(ctx context.Context) error
 	Carry(ctx context.Context, request serving.Request) (serving.Answer, error)
 	Known(ctx context.Context, volume uint64) (serving.Known, error)
+	Begin(ctx context.Context, opening numbers.Opening) (frames.Number, error)
 	Done() <-chan struct{}
 }
 

@@ -40,6 +40,8 @@ type core struct {
 	reply   *frames.Reply
 	source  numbers.Source // metadata where there is none
 	carried []frames.Body
+	opened  numbers.Opening
+	refuses error
 	done    chan struct{}
 }
 
@@ -52,6 +54,11 @@ func (core *core) numbers() numbers.Source {
 
 func (core *core) Admit(ctx context.Context) error { return core.numbers().Admit(ctx) }
 func (core *core) Done() <-chan struct{}           { return core.done }
+
+func (core *core) Begin(_ context.Context, opening numbers.Opening) (frames.Number, error) {
+	core.opened = opening
+	return frames.Number{Session: 7, Call: 9}, core.refuses
+}
 
 func (core *core) Known(context.Context, uint64) (serving.Known, error) { return core.known, nil }
 
@@ -107,6 +114,7 @@ func newBox(t *testing.T) *box {
 	t.Helper()
 	box := &box{T: t, core: &core{done: make(chan struct{})}, told: &told{}, backend: NewBackend()}
 	server := NewServer(box.backend, limiting.New(), "a test")
+	RegisterPlugin(server, box.backend)
 	RegisterIdentity(server, box.backend, "a.example", "1.2.3")
 	RegisterController(server, box.backend, box.told)
 	RegisterNode(server, box.backend, NodeOptions{ID: "n1", Hooks: box.told})

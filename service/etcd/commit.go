@@ -97,24 +97,29 @@ func (leading *leading) Commit(ctx context.Context, anew bool, changes []store.C
 		}
 		changes = append(removals, changes...)
 	}
-	return leading.commit(ctx, leading.editsOf(lastOfEach(changes)))
+	return leading.commit(ctx, leading.editsOf(lastOfEach(changes)), nil)
+}
+
+// CommitWith puts sides with changes.
+func (leading *leading) CommitWith(ctx context.Context, sides []store.Side, changes []store.Change) error {
+	return leading.commit(ctx, leading.editsOf(lastOfEach(changes)), leading.putsOf(sides))
 }
 
 // CommitBoth makes the changes of both in the same way.
 func (leading *leading) CommitBoth(ctx context.Context, changes []store.Change, texts []store.Text) error {
-	return leading.commit(ctx, append(leading.editsOf(lastOfEach(changes)), leading.textEditsOf(texts)...))
+	return leading.commit(ctx, append(leading.editsOf(lastOfEach(changes)), leading.textEditsOf(texts)...), nil)
 }
 
-// commit makes edits, of which no two are of one key.
-func (leading *leading) commit(ctx context.Context, edits []edit) error {
-	if len(edits) == 0 {
+// commit makes edits, of which no two are of one key, and puts sides.
+func (leading *leading) commit(ctx context.Context, edits []edit, puts []clientv3.Op) error {
+	if len(edits)+len(puts) == 0 {
 		return leading.confirm(ctx)
 	}
-	operations := operationsOf(edits)
+	operations := append(operationsOf(edits), puts...)
 	if len(split(operations)) == 1 {
 		return leading.change(ctx, operations)
 	}
-	return leading.commitInParts(ctx, edits)
+	return leading.commitInParts(ctx, edits, puts)
 }
 
 // lastOfEach has one change for each key, since a transaction may name none twice.
@@ -163,8 +168,8 @@ func split(operations []clientv3.Op) [][]clientv3.Op {
 // sizeOf is as many bytes as an operation has in a transaction at most.
 func sizeOf(it clientv3.Op) int { return len(it.KeyBytes()) + len(it.ValueBytes()) + 32 }
 
-// commitInParts writes the changes beside the record first, and makes them by a last transaction. Then they are carried over.
-func (leading *leading) commitInParts(ctx context.Context, edits []edit) error {
+// commitInParts writes the changes beside the record first, and makes them by a last transaction, which puts the sides too. Then they are carried over.
+func (leading *leading) commitInParts(ctx context.Context, edits []edit, sides []clientv3.Op) error {
 	notes := make([]clientv3.Op, 0, len(edits))
 	for _, it := range edits {
 		value := "-"
@@ -181,7 +186,7 @@ func (leading *leading) commitInParts(ctx context.Context, edits []edit) error {
 			return err
 		}
 	}
-	if err := leading.change(ctx, []clientv3.Op{clientv3.OpPut(leading.wholeKey(), "")}); err != nil {
+	if err := leading.change(ctx, append(sides, clientv3.OpPut(leading.wholeKey(), ""))); err != nil {
 		return err
 	}
 	return leading.carryOver(ctx, edits)

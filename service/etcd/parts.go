@@ -16,7 +16,7 @@ const page = 500 // keys that are read at once
 
 // Part K is the value of PREFIX/parts/K in 16 hexadecimal digits, and the text K that of PREFIX/texts/K. A commit that is too large for a transaction has
 // its changes below PREFIX/next/ and PREFIX/nexttexts/ first, each a "+" and a value, or a "-"; it is made once PREFIX/whole is there, and is carried
-// over then.
+// over then. A side is the value of PREFIX/beside/ and its name.
 const (
 	partsFolder     = "/parts/"
 	textsFolder     = "/texts/"
@@ -26,6 +26,29 @@ const (
 
 func (leading *leading) wholeKey() string { return leading.prefix + "/whole" }
 func (leading *leading) countKey() string { return leading.prefix + "/commits" }
+func (leading *leading) sidesKey() string { return leading.prefix + "/beside/" }
+
+// putsOf put sides.
+func (leading *leading) putsOf(sides []store.Side) []clientv3.Op {
+	puts := make([]clientv3.Op, 0, len(sides))
+	for _, side := range sides {
+		puts = append(puts, clientv3.OpPut(leading.sidesKey()+side.Name, string(side.Value)))
+	}
+	return puts
+}
+
+// Sides reads all sides.
+func (leading *leading) Sides(ctx context.Context) (map[string][]byte, error) {
+	got, err := leading.get(ctx, leading.sidesKey(), clientv3.WithPrefix())
+	if err != nil {
+		return nil, err
+	}
+	sides := make(map[string][]byte, len(got.Kvs))
+	for _, it := range got.Kvs {
+		sides[strings.TrimPrefix(string(it.Key), leading.sidesKey())] = it.Value
+	}
+	return sides, nil
+}
 
 // An edit is a change as etcd has it: of the value of a key, which has another one before a large commit is made.
 type edit struct {

@@ -20,11 +20,32 @@ type board struct {
 	count    uint64 // of the events since this process serves
 	nodes    []string
 	volumes  map[string]Volume
+	troubles map[string]string // why plugins haven't begun the session, by their names
 	watchers map[*Watching]bool
 	isClosed bool
 }
 
-func newBoard() *board { return &board{volumes: map[string]Volume{}, watchers: map[*Watching]bool{}} }
+func newBoard() *board {
+	return &board{volumes: map[string]Volume{}, troubles: map[string]string{}, watchers: map[*Watching]bool{}}
+}
+
+// note notes why a plugin hasn't begun the session, or with no text that it has.
+func (board *board) note(plugin, why string) {
+	board.mutex.Lock()
+	defer board.mutex.Unlock()
+	if why == "" {
+		delete(board.troubles, plugin)
+		return
+	}
+	board.troubles[plugin] = why
+}
+
+// Trouble is why a plugin hasn't begun the present session, and so isn't used: nothing where it has, or wasn't asked yet.
+func (host *Host) Trouble(plugin string) string {
+	host.board.mutex.RLock()
+	defer host.board.mutex.RUnlock()
+	return host.board.troubles[plugin]
+}
 
 // An Event is what became of a volume, or of a node. One of the last three fields counts.
 type Event struct {

@@ -2,9 +2,11 @@ package host
 
 import (
 	"context"
+	"crypto/rand"
 	"encoding/json"
 	"errors"
 	"fmt"
+	"reflect"
 
 	"tufayon/service/numbers"
 	"tufayon/service/plugin"
@@ -22,6 +24,16 @@ type core struct {
 	names   map[string]uint64       // the rows' keys
 	counts  counts                  // of the rows
 	changes []store.Change          // what was asked since the last commit
+	peers   *peers                  // likewise: what is kept beside the record
+	token   string                  // of this opening of the store
+}
+
+func newCore(kept store.Store) (*core, error) {
+	token := make([]byte, 16)
+	if _, err := rand.Read(token); err != nil {
+		return nil, err
+	}
+	return &core{store: kept, token: string(token)}, nil
 }
 
 // counts are how many rows there are of some sorts.
@@ -71,6 +83,9 @@ func isRefusal(err error) bool {
 // is changed.
 func (core *core) begin(ctx context.Context, nodes []string) error {
 	parts, err := core.store.Load(ctx)
+	if err == nil && core.peers == nil {
+		err = core.loadPeers(ctx, parts)
+	}
 	if err != nil {
 		return err
 	}
@@ -80,7 +95,11 @@ func (core *core) begin(ctx context.Context, nodes []string) error {
 	}
 	changes, err := made.Changes()
 	if err == nil {
-		err = core.store.Commit(ctx, false, changes)
+		err = core.list(parts, nodes, changes)
+	}
+	if err == nil {
+		core.changes = changes
+		err = core.commit(ctx)
 	}
 	if err != nil {
 		made.Free()
@@ -95,6 +114,34 @@ func (core *core) begin(ctx context.Context, nodes []string) error {
 		}
 	}
 	return core.takeAll(changes)
+}
+
+// loadPeers reads what is kept beside the record.
+func (core *core) loadPeers(ctx context.Context, parts []store.Part) error {
+	sides, err := store.SidesOf(ctx, core.store)
+	if err == nil {
+		core.peers, err = readPeers(sides, parts)
+	}
+	return err
+}
+
+// list notes in which session these nodes are listed, if a record that has these parts lists others.
+func (core *core) list(parts []store.Part, nodes []string, changes []store.Change) error {
+	core.peers.changed[listName] = true // a record with sides has it
+	if len(parts) > 0 {
+		listed, err := records.OrchestratorNodes(parts[0].Value)
+		if err != nil || reflect.DeepEqual(append([]string{}, listed...), append([]string{}, nodes...)) {
+			return err
+		}
+	}
+	for _, change := range changes {
+		if change.Key == records.HeadKey {
+			session, err := records.OrchestratorSession(change.Value)
+			core.peers.lists(session)
+			return err
+		}
+	}
+	return nil
 }
 
 // take takes over what a part says: the row, if it is one.
@@ -167,17 +214,19 @@ func (core *core) lose(node string) (plugin.Outcome, error) {
 		}
 	}
 	core.nodes = left
-	return outcome, core.takeAll(changes)
+	err = core.takeAll(changes)
+	core.peers.loses(node, core.session)
+	return outcome, err
 }
 
 // commit commits what was asked since the last commit.
 func (core *core) commit(ctx context.Context) error {
-	changes := core.changes
-	core.changes = nil
-	if len(changes) == 0 {
+	changes, sides := core.changes, core.peers.sides()
+	core.changes, core.peers.changed = nil, map[string]bool{}
+	if len(changes)+len(sides) == 0 {
 		return nil
 	}
-	return core.store.Commit(ctx, false, changes)
+	return store.CommitWith(ctx, core.store, sides, changes)
 }
 
 // row is the row of a name, nil where there is none.

@@ -9,13 +9,16 @@ import (
 	"reflect"
 	"runtime"
 	"sort"
+	"strings"
 	"sync"
 	"testing"
 	"time"
 
+	"tufayon/service/carrying"
 	"tufayon/service/frames"
 	"tufayon/service/host"
 	"tufayon/service/host/hosttest"
+	"tufayon/service/numbers"
 	"tufayon/service/plugin"
 	"tufayon/service/records"
 )
@@ -121,6 +124,17 @@ func (net *network) Carry(ctx context.Context, call frames.Call, until time.Time
 		return frames.Reply{}, errNobody
 	}
 	return reply, err
+}
+
+// Begin has every plugin that is reached begin each session: they know none.
+func (net *network) Begin(ctx context.Context, name string, _ numbers.Opening) error {
+	net.mutex.Lock()
+	isGone := net.gone[strings.TrimPrefix(name, "node:")]
+	net.mutex.Unlock()
+	if isGone {
+		return errNobody
+	}
+	return carrying.ErrNone
 }
 
 // set sets how bad the network is, and which node is gone.

@@ -88,6 +88,7 @@ func (host *Host) deliver(volume *volume, it *heard, work *work) error {
 	volume.isOpen = false
 	if it.reply.Status == 0 {
 		volume.failures = 0
+		host.core.peers.hears(it.call)
 	} else {
 		volume.failures++
 	}

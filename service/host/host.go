@@ -16,6 +16,7 @@ import (
 
 	"tufayon/service/carrying"
 	"tufayon/service/frames"
+	"tufayon/service/numbers"
 	"tufayon/service/store"
 )
 
@@ -35,6 +36,8 @@ type Carrier interface {
 	// Carry makes a call, and gives the reply. It fails where none came, for a reason that is told. Where a time is given, it fails too if the plugin
 	// isn't reached until then.
 	Carry(ctx context.Context, call frames.Call, until time.Time) (frames.Reply, error)
+	// Begin has a plugin begin a session, once it is reached. It fails with carrying.ErrLater, ErrEarlier or ErrNone as it says, or else may be asked again.
+	Begin(ctx context.Context, plugin string, opening numbers.Opening) error
 }
 
 // Options are what a host needs.
@@ -71,15 +74,20 @@ type Host struct {
 	isLast  bool    // no session begins any more
 	calls   context.Context
 	giveUp  context.CancelFunc // gives up the calls of the present session
+	gates   gates              // of the present session
 }
 
 // Open begins the next session over a store, commits it, and begins to serve.
 func Open(ctx context.Context, options Options) (*Host, error) {
+	core, err := newCore(options.Store)
+	if err != nil {
+		return nil, err
+	}
 	host := &Host{
 		carrier: options.Carrier, times: options.Times, log: options.Log,
 		commands: make(chan event, mostCommands), happened: make(chan event), stop: make(chan struct{}), done: make(chan struct{}),
 		waiters: newWaiters(), board: newBoard(),
-		core: &core{store: options.Store}, volumes: map[string]*volume{},
+		core: core, volumes: map[string]*volume{},
 	}
 	host.confirms.ask = func(ctx context.Context) error { return options.Store.Commit(ctx, false, nil) }
 	host.calls, host.giveUp = context.WithCancel(context.Background())
@@ -116,6 +124,7 @@ func (host *Host) run(ctx context.Context, nodes []string, opened chan<- error) 
 	work := newWork()
 	host.began(work)
 	host.publish(work)
+	host.openPlugins()
 	opened <- nil
 	for host.err == nil {
 		batch := host.gather()
@@ -198,8 +207,14 @@ func (host *Host) carryOut(batch []event) error {
 		return err
 	}
 	host.publish(work)
+	if work.begins {
+		host.openPlugins()
+	}
 	for _, it := range work.sends {
 		go host.call(host.calls, host.epoch, it)
+	}
+	for _, it := range work.held {
+		go host.await(host.calls, host.epoch, it, host.gates.of(it.call))
 	}
 	for _, answer := range work.after {
 		answer()

@@ -87,6 +87,8 @@ func (it *losing) ask(host *Host, work *work) error {
 // began gives up all calls that are under way, and has the timeouts of what is wanted told: a session began, in which no call is open.
 func (host *Host) began(work *work) {
 	host.epoch++
+	work.begins = true
+	host.gates = newGates(host.core.nodes)
 	host.giveUp()
 	host.calls, host.giveUp = context.WithCancel(context.Background())
 	for name := range host.volumes {

@@ -103,7 +103,7 @@ func (host *Host) took(it *volume, row *records.Row, frame []byte, work *work) e
 	if it.row.Goal == records.ToUse {
 		until = it.first.Add(host.times.Patience)
 	}
-	work.sends = append(work.sends, sending{name: it.row.Name, call: call, until: until})
+	host.send(sending{name: it.row.Name, call: call, until: until}, work)
 	return nil
 }
 

@@ -13,8 +13,10 @@ type work struct {
 	changed   map[string]*volume
 	forgotten []string // names
 	lost      string   // a node
+	begins    bool     // a session began
 	sends     []sending
-	after     []func() // answers
+	held      []sending // calls whose plugins haven't begun the session
+	after     []func()  // answers
 }
 
 func newWork() *work { return &work{changed: map[string]*volume{}} }

@@ -27,18 +27,19 @@ const (
 
 // A Driver says what is run.
 type Driver struct {
-	Program    string // its name
-	Name       string // the plugin's, as Identity tells it
-	Maker      plugin.Maker
-	Numbering  serving.Numbering
-	Open       func(context.Context) (store.Store, error)
-	Waits      bool            // opening waits to lead
-	Notes      string          // a node's file of staging paths; none of a controller
-	Hooks      hooks.Hooks     // what does what calls ask for; nil where nothing does: the ledger alone is kept
-	MaxVolumes int64           // as NodeGetInfo tells it
-	Upstream   *upstream.Proxy // the driver behind, to which calls go in place of all this; nil where there is none. Its store is a store.Keeper
-	Doors      []Door
-	Say        func(line string) // tells whoever runs it how far it is
+	Program     string // its name
+	Name        string // the plugin's, as Identity tells it
+	Maker       plugin.Maker
+	Numbering   serving.Numbering
+	IsByArrival bool // Numbering is ByArrival: there is no orchestrator that begins sessions
+	Open        func(context.Context) (store.Store, error)
+	Waits       bool            // opening waits to lead
+	Notes       string          // a node's file of staging paths; none of a controller
+	Hooks       hooks.Hooks     // what does what calls ask for; nil where nothing does: the ledger alone is kept
+	MaxVolumes  int64           // as NodeGetInfo tells it
+	Upstream    *upstream.Proxy // the driver behind, to which calls go in place of all this; nil where there is none. Its store is a store.Keeper
+	Doors       []Door
+	Say         func(line string) // tells whoever runs it how far it is
 }
 
 // A Door is where a driver is called.
@@ -131,6 +132,9 @@ func (life *Life) server(door Door, limits *limiting.Limits) *grpc.Server {
 // register adds the plugin's services to a server.
 func (life *Life) register(server *grpc.Server) {
 	it := &life.driver
+	if !it.IsByArrival {
+		driver.RegisterPlugin(server, life.backend)
+	}
 	if it.Maker.IsController {
 		driver.RegisterController(server, life.backend, it.Hooks)
 		return

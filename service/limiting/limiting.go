@@ -5,6 +5,7 @@ import (
 	"context"
 	"net"
 	"sync"
+	"syscall"
 
 	"google.golang.org/grpc"
 	"google.golang.org/grpc/codes"
@@ -115,6 +116,15 @@ type connection struct {
 	net.Conn
 	of   *listener
 	once sync.Once
+}
+
+// SyscallConn is the connection's own: by it the kernel says who is at the other end.
+func (connection *connection) SyscallConn() (syscall.RawConn, error) {
+	through, is := connection.Conn.(syscall.Conn)
+	if !is {
+		return nil, syscall.ENOTSUP
+	}
+	return through.SyscallConn()
 }
 
 func (connection *connection) Close() error {

@@ -8,6 +8,7 @@ import (
 	"math"
 	"strconv"
 	"strings"
+	"time"
 
 	"google.golang.org/grpc/codes"
 	"google.golang.org/grpc/metadata"
@@ -73,6 +74,17 @@ func (source Metadata) Number(ctx context.Context, of Of) (frames.Number, error)
 		return frames.Number{}, errSession
 	}
 	return number, nil
+}
+
+// Begins refuses a session that is too far above the latest one and above the clock too: sessions begin by the clock, in seconds since 1970.
+func (source Metadata) Begins(session, latest uint64, now time.Time) error {
+	if seconds := now.Unix(); seconds > 0 && uint64(seconds) > latest {
+		latest = uint64(seconds)
+	}
+	if source.MostAbove > 0 && session > latest && session-latest > source.MostAbove {
+		return errSession
+	}
+	return nil
 }
 
 func fromContext(ctx context.Context) (frames.Number, error) {

@@ -22,10 +22,22 @@ import (
 // memory is a store that outlives its cores.
 type memory struct {
 	parts map[uint64][]byte
+	sides map[string][]byte
 	lost  chan struct{}
 }
 
-func newMemory() *memory { return &memory{parts: map[uint64][]byte{}, lost: make(chan struct{})} }
+func newMemory() *memory {
+	return &memory{parts: map[uint64][]byte{}, sides: map[string][]byte{}, lost: make(chan struct{})}
+}
+
+func (kept *memory) Sides(context.Context) (map[string][]byte, error) { return kept.sides, nil }
+
+func (kept *memory) CommitWith(ctx context.Context, sides []store.Side, changes []store.Change) error {
+	for _, side := range sides {
+		kept.sides[side.Name] = side.Value
+	}
+	return kept.Commit(ctx, false, changes)
+}
 
 func (kept *memory) Load(context.Context) ([]store.Part, error) {
 	var parts []store.Part
@@ -60,7 +72,7 @@ var (
 func open(maker plugin.Maker, kept store.Store) (*serving.Core, error) {
 	return serving.Open(context.Background(), serving.Config{
 		Store:     kept,
-		Numbering: func(uint64) (numbers.Source, error) { return numbers.Metadata{}, nil },
+		Numbering: func(uint64) (numbers.Source, error) { return numbers.Metadata{MostAbove: 1000000}, nil },
 		Make: func(record []byte) (serving.Plugin, bool, error) {
 			made, renewed, err := maker.Make(record)
 			if err != nil {
@@ -215,4 +227,90 @@ func TestEndings(t *testing.T) {
 	if !errors.Is(fmt.Errorf("the plugin: %w", plugin.NoMemory), store.ErrMemory) || errors.Is(plugin.BadFrame, store.ErrMemory) {
 		t.Error("a refused allocation isn't what it is to others")
 	}
+}
+
+// begins has a session begin, and wants that it is refused by this text, or not.
+func begins(t *testing.T, core *serving.Core, opening numbers.Opening, want string) frames.Number {
+	t.Helper()
+	heard, err := core.Begin(context.Background(), opening)
+	if said := status.Convert(err).Message(); said != want {
+		t.Errorf("%+v: %q, not %q", opening, said, want)
+	}
+	return heard
+}
+
+func number(session, call uint64) frames.Number { return frames.Number{Session: session, Call: call} }
+
+// A session begins by what the plugin has heard: no call of an earlier one passes then, and no call of one that wasn't begun.
+func TestBegin(t *testing.T) {
+	kept := newMemory()
+	core := opened(t, controller, kept)
+	begins(t, core, numbers.Opening{Session: 4, Token: "a"}, "")
+	wants(t, core, 3, 9, create("v"), codes.Aborted)
+	wants(t, core, 5, 1, create("v"), codes.FailedPrecondition)
+	wants(t, core, 4, 1, create("v"), codes.OK)
+	wants(t, core, 4, 2, attach(1, "n1"), codes.OK)
+	for _, it := range []struct {
+		opening numbers.Opening
+		want    string
+	}{
+		{numbers.Opening{Session: 4, Token: "a"}, ""}, // a repeat
+		{numbers.Opening{Session: 4, Token: "b", Sent: number(4, 2)}, "later"},
+		{numbers.Opening{Session: 3, Token: "a", Sent: number(4, 2)}, "later"},
+		{numbers.Opening{Session: 5, Token: "b", Sent: number(4, 1), Heard: number(4, 1)}, "later"},
+		{numbers.Opening{Session: 5, Token: "b", Sent: number(4, 3), Heard: number(4, 3)}, "earlier"},
+		{numbers.Opening{Session: 5, Token: "b", IsNew: true}, "earlier"},
+		{numbers.Opening{Session: 1 << 40, Token: "b", Sent: number(4, 2)}, "session"},
+	} {
+		begins(t, core, it.opening, it.want)
+		wants(t, core, 4, 2, attach(1, "n1"), codes.OK) // nothing is changed
+	}
+	if heard := begins(t, core, numbers.Opening{Session: 5, Token: "b", Sent: number(4, 3), Heard: number(4, 2), List: 5}, ""); heard != number(4, 2) {
+		t.Errorf("it has heard %v", heard)
+	}
+	wants(t, core, 4, 3, detach(1, "n1"), codes.Aborted)
+	core.Close()
+	core = opened(t, controller, kept)
+	wants(t, core, 4, 3, detach(1, "n1"), codes.Aborted) // that is in the record
+	begins(t, core, numbers.Opening{Session: 6, Token: "c", Sent: number(4, 1), Heard: number(4, 1), List: 5}, "later")
+	begins(t, core, numbers.Opening{Session: 6, Token: "c", Sent: number(5, 0), Heard: number(5, 0), List: 4}, "later")
+	begins(t, core, numbers.Opening{Session: 6, Token: "c", IsUnknown: true, List: 5}, "")
+	wants(t, core, 6, 1, detach(1, "n1"), codes.OK)
+}
+
+// At a node no row is lost or made by that where something is staged, also of a node that is full; one that joined has heard of no call.
+func TestBeginAtNode(t *testing.T) {
+	kept := newMemory()
+	core := opened(t, joined, kept)
+	begins(t, core, numbers.Opening{Session: 5, Token: "a", IsNew: true, Heard: number(5, 0)}, "")
+	staging := func(volume uint64) serving.Request {
+		return serving.Request{Node: "n1", Body: frames.NodeStageVolume{ID: volume, Capability: block}}
+	}
+	wants(t, core, 5, 1, staging(1), codes.OK)
+	wants(t, core, 5, 2, serving.Request{Node: "n1", Body: frames.NodePublishVolume{ID: 1, Target: "/", Capability: block}}, codes.OK)
+	for volume := uint64(2); volume <= 4096; volume++ {
+		wants(t, core, 5, 1+volume, staging(volume), codes.OK)
+	}
+	rows := len(kept.parts)
+	begins(t, core, numbers.Opening{Session: 6, Token: "b", Sent: number(5, 4097), Heard: number(5, 4097)}, "")
+	if len(kept.parts) != rows {
+		t.Errorf("%d parts, and then %d", rows, len(kept.parts))
+	}
+	wants(t, core, 5, 4098, stage, codes.Aborted)
+	wants(t, core, 6, 1, serving.Request{Node: "n1", Body: frames.NodeUnpublishVolume{ID: 1, Target: "/"}}, codes.OK)
+	empty := opened(t, node, newMemory())
+	begins(t, empty, numbers.Opening{Session: 1, Token: "a"}, "")
+	begins(t, empty, numbers.Opening{Session: 2, Token: "a", Sent: number(1, 0), Heard: number(1, 0)}, "")
+	wants(t, empty, 2, 1, stage, codes.OK)
+}
+
+// Another call of a number that was used is refused, and a repeat of the same gets its reply.
+func TestOtherCall(t *testing.T) {
+	core := opened(t, controller, newMemory())
+	wants(t, core, 1, 1, create("v"), codes.OK)
+	wants(t, core, 1, 2, attach(1, "n1"), codes.OK)
+	wants(t, core, 1, 2, attach(1, "n2"), codes.FailedPrecondition)
+	wants(t, core, 1, 2, attach(1, "n1"), codes.OK)
+	wants(t, core, 1, 3, detach(1, "n1"), codes.OK)
+	wants(t, core, 1, 3, detach(1, "n2"), codes.FailedPrecondition)
 }

@@ -134,7 +134,11 @@ func deedsOf(read *settings.PluginSettings) life.Deeds {
 		deeds.Commands[settings.Deeds[read.Role][deed]] = command
 	}
 	if its.Store == "" { // in etcd
-		deeds.Locks = filepath.Join(filepath.Dir(read.File), "hooks")
+		folder := os.Getenv("RUNTIME_DIRECTORY") // a unit's of systemd, where the file's can't be written
+		if folder == "" {
+			folder = filepath.Dir(read.File)
+		}
+		deeds.Locks = filepath.Join(folder, "hooks")
 	}
 	return deeds
 }

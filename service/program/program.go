@@ -36,7 +36,8 @@ func StatusOf(err error) int {
 	case errors.Is(err, ErrUsage):
 		return 2
 	case errors.As(err, &faults), errors.Is(err, plugin.BadName), errors.Is(err, plugin.BadRecord), errors.Is(err, plugin.NodeInUse),
-		errors.Is(err, plugin.EarlierSession), errors.Is(err, numbers.ErrSpent), errors.Is(err, store.ErrNotes):
+		errors.Is(err, plugin.EarlierSession), errors.Is(err, numbers.ErrSpent), errors.Is(err, store.ErrNotes), errors.Is(err, store.ErrOlder),
+		errors.Is(err, store.ErrBeside):
 		return 1
 	}
 	return 3

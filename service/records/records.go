@@ -41,10 +41,11 @@ type Volume struct {
 	Live         bool
 	Capacity     uint64
 	Capabilities []frames.Capability
-	Nodes        []string // where it is attached
+	Nodes        []string      // where it is attached
+	Last         frames.Number // of the volume's last call that passed the fence
 }
 
-// ReadVolume reads the value of a controller's row, as far as its nodes.
+// ReadVolume reads the value of a controller's row, as far as the number of its kept call.
 func ReadVolume(value []byte) (Volume, error) {
 	if value == nil {
 		return Volume{}, nil
@@ -60,6 +61,7 @@ func ReadVolume(value []byte) (Volume, error) {
 		from.capability()
 		from.flag() // readonly
 	}
+	volume.Last = frames.Number{Session: from.number(), Call: from.number()}
 	return volume, from.err
 }
 

@@ -3,6 +3,7 @@ package records
 import (
 	"encoding/hex"
 	"errors"
+	"fmt"
 	"reflect"
 	"strings"
 	"testing"
@@ -31,12 +32,16 @@ func TestValues(t *testing.T) {
 		t.Errorf("a controller's head: %d, %v", next, err)
 	}
 	volume, err := ReadVolume(bytesOf(t, "03 01 0176 000000000000000a 01 00 01 00 0000000000000001 0000000000000001 81 00 0000000000000001 00"))
-	if err != nil || !reflect.DeepEqual(volume, Volume{"v", true, 10, []frames.Capability{block}, nil}) {
+	if err != nil || !reflect.DeepEqual(volume, Volume{"v", true, 10, []frames.Capability{block}, nil, frames.Number{Session: 1, Call: 1}}) {
 		t.Errorf("a controller's row: %+v, %v", volume, err)
 	}
 	session, err = OrchestratorSession(bytesOf(t, "03 02 0000000000000003 02 026e31 026e32"))
 	if session != 3 || err != nil {
 		t.Errorf("an orchestrator's head: %d, %v", session, err)
+	}
+	nodes, err := OrchestratorNodes(bytesOf(t, "03 02 0000000000000003 02 026e31 026e32"))
+	if err != nil || !reflect.DeepEqual(nodes, []string{"n1", "n2"}) {
+		t.Errorf("its nodes: %v, %v", nodes, err)
 	}
 	made := Wanted{Name: "v", Required: 10, Capabilities: []frames.Capability{block}}
 	use, stop, remove, create := made, made, made, made
@@ -70,5 +75,30 @@ func TestNoValues(t *testing.T) {
 	}
 	if _, err := OrchestratorSession(bytesOf(t, "03 00 0000000000000002 0000000000000001")); !errors.Is(err, ErrValue) {
 		t.Errorf("a controller's head as an orchestrator's: %v", err)
+	}
+}
+
+// The greatest number of a call, of a controller's rows and of a node's. A call 0 is none.
+func TestHeard(t *testing.T) {
+	const row = "03 01 0176 000000000000000a 01 00 01 00 %d00000000000000%d 000000000000000%d 81 00 0000000000000001 00"
+	rows := map[uint64][]byte{HeadKey: bytesOf(t, "03 00 0000000000000002 0000000000000003")}
+	for key, it := range map[uint64][2]int{1: {1, 9}, 2: {2, 4}, 3: {2, 3}, 4: {3, 0}} {
+		rows[key] = bytesOf(t, fmt.Sprintf(row, 0, it[0], it[1]))
+	}
+	if heard, err := Heard(rows); err != nil || heard != (frames.Number{Session: 2, Call: 4}) {
+		t.Errorf("a controller has heard %v, %v", heard, err)
+	}
+	of := map[uint64][]byte{
+		HeadKey: bytesOf(t, "03 01 026e31 0000000000000002"),
+		1:       bytesOf(t, "03 01 00 05 01 022f74 00 0000000000000002 0000000000000007 87 00 0000000000000000 00"),
+	}
+	if heard, err := Heard(of); err != nil || heard != (frames.Number{Session: 2, Call: 7}) {
+		t.Errorf("a node has heard %v, %v", heard, err)
+	}
+	if id, isNode := NodeOf(of[HeadKey]); id != "n1" || !isNode {
+		t.Errorf("it is node %q, %v", id, isNode)
+	}
+	if _, isNode := NodeOf(rows[HeadKey]); isNode {
+		t.Error("a controller is a node")
 	}
 }

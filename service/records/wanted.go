@@ -59,3 +59,16 @@ func OrchestratorSession(head []byte) (uint64, error) {
 	session := from.number()
 	return session, from.err
 }
+
+// OrchestratorNodes are the nodes that an orchestrator's head lists.
+func OrchestratorNodes(head []byte) ([]string, error) {
+	if _, err := OrchestratorSession(head); err != nil {
+		return nil, err
+	}
+	from := &fields{rest: head[10:]} // behind the version, the kind and the session
+	var nodes []string
+	for count := from.byte(); count > 0 && from.err == nil; count-- {
+		nodes = append(nodes, from.text())
+	}
+	return nodes, from.err
+}

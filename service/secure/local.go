@@ -5,6 +5,7 @@ import (
 	"errors"
 	"fmt"
 	"net"
+	"syscall"
 
 	"golang.org/x/sys/unix"
 	"google.golang.org/grpc/credentials"
@@ -47,8 +48,8 @@ func (local Local) ClientHandshake(_ context.Context, _ string, raw net.Conn) (n
 
 // userOf asks the kernel.
 func userOf(raw net.Conn) (User, error) {
-	connection, ok := raw.(*net.UnixConn)
-	if !ok {
+	connection, ok := raw.(syscall.Conn)
+	if !ok || raw.LocalAddr().Network() != "unix" {
 		return User{}, fmt.Errorf("%w: no Unix socket", ErrUser)
 	}
 	through, err := connection.SyscallConn()

@@ -224,17 +224,21 @@ func (core *Core) loadTexts(ctx context.Context, parts []store.Part) ([]store.Te
 	return changes, nil
 }
 
-// commit makes changes of both, with those of the record in place of all that it was where anew is set.
-func (core *Core) commit(ctx context.Context, anew bool, changes []store.Change, texts []store.Text) error {
-	keeper, is := core.config.Store.(store.Keeper)
-	if len(texts) == 0 || !is {
-		return core.config.Store.Commit(ctx, anew, changes)
+// commit commits what a group changed. Who keeps texts has no sides: no orchestrator begins sessions there.
+func (core *Core) commit(ctx context.Context, group *group) error {
+	if keeper, is := core.config.Store.(store.Keeper); is && len(group.texts) > 0 {
+		return keeper.CommitBoth(ctx, group.list(), group.texts)
 	}
-	if anew {
-		if err := keeper.Commit(ctx, anew, changes); err != nil {
+	return store.CommitWith(ctx, core.config.Store, group.sides, group.list())
+}
+
+// commitLoaded commits what making the plugin changed, in place of all that the record was where it was renewed.
+func (core *Core) commitLoaded(ctx context.Context, renewed bool, changes []store.Change, texts []store.Text) error {
+	if renewed || len(texts) == 0 {
+		if err := core.config.Store.Commit(ctx, renewed, changes); err != nil || len(texts) == 0 {
 			return err
 		}
 		changes = nil
 	}
-	return keeper.CommitBoth(ctx, changes, texts)
+	return core.config.Store.(store.Keeper).CommitBoth(ctx, changes, texts)
 }

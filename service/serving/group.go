@@ -2,6 +2,7 @@ package serving
 
 import (
 	"context"
+	"crypto/sha256"
 	"errors"
 	"fmt"
 	"runtime"
@@ -39,6 +40,7 @@ type group struct {
 	textAt  map[string]int
 	notes   []store.Note // committed before the changes
 	taken   []uint64     // volumes that aren't staged any more, once the changes are committed
+	sides   []store.Side
 	confirm bool
 }
 
@@ -150,8 +152,8 @@ func (core *Core) settle(group *group) {
 			core.err = err
 		}
 	}
-	if core.err == nil && (group.confirm || len(group.order)+len(group.texts) > 0) {
-		if err := core.commit(ctx, false, group.list(), group.texts); err != nil {
+	if core.err == nil && (group.confirm || len(group.order)+len(group.texts)+len(group.sides) > 0) {
+		if err := core.commit(ctx, group); err != nil {
 			core.err = err
 		}
 	}
@@ -216,13 +218,16 @@ func (core *Core) load(ctx context.Context) error {
 		return err
 	}
 	if len(changes)+len(texts) > 0 {
-		if err := core.commit(ctx, renewed, changes, texts); err != nil {
+		if err := core.commitLoaded(ctx, renewed, changes, texts); err != nil {
 			return err
 		}
 		if renewed {
 			core.parts = make(map[uint64][]byte, len(changes))
 		}
 		core.apply(changes)
+	}
+	if err := core.loadBegun(ctx); err != nil {
+		return err
 	}
 	return core.loadPaths(ctx)
 }
@@ -261,6 +266,7 @@ func (core *Core) apply(changes []store.Change) {
 	for _, change := range changes {
 		if change.Out {
 			delete(core.parts, change.Key)
+			delete(core.last, change.Key)
 		} else {
 			core.parts[change.Key] = change.Value
 		}
@@ -285,6 +291,9 @@ func (core *Core) known(number frames.Number, volume uint64) Known {
 func (core *Core) number(ctx context.Context, request Request, judged bool) (frames.Number, error) {
 	known := core.known(frames.Number{}, request.Body.Volume())
 	number, err := core.source.Number(ctx, numbers.Of{Kind: request.Body.Kind(), HasRow: known.Row != nil, Latest: known.Session})
+	if core.begun.Session > 0 && number.Session > core.begun.Session && err == nil {
+		err = errNotBegun
+	}
 	if err != nil || !judged || request.Judge == nil {
 		return number, err
 	}
@@ -315,7 +324,8 @@ func (core *Core) ask(group *group, request Request, number frames.Number) (aske
 	if reply.Volume != 0 {
 		volume = reply.Volume
 	}
-	result := asked{known: core.known(number, volume), isFresh: touches(changes, volume), isAnothers: reply.Kind != request.Body.Kind()}
+	result := asked{known: core.known(number, volume), isFresh: touches(changes, volume)}
+	result.isAnothers = reply.Kind != request.Body.Kind() || !core.isLast(volume, number, request, result.isFresh)
 	result.isOK = reply.Status == 0 && !result.isAnothers
 	group.add(changes)
 	core.apply(changes)
@@ -339,6 +349,25 @@ func (core *Core) note(group *group, request Request, asked asked) {
 	case frames.NodeUnstageVolumeKind:
 		group.taken = append(group.taken, volume)
 	}
+}
+
+// A last is the call of a volume that the fence let through last.
+type last struct {
+	number frames.Number
+	asked  [sha256.Size]byte // a digest of what it asked
+}
+
+// isLast says whether a call of a number that the volume's last call has asks the same as that one, as far as this process knows it. One that the fence
+// let through is the last one.
+func (core *Core) isLast(volume uint64, number frames.Number, request Request, isFresh bool) bool {
+	frame, _ := frames.Call{Number: number, Node: request.Node, Body: request.Body}.Encode() // the plugin has answered it
+	this := last{number, sha256.Sum256(frame)}
+	if isFresh {
+		core.last[volume] = this
+		return true
+	}
+	its, isKnown := core.last[volume]
+	return !isKnown || its.number != number || its == this
 }
 
 // answerOf asks a plugin. Where it is refused memory, or the request makes no frame, the call is refused; any other failure ends the core.

@@ -101,6 +101,8 @@ var (
 	errEnded  = status.Error(codes.Unavailable, "serving ended")
 	errMemory = status.Error(codes.ResourceExhausted, "memory")
 	errCalls  = status.Error(codes.ResourceExhausted, "calls")
+	// errNotBegun is what a call of a session gets that wasn't begun here, where one was.
+	errNotBegun = status.Error(codes.FailedPrecondition, "session not begun")
 )
 
 // A Core is a plugin over its store. It has one goroutine, bound to its thread, which makes all calls of the plugin.
@@ -129,6 +131,8 @@ type Core struct {
 	notes  Notes
 	paths  *staging.Paths
 	texts  *identities.Table // nil where there are none
+	begun  begun
+	last   map[uint64]last // by the volumes' ids
 }
 
 // Open makes the plugin of what the store has, commits what that changes, and begins to serve.
@@ -138,7 +142,7 @@ func Open(ctx context.Context, config Config) (*Core, error) {
 	}
 	core := &Core{
 		config: config, jobs: make(chan *job), stop: make(chan struct{}), done: make(chan struct{}), idle: make(chan struct{}),
-		turns: turns{queues: map[key][]chan struct{}{}}, acts: acts{running: map[key]*act{}, last: map[uint64]*act{}},
+		turns: turns{queues: map[key][]chan struct{}{}}, acts: acts{running: map[key]*act{}, last: map[uint64]*act{}}, last: map[uint64]last{},
 	}
 	core.acting, core.endActs = context.WithCancel(context.Background())
 	opened := make(chan error)

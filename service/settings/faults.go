@@ -172,6 +172,9 @@ func (process *Process) check(to *checking) {
 	if process.Calls.Node < 1 {
 		to.refuse("calls.node", "%d isn't above 0", process.Calls.Node)
 	}
+	if process.Calls.Caller < 1 {
+		to.refuse("calls.caller", "%d isn't above 0", process.Calls.Caller)
+	}
 	for name, role := range process.Clients {
 		if _, isOne := api.ParseRole(role); !isOne || name == "" {
 			to.refuse("clients."+name, "%q is no role: read, operate or lose", role)

@@ -71,10 +71,11 @@ type Etcd struct {
 	Lease       int      `json:"lease"` // seconds
 }
 
-// Calls are how many are made at once.
+// Calls are how many are made at once, of plugins.
 type Calls struct {
 	Controller int `json:"controller"`
-	Node       int `json:"node"` // at each
+	Node       int `json:"node"`   // at each
+	Caller     int `json:"caller"` // that each caller may make of the service, in a second
 }
 
 // Settings are both files of the orchestrator's service.
@@ -107,7 +108,7 @@ func (faults Faults) Error() string { return strings.Join(faults, "\n") }
 
 // Read reads both files of the orchestrator's service. What is wrong with them in themselves is told, each fault with its place: Faults.
 func Read(file string) (*Settings, error) {
-	settings := &Settings{File: file, Set: usualSet(), Process: Process{Calls: Calls{Controller: 64, Node: 32}}}
+	settings := &Settings{File: file, Set: usualSet(), Process: Process{Calls: Calls{Controller: 64, Node: 32, Caller: 1000}}}
 	if err := readBoth(file, &settings.Process, &settings.Process.Place, &settings.Set); err != nil {
 		return nil, err
 	}

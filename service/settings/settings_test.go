@@ -78,8 +78,8 @@ func TestFaults(t *testing.T) {
 		{strings.Replace(set, `unix:///run/n2.sock`, `n2`, 1), process, []string{"set.json: nodes[1].address: \"n2\" is neither"}},
 		{strings.Replace(set, `unix:///run/n2.sock`, `n2:7102`, 1), process, []string{"set.json: nodes[1].address: over TCP"}},
 		{strings.Replace(set, `"slots": 4`, `"slots": 5000`, 1), process, []string{"set.json: nodes[1].slots: 5000 are more than 4096"}},
-		{set, `{"set": "set.json", "store": "o.db", "listen": ":7", "key": "k", "users": {"ann": "read", "7": "king"}, "clients": {"bob": ""}, "calls": {"node": 0}}`,
-			[]string{"certificate: certificate, key", "users.ann: it is no", `users.7: "king" is no role`, `clients.bob: "" is no role`, "calls.node: 0"}},
+		{set, `{"set": "set.json", "store": "o.db", "listen": ":7", "key": "k", "users": {"ann": "read", "7": "king"}, "clients": {"bob": ""}, "calls": {"node": 0, "caller": 0}}`,
+			[]string{"certificate: certificate, key", "users.ann: it is no", `users.7: "king" is no role`, `clients.bob: "" is no role`, "calls.node: 0", "calls.caller: 0"}},
 		{strings.Replace(set, `"controller": "unix:///run/c.sock"`, `"controllers": ["unix:///run/c.sock", "c:1", "unix:///run/c.sock", "unix:///run/n2.sock"]`, 1), process, []string{
 			"set.json: controllers[1]: they are all at Unix sockets, or none", `set.json: controllers[2]: "unix:///run/c.sock" is that of controllers[0] too`,
 			`set.json: nodes[1].address: "unix:///run/n2.sock" is that of controllers[3] too`, "set.json: controllers[1]: over TCP",

@@ -28,6 +28,7 @@ type sqlite struct {
 	db        *sql.DB
 	put, take *sql.Stmt
 	lost      chan struct{}
+	beside    beside
 }
 
 // OpenSQLite opens the file of a store, and makes it where it is missing. It holds the file's lock until it is closed.
@@ -51,7 +52,7 @@ func openSQLite(ctx context.Context, path string, has table) (*sqlite, error) {
 		return nil, fmt.Errorf("%w: %v", ErrNotOpened, err)
 	}
 	db.SetMaxOpenConns(1) // one connection, which has the lock
-	store := &sqlite{db: db, lost: make(chan struct{})}
+	store := &sqlite{db: db, lost: make(chan struct{}), beside: beside{path: path + ".beside"}}
 	if err = prepare(ctx, db, has); err == nil {
 		store.put, err = db.PrepareContext(ctx, putPart)
 	}
@@ -177,7 +178,13 @@ func (store *sqlite) Lost() <-chan struct{} { return store.lost }
 
 // Close puts the log back into the file, which alone is the store then.
 func (store *sqlite) Close() error {
-	if err := closeFile(store.db); err != nil {
+	err := closeFile(store.db)
+	if store.beside.db != nil {
+		if closed := closeFile(store.beside.db); err == nil {
+			err = closed
+		}
+	}
+	if err != nil {
 		return fmt.Errorf("%w: the last checkpoint: %v", ErrDevice, err)
 	}
 	return nil

@@ -42,7 +42,8 @@ var (
 	ErrUnknown   = errors.New("a commit's outcome isn't known")
 	ErrTooSmall  = errors.New("etcd takes no commit that is large enough")
 	ErrNotes     = errors.New("the notes of staging paths")
-	ErrMemory    = errors.New("memory") // an allocation of a plugin was refused
+	ErrOlder     = errors.New("older store") // an orchestrator's, as a plugin told
+	ErrMemory    = errors.New("memory")      // an allocation of a plugin was refused
 )
 
 // Record gives the bytes of the whole record that has these parts, by rising key: none where there are no parts.

@@ -7,7 +7,7 @@ service_tree() {
     mkdir -p "$tree/wire" "$tree/api/wire"
     cp -R "$top/service/." "$tree"
     (cd "$tree" && protoc "--go_out=$as_go,Mgoogle/protobuf/wrappers.proto=github.com/golang/protobuf/ptypes/wrappers:wire" csi.proto)
-    (cd "$tree/api" && protoc "--go_out=$as_go:wire" orchestrator.proto)
+    (cd "$tree/api" && protoc "--go_out=$as_go:wire" orchestrator.proto plugin.proto)
     export GO111MODULE=off GOPATH="$1:/usr/share/gocode" GOFLAGS="-p=2 -trimpath" GOCACHE="${CSI_GOCACHE:-$1/cache}"
     export CGO_CFLAGS="-O2 -I$top/include" CGO_LDFLAGS="$2 $(dirname "$(rt doc)")/c/liblibc_c.a"
 }

@@ -34,7 +34,7 @@ func statusOf(err error) int {
 	case errors.Is(err, errUsage):
 		return 2
 	case errors.Is(err, plugin.BadName), errors.Is(err, plugin.BadRecord), errors.Is(err, plugin.EarlierSession),
-		errors.Is(err, numbers.ErrSpent), errors.Is(err, store.ErrNotes):
+		errors.Is(err, numbers.ErrSpent), errors.Is(err, store.ErrNotes), errors.Is(err, store.ErrBeside):
 		return 1
 	}
 	return 3

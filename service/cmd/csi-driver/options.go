@@ -209,7 +209,7 @@ func (options *options) driver() (life.Driver, error) {
 		it.Notes = options.database + ".driver"
 	}
 	if options.byArrival {
-		it.Numbering = life.ByArrival
+		it.Numbering, it.IsByArrival = life.ByArrival, true
 	}
 	if options.upstream.Address != "" {
 		var err error

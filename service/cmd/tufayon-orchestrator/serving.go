@@ -61,7 +61,7 @@ func serve(ctx context.Context, read *settings.Settings, log *zap.Logger) error 
 		return err
 	}
 	defer closeFinder()
-	running.server, running.grpc = api.New(running.carrier, leader, running.roles, running.credentials(), log)
+	running.server, running.grpc = api.New(running.carrier, leader, running.roles, running.credentials(), log, api.Rate(read.Process.Calls.Caller)...)
 	defer running.grpc.Stop()
 	served := make(chan error, 1)
 	go func() { served <- running.grpc.Serve(listener) }()

@@ -8,6 +8,7 @@ import (
 	"time"
 
 	"tufayon/service/frames"
+	"tufayon/service/numbers"
 	"tufayon/service/store"
 )
 
@@ -15,6 +16,7 @@ import (
 type Store struct {
 	mutex   sync.Mutex
 	parts   map[uint64][]byte
+	sides   map[string][]byte
 	commits int
 	fault   error
 	lost    chan struct{}
@@ -23,7 +25,49 @@ type Store struct {
 }
 
 // NewStore makes an empty one.
-func NewStore() *Store { return &Store{parts: map[uint64][]byte{}, lost: make(chan struct{})} }
+func NewStore() *Store {
+	return &Store{parts: map[uint64][]byte{}, sides: map[string][]byte{}, lost: make(chan struct{})}
+}
+
+// Copy gives a store that has what this one has now.
+func (kept *Store) Copy() *Store {
+	kept.mutex.Lock()
+	defer kept.mutex.Unlock()
+	made := NewStore()
+	for key, value := range kept.parts {
+		made.parts[key] = value
+	}
+	for name, value := range kept.sides {
+		made.sides[name] = value
+	}
+	return made
+}
+
+// Sides gives all sides.
+func (kept *Store) Sides(context.Context) (map[string][]byte, error) { return kept.Copy().sides, nil }
+
+// Side gives a side, nothing where there is none.
+func (kept *Store) Side(name string) string { return string(kept.Copy().sides[name]) }
+
+// ForgetSides takes out all sides.
+func (kept *Store) ForgetSides() {
+	kept.mutex.Lock()
+	defer kept.mutex.Unlock()
+	kept.sides = map[string][]byte{}
+}
+
+// CommitWith makes the changes, and puts the sides, unless the store fails.
+func (kept *Store) CommitWith(ctx context.Context, sides []store.Side, changes []store.Change) error {
+	if err := kept.Commit(ctx, false, changes); err != nil {
+		return err
+	}
+	kept.mutex.Lock()
+	defer kept.mutex.Unlock()
+	for _, side := range sides {
+		kept.sides[side.Name] = side.Value
+	}
+	return nil
+}
 
 // Load gives all parts, by rising key.
 func (kept *Store) Load(context.Context) ([]store.Part, error) {
@@ -88,6 +132,8 @@ func (kept *Store) Commits() int {
 // A Carrier answers calls itself. It gives each volume an id, and says OK, unless Answer, if there is one, does otherwise: it says whether it answers.
 type Carrier struct {
 	Answer func(ctx context.Context, call frames.Call, until time.Time) (reply frames.Reply, err error, answers bool)
+	// Opens says how a plugin begins a session; without it each does.
+	Opens func(ctx context.Context, plugin string, opening numbers.Opening) error
 
 	mutex sync.Mutex
 	calls []frames.Call
@@ -105,6 +151,14 @@ func (carrier *Carrier) Carry(ctx context.Context, call frames.Call, until time.
 		}
 	}
 	return carrier.OK(call), nil
+}
+
+// Begin has a plugin begin a session.
+func (carrier *Carrier) Begin(ctx context.Context, plugin string, opening numbers.Opening) error {
+	if carrier.Opens == nil {
+		return nil
+	}
+	return carrier.Opens(ctx, plugin, opening)
 }
 
 // OK is the reply that says that a call was carried out.

@@ -1,0 +1,347 @@
+package host_test
+
+import (
+	"context"
+	"errors"
+	"fmt"
+	"strings"
+	"sync"
+	"testing"
+	"time"
+
+	"go.uber.org/zap"
+	"google.golang.org/grpc/metadata"
+	"google.golang.org/grpc/status"
+
+	"tufayon/service/carrying"
+	"tufayon/service/frames"
+	"tufayon/service/host"
+	"tufayon/service/host/hosttest"
+	"tufayon/service/numbers"
+	"tufayon/service/plugin"
+	"tufayon/service/records"
+	"tufayon/service/serving"
+	"tufayon/service/store"
+)
+
+// A place is a plugin of the library over its store.
+type place struct {
+	kept *hosttest.Store
+	core *serving.Core
+}
+
+// A shard is a controller and nodes, which hear calls in the same process.
+type shard struct {
+	t      *testing.T
+	mutex  sync.Mutex
+	places map[string]*place // by the plugins' names
+	gone   map[string]bool   // those that nobody reaches
+	isOld  bool              // they begin no sessions
+	calls  []frames.Call     // that came
+}
+
+const shardConfig = `{"greatest":1000,"nodes":[{"id":"n1","slots":9},{"id":"n2","slots":9}]}`
+
+func newShard(t *testing.T) *shard {
+	made := &shard{t: t, places: map[string]*place{}, gone: map[string]bool{}}
+	for _, name := range []string{carrying.Controller, carrying.NodeName("n1"), carrying.NodeName("n2")} {
+		made.put(name, hosttest.NewStore(), 0)
+	}
+	return made
+}
+
+// put has a plugin served over a store, in place of the one that was.
+func (shard *shard) put(name string, kept *hosttest.Store, session uint64) {
+	shard.t.Helper()
+	maker := plugin.Maker{Name: []byte(strings.TrimPrefix(name, carrying.NodeName(""))), Session: session}
+	if name == carrying.Controller {
+		maker = plugin.Maker{IsController: true, Name: []byte(shardConfig)}
+	}
+	shard.mutex.Lock()
+	defer shard.mutex.Unlock()
+	if before := shard.places[name]; before != nil {
+		before.core.Close()
+	}
+	core, err := serving.Open(ctx, serving.Config{
+		Store:     kept,
+		Numbering: func(uint64) (numbers.Source, error) { return numbers.Metadata{MostAbove: 1000}, nil },
+		Make: func(record []byte) (serving.Plugin, bool, error) {
+			made, renewed, err := maker.Make(record)
+			if err != nil {
+				return nil, false, err
+			}
+			return made, renewed, nil
+		},
+	})
+	if err != nil {
+		shard.t.Fatal(err)
+	}
+	shard.t.Cleanup(core.Close)
+	shard.places[name] = &place{kept, core}
+}
+
+var errGone = errors.New("it is gone")
+
+func (shard *shard) at(name string) (*serving.Core, error) {
+	shard.mutex.Lock()
+	defer shard.mutex.Unlock()
+	if shard.gone[name] {
+		return nil, errGone
+	}
+	return shard.places[name].core, nil
+}
+
+// Carry has a call answered.
+func (shard *shard) Carry(ctx context.Context, call frames.Call, _ time.Time) (frames.Reply, error) {
+	core, err := shard.at(carrying.PluginOf(call))
+	if err != nil {
+		return frames.Reply{}, err
+	}
+	shard.mutex.Lock()
+	shard.calls = append(shard.calls, call)
+	shard.mutex.Unlock()
+	answer, err := core.Carry(metadata.NewIncomingContext(ctx, metadata.Pairs(numbers.Key, numbers.Text(call.Number))), serving.Request{Node: call.Node, Body: call.Body})
+	return answer.Reply, err
+}
+
+// Begin has a session begun.
+func (shard *shard) Begin(ctx context.Context, name string, opening numbers.Opening) error {
+	core, err := shard.at(name)
+	if shard.isOld {
+		return carrying.ErrNone
+	}
+	if err == nil {
+		_, err = core.Begin(ctx, opening)
+	}
+	switch status.Convert(err).Message() {
+	case "later":
+		return carrying.ErrLater
+	case "earlier":
+		return carrying.ErrEarlier
+	}
+	return err
+}
+
+// count is how many calls came.
+func (shard *shard) count() int {
+	shard.mutex.Lock()
+	defer shard.mutex.Unlock()
+	return len(shard.calls)
+}
+
+// serveShard opens an orchestrator over a store.
+func serveShard(shard *shard, kept store.Store) *host.Host {
+	shard.t.Helper()
+	return open(shard.t, kept, shard, quick, "n1", "n2")
+}
+
+// ends waits until a host has ended, and gives why; or until it has used the volume w, which shows that it goes on: then it gives nothing.
+func ends(t *testing.T, made *host.Host) error {
+	t.Helper()
+	limited, cancel := context.WithTimeout(ctx, within)
+	defer cancel()
+	if _, err := made.Do(limited, create("w")); err != nil {
+		<-made.Done()
+		return made.Err()
+	}
+	return nil
+}
+
+// A service over an older copy of its store ends before it sends anything, if anything was sent and heard since; else it goes on.
+func TestOlderCopies(t *testing.T) {
+	life := []host.Command{create("v"), use("v", "n1", "/a"), stop("v", "n1", "/a"), use("v", "n2", "/b"), stop("v", "n2", "/b"), remove("v"), create("u")}
+	for at := 0; at <= len(life); at++ {
+		for _, restarts := range []int{0, 1, 2} {
+			t.Run(fmt.Sprint(at, " ", restarts), func(t *testing.T) {
+				shard, kept := newShard(t), hosttest.NewStore()
+				made := serveShard(shard, kept)
+				for _, command := range life[:at] {
+					does(t, made, command)
+				}
+				older := kept.Copy()
+				for _, command := range life[at:] {
+					does(t, made, command)
+				}
+				for count := 0; count < restarts; count++ {
+					made.Close()
+					made = serveShard(shard, kept)
+					does(t, made, use("u", "n1", "/c"))
+					does(t, made, stop("u", "n1", "/c"))
+				}
+				made.Close()
+				came := shard.count()
+				err := ends(t, serveShard(shard, older))
+				isOlder := at < len(life) || restarts > 0
+				if isOlder != errors.Is(err, store.ErrOlder) || isOlder && shard.count() != came {
+					t.Errorf("it ended by %v, and sent %d calls", err, shard.count()-came)
+				}
+			})
+		}
+	}
+}
+
+// Of two services over copies of one store at once, one at most goes on; and what it says is so.
+func TestCopiesAtOnce(t *testing.T) {
+	for seed := 0; seed < 10; seed++ {
+		shard, kept := newShard(t), hosttest.NewStore()
+		made := serveShard(shard, kept)
+		does(t, made, create("v"))
+		made.Close()
+		var group sync.WaitGroup
+		ended := make([]error, 2)
+		for at, its := range []*hosttest.Store{kept, kept.Copy()} {
+			group.Add(1)
+			go func(at int, its *hosttest.Store) {
+				defer group.Done()
+				made, err := host.Open(ctx, host.Options{Store: its, Nodes: []string{"n1", "n2"}, Carrier: shard, Times: quick, Log: zap.NewNop()})
+				if err != nil {
+					t.Error(err)
+					return
+				}
+				defer made.Close()
+				limited, cancel := context.WithTimeout(ctx, 300*time.Millisecond)
+				defer cancel()
+				node := fmt.Sprint("n", 1+at)
+				answer, err := made.Do(limited, use("v", node, "/a"))
+				if ended[at] = err; err == nil && !answer.Reached {
+					ended[at] = errors.New(answer.Volume.Trouble)
+				}
+			}(at, its)
+		}
+		group.Wait()
+		if ended[0] == nil && ended[1] == nil {
+			t.Error("both used it")
+		}
+		known, err := shard.places[carrying.Controller].core.Known(ctx, 1)
+		volume, _ := records.ReadVolume(known.Row)
+		if err != nil || len(volume.Nodes) > 1 {
+			t.Errorf("it is attached to %v, %v", volume.Nodes, err)
+		}
+	}
+}
+
+// A plugin over an older copy of its store isn't used, and that is told; the others go on. Over its own store it is used again.
+func TestPluginSetBack(t *testing.T) {
+	shard, kept := newShard(t), hosttest.NewStore()
+	made := serveShard(shard, kept)
+	n1 := carrying.NodeName("n1")
+	does(t, made, create("v"))
+	older := shard.places[n1].kept.Copy()
+	does(t, made, use("v", "n1", "/a"))
+	present := shard.places[n1].kept
+	made.Close()
+	shard.put(n1, older, 0)
+	made = serveShard(shard, kept)
+	soon(t, "it is told", func() bool { return strings.Contains(made.Trouble(n1), carrying.ErrEarlier.Error()) })
+	came := shard.count()
+	limited, cancel := context.WithTimeout(ctx, 100*time.Millisecond)
+	defer cancel()
+	if _, err := made.Do(limited, stop("v", "n1", "/a")); !errors.Is(err, context.DeadlineExceeded) {
+		t.Errorf("a stop there: %v", err)
+	}
+	if shard.count() != came {
+		t.Errorf("%d calls", shard.count()-came)
+	}
+	does(t, made, create("w"))
+	does(t, made, use("w", "n2", "/a"))
+	shard.put(n1, present, 0)
+	if _, err := made.AtRest(ctx, "v"); err != nil || made.Trouble(n1) != "" {
+		t.Errorf("with its store: %v, %s", err, made.Trouble(n1))
+	}
+	does(t, made, use("v", "n2", "/a"))
+}
+
+// A node that was lost isn't used when it comes back, and another one under its id is, which joins with the session of the loss.
+func TestLostComesBack(t *testing.T) {
+	shard, kept := newShard(t), hosttest.NewStore()
+	made := serveShard(shard, kept)
+	n1 := carrying.NodeName("n1")
+	does(t, made, create("v"))
+	does(t, made, use("v", "n1", "/a"))
+	session, err := made.Lose(ctx, "n1")
+	if err != nil {
+		t.Fatal(err)
+	}
+	for turn := 0; turn < 2; turn++ { // also after a restart
+		if _, err := made.Begin(ctx, []string{"n1", "n2"}, "it is listed again"); err != nil {
+			t.Fatal(err)
+		}
+		soon(t, "it is told", func() bool { return strings.Contains(made.Trouble(n1), carrying.ErrEarlier.Error()) })
+		made.Close()
+		made = serveShard(shard, kept)
+	}
+	shard.put(n1, hosttest.NewStore(), session)
+	does(t, made, stop("v", "n1", "/a"))
+	does(t, made, use("v", "n1", "/b"))
+	made.Close()
+	made = serveShard(shard, kept)
+	does(t, made, stop("v", "n1", "/b"))
+}
+
+// A copy of before a loss is found, also where nothing was sent since but the session's beginning.
+func TestCopyOfBeforeLoss(t *testing.T) {
+	shard, kept := newShard(t), hosttest.NewStore()
+	made := serveShard(shard, kept)
+	does(t, made, create("v"))
+	older := kept.Copy()
+	if _, err := made.Lose(ctx, "n1"); err != nil {
+		t.Fatal(err)
+	}
+	controller := shard.places[carrying.Controller].kept
+	soon(t, "the controller has begun the session", func() bool { return strings.Contains(controller.Side("begun"), `"session":2`) })
+	made.Close()
+	if err := ends(t, serveShard(shard, older)); !errors.Is(err, store.ErrOlder) {
+		t.Errorf("it ended by %v", err)
+	}
+}
+
+// A plugin that is gone when a session begins holds up nobody else; what a use wants of it is given up once its time is over, and else goes on later.
+func TestGoneAtBeginning(t *testing.T) {
+	shard, kept := newShard(t), hosttest.NewStore()
+	made := serveShard(shard, kept)
+	does(t, made, create("v"))
+	does(t, made, create("w"))
+	made.Close()
+	shard.mutex.Lock()
+	shard.gone[carrying.NodeName("n1")] = true
+	shard.mutex.Unlock()
+	times := quick
+	times.Patience = 50 * time.Millisecond
+	made = open(t, kept, shard, times, "n1", "n2")
+	command := use("v", "n1", "/a")
+	command.AtRest = false
+	does(t, made, command)
+	soon(t, "it is given up", func() bool {
+		volume, _ := made.Get("v")
+		return volume.Goal == records.ToStop && strings.Contains(volume.Trouble, "it hasn't begun session 2")
+	})
+	does(t, made, use("w", "n2", "/a"))
+	shard.mutex.Lock()
+	shard.gone = map[string]bool{}
+	shard.mutex.Unlock()
+	if answer, err := made.AtRest(ctx, "v"); err != nil || len(answer.Volume.At) != 0 {
+		t.Errorf("once it is there: %+v, %v", answer, err)
+	}
+}
+
+// A record of a time at which nothing was kept beside it is taken as it is, once, and plugins that begin no sessions are used as they were.
+func TestRecordOfBefore(t *testing.T) {
+	shard, kept := newShard(t), hosttest.NewStore()
+	shard.isOld = true
+	made := serveShard(shard, kept)
+	does(t, made, create("v"))
+	does(t, made, use("v", "n1", "/a"))
+	made.Close()
+	kept.ForgetSides()
+	shard.isOld = false
+	older := kept.Copy()
+	made = serveShard(shard, kept)
+	does(t, made, stop("v", "n1", "/a"))
+	made.Close()
+	made = serveShard(shard, kept)
+	does(t, made, remove("v"))
+	made.Close()
+	if err := ends(t, serveShard(shard, older)); !errors.Is(err, store.ErrOlder) {
+		t.Errorf("a copy of before: %v", err)
+	}
+}

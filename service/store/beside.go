@@ -1,0 +1,184 @@
+package store
+
+import (
+	"context"
+	"database/sql"
+	"errors"
+	"fmt"
+	"net/url"
+	"os"
+	"path/filepath"
+)
+
+// A Side is a small value that stands beside a record, under a name.
+type Side struct {
+	Name  string
+	Value []byte
+}
+
+// A Sided is a store that has sides too.
+type Sided interface {
+	Store
+	// Sides gives all of them, by their names, as they were at the record's last commit. It fails with ErrBeside where they aren't this record's.
+	Sides(ctx context.Context) (map[string][]byte, error)
+	// CommitWith puts sides, and makes changes as Commit does, not anew: all of it, or nothing.
+	CommitWith(ctx context.Context, sides []Side, changes []Change) error
+}
+
+// SidesOf gives a store's sides: none of one that has none.
+func SidesOf(ctx context.Context, kept Store) (map[string][]byte, error) {
+	if sided, is := kept.(Sided); is {
+		return sided.Sides(ctx)
+	}
+	return nil, nil
+}
+
+// CommitWith puts sides, where a store has them, and makes changes.
+func CommitWith(ctx context.Context, kept Store, sides []Side, changes []Change) error {
+	if sided, is := kept.(Sided); is && len(sides) > 0 {
+		return sided.CommitWith(ctx, sides, changes)
+	}
+	return kept.Commit(ctx, false, changes)
+}
+
+// ErrBeside says that the record, or what stands beside it, is an older copy.
+var ErrBeside = errors.New("what stands beside the store is of another time")
+
+const (
+	makeBeside = "CREATE TABLE IF NOT EXISTS beside (name TEXT NOT NULL, made INTEGER NOT NULL, value BLOB NOT NULL, PRIMARY KEY (name, made))"
+	listBeside = "SELECT count(*) FROM sqlite_master WHERE NOT " +
+		"(type = 'table' AND name = 'beside' OR type = 'index' AND tbl_name = 'beside' AND sql IS NULL)"
+	lastMade   = "SELECT coalesce(max(made), 0) FROM beside"
+	readBeside = "SELECT name, value FROM beside AS it WHERE made = (SELECT max(made) FROM beside WHERE name = it.name AND made <= ?)"
+	takeLater  = "DELETE FROM beside WHERE made > ?"
+	takeSide   = "DELETE FROM beside WHERE name = ?1 AND made < (SELECT max(made) FROM beside WHERE name = ?1)"
+	putSide    = "INSERT INTO beside (name, made, value) VALUES (?, ?, ?)"
+	counts     = 1 << 31 // user_version has as many values
+)
+
+// beside are the sides of a record in SQLite, whose file may have no other table: a file of their own, with the table beside. A commit that puts sides has
+// a number, which the record's file has as its user_version, modulo 2^31: it is made there after it was made here, where each side keeps the value before.
+// So what was here at the record's last commit is known, and a copy of one file alone is found.
+type beside struct {
+	path string
+	db   *sql.DB // nil while the file isn't there
+	made int64   // the record's last commit with sides
+}
+
+// open opens the file, if it is there or is to be made, and finds out which commit is the record's last one.
+func (beside *beside) open(ctx context.Context, record *sql.DB, makes bool) error {
+	var mark int64
+	if err := record.QueryRowContext(ctx, "PRAGMA user_version").Scan(&mark); err != nil {
+		return fmt.Errorf("%w: %v", ErrDevice, err)
+	}
+	if _, err := os.Stat(beside.path); errors.Is(err, os.ErrNotExist) && !makes {
+		if mark != 0 {
+			return fmt.Errorf("%w: %s isn't there", ErrBeside, beside.path)
+		}
+		return nil
+	}
+	absolute, err := filepath.Abs(beside.path)
+	if err != nil {
+		return fmt.Errorf("%w: %v", ErrNotOpened, err)
+	}
+	name := url.URL{Scheme: "file", Path: absolute, RawQuery: how}
+	db, err := sql.Open("sqlite3", name.String())
+	if err != nil {
+		return fmt.Errorf("%w: %v", ErrNotOpened, err)
+	}
+	db.SetMaxOpenConns(1)
+	if err = prepare(ctx, db, table{lists: listBeside, makes: makeBeside}); err == nil {
+		err = db.QueryRowContext(ctx, lastMade).Scan(&beside.made)
+	}
+	if err != nil {
+		db.Close()
+		return fmt.Errorf("%w: %s: %v", ErrNotOpened, beside.path, err)
+	}
+	if beside.made > 0 && beside.made%counts != mark {
+		beside.made-- // the last commit was made here alone
+	}
+	if beside.made%counts != mark {
+		db.Close()
+		return fmt.Errorf("%w: %s", ErrBeside, beside.path)
+	}
+	beside.db = db
+	return nil
+}
+
+func (beside *beside) load(ctx context.Context) (map[string][]byte, error) {
+	sides := map[string][]byte{}
+	if beside.db == nil {
+		return sides, nil
+	}
+	rows, err := beside.db.QueryContext(ctx, readBeside, beside.made)
+	if err != nil {
+		return nil, fmt.Errorf("%w: %v", ErrDevice, err)
+	}
+	defer rows.Close()
+	for rows.Next() {
+		var name string
+		var value []byte
+		if err := rows.Scan(&name, &value); err != nil {
+			return nil, fmt.Errorf("%w: %v", ErrDevice, err)
+		}
+		sides[name] = value
+	}
+	if err := rows.Err(); err != nil {
+		return nil, fmt.Errorf("%w: %v", ErrDevice, err)
+	}
+	return sides, nil
+}
+
+// put puts sides as those of the commit after the record's last one.
+func (beside *beside) put(ctx context.Context, sides []Side) error {
+	return transact(ctx, beside.db, func(tx *sql.Tx) error {
+		if _, err := tx.ExecContext(ctx, takeLater, beside.made); err != nil {
+			return err
+		}
+		for _, side := range sides {
+			if _, err := tx.ExecContext(ctx, takeSide, side.Name); err != nil {
+				return err
+			}
+			if _, err := tx.ExecContext(ctx, putSide, side.Name, beside.made+1, side.Value); err != nil {
+				return err
+			}
+		}
+		return nil
+	})
+}
+
+// Sides gives the sides of the record's last commit.
+func (store *sqlite) Sides(ctx context.Context) (map[string][]byte, error) {
+	if store.beside.db == nil {
+		if err := store.beside.open(ctx, store.db, false); err != nil {
+			return nil, err
+		}
+	}
+	return store.beside.load(ctx)
+}
+
+// CommitWith puts sides beside the record, and then changes it.
+func (store *sqlite) CommitWith(ctx context.Context, sides []Side, changes []Change) error {
+	if len(sides) == 0 {
+		return store.Commit(ctx, false, changes)
+	}
+	beside := &store.beside
+	if beside.db == nil {
+		if err := beside.open(ctx, store.db, true); err != nil {
+			return err
+		}
+	}
+	if err := beside.put(ctx, sides); err != nil {
+		return fmt.Errorf("%w: %v", ErrDevice, err)
+	}
+	mark := fmt.Sprintf("PRAGMA user_version = %d", (beside.made+1)%counts)
+	err := store.commit(ctx, false, changes, func(tx *sql.Tx) error {
+		_, err := tx.ExecContext(ctx, mark)
+		return err
+	})
+	if err != nil {
+		return err
+	}
+	beside.made++
+	return nil
+}

@@ -1,0 +1,114 @@
+package store
+
+import (
+	"context"
+	"errors"
+	"fmt"
+	"os"
+	"path/filepath"
+	"testing"
+)
+
+var (
+	some = []Change{{Key: 0, Value: []byte("h")}}
+	ctx  = context.Background()
+)
+
+// sided opens a store with sides.
+func sided(t *testing.T, path string) Sided {
+	t.Helper()
+	kept, err := OpenSQLite(ctx, path)
+	if err != nil {
+		t.Fatal(err)
+	}
+	return kept.(Sided)
+}
+
+// has wants that a store has these sides.
+func has(t *testing.T, kept Sided, want string) {
+	t.Helper()
+	sides, err := kept.Sides(ctx)
+	if got := fmt.Sprintf("%s", sides); err != nil || got != want {
+		t.Errorf("the sides are %s, %v, not %s", got, err, want)
+	}
+}
+
+func put(t *testing.T, kept Sided, sides ...string) {
+	t.Helper()
+	var all []Side
+	for at := 0; at < len(sides); at += 2 {
+		all = append(all, Side{Name: sides[at], Value: []byte(sides[at+1])})
+	}
+	if err := kept.CommitWith(ctx, all, some); err != nil {
+		t.Fatal(err)
+	}
+}
+
+// Sides are there from the commit on that puts them, also after the store was opened again; a store that never had one has no file of them.
+func TestSides(t *testing.T) {
+	path := filepath.Join(t.TempDir(), "s.db")
+	kept := sided(t, path)
+	has(t, kept, "map[]")
+	if err := kept.CommitWith(ctx, nil, some); err != nil {
+		t.Fatal(err)
+	}
+	if _, err := os.Stat(path + ".beside"); !errors.Is(err, os.ErrNotExist) {
+		t.Errorf("a file of sides: %v", err)
+	}
+	put(t, kept, "a", "1", "b", "1")
+	put(t, kept, "a", "2")
+	put(t, kept, "c", "")
+	has(t, kept, "map[a:2 b:1 c:]")
+	kept.Close()
+	kept = sided(t, path)
+	has(t, kept, "map[a:2 b:1 c:]")
+	put(t, kept, "b", "2")
+	if parts, err := kept.Load(ctx); err != nil || fmt.Sprint(parts) != "[{0 [104]}]" {
+		t.Errorf("the parts are %v, %v", parts, err)
+	}
+	kept.Close()
+}
+
+// Where a process ended between the two commits, the sides are those of the record; of files of another time it is said so.
+func TestOtherTimes(t *testing.T) {
+	folder := t.TempDir()
+	path := filepath.Join(folder, "s.db")
+	kept := sided(t, path)
+	copies := map[string][]byte{} // of each time, by its name and the file's end
+	end := func(time string) {
+		kept.Close()
+		for _, it := range []string{"", ".beside"} {
+			content, err := os.ReadFile(path + it)
+			if err != nil {
+				t.Fatal(err)
+			}
+			copies[time+it] = content
+		}
+		kept = sided(t, path)
+		has(t, kept, "map[a:"+time+"]")
+	}
+	for _, time := range []string{"1", "2", "3"} {
+		put(t, kept, "a", time)
+		end(time)
+	}
+	kept.Close()
+	for _, it := range []struct{ record, beside, want string }{
+		{"3", "3", "3"}, {"2", "3", "2"}, {"1", "1", "1"}, {"1", "2", "1"}, {"1", "3", ""}, {"3", "2", ""}, {"3", "1", ""}, {"3", "", ""},
+	} {
+		os.WriteFile(path, copies[it.record], 0o600)
+		os.Remove(path + ".beside")
+		if it.beside != "" {
+			os.WriteFile(path+".beside", copies[it.beside+".beside"], 0o600)
+		}
+		kept = sided(t, path)
+		sides, err := kept.Sides(ctx)
+		if it.want == "" && !errors.Is(err, ErrBeside) || it.want != "" && (err != nil || string(sides["a"]) != it.want) {
+			t.Errorf("record %s with %s: %s, %v", it.record, it.beside, sides, err)
+		}
+		if it.record == "2" {
+			put(t, kept, "a", "4")
+			has(t, kept, "map[a:4]")
+		}
+		kept.Close()
+	}
+}
