@@ -20,10 +20,12 @@ import (
 
 	"tufayon/service/carrying"
 	"tufayon/service/life"
+	"tufayon/service/numbers"
 	"tufayon/service/plugin"
 	"tufayon/service/secure"
 	"tufayon/service/settings"
 	"tufayon/service/store"
+	"tufayon/service/upstream"
 	"tufayon/service/version"
 )
 
@@ -92,7 +94,11 @@ func servePlugin(ctx context.Context, program string, read *settings.PluginSetti
 	defer signal.Stop(anew)
 	running := &serving{read: read, log: log}
 	running.users.Store(read.Plugin.Users)
-	running.life = life.New(running.driver(program))
+	it, err := running.driver(program)
+	if err != nil {
+		return err
+	}
+	running.life = life.New(it)
 	ctx, end := context.WithCancel(ctx)
 	ended := make(chan error, 1)
 	go func() { ended <- running.life.Run(ctx) }()
@@ -110,18 +116,29 @@ func servePlugin(ctx context.Context, program string, read *settings.PluginSetti
 }
 
 // driver is what the settings say.
-func (running *serving) driver(program string) life.Driver {
+func (running *serving) driver(program string) (life.Driver, error) {
 	read := &running.read.Plugin
+	hasUpstream := read.Upstream != ""
 	it := life.Driver{
 		Program: program, Name: read.Name, Maker: makerOf(running.read), Numbering: life.ByMetadata(read.SessionsAbove),
-		Open:  func(ctx context.Context) (store.Store, error) { return OpenStore(ctx, &read.Place, read.Listen) },
+		Open: func(ctx context.Context) (store.Store, error) {
+			return openStore(ctx, &read.Place, read.Listen, hasUpstream)
+		},
 		Waits: read.Etcd != nil, Hooks: deedsOf(running.read).Hooks(), MaxVolumes: read.MaxVolumes,
 		Doors: running.doors(), Say: func(line string) { running.log.Info(line) },
 	}
 	if running.read.Role == secure.Node {
 		it.Notes = read.Store + ".driver"
 	}
-	return it
+	if read.Numbers == settings.ByArrival {
+		it.Numbering, it.IsByArrival = life.ByArrival, true
+		running.log.Info(numbers.SmallerPromise)
+	}
+	var err error
+	if hasUpstream {
+		it.Upstream, err = upstream.New(upstream.Options{Address: read.Upstream, Adopt: read.Adopt, Lost: read.Lost, Node: read.Node})
+	}
+	return it, err
 }
 
 // deedsOf say what does what calls ask for. Whatever takes the place of commands and mounts is put in here.

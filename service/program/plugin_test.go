@@ -23,6 +23,7 @@ import (
 	"tufayon/service/numbers"
 	"tufayon/service/secure"
 	"tufayon/service/secure/securetest"
+	"tufayon/service/upstream/upstreamtest"
 	"tufayon/service/wire"
 )
 
@@ -210,6 +211,35 @@ func TestController(t *testing.T) {
 	}
 	if err := end(); err != nil {
 		t.Errorf("it ended by %v", err)
+	}
+}
+
+// A controller and a node before another driver, as their files say.
+func TestUpstream(t *testing.T) {
+	ctx, cancel := context.WithTimeout(context.Background(), 2*within)
+	defer cancel()
+	set := newSet(t)
+	set.nodes = []string{"n1 127.0.0.1:1"}
+	set.list()
+	upstreamtest.Start(t, set.path("u.sock")).Has("old", "old")
+	behind := fmt.Sprintf(`"upstream": "unix://%s", "numbers": "arrival"`, set.path("u.sock"))
+	set.start(secure.Controller, set.process("c.json", "tufayon://s1/controller",
+		fmt.Sprintf(`"store": "c.db", "listen": "unix://%s", "adopt": true, %s`, set.path("c.sock"), behind)))
+	set.start(secure.Node, set.process("n1.json", "tufayon://s1/node/n1",
+		fmt.Sprintf(`"store": "n1.db", "node": "n1", "listen": "unix://%s", %s`, set.path("n1.sock"), behind)))
+	controller, node := upstreamtest.Dial(t, set.path("c.sock")), upstreamtest.Dial(t, set.path("n1.sock"))
+	attach := &wire.ControllerPublishVolumeRequest{VolumeId: "old", NodeId: "a node of the platform's", VolumeCapability: how}
+	if _, _, err := upstreamtest.Call(ctx, controller, "/csi.v1.Controller/ControllerPublishVolume", attach, "1", grpc.WaitForReady(true)); err != nil {
+		t.Errorf("attached: %v", err)
+	}
+	attach.NodeId = "n2"
+	_, _, err := upstreamtest.Call(ctx, controller, "/csi.v1.Controller/ControllerPublishVolume", attach, "2")
+	if told := status.Convert(err); told.Code() != codes.FailedPrecondition || told.Message() != "a node of the platform's" {
+		t.Errorf("attached twice: %v", err)
+	}
+	stage := &wire.NodeStageVolumeRequest{VolumeId: "old", StagingTargetPath: "/s", VolumeCapability: how}
+	if _, _, err := upstreamtest.Call(ctx, node, "/csi.v1.Node/NodeStageVolume", stage, "3", grpc.WaitForReady(true)); err != nil {
+		t.Errorf("staged: %v", err)
 	}
 }
 

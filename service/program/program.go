@@ -88,12 +88,20 @@ func Logger() (*zap.Logger, error) {
 
 // OpenStore opens a process's store, and waits until the process leads where that is in etcd. There it says where it is.
 func OpenStore(ctx context.Context, place *settings.Place, says string) (store.Store, error) {
-	if place.Etcd == nil {
-		return store.OpenSQLite(ctx, place.Store)
+	return openStore(ctx, place, says, false)
+}
+
+// openStore does the same with a store that keeps texts, or with one that doesn't.
+func openStore(ctx context.Context, place *settings.Place, says string, texts bool) (store.Store, error) {
+	switch {
+	case place.Etcd != nil:
+		config := etcdOf(place.Etcd)
+		config.Says, config.Texts = says, texts
+		return config.Open(ctx)
+	case texts:
+		return store.OpenKeeper(ctx, place.Store)
 	}
-	config := etcdOf(place.Etcd)
-	config.Says = says
-	return config.Open(ctx)
+	return store.OpenSQLite(ctx, place.Store)
 }
 
 func etcdOf(its *settings.Etcd) etcd.Config {

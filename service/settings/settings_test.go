@@ -140,6 +140,10 @@ func TestReadPlugin(t *testing.T) {
 		read.CertificateName().String() != "tufayon://s1/node/n1" {
 		t.Errorf("%+v", read)
 	}
+	behind := strings.Replace(node, `"commands": {"stage": "/bin/stage"}`, `"upstream": "unix:///u", "numbers": "arrival"`, 1)
+	if read, err := settings.ReadPlugin(write(t, set, behind), secure.Node); err != nil || read.Plugin.Hooks != settings.NoHooks {
+		t.Errorf("before another driver: %+v, %v", read, err)
+	}
 	other := its
 	other.Users, other.Session, other.Key = []uint32{8}, 3, "k"
 	if keys := its.Others(&other); strings.Join(keys, " ") != "key session" {
@@ -158,6 +162,11 @@ func TestReadPlugin(t *testing.T) {
 		{secure.Node, strings.Replace(node, `"stage": "/bin/stage"`, `"attach": "bin"`, 1), []string{"commands.attach: a node has no such deed", `commands.attach: "bin" is no absolute path`}},
 		{secure.Node, strings.Replace(node, `"users": [7]`, `"listen": ":7102"`, 1), []string{"process.json: listen: over TCP there have to be"}},
 		{secure.Controller, node, []string{"commands.stage: a controller has no such deed", "node: node, session, hooks and max_volumes are a node's"}},
+		{secure.Node, strings.Replace(node, `"users": [7]`, `"upstream": "/u", "numbers": "some", "lost": ["n1"], "hooks": "mounts", "listen": "127.0.0.1:1"`, 1), []string{
+			`upstream: "/u" is no unix://PATH`, `listen: "127.0.0.1:1" is no Unix socket`, "upstream: with one there are no commands, mounts or max_volumes",
+			`numbers: "some" is neither metadata nor arrival`, "lost: it is for numbers by arrival", "adopt: adopt and lost are a controller's", "over TCP there have to be",
+		}},
+		{secure.Controller, `{"set": "set.json", "store": "c.db", "adopt": true}`, []string{"upstream: without one there is no numbers, adopt or lost"}},
 		{secure.Controller, `{"set": "set.json"}`, []string{"store: either this file is there, or etcd"}},
 	} {
 		_, err := settings.ReadPlugin(write(t, set, it.process), it.role)

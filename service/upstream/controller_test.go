@@ -5,6 +5,7 @@ import (
 	"fmt"
 	"reflect"
 	"strings"
+	"sync"
 	"testing"
 	"time"
 
@@ -414,4 +415,29 @@ func TestOthers(t *testing.T) {
 	} {
 		box.does(ctx, method, creates("anything"))
 	}
+}
+
+// Where the books are full of volumes of which the upstream never gave an id, these are given up, by arrival; those that it has stay.
+func TestUnmade(t *testing.T) {
+	box, ctx := newBox(t, upstream.Options{}).start(), soon(t)
+	id := box.made(ctx, "kept")
+	box.does(ctx, attachCall, attaches(id, "n1", writer))
+	box.behind.Fault = func(string) upstreamtest.Fault {
+		return upstreamtest.Fault{Refuse: status.Error(codes.ResourceExhausted, "the upstream's")}
+	}
+	var all sync.WaitGroup
+	for client := 0; client < 64; client++ {
+		all.Add(1)
+		go func(client int) {
+			defer all.Done()
+			for at := 0; at < 66; at++ {
+				_, _, err := upstreamtest.Call(ctx, box.client, createCall, creates(fmt.Sprint("v", client, " ", at)), "x")
+				box.wants(err, codes.ResourceExhausted, "the upstream's")
+			}
+		}(client)
+	}
+	all.Wait()
+	box.behind.Fault = nil
+	box.made(ctx, "one more")
+	box.refuses(ctx, codes.FailedPrecondition, "n1", attachCall, attaches(id, "n2", writer))
 }
