@@ -221,6 +221,15 @@ def together(client):
 GROUPS = (identity, creating, deleting, validating, attaching, capabilities, missing, life, unknown, together)
 
 
+def forget(box):
+    """Takes away what a group left."""
+    for path in (*glob.glob(box.at("*.db*")), box.at("staging")):
+        if os.path.isdir(path):
+            shutil.rmtree(path)
+        elif os.path.exists(path):
+            os.remove(path)
+
+
 def suite(numbers):
     def body(box):
         try:
@@ -235,11 +244,7 @@ def suite(numbers):
             group(client)
             wanted(f"{group.__name__}: their ends", [client.controller.stop(), client.node.stop()], [0, 0])
             calls += client.call
-            for path in (*glob.glob(box.at("*.db*")), box.at("staging")):
-                if os.path.isdir(path):
-                    shutil.rmtree(path)
-                elif os.path.exists(path):
-                    os.remove(path)
+            forget(box)
         return f"{len(GROUPS)} groups, {calls} calls, hooks {hooks}"
 
     return body
