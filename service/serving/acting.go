@@ -61,6 +61,7 @@ func (acts *acts) end(key key, it *act, succeeded bool) {
 	acts.mutex.Lock()
 	defer acts.mutex.Unlock()
 	delete(acts.running, key)
+	it.request = Request{} // what is private doesn't stay
 	if succeeded {
 		acts.last[it.volume] = it
 	}

@@ -44,6 +44,9 @@ func (view View) Next() uint64 {
 	return next
 }
 
+// Count is how many rows there are.
+func (view View) Count() int { return len(view.core.parts) - 1 }
+
 // Volumes gives the ids of all rows, in order.
 func (view View) Volumes() []uint64 {
 	volumes := make([]uint64, 0, len(view.core.parts))

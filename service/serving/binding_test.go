@@ -57,7 +57,7 @@ func openKeeping(t *testing.T, kept *keeping) *Core {
 
 // bound is a request about a volume of a text.
 func bound(text string, kinds ...frames.Kind) Request {
-	return Request{Node: "n1", Key: text, Bind: func(view View) (Bound, error) {
+	return Request{Node: "n1", Kind: kinds[0], Key: text, Bind: func(view View) (Bound, error) {
 		volume, there := view.Table().ID(text)
 		its := Bound{}
 		if !there {
@@ -108,7 +108,7 @@ func TestBind(t *testing.T) {
 		t.Errorf("undone: %v, %d times", err, deed.times())
 	}
 	// What isn't there passes to be undone, also where the plugin isn't asked, and a duplicate does; what is stale doesn't.
-	none := Request{Key: "c", Always: true, Bind: func(View) (Bound, error) { return Bound{}, nil }}.by(deed)
+	none := Request{Kind: frames.NodeUnstageVolumeKind, Key: "c", Always: true, Bind: func(View) (Bound, error) { return Bound{}, nil }}.by(deed)
 	for at, it := range []struct {
 		call    uint64
 		request Request
@@ -139,7 +139,7 @@ func TestSteps(t *testing.T) {
 		t.Errorf("without a number before: %v", err)
 	}
 	undo := both
-	undo.Always = true
+	undo.Kind, undo.Always = frames.NodeUnstageVolumeKind, true
 	if answer, err = core.Carry(numbered(2, 2), undo); err != nil || answer.Reply.Status != 0 || deed.times() != 2 {
 		t.Errorf("undone: %+v, %v, %d times", answer, err, deed.times())
 	}

@@ -55,9 +55,10 @@ type Request struct {
 	Body    frames.Body
 	Staging string // the staging path that it names, if it names one
 	Like    string // what else is asked: only compared, to see whether a repeat asks the same
-	// Bind says of which calls the request is made, in place of Body, each time before the plugin is asked: on its goroutine, without waiting. Key is then
-	// what one request at a time may be about.
+	// Bind says of which calls the request is made, in place of Body, each time before the plugin is asked: on its goroutine, without waiting. Kind is then
+	// which of CSI's calls it is, and Key what one request at a time may be about.
 	Bind func(View) (Bound, error)
+	Kind frames.Kind
 	Key  string
 	Also func() string // another one, once Key is taken: none where it is empty, or nil
 	// Judge refuses the call before the plugin is asked: then nothing was changed. It is run on the plugin's goroutine, and doesn't wait.
@@ -240,7 +241,7 @@ func (core *Core) Carry(ctx context.Context, request Request) (Answer, error) {
 		}
 		defer core.turns.leave(also)
 	}
-	if request.Act != nil && request.undoes() {
+	if request.Act != nil && undoes(request.kind()) {
 		return core.undo(ctx, request)
 	}
 	return core.do(ctx, key, request, joined)

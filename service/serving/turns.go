@@ -33,9 +33,12 @@ func (request Request) also() key {
 	return key{name: request.Also()}
 }
 
-// undoes says whether a request undoes what others did: one that is bound says so by Always.
-func (request Request) undoes() bool {
-	return request.Always || request.Bind == nil && undoes(request.Body.Kind())
+// kind is which of CSI's calls a request is.
+func (request Request) kind() frames.Kind {
+	if request.Bind != nil {
+		return request.Kind
+	}
+	return request.Body.Kind()
 }
 
 // undoes says whether calls of a kind undo what others did.

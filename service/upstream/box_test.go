@@ -39,7 +39,7 @@ const (
 
 // A box has an upstream, and a driver before it.
 type box struct {
-	*testing.T
+	testing.TB
 	folder   string
 	behind   *upstreamtest.Upstream
 	options  upstream.Options
@@ -53,9 +53,9 @@ type box struct {
 	count    int // of calls, each of which has a field of its own
 }
 
-func newBox(t *testing.T, options upstream.Options) *box {
+func newBox(t testing.TB, options upstream.Options) *box {
 	t.Helper()
-	box := &box{T: t, folder: t.TempDir(), options: options, config: `{"greatest":1099511627776,"nodes":[]}`, end: func() {}}
+	box := &box{TB: t, folder: t.TempDir(), options: options, config: `{"greatest":1099511627776,"nodes":[]}`, end: func() {}}
 	box.behind = upstreamtest.Start(t, filepath.Join(box.folder, "upstream.sock"))
 	box.options.Address = "unix://" + filepath.Join(box.folder, "upstream.sock")
 	t.Cleanup(func() { box.end() })
@@ -75,7 +75,11 @@ func (box *box) driver() (life.Driver, error) {
 	it := life.Driver{
 		Program: "csi-driver", Maker: plugin.Maker{IsController: true, Name: []byte(box.config)}, Numbering: life.ByArrival, Upstream: proxy,
 		Open: func(ctx context.Context) (store.Store, error) {
-			return store.OpenKeeper(ctx, filepath.Join(box.folder, "books.db"))
+			kept, err := store.OpenKeeper(ctx, filepath.Join(box.folder, "books.db"))
+			if err != nil {
+				return nil, err
+			}
+			return killed(kept), nil
 		},
 		Doors: []life.Door{{Address: socket, Listen: func() (net.Listener, error) { return driver.Listen(socket) }}},
 	}
@@ -108,7 +112,7 @@ func (box *box) start() *box {
 		stop()
 		box.Fatalf("it doesn't serve: %v", err)
 	}
-	box.client = upstreamtest.Dial(box.T, filepath.Join(box.folder, "d", "csi.sock"))
+	box.client = upstreamtest.Dial(box.TB, filepath.Join(box.folder, "d", "csi.sock"))
 	box.end = func() {
 		box.Helper()
 		stop()

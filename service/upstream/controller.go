@@ -29,7 +29,7 @@ func (proxy *Proxy) create(call call) (serving.Request, error) {
 		body.Required, body.Limit = uint64(bounds.GetRequiredBytes()), uint64(bounds.GetLimitBytes())
 	}
 	body.Capabilities = fit.capabilities(asked.GetVolumeCapabilities())
-	request := serving.Request{Key: keyOfName(body.Name)}
+	request := serving.Request{Kind: frames.CreateVolumeKind, Key: keyOfName(body.Name)}
 	request.Also = func() string { return proxy.madeKey(body.Name) }
 	request.Bind = func(view serving.View) (serving.Bound, error) {
 		bodies := []frames.Body{body}
@@ -81,14 +81,11 @@ func (proxy *Proxy) delete(call call) (serving.Request, error) {
 	fit, asked := fitting{}, wire.DeleteVolumeRequest{}
 	fit.read(call.raw, &asked)
 	id := fit.id(asked.GetVolumeId())
-	request := serving.Request{Key: keyOfID(id), Always: true}
+	request := serving.Request{Kind: frames.DeleteVolumeKind, Key: keyOfID(id), Always: true}
 	request.Bind = func(view serving.View) (serving.Bound, error) {
-		volume, there := view.Table().ID(id)
-		if !there && !call.isNumbered {
+		volume, asks := call.undoes(view, id)
+		if !asks {
 			return serving.Bound{}, nil
-		}
-		if !there {
-			volume = nobody
 		}
 		return serving.Bound{Bodies: []frames.Body{frames.DeleteVolume{ID: volume}}}, nil
 	}
@@ -107,7 +104,7 @@ func (proxy *Proxy) attach(call call) (serving.Request, error) {
 	if fit.err == nil && proxy.lost[asked.GetNodeId()] {
 		fit.err = status.Error(codes.FailedPrecondition, "lost: "+asked.GetNodeId())
 	}
-	request := serving.Request{Key: keyOfID(id)}
+	request := serving.Request{Kind: frames.ControllerPublishVolumeKind, Key: keyOfID(id)}
 	request.Bind = func(view serving.View) (serving.Bound, error) {
 		bound := serving.Bound{Texts: append([]store.Text(nil), fit.kept...)}
 		volume, there := view.Table().ID(id)
@@ -151,14 +148,11 @@ func (proxy *Proxy) detach(call call) (serving.Request, error) {
 	if asked.GetNodeId() != "" || call.isNumbered { // one number is one call
 		node = fit.text("node_id", asked.GetNodeId(), frames.MaxNode)
 	}
-	request := serving.Request{Key: keyOfID(id), Always: true}
+	request := serving.Request{Kind: frames.ControllerUnpublishVolumeKind, Key: keyOfID(id), Always: true}
 	request.Bind = func(view serving.View) (serving.Bound, error) {
-		volume, there := view.Table().ID(id)
-		if !there && !call.isNumbered {
+		volume, asks := call.undoes(view, id)
+		if !asks {
 			return serving.Bound{}, nil
-		}
-		if !there {
-			volume = nobody
 		}
 		nodes := []string{node}
 		if node == "" {

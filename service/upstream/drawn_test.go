@@ -37,6 +37,7 @@ const (
 	byMetadata = "TUFAYON_TEST_METADATA"
 	etcdAt     = "TUFAYON_TEST_ENDPOINT"
 	socketIs   = "TUFAYON_TEST_SOCKET"
+	nodeIs     = "TUFAYON_TEST_NODE"
 )
 
 // TestMain is a driver, or the tests.
@@ -45,7 +46,7 @@ func TestMain(m *testing.M) {
 	if folder == "" {
 		os.Exit(m.Run())
 	}
-	box := &box{folder: folder, options: upstream.Options{Address: "unix://" + filepath.Join(folder, "upstream.sock")}, metadata: os.Getenv(byMetadata) != ""}
+	box := &box{folder: folder, options: upstream.Options{Address: "unix://" + filepath.Join(folder, "upstream.sock"), Node: os.Getenv(nodeIs)}, metadata: os.Getenv(byMetadata) != ""}
 	box.config, box.etcd, box.socket = `{"greatest":1099511627776,"nodes":[]}`, os.Getenv(etcdAt), os.Getenv(socketIs)
 	it, err := box.driver()
 	if err == nil {
@@ -63,7 +64,7 @@ func TestMain(m *testing.M) {
 func (box *box) run() *exec.Cmd {
 	box.Helper()
 	running := exec.Command(os.Args[0])
-	running.Env = append(os.Environ(), driverIn+"="+box.folder, etcdAt+"="+box.etcd, socketIs+"="+box.socket)
+	running.Env = append(os.Environ(), driverIn+"="+box.folder, etcdAt+"="+box.etcd, socketIs+"="+box.socket, nodeIs+"="+box.options.Node)
 	if box.metadata {
 		running.Env = append(running.Env, byMetadata+"=yes")
 	}
@@ -226,7 +227,7 @@ func (drawn *drawn) session() {
 	if drawn.client != nil {
 		drawn.client.Close()
 	}
-	drawn.client = upstreamtest.Dial(drawn.T, filepath.Join(drawn.folder, "d", "csi.sock"), options...)
+	drawn.client = upstreamtest.Dial(drawn.TB, filepath.Join(drawn.folder, "d", "csi.sock"), options...)
 }
 
 // breaks has the upstream fail at times.

@@ -19,13 +19,21 @@ import (
 	"tufayon/service/serving"
 )
 
-// nobody is an id that no volume has: by it a plugin hears of a call's session, where the volume isn't in the books.
+// nobody is an id that no volume has: by it a plugin hears of a call's session.
 const nobody = math.MaxUint64
 
 // A call is one of the eight, as it came.
 type call struct {
 	raw        []byte
 	isNumbered bool // it came with a number
+}
+
+// undoes gives the volume of a controller's call that undoes something: nobody's, where the books don't have it. By arrival the plugin isn't asked then.
+func (call call) undoes(view serving.View, id string) (volume uint64, asks bool) {
+	if volume, there := view.Table().ID(id); there {
+		return volume, true
+	}
+	return nobody, call.isNumbered
 }
 
 // A reader reads a call as far as the plugin has to know it. What it refuses asks nobody.

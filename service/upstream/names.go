@@ -49,12 +49,11 @@ func (proxy *Proxy) readMade(view serving.View) {
 // unmade gives up volumes of the books, where these are full, of which the upstream never gave an id: their CreateVolume failed, and none is under way.
 // Nothing can be attached of them.
 func (proxy *Proxy) unmade(view serving.View) []frames.Body {
-	volumes := view.Volumes()
-	if len(volumes) < mostRows {
+	if view.Count() < mostRows {
 		return nil
 	}
 	var bodies []frames.Body
-	for _, volume := range volumes {
+	for _, volume := range view.Volumes() {
 		if _, there := view.Table().Text(volume); there {
 			continue
 		}

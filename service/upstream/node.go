@@ -52,7 +52,7 @@ func (proxy *Proxy) stage(call call) (serving.Request, error) {
 	id := fit.id(asked.GetVolumeId())
 	fit.path(asked.GetStagingTargetPath())
 	capability := atNode(fit.capability("volume_capability", asked.GetVolumeCapability()))
-	request := proxy.atNode(id, asked.GetStagingTargetPath())
+	request := proxy.atNode(frames.NodeStageVolumeKind, id, asked.GetStagingTargetPath())
 	request.Bind = func(view serving.View) (serving.Bound, error) {
 		volume, texts, _ := proxy.volume(view, id)
 		return serving.Bound{Bodies: []frames.Body{frames.NodeStageVolume{ID: volume, Capability: capability}}, Texts: append(texts, fit.kept...)}, nil
@@ -61,8 +61,8 @@ func (proxy *Proxy) stage(call call) (serving.Request, error) {
 }
 
 // atNode is a request to a node's plugin.
-func (proxy *Proxy) atNode(id, path string) serving.Request {
-	return serving.Request{Node: proxy.options.Node, Key: keyOfID(id), Staging: path, Judge: atPath(path)}
+func (proxy *Proxy) atNode(kind frames.Kind, id, path string) serving.Request {
+	return serving.Request{Node: proxy.options.Node, Kind: kind, Key: keyOfID(id), Staging: path, Judge: atPath(path)}
 }
 
 // unstage reads a NodeUnstageVolume.
@@ -71,7 +71,7 @@ func (proxy *Proxy) unstage(call call) (serving.Request, error) {
 	fit.read(call.raw, &asked)
 	id := fit.id(asked.GetVolumeId())
 	fit.path(asked.GetStagingTargetPath())
-	request := proxy.atNode(id, asked.GetStagingTargetPath())
+	request := proxy.atNode(frames.NodeUnstageVolumeKind, id, asked.GetStagingTargetPath())
 	request.Always = true
 	request.Bind = func(view serving.View) (serving.Bound, error) {
 		volume, texts, there := proxy.volume(view, id)
@@ -94,7 +94,7 @@ func (proxy *Proxy) publish(call call) (serving.Request, error) {
 		Target:     fit.text("target_path", asked.GetTargetPath(), frames.MaxTarget),
 		Capability: atNode(fit.capability("volume_capability", asked.GetVolumeCapability())), Readonly: asked.GetReadonly(),
 	}
-	request := proxy.atNode(id, path)
+	request := proxy.atNode(frames.NodePublishVolumeKind, id, path)
 	request.Bind = func(view serving.View) (serving.Bound, error) {
 		volume, texts, _ := proxy.volume(view, id)
 		body.ID = volume
@@ -113,7 +113,7 @@ func (proxy *Proxy) unpublish(call call) (serving.Request, error) {
 	fit, asked := fitting{}, wire.NodeUnpublishVolumeRequest{}
 	fit.read(call.raw, &asked)
 	id, target := fit.id(asked.GetVolumeId()), fit.text("target_path", asked.GetTargetPath(), frames.MaxTarget)
-	request := proxy.atNode(id, "")
+	request := proxy.atNode(frames.NodeUnpublishVolumeKind, id, "")
 	request.Always = true
 	request.Bind = func(view serving.View) (serving.Bound, error) {
 		volume, texts, there := proxy.volume(view, id)

@@ -11,3 +11,19 @@ service_tree() {
     export GO111MODULE=off GOPATH="$1:/usr/share/gocode" GOFLAGS="-p=2 -trimpath" GOCACHE="${CSI_GOCACHE:-$1/cache}"
     export CGO_CFLAGS="-O2 -I$top/include" CGO_LDFLAGS="$2 $(dirname "$(rt doc)")/c/liblibc_c.a"
 }
+
+# Runs the benchmarks of the package $2 for the script $1, with the words that follow for `go test`, over the library that tools/embed leaves, or -l LIBRARY.
+benchmark_service() {
+    local name="$1" package="$2" library="$top/crates/csi_embedded/out/libcsi_embedded.a" folder
+    shift 2
+    if [ "${1-}" = -l ]; then
+        library="$(realpath "${2:?}")"
+        shift 2
+    fi
+    [ -f "$library" ] || { echo "$name: there is no $library: tools/embed leaves it" >&2; return 1; }
+    folder="$(mktemp -d)"
+    trap "rm -rf '$folder'" EXIT
+    service_tree "$folder/go" "$library"
+    cd "$folder/go/src/tufayon/service"
+    go test -run none -bench . -benchtime 1s "$@" "$package"
+}

@@ -15,6 +15,7 @@ import (
 
 	"github.com/golang/protobuf/proto"
 	"google.golang.org/grpc"
+	"google.golang.org/grpc/backoff"
 	"google.golang.org/grpc/codes"
 	"google.golang.org/grpc/metadata"
 	"google.golang.org/grpc/status"
@@ -49,6 +50,8 @@ type Upstream struct {
 	Lists    bool                      // it has LIST_VOLUMES, ..
 	HasNodes bool                      // .. LIST_VOLUMES_PUBLISHED_NODES, and GET_VOLUME
 	ID       func(name string) string  // of a volume that is made; nil for one of its own each time
+	Work     func()                    // what each deed takes besides; nil for nothing
+	Forgets  bool                      // it doesn't keep what it was told
 
 	mutex   sync.Mutex
 	server  *grpc.Server
@@ -207,8 +210,10 @@ func (upstream *Upstream) handle(_ any, stream grpc.ServerStream) error {
 	deadline, _ := stream.Context().Deadline()
 	told := &Told{Method: method, Request: request, Header: header, Deadline: deadline}
 	upstream.mutex.Lock()
-	upstream.told = append(upstream.told, told)
-	upstream.by[string(request)] = append(upstream.by[string(request)], told)
+	if !upstream.Forgets {
+		upstream.told = append(upstream.told, told)
+		upstream.by[string(request)] = append(upstream.by[string(request)], told)
+	}
 	life := upstream.life
 	upstream.under++
 	upstream.mutex.Unlock()
@@ -279,6 +284,9 @@ func (upstream *Upstream) answer(method string, request []byte, life int) ([]byt
 		fault = faulty(method)
 	}
 	time.Sleep(fault.Before)
+	if upstream.Work != nil {
+		upstream.Work()
+	}
 	if fault.Refuse != nil {
 		return nil, fault.Refuse
 	}
@@ -309,7 +317,8 @@ func (upstream *Upstream) answer(method string, request []byte, life int) ([]byt
 // Dial connects to a socket, as a platform does.
 func Dial(t testing.TB, socket string, options ...grpc.DialOption) *grpc.ClientConn {
 	t.Helper()
-	connection, err := grpc.Dial("unix://"+socket, append(options, grpc.WithInsecure())...)
+	again := grpc.ConnectParams{Backoff: backoff.Config{BaseDelay: 10 * time.Millisecond, Multiplier: 1, MaxDelay: 10 * time.Millisecond}}
+	connection, err := grpc.Dial("unix://"+socket, append(options, grpc.WithInsecure(), grpc.WithConnectParams(again))...)
 	if err != nil {
 		t.Fatal(err)
 	}
