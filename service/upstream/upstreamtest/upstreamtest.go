@@ -317,7 +317,9 @@ func (upstream *Upstream) answer(method string, request []byte, life int) ([]byt
 // Dial connects to a socket, as a platform does.
 func Dial(t testing.TB, socket string, options ...grpc.DialOption) *grpc.ClientConn {
 	t.Helper()
-	again := grpc.ConnectParams{Backoff: backoff.Config{BaseDelay: 10 * time.Millisecond, Multiplier: 1, MaxDelay: 10 * time.Millisecond}}
+	again := grpc.ConnectParams{
+		Backoff: backoff.Config{BaseDelay: 10 * time.Millisecond, Multiplier: 1, MaxDelay: 10 * time.Millisecond}, MinConnectTimeout: 5 * time.Second,
+	}
 	connection, err := grpc.Dial("unix://"+socket, append(options, grpc.WithInsecure(), grpc.WithConnectParams(again))...)
 	if err != nil {
 		t.Fatal(err)
