@@ -24,6 +24,7 @@ import (
 	"tufayon/service/carrying"
 	"tufayon/service/host"
 	"tufayon/service/host/hosttest"
+	"tufayon/service/numbers"
 	"tufayon/service/secure"
 	"tufayon/service/secure/securetest"
 	"tufayon/service/store"
@@ -190,7 +191,11 @@ func TestWaits(t *testing.T) {
 // A service whose store is another's by now answers no reader, whatever it has in memory: it ends. One that doesn't know is unsure.
 func TestLate(t *testing.T) {
 	kept := hosttest.NewStore()
-	connection, made, _ := serveLocal(t, kept, &hosttest.Carrier{}, 1, api.Reads)
+	carrier := &hosttest.Carrier{Opens: func(ctx context.Context, _ string, _ numbers.Opening) error { // so that nothing is committed meanwhile
+		<-ctx.Done()
+		return ctx.Err()
+	}}
+	connection, made, _ := serveLocal(t, kept, carrier, 1, api.Reads)
 	client := wire.NewOrchestratorClient(connection)
 	watch := func() error {
 		stream, err := client.Watch(ctx, &wire.WatchRequest{Current: true})

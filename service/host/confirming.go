@@ -34,7 +34,15 @@ type fault struct{ err error }
 
 func (it *fault) alone() bool { return true }
 
-func (it *fault) ask(*Host, *work) error { return it.err }
+// ask gives why it ends. Where another process has the store by now, that is why: it seems an older copy to plugins.
+func (it *fault) ask(host *Host, _ *work) error {
+	if errors.Is(it.err, store.ErrOlder) {
+		if err := host.core.store.Commit(context.Background(), false, nil); err != nil {
+			return err
+		}
+	}
+	return it.err
+}
 
 // confirming asks the store once for all who ask meanwhile: each gets an answer that was asked for after it came.
 type confirming struct {

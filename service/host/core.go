@@ -7,6 +7,7 @@ import (
 	"errors"
 	"fmt"
 	"reflect"
+	"time"
 
 	"tufayon/service/numbers"
 	"tufayon/service/plugin"
@@ -26,14 +27,15 @@ type core struct {
 	changes []store.Change          // what was asked since the last commit
 	peers   *peers                  // likewise: what is kept beside the record
 	token   string                  // of this opening of the store
+	clock   func() time.Time        // by which sessions begin; nil for none
 }
 
-func newCore(kept store.Store) (*core, error) {
+func newCore(kept store.Store, clock func() time.Time) (*core, error) {
 	token := make([]byte, 16)
 	if _, err := rand.Read(token); err != nil {
 		return nil, err
 	}
-	return &core{store: kept, token: string(token)}, nil
+	return &core{store: kept, token: string(token), clock: clock}, nil
 }
 
 // counts are how many rows there are of some sorts.
@@ -89,7 +91,11 @@ func (core *core) begin(ctx context.Context, nodes []string) error {
 	if err != nil {
 		return err
 	}
-	made, err := plugin.MakeOrchestrator(configOf(nodes), store.Record(parts))
+	before, err := core.before(parts)
+	if err != nil {
+		return err
+	}
+	made, err := plugin.MakeOrchestrator(configOf(nodes), store.Record(before))
 	if err != nil {
 		return fmt.Errorf("a session of %d nodes: %w", len(nodes), err)
 	}
@@ -114,6 +120,31 @@ func (core *core) begin(ctx context.Context, nodes []string) error {
 		}
 	}
 	return core.takeAll(changes)
+}
+
+// before is a record of these parts of which the next session is that of the clock, in seconds since 1970, if it isn't a later one: so copies of a store
+// begin other sessions. Without a clock it is the next one.
+func (core *core) before(parts []store.Part) ([]store.Part, error) {
+	if core.clock == nil {
+		return parts, nil
+	}
+	var head []byte
+	if len(parts) > 0 {
+		head = parts[0].Value
+	}
+	seconds := core.clock().Unix()
+	if seconds < 0 {
+		seconds = 0
+	}
+	head, err := records.OrchestratorBefore(head, uint64(seconds))
+	if err != nil {
+		return nil, fmt.Errorf("%w: its head: %v", plugin.BadRecord, err)
+	}
+	before := []store.Part{{Key: records.HeadKey, Value: head}}
+	if len(parts) > 0 {
+		before = append(before, parts[1:]...)
+	}
+	return before, nil
 }
 
 // loadPeers reads what is kept beside the record.

@@ -12,6 +12,7 @@ import (
 	"tufayon/service/frames"
 	"tufayon/service/plugin"
 	"tufayon/service/records"
+	"tufayon/service/store"
 )
 
 // A sending is a call that is to be made once it is committed.
@@ -46,6 +47,10 @@ func (it *heard) ask(host *Host, work *work) error {
 	volume.trouble = ""
 	if it.reply.Status != 0 {
 		why := fmt.Errorf("%s refused: %d %s", carrying.PluginOf(it.call), it.reply.Status, it.reply.Detail)
+		if isStale(it.reply) {
+			older := fault{fmt.Errorf("%w: %v", store.ErrOlder, why)}
+			return older.ask(host, work)
+		}
 		if !volume.wantRoom && wantsRoom(it.reply) {
 			volume.wantRoom = true
 			host.failed(volume, why, work)
@@ -54,6 +59,11 @@ func (it *heard) ask(host *Host, work *work) error {
 		volume.trouble = why.Error()
 	}
 	return host.deliver(volume, it, work)
+}
+
+// isStale says whether a plugin has heard of a later call of the volume, or of a later session, than the open call: never in runs of one orchestrator.
+func isStale(reply frames.Reply) bool {
+	return reply.Status == uint8(codes.Aborted) && reply.Detail == "stale"
 }
 
 // wantsRoom says whether a plugin refused a call since its rows, those of earlier sessions among them, were all taken. It forgets those once it has

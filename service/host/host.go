@@ -47,6 +47,7 @@ type Options struct {
 	Carrier Carrier
 	Times   Times
 	Log     *zap.Logger
+	Clock   func() time.Time // by which sessions begin, in seconds since 1970; nil for those after the last one
 }
 
 // A Host is an orchestrator that runs. Its methods may be called side by side.
@@ -79,7 +80,7 @@ type Host struct {
 
 // Open begins the next session over a store, commits it, and begins to serve.
 func Open(ctx context.Context, options Options) (*Host, error) {
-	core, err := newCore(options.Store)
+	core, err := newCore(options.Store, options.Clock)
 	if err != nil {
 		return nil, err
 	}

@@ -9,6 +9,8 @@ import (
 	"testing"
 	"time"
 
+	"go.uber.org/zap"
+
 	"tufayon/service/frames"
 	"tufayon/service/host"
 	"tufayon/service/host/hosttest"
@@ -158,4 +160,38 @@ func TestBusy(t *testing.T) {
 	if int(busy+done) != most+50 || done < 1000 {
 		t.Errorf("%d are refused, and %d done", busy, done)
 	}
+}
+
+// Sessions begin by the clock, each later than the last one, also where the clock stands still or goes back.
+func TestClock(t *testing.T) {
+	shard, kept := newShard(t), hosttest.NewStore()
+	now := time.Now().Truncate(time.Second)
+	first, at := uint64(now.Unix()), now
+	clock := func() time.Time { return at }
+	begun := func(want uint64) {
+		t.Helper()
+		made, err := host.Open(ctx, host.Options{Store: kept, Nodes: []string{"n1", "n2"}, Carrier: shard, Times: quick, Log: zap.NewNop(), Clock: clock})
+		if err != nil {
+			t.Fatal(err)
+		}
+		defer made.Close()
+		if session := made.Session(); session != want {
+			t.Errorf("session %d, not %d", session, want)
+		}
+		name := fmt.Sprint("v", want)
+		does(t, made, create(name))
+		does(t, made, use(name, "n1", "/"+name))
+		if session, err := made.Begin(ctx, nil, "a test"); err != nil || session != want+1 {
+			t.Errorf("the next one is %d, %v", session, err)
+		}
+		does(t, made, stop(name, "n1", "/"+name))
+	}
+	begun(first)
+	begun(first + 2)
+	at = now.Add(10 * time.Second)
+	begun(first + 10)
+	at = now.Add(-time.Hour)
+	begun(first + 12)
+	at = time.Unix(-5, 0)
+	begun(first + 14)
 }

@@ -32,6 +32,7 @@ type Driver struct {
 	Maker       plugin.Maker
 	Numbering   serving.Numbering
 	IsByArrival bool // Numbering is ByArrival: there is no orchestrator that begins sessions
+	MustBegin   bool // a service begins them, and no call comes before
 	Open        func(context.Context) (store.Store, error)
 	Waits       bool            // opening waits to lead
 	Notes       string          // a node's file of staging paths; none of a controller
@@ -181,7 +182,7 @@ func (life *Life) serve(ctx context.Context) error {
 // open makes the plugin of what the store has, and has the servers serve it.
 func (life *Life) open(ctx context.Context) error {
 	config := serving.Config{
-		Store: life.store, Numbering: life.driver.Numbering, Texts: life.driver.Upstream != nil,
+		Store: life.store, Numbering: life.driver.Numbering, MustBegin: life.driver.MustBegin, Texts: life.driver.Upstream != nil,
 		Make: func(record []byte) (serving.Plugin, bool, error) {
 			made, renewed, err := life.driver.Maker.Make(record)
 			if err != nil {

@@ -70,8 +70,13 @@ var (
 )
 
 func open(maker plugin.Maker, kept store.Store) (*serving.Core, error) {
-	return serving.Open(context.Background(), serving.Config{
+	return serving.Open(context.Background(), configOf(maker, kept, false))
+}
+
+func configOf(maker plugin.Maker, kept store.Store, mustBegin bool) serving.Config {
+	return serving.Config{
 		Store:     kept,
+		MustBegin: mustBegin,
 		Numbering: func(uint64) (numbers.Source, error) { return numbers.Metadata{MostAbove: 1000000}, nil },
 		Make: func(record []byte) (serving.Plugin, bool, error) {
 			made, renewed, err := maker.Make(record)
@@ -80,7 +85,7 @@ func open(maker plugin.Maker, kept store.Store) (*serving.Core, error) {
 			}
 			return made, renewed, nil
 		},
-	})
+	}
 }
 
 func opened(t *testing.T, maker plugin.Maker, kept store.Store) *serving.Core {
@@ -302,6 +307,18 @@ func TestBeginAtNode(t *testing.T) {
 	begins(t, empty, numbers.Opening{Session: 1, Token: "a"}, "")
 	begins(t, empty, numbers.Opening{Session: 2, Token: "a", Sent: number(1, 0), Heard: number(1, 0)}, "")
 	wants(t, empty, 2, 1, stage, codes.OK)
+}
+
+// Where a service alone begins sessions, nothing is taken before the first one, also over an empty store.
+func TestMustBegin(t *testing.T) {
+	core, err := serving.Open(context.Background(), configOf(node, newMemory(), true))
+	if err != nil {
+		t.Fatal(err)
+	}
+	defer core.Close()
+	wants(t, core, 1, 1, stage, codes.FailedPrecondition)
+	begins(t, core, numbers.Opening{Session: 1, Token: "a"}, "")
+	wants(t, core, 1, 1, stage, codes.OK)
 }
 
 // Another call of a number that was used is refused, and a repeat of the same gets its reply.

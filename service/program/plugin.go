@@ -120,7 +120,7 @@ func (running *serving) driver(program string) (life.Driver, error) {
 	read := &running.read.Plugin
 	hasUpstream := read.Upstream != ""
 	it := life.Driver{
-		Program: program, Name: read.Name, Maker: makerOf(running.read), Numbering: life.ByMetadata(read.SessionsAbove),
+		Program: program, Name: read.Name, Maker: makerOf(running.read), Numbering: life.ByMetadata(read.SessionsAbove), MustBegin: !hasUpstream,
 		Open: func(ctx context.Context) (store.Store, error) {
 			return openStore(ctx, &read.Place, read.Listen, hasUpstream)
 		},

@@ -3,6 +3,7 @@ package program
 import (
 	"bytes"
 	"context"
+	"errors"
 	"fmt"
 	"net"
 	"os"
@@ -18,6 +19,7 @@ import (
 	"google.golang.org/grpc/metadata"
 	"google.golang.org/grpc/status"
 
+	told "tufayon/service/api/wire"
 	"tufayon/service/carrying"
 	"tufayon/service/frames"
 	"tufayon/service/numbers"
@@ -105,15 +107,21 @@ func (set *set) start(role secure.Role, file string) func() error {
 	return once
 }
 
-// dial connects to a plugin's address as a peer of this name.
-func (set *set) dial(uri, address, plugin string) *grpc.ClientConn {
+// peers are those whom a peer of this name knows.
+func (set *set) peers(uri string) carrying.Peers {
 	set.Helper()
 	peers := carrying.Peers{Set: "s1", May: IsOwn, Refused: func(string) secure.Refused { return nil }}
 	if uri != "" {
 		files := set.files(uri)
 		peers.Files = &files
 	}
-	connection, err := peers.Dial(plugin, address, func() uint64 { return 1 })
+	return peers
+}
+
+// dial connects to a plugin's address as a peer of this name.
+func (set *set) dial(uri, address, plugin string) *grpc.ClientConn {
+	set.Helper()
+	connection, err := set.peers(uri).Dial(plugin, address, func() uint64 { return 1 })
 	if err != nil {
 		set.Fatal(err)
 	}
@@ -143,13 +151,18 @@ func TestNode(t *testing.T) {
 	local := "unix://" + set.path("local.sock")
 	set.start(secure.Node, set.process("n1.json", "tufayon://s1/node/n1",
 		fmt.Sprintf(`"node": "n1", "store": "n1.db", "hooks": "none", "local": %q`, local)))
-	carrier := carrying.New(carrying.Limits{AtController: 1, AtNode: 1, Answer: within, Reach: within}, "/staging",
-		carrying.Peers{Set: "s1", Files: func() *secure.Files { it := set.files(orchestrator); return &it }(), Refused: func(string) secure.Refused { return nil }}.Dial)
+	carrier := carrying.New(carrying.Limits{AtController: 1, AtNode: 1, Answer: within, Reach: within}, "/staging", set.peers(orchestrator).Dial)
 	defer carrier.Close()
 	if err := carrier.Set(map[string]string{carrying.NodeName("n1"): address}); err != nil {
 		t.Fatal(err)
 	}
 	call := frames.Call{Number: frames.Number{Session: 1, Call: 1}, Node: "n1", Body: frames.NodeStageVolume{ID: 1, Capability: frames.Capability{Mode: 1}}}
+	if _, err := carrier.Carry(ctx, call, time.Time{}); !errors.Is(err, carrying.ErrRefused) || !strings.Contains(err.Error(), "session not begun") {
+		t.Errorf("staged before the session has begun: %v", err)
+	}
+	if err := carrier.Begin(ctx, carrying.NodeName("n1"), numbers.Opening{Session: 1}); err != nil {
+		t.Fatal(err)
+	}
 	if reply, err := carrier.Carry(ctx, call, time.Time{}); err != nil || reply.Status != 0 {
 		t.Fatalf("staged: %+v, %v", reply, err)
 	}
@@ -183,7 +196,11 @@ func TestController(t *testing.T) {
 	set.nodes = []string{"n1 127.0.0.1:1"}
 	set.list()
 	end := set.start(secure.Controller, set.process("c.json", "tufayon://s1/controller", `"store": "c.db", "name": "storage.example"`))
-	client := wire.NewControllerClient(set.dial(orchestrator, set.controller, carrying.Controller))
+	at := set.dial(orchestrator, set.controller, carrying.Controller)
+	if _, err := told.NewPluginClient(at).Begin(ctx, &told.BeginRequest{Session: 1}, grpc.WaitForReady(true)); err != nil {
+		t.Fatal(err)
+	}
+	client := wire.NewControllerClient(at)
 	var trailer metadata.MD
 	made, err := client.CreateVolume(numbered(ctx, "1.1"), &wire.CreateVolumeRequest{Name: "v", VolumeCapabilities: []*wire.VolumeCapability{how},
 		CapacityRange: &wire.CapacityRange{RequiredBytes: 10}}, grpc.WaitForReady(true), grpc.Trailer(&trailer))
@@ -191,7 +208,8 @@ func TestController(t *testing.T) {
 		t.Fatalf("created: %v, %v, %v", made, err, trailer)
 	}
 	attach := func(number string) error {
-		_, err := client.ControllerPublishVolume(numbered(ctx, number), &wire.ControllerPublishVolumeRequest{VolumeId: "1", NodeId: "n2", VolumeCapability: how}, grpc.WaitForReady(true))
+		request := &wire.ControllerPublishVolumeRequest{VolumeId: "1", NodeId: "n2", VolumeCapability: how}
+		_, err := client.ControllerPublishVolume(numbered(ctx, number), request, grpc.WaitForReady(true))
 		return err
 	}
 	if err := attach("1.2"); status.Code(err) != codes.NotFound {

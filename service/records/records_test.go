@@ -102,3 +102,21 @@ func TestHeard(t *testing.T) {
 		t.Error("a controller is a node")
 	}
 }
+
+// A head before a session begins has the session before, and all else as it was; a later one stays.
+func TestOrchestratorBefore(t *testing.T) {
+	const head = "03 02 0000000000000003 02 026e31 026e32"
+	for session, want := range map[uint64]string{0: head, 3: head, 4: head, 5: "03 02 0000000000000004 02 026e31 026e32", 1 << 32: "03 02 00000000ffffffff 02 026e31 026e32"} {
+		before, err := OrchestratorBefore(bytesOf(t, head), session)
+		if err != nil || !reflect.DeepEqual(before, bytesOf(t, want)) {
+			t.Errorf("before %d: %x, %v", session, before, err)
+		}
+	}
+	before, err := OrchestratorBefore(nil, 256)
+	if err != nil || !reflect.DeepEqual(before, bytesOf(t, "03 02 00000000000000ff 00")) {
+		t.Errorf("a new one's: %x, %v", before, err)
+	}
+	if _, err := OrchestratorBefore(bytesOf(t, "03 00 0000000000000002 0000000000000001"), 5); !errors.Is(err, ErrValue) {
+		t.Errorf("a controller's: %v", err)
+	}
+}

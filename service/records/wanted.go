@@ -1,6 +1,10 @@
 package records
 
-import "tufayon/service/frames"
+import (
+	"encoding/binary"
+
+	"tufayon/service/frames"
+)
 
 // A Goal says what is wanted of a volume.
 type Goal uint8
@@ -71,4 +75,19 @@ func OrchestratorNodes(head []byte) ([]string, error) {
 		nodes = append(nodes, from.text())
 	}
 	return nodes, from.err
+}
+
+// OrchestratorBefore is an orchestrator's head, or a new one's where there is none, as it is before a session begins: of the session before, if its own
+// isn't a later one.
+func OrchestratorBefore(head []byte, session uint64) ([]byte, error) {
+	if head == nil {
+		head = append([]byte{version, orchestrator}, make([]byte, 9)...) // session 0, and no nodes
+	}
+	last, err := OrchestratorSession(head)
+	if err != nil || session == 0 || last >= session-1 {
+		return head, err
+	}
+	raised := append([]byte(nil), head...)
+	binary.BigEndian.PutUint64(raised[2:], session-1)
+	return raised, nil
 }

@@ -75,6 +75,15 @@ func (core *Core) begin(group *group, opening numbers.Opening) (frames.Number, e
 	return heard, core.raise(group, opening.Session)
 }
 
+// isBegun says whether calls of a session get to the plugin: one that was begun here, or an earlier one, of which the plugin itself knows more. Where none
+// was begun it says so of any, unless the service alone may begin them.
+func (core *Core) isBegun(session uint64) bool {
+	if _, byMetadata := core.source.(numbers.Metadata); !byMetadata {
+		return true
+	}
+	return session <= core.begun.Session || core.begun.Session == 0 && !core.config.MustBegin
+}
+
 // sent is what is known to be no earlier than any call that was heard before the session was begun: nothing, where the plugin has heard of a later one.
 func (begun begun) sent(latest uint64) frames.Number {
 	if begun.Session != latest {

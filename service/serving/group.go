@@ -2,7 +2,6 @@ package serving
 
 import (
 	"context"
-	"crypto/sha256"
 	"errors"
 	"fmt"
 	"runtime"
@@ -291,7 +290,7 @@ func (core *Core) known(number frames.Number, volume uint64) Known {
 func (core *Core) number(ctx context.Context, request Request, judged bool) (frames.Number, error) {
 	known := core.known(frames.Number{}, request.Body.Volume())
 	number, err := core.source.Number(ctx, numbers.Of{Kind: request.Body.Kind(), HasRow: known.Row != nil, Latest: known.Session})
-	if core.begun.Session > 0 && number.Session > core.begun.Session && err == nil {
+	if err == nil && !core.isBegun(number.Session) {
 		err = errNotBegun
 	}
 	if err != nil || !judged || request.Judge == nil {
@@ -349,25 +348,6 @@ func (core *Core) note(group *group, request Request, asked asked) {
 	case frames.NodeUnstageVolumeKind:
 		group.taken = append(group.taken, volume)
 	}
-}
-
-// A last is the call of a volume that the fence let through last.
-type last struct {
-	number frames.Number
-	asked  [sha256.Size]byte // a digest of what it asked
-}
-
-// isLast says whether a call of a number that the volume's last call has asks the same as that one, as far as this process knows it. One that the fence
-// let through is the last one.
-func (core *Core) isLast(volume uint64, number frames.Number, request Request, isFresh bool) bool {
-	frame, _ := frames.Call{Number: number, Node: request.Node, Body: request.Body}.Encode() // the plugin has answered it
-	this := last{number, sha256.Sum256(frame)}
-	if isFresh {
-		core.last[volume] = this
-		return true
-	}
-	its, isKnown := core.last[volume]
-	return !isKnown || its.number != number || its == this
 }
 
 // answerOf asks a plugin. Where it is refused memory, or the request makes no frame, the call is refused; any other failure ends the core.

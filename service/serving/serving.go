@@ -45,6 +45,7 @@ type Config struct {
 	Store     store.Store
 	Notes     func(context.Context) (Notes, error) // opens them, once the plugin is made; nil of a controller
 	Numbering Numbering
+	MustBegin bool // no call is taken of a session that wasn't begun (Begin)
 	Calls     int  // how many may wait or be under way: 0 for 2,048
 	Texts     bool // ids are texts, which the store keeps beside the record: it is a store.Keeper
 }

@@ -7,7 +7,6 @@ from . import (
     full,
     groups,
     help,
-    hosted,
     joined,
     kills,
     largest,
@@ -27,7 +26,7 @@ from . import (
 
 # Those that draw nothing, the longest first.
 SUBJECTS = (
-    *(hosted, devices, faults, streams, full, largest, groups, worlds, records, rows, plugins, orchestrators, changes, configs, schedules),
+    *(devices, faults, streams, full, largest, groups, worlds, records, rows, plugins, orchestrators, changes, configs, schedules),
     *(words, help, shown, pages, script),
 )
 

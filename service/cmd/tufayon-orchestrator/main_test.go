@@ -106,30 +106,34 @@ func TestService(t *testing.T) {
 	if volume, err = client.Use(ctx, use("n1")); err != nil || !volume.Reached {
 		t.Fatalf("used: %v, %v", volume, err)
 	}
-	anew := func(session uint64, ids ...string) {
+	anew := func(ids ...string) {
 		t.Helper()
+		before, err := client.Nodes(ctx, &wire.NodesRequest{})
+		if err != nil || before.Session < 1_600_000_000 { // it is by the clock
+			t.Fatalf("%v, %v", before, err)
+		}
 		made.list(ids...)
 		if err := syscall.Kill(os.Getpid(), syscall.SIGHUP); err != nil {
 			t.Fatal(err)
 		}
 		for end := time.Now().Add(within); ; time.Sleep(5 * time.Millisecond) {
 			nodes, err := client.Nodes(ctx, &wire.NodesRequest{})
-			if err == nil && nodes.Session == session {
+			if err == nil && nodes.Session > before.Session {
 				return
 			}
 			if time.Now().After(end) {
-				t.Fatalf("no session %d: %v, %v", session, nodes, err)
+				t.Fatalf("no session after %d: %v, %v", before.Session, nodes, err)
 			}
 		}
 	}
-	anew(2, "n1", "n2")
+	anew("n1", "n2")
 	made.list("n2") // n1 is in use, so all stays as it is
 	syscall.Kill(os.Getpid(), syscall.SIGHUP)
 	time.Sleep(100 * time.Millisecond)
 	if volume, err = client.Stop(ctx, &wire.StopRequest{Name: "v", Node: "n1", Target: "/a", Wait: wire.Wait_AT_REST}); err != nil || !volume.Reached {
 		t.Fatalf("stopped: %v, %v", volume, err)
 	}
-	anew(3, "n2")
+	anew("n2")
 	if volume, err = client.Use(ctx, use("n2")); err != nil || !volume.Reached {
 		t.Fatalf("used at n2: %v, %v", volume, err)
 	}

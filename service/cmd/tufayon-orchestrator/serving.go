@@ -100,7 +100,7 @@ func (running *service) lead(ctx context.Context, kept store.Store, served <-cha
 	times := running.settings.Set.Times
 	var err error
 	running.host, err = host.Open(ctx, host.Options{
-		Store: kept, Nodes: running.settings.Set.IDs(), Carrier: running.carrier, Log: running.log,
+		Store: kept, Nodes: running.settings.Set.IDs(), Carrier: running.carrier, Log: running.log, Clock: time.Now,
 		Times: host.Times{Patience: settings.Seconds(times.Patience), Retry: settings.Seconds(times.Retry), MostRetry: settings.Seconds(times.MostRetry)},
 	})
 	if err != nil {
