@@ -133,7 +133,7 @@ func TestTakeovers(t *testing.T) {
 	box.etcd = etcdtest.Start(t)
 	count := 1000
 	if set, err := strconv.Atoi(os.Getenv("TUFAYON_TEST_DRAWN")); err == nil {
-		count = set
+		count = set / 5
 	}
 	if err := os.Mkdir(filepath.Join(box.folder, "d"), 0o700); err != nil {
 		t.Fatal(err)

@@ -44,3 +44,26 @@ func TestLateDetach(t *testing.T) {
 		box.attached(id, "n1")
 	}
 }
+
+// The count of an election is the session: what the one that led before decided on, and what arrives only now, is refused, whatever its count of calls.
+func TestElection(t *testing.T) {
+	box, ctx := newBox(t, upstream.Options{}), soon(t)
+	box.metadata = true
+	box.start()
+	leads := func(session uint64) grpc.DialOption {
+		return grpc.WithUnaryInterceptor(numbering.New(session).Intercept)
+	}
+	socket := box.folder + "/d/csi.sock"
+	box.client = upstreamtest.Dial(t, socket, leads(1))
+	id := box.made(ctx, "v")
+	box.does(ctx, attachCall, attaches(id, "n1", writer))
+	late := numbered(ctx, "1.1000") // a detach that was decided on, and held up
+	box.client = upstreamtest.Dial(t, socket, leads(2))
+	box.does(ctx, attachCall, attaches(id, "n1", writer))
+	box.refuses(late, codes.Aborted, "stale", detachCall, detaches(id, "n1"))
+	box.restart()
+	box.client = upstreamtest.Dial(t, socket, leads(3))
+	box.does(ctx, detachCall, detaches(id, "n1"))
+	box.refuses(late, codes.Aborted, "stale", detachCall, detaches(id, "n1"))
+	box.attached(id)
+}

@@ -5,6 +5,7 @@ import (
 	"context"
 	"encoding/json"
 	"fmt"
+	"sync/atomic"
 
 	"google.golang.org/grpc/codes"
 	"google.golang.org/grpc/status"
@@ -16,10 +17,10 @@ import (
 	"tufayon/service/serving"
 )
 
-const (
-	mostNodes = 64   // of a controller's configuration
-	slots     = 4096 // of a node that isn't configured: as many as may be
-)
+// MostNodes is how many nodes a controller has.
+const MostNodes = 64
+
+const slots = 4096 // of a node that isn't configured: as many as may be
 
 // A node is an entry of a controller's configuration.
 type node struct {
@@ -33,18 +34,20 @@ type nodes struct {
 	Greatest uint64 `json:"greatest"`
 	Nodes    []node `json:"nodes"`
 	fixed    int    // so many of them are configured
+	count    *atomic.Int64
 }
 
 // errNodes refuses a node for which there is no room: at each of those that the plugin has something is attached.
 var errNodes = status.Error(codes.ResourceExhausted, "nodes")
 
 // readNodes reads a configuration that the plugin takes.
-func readNodes(config []byte) (*nodes, error) {
-	its := &nodes{}
+func readNodes(config []byte, count *atomic.Int64) (*nodes, error) {
+	its := &nodes{count: count}
 	if err := json.Unmarshal(config, its); err != nil {
 		return nil, fmt.Errorf("the list of nodes: %w", err)
 	}
 	its.fixed = len(its.Nodes)
+	count.Store(int64(its.fixed))
 	return its, nil
 }
 
@@ -63,8 +66,8 @@ func (its *nodes) with(id string, view serving.View) (serving.Make, error) {
 		return nil, nil
 	}
 	next := append([]node(nil), its.Nodes...)
-	if len(next) >= mostNodes {
-		if next = its.withoutIdle(view); len(next) >= mostNodes {
+	if len(next) >= MostNodes {
+		if next = its.withoutIdle(view); len(next) >= MostNodes {
 			return nil, errNodes
 		}
 	}
@@ -80,9 +83,13 @@ func (its *nodes) with(id string, view serving.View) (serving.Make, error) {
 			return nil, false, err
 		}
 		its.Nodes = next
+		its.count.Store(int64(len(next)))
 		return made, renewed, nil
 	}, nil
 }
+
+// Nodes is how many nodes the plugin of a controller has now, of MostNodes: 0 of a node's.
+func (proxy *Proxy) Nodes() int { return int(proxy.count.Load()) }
 
 // withoutIdle leaves out the node that was named first of those at which nothing is attached.
 func (its *nodes) withoutIdle(view serving.View) []node {

@@ -10,6 +10,7 @@ import (
 	"runtime/debug"
 	"strings"
 	"sync"
+	"sync/atomic"
 	"time"
 
 	"google.golang.org/grpc"
@@ -42,6 +43,7 @@ type Proxy struct {
 	known   capabilities
 	nodes   *nodes // of a controller; only the plugin's goroutine has it
 	lost    map[string]bool
+	count   atomic.Int64 // of nodes
 
 	mutex sync.Mutex
 	made  map[string]string // the upstream's ids of volumes, by the plugin's names of them
@@ -73,7 +75,7 @@ func (proxy *Proxy) Opened(ctx context.Context, core *serving.Core, maker plugin
 	if !maker.IsController {
 		return nil
 	}
-	listed, err := readNodes(maker.Name)
+	listed, err := readNodes(maker.Name, &proxy.count)
 	if err != nil {
 		return err
 	}
