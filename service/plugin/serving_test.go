@@ -2,6 +2,7 @@ package plugin_test
 
 import (
 	"context"
+	"encoding/binary"
 	"errors"
 	"fmt"
 	"sort"
@@ -281,6 +282,12 @@ func TestBegin(t *testing.T) {
 	begins(t, core, numbers.Opening{Session: 6, Token: "c", Sent: number(5, 0), Heard: number(5, 0), List: 4}, "later")
 	begins(t, core, numbers.Opening{Session: 6, Token: "c", IsUnknown: true, List: 5}, "")
 	wants(t, core, 6, 1, detach(1, "n1"), codes.OK)
+	core.Close()
+	head := kept.parts[0] // its session is raised otherwise: what was begun counts no more
+	binary.BigEndian.PutUint64(head[len(head)-8:], 9)
+	core = opened(t, controller, kept)
+	begins(t, core, numbers.Opening{Session: 9, Token: "d"}, "later")
+	begins(t, core, numbers.Opening{Session: 10, Token: "d", IsUnknown: true}, "")
 }
 
 // At a node no row is lost or made by that where something is staged, also of a node that is full; one that joined has heard of no call.

@@ -100,9 +100,9 @@ func (core *Core) judge(opening numbers.Opening, heard frames.Number) error {
 	if session := (frames.Number{Session: latest}); all.IsBefore(session) {
 		all = session
 	}
-	isAnothers := core.begun.Session == opening.Session && latest == opening.Session
+	isCurrent := core.begun.Session == latest // else the plugin has heard of a later one otherwise, as by a recovery
 	switch {
-	case opening.Session < latest, isAnothers, core.begun.List > opening.List:
+	case opening.Session < latest, isCurrent && core.begun.Session == opening.Session, isCurrent && core.begun.List > opening.List:
 		return ErrLater
 	case opening.IsUnknown:
 	case all.IsBefore(opening.Heard), opening.IsNew && heard != (frames.Number{}):

@@ -57,8 +57,9 @@ const (
 )
 
 // beside are the sides of a record in SQLite, whose file may have no other table: a file of their own, with the table beside. A commit that puts sides has
-// a number, which the record's file has as its user_version, modulo 2^31: it is made there after it was made here, where each side keeps the value before.
-// So what was here at the record's last commit is known, and a copy of one file alone is found.
+// a number, which the record's file has as its user_version, modulo 2^31. It is made in both files at once, and here each side keeps the value before. So
+// where a process ended between the two, what was here at the record's last commit is known, or is that of the commit before, of which nothing was told;
+// and a copy of one file alone is found, unless it is older by one commit.
 type beside struct {
 	path string
 	db   *sql.DB // nil while the file isn't there
@@ -94,10 +95,13 @@ func (beside *beside) open(ctx context.Context, record *sql.DB, makes bool) erro
 		db.Close()
 		return fmt.Errorf("%w: %s: %v", ErrNotOpened, beside.path, err)
 	}
-	if beside.made > 0 && beside.made%counts != mark {
+	switch mark {
+	case beside.made % counts:
+	case (beside.made + counts - 1) % counts:
 		beside.made-- // the last commit was made here alone
-	}
-	if beside.made%counts != mark {
+	case (beside.made + 1) % counts:
+		beside.made++ // it was made there alone
+	default:
 		db.Close()
 		return fmt.Errorf("%w: %s", ErrBeside, beside.path)
 	}
@@ -157,7 +161,7 @@ func (store *sqlite) Sides(ctx context.Context) (map[string][]byte, error) {
 	return store.beside.load(ctx)
 }
 
-// CommitWith puts sides beside the record, and then changes it.
+// CommitWith puts sides beside the record, and changes it, at once: each file has to reach the disk.
 func (store *sqlite) CommitWith(ctx context.Context, sides []Side, changes []Change) error {
 	if len(sides) == 0 {
 		return store.Commit(ctx, false, changes)
@@ -168,17 +172,18 @@ func (store *sqlite) CommitWith(ctx context.Context, sides []Side, changes []Cha
 			return err
 		}
 	}
-	if err := beside.put(ctx, sides); err != nil {
-		return fmt.Errorf("%w: %v", ErrDevice, err)
-	}
+	put := make(chan error, 1)
+	go func() { put <- beside.put(ctx, sides) }()
 	mark := fmt.Sprintf("PRAGMA user_version = %d", (beside.made+1)%counts)
 	err := store.commit(ctx, false, changes, func(tx *sql.Tx) error {
 		_, err := tx.ExecContext(ctx, mark)
 		return err
 	})
-	if err != nil {
-		return err
+	if failed := <-put; failed != nil && err == nil {
+		err = fmt.Errorf("%w: %v", ErrDevice, failed)
 	}
-	beside.made++
-	return nil
+	if err == nil {
+		beside.made++
+	}
+	return err
 }

@@ -69,7 +69,8 @@ func TestSides(t *testing.T) {
 	kept.Close()
 }
 
-// Where a process ended between the two commits, the sides are those of the record; of files of another time it is said so.
+// Where a process ended between the two commits, the sides are those of the record's last commit, or of the one before; of files of another time it is
+// said so.
 func TestOtherTimes(t *testing.T) {
 	folder := t.TempDir()
 	path := filepath.Join(folder, "s.db")
@@ -93,7 +94,7 @@ func TestOtherTimes(t *testing.T) {
 	}
 	kept.Close()
 	for _, it := range []struct{ record, beside, want string }{
-		{"3", "3", "3"}, {"2", "3", "2"}, {"1", "1", "1"}, {"1", "2", "1"}, {"1", "3", ""}, {"3", "2", ""}, {"3", "1", ""}, {"3", "", ""},
+		{"3", "3", "3"}, {"2", "3", "2"}, {"1", "1", "1"}, {"1", "2", "1"}, {"1", "3", ""}, {"3", "2", "2"}, {"3", "1", ""}, {"3", "", ""},
 	} {
 		os.WriteFile(path, copies[it.record], 0o600)
 		os.Remove(path + ".beside")
@@ -105,8 +106,11 @@ func TestOtherTimes(t *testing.T) {
 		if it.want == "" && !errors.Is(err, ErrBeside) || it.want != "" && (err != nil || string(sides["a"]) != it.want) {
 			t.Errorf("record %s with %s: %s, %v", it.record, it.beside, sides, err)
 		}
-		if it.record == "2" {
+		if it.want == "2" {
 			put(t, kept, "a", "4")
+			has(t, kept, "map[a:4]")
+			kept.Close()
+			kept = sided(t, path)
 			has(t, kept, "map[a:4]")
 		}
 		kept.Close()

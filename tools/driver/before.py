@@ -1,10 +1,9 @@
 """A driver before another one, which is a csi-driver too: what a client knows that has read CSI's spec.md alone, its words, and its store."""
 import subprocess
 
-from program.running import LIMIT, LeftOut, wanted
+from program.running import LIMIT, wanted
 
 from . import sanity
-from .mounting import own_namespace
 from .requests import attach, create, detach
 
 # Of sanity's groups those in which the upstream's refusal leaves nothing in the books that a later call meets, and nothing is listed.
@@ -35,11 +34,7 @@ class Before:
 
 def suite(numbers):
     def body(box):
-        try:
-            own_namespace()
-            hooks = "mounts"
-        except LeftOut:
-            hooks = "none"
+        hooks = sanity.hooks_here()
         calls = 0
         for group in GROUPS:
             before = Before(box)

@@ -230,13 +230,18 @@ def forget(box):
             os.remove(path)
 
 
+def hooks_here():
+    """Mounts, where they may be made."""
+    try:
+        own_namespace()
+        return "mounts"
+    except LeftOut:
+        return "none"
+
+
 def suite(numbers):
     def body(box):
-        try:
-            own_namespace()
-            hooks = "mounts"
-        except LeftOut:
-            hooks = "none"
+        hooks = hooks_here()
         calls = 0
         for group in GROUPS:
             client = Client(box, numbers, hooks)
