@@ -154,6 +154,47 @@ func (core *Core) askAll(group *group, plan plan) (asked, error) {
 	return result, nil
 }
 
+// allows asks a copy of the plugin, with the row of the calls' volume alone, whether the plugin would carry out calls that undo something: what it
+// answers to them hangs on nothing else.
+func (core *Core) allows(plan plan, known Known) (bool, error) {
+	if known.Row == nil {
+		return false, nil
+	}
+	record := store.Record([]store.Part{{Key: records.HeadKey, Value: core.parts[records.HeadKey]}, {Key: known.Volume, Value: known.Row}})
+	scratch, _, err := core.config.Make(record)
+	if errors.Is(err, store.ErrMemory) {
+		return false, errMemory
+	}
+	if err != nil {
+		return false, core.end(fmt.Errorf("a copy of the plugin: %w", err))
+	}
+	defer scratch.Free()
+	for _, it := range plan.steps {
+		reply, err := core.answerOf(scratch, it.request, it.number)
+		if err != nil {
+			return false, err
+		}
+		changes, err := scratch.Changes()
+		if err != nil {
+			return false, errMemory
+		}
+		if reply.Status != 0 || reply.Kind != it.request.Body.Kind() || !touches(changes, known.Volume) {
+			return false, nil
+		}
+	}
+	return true, nil
+}
+
+// touches says whether the volume's row was put in: each call that the fence let through is kept there, and no other.
+func touches(changes []store.Change, volume uint64) bool {
+	for _, change := range changes {
+		if change.Key == volume && !change.Out {
+			return true
+		}
+	}
+	return false
+}
+
 // keep keeps texts with the group's commit.
 func (core *Core) keep(group *group, texts []store.Text) {
 	if core.texts != nil && len(texts) > 0 {

@@ -37,6 +37,9 @@ const (
 	within     = 20 * time.Second // what should come soon
 )
 
+// noNodes is a configuration that lists none.
+const noNodes = `{"greatest":1099511627776,"nodes":[]}`
+
 // A box has an upstream, and a driver before it.
 type box struct {
 	testing.TB
@@ -55,7 +58,7 @@ type box struct {
 
 func newBox(t testing.TB, options upstream.Options) *box {
 	t.Helper()
-	box := &box{TB: t, folder: t.TempDir(), options: options, config: `{"greatest":1099511627776,"nodes":[]}`, end: func() {}}
+	box := &box{TB: t, folder: t.TempDir(), options: options, config: noNodes, end: func() {}}
 	box.behind = upstreamtest.Start(t, filepath.Join(box.folder, "upstream.sock"))
 	box.options.Address = "unix://" + filepath.Join(box.folder, "upstream.sock")
 	t.Cleanup(func() { box.end() })
@@ -196,10 +199,12 @@ const (
 	writers = wire.VolumeCapability_AccessMode_MULTI_NODE_MULTI_WRITER
 )
 
+var snapshot = &wire.VolumeContentSource_Snapshot{Snapshot: &wire.VolumeContentSource_SnapshotSource{SnapshotId: "s"}}
+
 func creates(name string, modes ...wire.VolumeCapability_AccessMode_Mode) *wire.CreateVolumeRequest {
 	request := &wire.CreateVolumeRequest{
 		Name: name, CapacityRange: &wire.CapacityRange{RequiredBytes: 10}, Parameters: map[string]string{"type": "fast"}, Secrets: map[string]string{"key": "k"},
-		VolumeContentSource:       &wire.VolumeContentSource{Type: &wire.VolumeContentSource_Snapshot{Snapshot: &wire.VolumeContentSource_SnapshotSource{SnapshotId: "s"}}},
+		VolumeContentSource:       &wire.VolumeContentSource{Type: snapshot},
 		AccessibilityRequirements: &wire.TopologyRequirement{Preferred: []*wire.Topology{{Segments: map[string]string{"zone": "z1"}}}},
 	}
 	if len(modes) == 0 {

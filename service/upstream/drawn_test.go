@@ -4,11 +4,9 @@ import (
 	"bytes"
 	"context"
 	"fmt"
-	"io"
 	"math/rand"
 	"os"
 	"os/exec"
-	"os/signal"
 	"path/filepath"
 	"reflect"
 	"sort"
@@ -23,70 +21,11 @@ import (
 	"google.golang.org/grpc/codes"
 	"google.golang.org/grpc/status"
 
-	"tufayon/service/etcd/etcdtest"
-	"tufayon/service/life"
 	"tufayon/service/numbering"
 	"tufayon/service/upstream"
 	"tufayon/service/upstream/upstreamtest"
 	"tufayon/service/wire"
 )
-
-// What the environment tells this program where it is a driver that a test runs, and kills: the box's folder, and that numbers come as metadata.
-const (
-	driverIn   = "TUFAYON_TEST_DRIVER"
-	byMetadata = "TUFAYON_TEST_METADATA"
-	etcdAt     = "TUFAYON_TEST_ENDPOINT"
-	socketIs   = "TUFAYON_TEST_SOCKET"
-	nodeIs     = "TUFAYON_TEST_NODE"
-)
-
-// TestMain is a driver, or the tests.
-func TestMain(m *testing.M) {
-	folder := os.Getenv(driverIn)
-	if folder == "" {
-		os.Exit(m.Run())
-	}
-	box := &box{folder: folder, options: upstream.Options{Address: "unix://" + filepath.Join(folder, "upstream.sock"), Node: os.Getenv(nodeIs)}, metadata: os.Getenv(byMetadata) != ""}
-	box.config, box.etcd, box.socket = `{"greatest":1099511627776,"nodes":[]}`, os.Getenv(etcdAt), os.Getenv(socketIs)
-	it, err := box.driver()
-	if err == nil {
-		it.Say = func(line string) { fmt.Println(line) }
-		ctx, _ := signal.NotifyContext(context.Background(), syscall.SIGTERM)
-		err = life.New(it).Run(ctx)
-	}
-	if err != nil {
-		fmt.Fprintln(os.Stderr, err)
-		os.Exit(1)
-	}
-}
-
-// run runs the driver as a process of its own, and waits until it serves, or waits to lead.
-func (box *box) run() *exec.Cmd {
-	box.Helper()
-	running := exec.Command(os.Args[0])
-	running.Env = append(os.Environ(), driverIn+"="+box.folder, etcdAt+"="+box.etcd, socketIs+"="+box.socket, nodeIs+"="+box.options.Node)
-	if box.metadata {
-		running.Env = append(running.Env, byMetadata+"=yes")
-	}
-	running.Stderr = os.Stderr
-	output, err := running.StdoutPipe()
-	if err == nil {
-		err = running.Start()
-	}
-	if err != nil {
-		box.Fatal(err)
-	}
-	box.Cleanup(func() { running.Process.Kill() })
-	if _, err := output.Read(make([]byte, 100)); err != nil {
-		box.Fatalf("the driver says nothing: %v", err)
-	}
-	go io.Copy(io.Discard, output)
-	if box.sockets == nil {
-		box.sockets = map[*exec.Cmd]string{}
-	}
-	box.sockets[running] = box.socket
-	return running
-}
 
 const (
 	clients  = 16
@@ -125,62 +64,6 @@ func TestDrawn(t *testing.T) {
 			return box.run()
 		})
 	}
-}
-
-// Two drivers over etcd before one upstream: where the one that leads is killed, or ends, the other one goes on, and all holds that is drawn above.
-func TestTakeovers(t *testing.T) {
-	box := newBox(t, upstream.Options{})
-	box.etcd = etcdtest.Start(t)
-	count := 1000
-	if set, err := strconv.Atoi(os.Getenv("TUFAYON_TEST_DRAWN")); err == nil {
-		count = set / 5
-	}
-	if err := os.Mkdir(filepath.Join(box.folder, "d"), 0o700); err != nil {
-		t.Fatal(err)
-	}
-	started, taken := 0, 0
-	start := func() *exec.Cmd {
-		started++
-		box.socket = filepath.Join(box.folder, fmt.Sprint("driver", started), "s")
-		return box.run() // it waits
-	}
-	lead := func(running *exec.Cmd) *exec.Cmd {
-		socket := box.sockets[running]
-		for until := time.Now().Add(within); ; time.Sleep(10 * time.Millisecond) {
-			probed, err := wire.NewIdentityClient(upstreamtest.Dial(t, socket)).Probe(soon(t), &wire.ProbeRequest{})
-			if err == nil && probed.GetReady() == nil { // the upstream's answer
-				break
-			}
-			if time.Now().After(until) {
-				t.Fatalf("it doesn't lead: %v, %v", probed, err)
-			}
-		}
-		link := filepath.Join(box.folder, "d", "csi.sock")
-		os.Remove(link)
-		if err := os.Symlink(socket, link); err != nil {
-			t.Fatal(err)
-		}
-		return running
-	}
-	first := lead(start())
-	second := start()
-	seed := time.Now().UnixNano()
-	t.Logf("seed %d", seed)
-	draw := rand.New(rand.NewSource(seed))
-	(&drawn{box: box, ids: map[string]string{}}).play(draw, count, first, func(running *exec.Cmd) *exec.Cmd {
-		if taken++; taken%3 == 0 {
-			running.Process.Signal(syscall.SIGTERM)
-		} else {
-			running.Process.Kill()
-		}
-		running.Wait()
-		running = lead(second)
-		second = start()
-		return running
-	})
-	second.Process.Kill()
-	second.Wait()
-	t.Logf("%d takeovers", taken)
 }
 
 // play has clients make so many calls, and kills the driver at times, as kill does, which gives the next one.
@@ -372,6 +255,15 @@ func (drawn *drawn) compare() {
 			}
 		}
 	}
+	drawn.settle(books, there)
+	if books, there = drawn.books(), drawn.behind.Attached(); !reflect.DeepEqual(books, there) {
+		drawn.Errorf("the books have %v, and the upstream has %v", books, there)
+	}
+}
+
+// settle asks again for what was under way, until the books and the upstream have to be the same.
+func (drawn *drawn) settle(books, there map[string][]string) {
+	drawn.Helper()
 	ctx, cancel := context.WithTimeout(context.Background(), within)
 	defer cancel()
 	again := 0
@@ -397,9 +289,6 @@ func (drawn *drawn) compare() {
 	for at := 0; at < names; at++ {
 		name := fmt.Sprint("v", at)
 		settles(createCall, creates(name, modeOf(name)))
-	}
-	if books, there = drawn.books(), drawn.behind.Attached(); !reflect.DeepEqual(books, there) {
-		drawn.Errorf("the books have %v, and the upstream has %v", books, there)
 	}
 }
 

@@ -4,6 +4,7 @@ import (
 	"context"
 	"fmt"
 	"os"
+	"os/exec"
 	"path/filepath"
 	"strconv"
 	"sync"
@@ -144,61 +145,20 @@ func each(t *testing.T, its eachCall, it outcome) {
 	for _, method := range its.before {
 		box.does(ctx, method, messages[method])
 	}
-	if it.kill != 0 {
-		running.Process.Kill()
-		running.Wait()
-		t.Setenv(killAt, fmt.Sprint(it.kill))
-		running = box.run()
-		os.Unsetenv(killAt)
-	}
-	var at sync.WaitGroup
-	at.Add(1)
-	var once sync.Once
-	box.behind.Set(func(string) upstreamtest.Fault { once.Do(at.Done); return it.fault })
-	short, cancel := context.WithTimeout(ctx, within)
-	if it.name == "late" {
-		short, cancel = context.WithTimeout(ctx, 100*time.Millisecond)
-	}
-	defer cancel()
-	ended := make(chan error, 1)
-	go func() {
-		_, _, err := upstreamtest.Call(short, box.client, its.method, messages[its.method], "first", grpc.WaitForReady(true))
-		ended <- err
-	}()
-	switch {
-	case it.kill != 0:
-		running.Wait()
-	case it.kills:
-		at.Wait()
-		time.Sleep(50 * time.Millisecond)
-		running.Process.Kill()
-		running.Wait()
-	}
-	if err := <-ended; err == nil {
-		t.Errorf("the first one is OK")
-	}
-	box.behind.Set(nil)
-	switch {
-	case it.kill != 0 || it.kills:
-		running = box.run()
-	case it.fault.Die:
-		box.behind.Restart()
-	}
+	running = box.fails(ctx, running, its, it)
 	// What may be there lets nothing else in: from the commit before what is done on, or to the one after what is undone.
 	stands := it.kill != -1
 	if its.undoes {
 		stands = it.kill != 1 && it.name != "late"
 	}
 	if other, is := others[its.method]; is && stands {
-		_, err := box.asks(ctx, other.method, other.message)
-		if status.Code(err) != codes.FailedPrecondition {
+		if _, err := box.asks(ctx, other.method, other.message); status.Code(err) != codes.FailedPrecondition {
 			t.Errorf("%s in between: %v", other.method, err)
 		}
 	}
-	for {
-		_, err := box.asks(ctx, its.method, messages[its.method])
-		if status.Code(err) != codes.Unavailable || ctx.Err() != nil {
-			break // the upstream is found again
+	for { // the upstream is found again
+		if _, err := box.asks(ctx, its.method, messages[its.method]); status.Code(err) != codes.Unavailable || ctx.Err() != nil {
+			break
 		}
 		time.Sleep(10 * time.Millisecond)
 	}
@@ -206,6 +166,53 @@ func each(t *testing.T, its eachCall, it outcome) {
 	box.settled(ctx, its.method)
 	running.Process.Signal(syscall.SIGTERM)
 	running.Wait()
+}
+
+// fails makes a call that comes to this, and gives the driver that runs afterwards.
+func (box *box) fails(ctx context.Context, running *exec.Cmd, its eachCall, it outcome) *exec.Cmd {
+	box.Helper()
+	if it.kill != 0 {
+		running.Process.Kill()
+		running.Wait()
+		os.Setenv(killAt, fmt.Sprint(it.kill))
+		running = box.run()
+		os.Unsetenv(killAt)
+	}
+	begun, once := make(chan struct{}), sync.Once{}
+	box.behind.Set(func(string) upstreamtest.Fault {
+		once.Do(func() { close(begun) })
+		return it.fault
+	})
+	patience := within
+	if it.name == "late" {
+		patience = 100 * time.Millisecond
+	}
+	short, cancel := context.WithTimeout(ctx, patience)
+	defer cancel()
+	ended := make(chan error, 1)
+	go func() {
+		_, _, err := upstreamtest.Call(short, box.client, its.method, messages[its.method], "first", grpc.WaitForReady(true))
+		ended <- err
+	}()
+	if it.kills {
+		<-begun
+		time.Sleep(50 * time.Millisecond)
+		running.Process.Kill()
+	}
+	if it.kills || it.kill != 0 {
+		running.Wait()
+	}
+	if err := <-ended; err == nil {
+		box.Errorf("the first one is OK")
+	}
+	box.behind.Set(nil)
+	if it.fault.Die {
+		box.behind.Restart()
+	}
+	if it.kills || it.kill != 0 {
+		return box.run()
+	}
+	return running
 }
 
 // asks makes a call once the driver is there.

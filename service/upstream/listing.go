@@ -142,10 +142,10 @@ func (server *server) list(ctx context.Context, raw []byte) (passing.Response, e
 	}
 	if hasList {
 		response, err := server.pass(ctx, listCall, raw)
-		if err != nil || hasNodes {
-			return response, err
+		if err == nil && !hasNodes {
+			err = server.addNodes(ctx, &response)
 		}
-		return response, server.addNodes(ctx, &response)
+		return response, err
 	}
 	var request wire.ListVolumesRequest
 	if err := proto.Unmarshal(raw, &request); err != nil {

@@ -119,7 +119,8 @@ func (upstream *Upstream) attach(request *wire.ControllerPublishVolumeRequest) (
 	mode := request.GetVolumeCapability().GetAccessMode().GetMode()
 	for node, other := range it.Attached {
 		if node != request.GetNodeId() && (singleNode[mode] || singleNode[other]) {
-			upstream.wrong = append(upstream.wrong, fmt.Sprintf("%s is attached at %s in %v, and at %s in %v", request.GetVolumeId(), node, other, request.GetNodeId(), mode))
+			wrong := fmt.Sprintf("%s is attached at %s in %v, and at %s in %v", request.GetVolumeId(), node, other, request.GetNodeId(), mode)
+			upstream.wrong = append(upstream.wrong, wrong)
 		}
 	}
 	it.Attached[request.GetNodeId()] = mode

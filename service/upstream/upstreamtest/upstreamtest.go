@@ -271,18 +271,23 @@ func (upstream *Upstream) queue(of string) func() {
 	return func() { <-queue }
 }
 
+func (upstream *Upstream) faultOf(method string) Fault {
+	upstream.mutex.Lock()
+	faulty := upstream.Fault
+	upstream.mutex.Unlock()
+	if faulty == nil {
+		return Fault{}
+	}
+	return faulty(method)
+}
+
 func (upstream *Upstream) answer(method string, request []byte, life int) ([]byte, error) {
 	deed, of, err := upstream.deed(method, request)
 	if err != nil {
 		return nil, err
 	}
 	defer upstream.queue(of)()
-	upstream.mutex.Lock()
-	faulty, fault := upstream.Fault, Fault{}
-	upstream.mutex.Unlock()
-	if faulty != nil {
-		fault = faulty(method)
-	}
+	fault := upstream.faultOf(method)
 	time.Sleep(fault.Before)
 	if upstream.Work != nil {
 		upstream.Work()
