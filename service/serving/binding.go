@@ -268,8 +268,8 @@ func (core *Core) loadTexts(ctx context.Context, parts []store.Part) ([]store.Te
 	return changes, nil
 }
 
-// commit commits what a group changed. Who keeps texts has no sides: no orchestrator begins sessions there.
-func (core *Core) commit(ctx context.Context, group *group) error {
+// put commits what a group changed. Who keeps texts has no sides: no orchestrator begins sessions there.
+func (core *Core) put(ctx context.Context, group *group) error {
 	if keeper, is := core.config.Store.(store.Keeper); is && len(group.texts) > 0 {
 		return keeper.CommitBoth(ctx, group.list(), group.texts)
 	}

@@ -152,7 +152,7 @@ func (core *Core) settle(group *group) {
 		}
 	}
 	if core.err == nil && (group.confirm || len(group.order)+len(group.texts)+len(group.sides) > 0) {
-		if err := core.commit(ctx, group); err != nil {
+		if err := core.put(ctx, group); err != nil {
 			core.err = err
 		}
 	}
