@@ -41,6 +41,14 @@ type Driver struct {
 	Upstream    *upstream.Proxy // the driver behind, to which calls go in place of all this; nil where there is none. Its store is a store.Keeper
 	Doors       []Door
 	Say         func(line string) // tells whoever runs it how far it is
+	Observer    Observer          // may be nil
+}
+
+// An Observer is told what a driver does.
+type Observer interface {
+	serving.Observer
+	// Serves tells that calls are answered from now on, by this core, or by none: nil.
+	Serves(core *serving.Core)
 }
 
 // A Door is where a driver is called.
@@ -182,7 +190,8 @@ func (life *Life) serve(ctx context.Context) error {
 // open makes the plugin of what the store has, and has the servers serve it.
 func (life *Life) open(ctx context.Context) error {
 	config := serving.Config{
-		Store: life.store, Numbering: life.driver.Numbering, MustBegin: life.driver.MustBegin, Texts: life.driver.Upstream != nil,
+		Store: life.store, Numbering: life.driver.Numbering, MustBegin: life.driver.MustBegin, Observer: life.driver.Observer,
+		Texts: life.driver.Upstream != nil,
 		Make: func(record []byte) (serving.Plugin, bool, error) {
 			made, renewed, err := life.driver.Maker.Make(record)
 			if err != nil {
@@ -211,6 +220,9 @@ func (life *Life) open(ctx context.Context) error {
 		}
 	}
 	life.backend.Serve(core)
+	if life.driver.Observer != nil {
+		life.driver.Observer.Serves(core)
+	}
 	return nil
 }
 
@@ -247,6 +259,9 @@ func (life *Life) endCore() error {
 	defer cancel()
 	life.core.Finish(ctx)
 	life.core.Close()
+	if life.driver.Observer != nil {
+		life.driver.Observer.Serves(nil)
+	}
 	return life.core.Err()
 }
 

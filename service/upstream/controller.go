@@ -20,9 +20,9 @@ func keyOfID(id string) string     { return "id/" + id }
 func keyOfName(name string) string { return "name/" + name }
 
 // create reads a CreateVolume.
-func (proxy *Proxy) create(call call) (serving.Request, error) {
+func (proxy *Proxy) create(call *call) (serving.Request, error) {
 	fit, asked := fitting{}, wire.CreateVolumeRequest{}
-	fit.read(call.raw, &asked)
+	fit.read(call, &asked)
 	body := frames.CreateVolume{Name: fit.text("name", asked.GetName(), frames.MaxName), Required: noRange}
 	if bounds := asked.GetCapacityRange(); bounds.GetRequiredBytes() != 0 || bounds.GetLimitBytes() != 0 {
 		fit.refuse("capacity", bounds.GetRequiredBytes() < 0 || bounds.GetLimitBytes() < 0)
@@ -77,9 +77,9 @@ func (proxy *Proxy) keepMade(view serving.View, volume uint64, name, short strin
 }
 
 // delete reads a DeleteVolume.
-func (proxy *Proxy) delete(call call) (serving.Request, error) {
+func (proxy *Proxy) delete(call *call) (serving.Request, error) {
 	fit, asked := fitting{}, wire.DeleteVolumeRequest{}
-	fit.read(call.raw, &asked)
+	fit.read(call, &asked)
 	id := fit.id(asked.GetVolumeId())
 	request := serving.Request{Kind: frames.DeleteVolumeKind, Key: keyOfID(id), Always: true}
 	request.Bind = func(view serving.View) (serving.Bound, error) {
@@ -93,9 +93,9 @@ func (proxy *Proxy) delete(call call) (serving.Request, error) {
 }
 
 // attach reads a ControllerPublishVolume.
-func (proxy *Proxy) attach(call call) (serving.Request, error) {
+func (proxy *Proxy) attach(call *call) (serving.Request, error) {
 	fit, asked := fitting{}, wire.ControllerPublishVolumeRequest{}
-	fit.read(call.raw, &asked)
+	fit.read(call, &asked)
 	id := fit.id(asked.GetVolumeId())
 	body := frames.ControllerPublishVolume{
 		Node:       fit.text("node_id", asked.GetNodeId(), frames.MaxNode),
@@ -141,9 +141,9 @@ func adopt(id string, before uint64, body frames.ControllerPublishVolume, table 
 }
 
 // detach reads a ControllerUnpublishVolume.
-func (proxy *Proxy) detach(call call) (serving.Request, error) {
+func (proxy *Proxy) detach(call *call) (serving.Request, error) {
 	fit, asked := fitting{}, wire.ControllerUnpublishVolumeRequest{}
-	fit.read(call.raw, &asked)
+	fit.read(call, &asked)
 	id, node := fit.id(asked.GetVolumeId()), ""
 	if asked.GetNodeId() != "" || call.isNumbered { // one number is one call
 		node = fit.text("node_id", asked.GetNodeId(), frames.MaxNode)

@@ -23,8 +23,8 @@ type fitting struct {
 }
 
 // read reads a request, whose fields that the proto doesn't know are nobody's business here.
-func (fitting *fitting) read(raw []byte, request proto.Message) {
-	if err := proto.Unmarshal(raw, request); err != nil {
+func (fitting *fitting) read(call *call, request proto.Message) {
+	if call.asked = request; proto.Unmarshal(call.raw, request) != nil {
 		fitting.err = status.Error(codes.Internal, "the request isn't one of this call")
 	}
 }

@@ -8,6 +8,7 @@ import (
 	"math"
 	"strings"
 
+	"github.com/golang/protobuf/proto"
 	"google.golang.org/grpc"
 	"google.golang.org/grpc/codes"
 	"google.golang.org/grpc/metadata"
@@ -25,11 +26,12 @@ const nobody = math.MaxUint64
 // A call is one of the eight, as it came.
 type call struct {
 	raw        []byte
-	isNumbered bool // it came with a number
+	isNumbered bool          // it came with a number
+	asked      proto.Message // what is known of it, once it is read
 }
 
 // undoes gives the volume of a controller's call that undoes something: nobody's, where the books don't have it. By arrival the plugin isn't asked then.
-func (call call) undoes(view serving.View, id string) (volume uint64, asks bool) {
+func (call *call) undoes(view serving.View, id string) (volume uint64, asks bool) {
 	if volume, there := view.Table().ID(id); there {
 		return volume, true
 	}
@@ -37,7 +39,7 @@ func (call call) undoes(view serving.View, id string) (volume uint64, asks bool)
 }
 
 // A reader reads a call as far as the plugin has to know it. What it refuses asks nobody.
-type reader func(*Proxy, call) (serving.Request, error)
+type reader func(*Proxy, *call) (serving.Request, error)
 
 var controllerCalls = map[string]reader{
 	"/csi.v1.Controller/CreateVolume":              (*Proxy).create,
@@ -75,12 +77,32 @@ func (server *server) guard(method string, stream grpc.ServerStream) error {
 		return err
 	}
 	return server.unary(stream, func(ctx context.Context, raw []byte) (passing.Response, error) {
-		request, err := read(proxy, call{raw: raw, isNumbered: numbers.IsIn(ctx)})
-		if err != nil {
-			return passing.Response{}, err
-		}
-		return proxy.carry(ctx, core, method, raw, request)
+		came := &call{raw: raw, isNumbered: numbers.IsIn(ctx)}
+		request, err := read(proxy, came)
+		response := passing.Response{}
+		err = proxy.watched(ctx, method, came.asked, func(ctx context.Context) error {
+			if err == nil {
+				response, err = proxy.carry(ctx, core, method, raw, request)
+			}
+			return err
+		})
+		return response, err
 	})
+}
+
+// Watch has each call of the eight seen by these, the first one outermost, with its request as far as it is known. It is called before there are any.
+func (proxy *Proxy) Watch(by ...grpc.UnaryServerInterceptor) { proxy.watch = by }
+
+// watched has a call seen by those who watch.
+func (proxy *Proxy) watched(ctx context.Context, method string, asked proto.Message, answer func(context.Context) error) error {
+	info := &grpc.UnaryServerInfo{FullMethod: method}
+	handle := func(ctx context.Context, _ any) (any, error) { return nil, answer(ctx) }
+	for at := len(proxy.watch) - 1; at >= 0; at-- {
+		it, inner := proxy.watch[at], handle
+		handle = func(ctx context.Context, request any) (any, error) { return it(ctx, request, info, inner) }
+	}
+	_, err := handle(ctx, asked)
+	return err
 }
 
 func (server *server) core() (*serving.Core, error) {

@@ -46,9 +46,9 @@ func (fitting *fitting) path(value string) {
 }
 
 // stage reads a NodeStageVolume.
-func (proxy *Proxy) stage(call call) (serving.Request, error) {
+func (proxy *Proxy) stage(call *call) (serving.Request, error) {
 	fit, asked := fitting{}, wire.NodeStageVolumeRequest{}
-	fit.read(call.raw, &asked)
+	fit.read(call, &asked)
 	id := fit.id(asked.GetVolumeId())
 	fit.path(asked.GetStagingTargetPath())
 	capability := atNode(fit.capability("volume_capability", asked.GetVolumeCapability()))
@@ -66,9 +66,9 @@ func (proxy *Proxy) atNode(kind frames.Kind, id, path string) serving.Request {
 }
 
 // unstage reads a NodeUnstageVolume.
-func (proxy *Proxy) unstage(call call) (serving.Request, error) {
+func (proxy *Proxy) unstage(call *call) (serving.Request, error) {
 	fit, asked := fitting{}, wire.NodeUnstageVolumeRequest{}
-	fit.read(call.raw, &asked)
+	fit.read(call, &asked)
 	id := fit.id(asked.GetVolumeId())
 	fit.path(asked.GetStagingTargetPath())
 	request := proxy.atNode(frames.NodeUnstageVolumeKind, id, asked.GetStagingTargetPath())
@@ -85,9 +85,9 @@ func (proxy *Proxy) unstage(call call) (serving.Request, error) {
 
 // publish reads a NodePublishVolume. One without a staging path is of an upstream that stages nothing: in the books the volume is staged with its first
 // publication.
-func (proxy *Proxy) publish(call call) (serving.Request, error) {
+func (proxy *Proxy) publish(call *call) (serving.Request, error) {
 	fit, asked := fitting{}, wire.NodePublishVolumeRequest{}
-	fit.read(call.raw, &asked)
+	fit.read(call, &asked)
 	id, path := fit.id(asked.GetVolumeId()), asked.GetStagingTargetPath()
 	fit.refuse("staging_target_path", len(path) > mostText)
 	body := frames.NodePublishVolume{
@@ -109,9 +109,9 @@ func (proxy *Proxy) publish(call call) (serving.Request, error) {
 }
 
 // unpublish reads a NodeUnpublishVolume. A volume that was staged with its first publication is unstaged with its last one.
-func (proxy *Proxy) unpublish(call call) (serving.Request, error) {
+func (proxy *Proxy) unpublish(call *call) (serving.Request, error) {
 	fit, asked := fitting{}, wire.NodeUnpublishVolumeRequest{}
-	fit.read(call.raw, &asked)
+	fit.read(call, &asked)
 	id, target := fit.id(asked.GetVolumeId()), fit.text("target_path", asked.GetTargetPath(), frames.MaxTarget)
 	request := proxy.atNode(frames.NodeUnpublishVolumeKind, id, "")
 	request.Always = true

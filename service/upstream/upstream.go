@@ -44,6 +44,7 @@ type Proxy struct {
 	nodes   *nodes // of a controller; only the plugin's goroutine has it
 	lost    map[string]bool
 	count   atomic.Int64 // of nodes
+	watch   []grpc.UnaryServerInterceptor
 
 	mutex sync.Mutex
 	made  map[string]string // the upstream's ids of volumes, by the plugin's names of them
