@@ -4,7 +4,6 @@ import (
 	"context"
 	"crypto/sha256"
 	"encoding/json"
-	"errors"
 	"math"
 	"strings"
 
@@ -166,9 +165,5 @@ func whole(ctx context.Context, core *serving.Core, reply frames.Reply) string {
 	return detail
 }
 
-// errBroken says that the upstream does what CSI forbids.
-var errBroken = errors.New("the upstream")
-
-func broken(text string) error {
-	return status.Error(codes.Internal, errBroken.Error()+": "+text)
-}
+// broken refuses what the upstream does, and CSI forbids.
+func broken(text string) error { return status.Error(codes.Internal, "the upstream: "+text) }

@@ -48,7 +48,6 @@ type Proxy struct {
 
 	mutex sync.Mutex
 	made  map[string]string // the upstream's ids of volumes, by the plugin's names of them
-	makes map[string]int    // how many calls make a volume of a name
 }
 
 // New makes a proxy, which connects to its upstream once there are calls, and again where it is gone.
@@ -61,7 +60,7 @@ func New(options Options) (*Proxy, error) {
 	if err != nil {
 		return nil, fmt.Errorf("the upstream %s: %w", options.Address, err)
 	}
-	proxy := &Proxy{options: options, behind: connection, lost: map[string]bool{}, made: map[string]string{}, makes: map[string]int{}}
+	proxy := &Proxy{options: options, behind: connection, lost: map[string]bool{}, made: map[string]string{}}
 	for _, it := range options.Lost {
 		proxy.lost[it] = true
 	}
