@@ -39,6 +39,14 @@ type Driver struct {
 	MaxVolumes  int64       // as NodeGetInfo tells it
 	Doors       []Door
 	Say         func(line string) // tells whoever runs it how far it is
+	Observer    Observer          // may be nil
+}
+
+// An Observer is told what a driver does.
+type Observer interface {
+	serving.Observer
+	// Serves tells that calls are answered from now on, by this core, or by none: nil.
+	Serves(core *serving.Core)
 }
 
 // A Door is where a driver is called.
@@ -170,7 +178,7 @@ func (life *Life) serve(ctx context.Context) error {
 // open makes the plugin of what the store has, and has the servers serve it.
 func (life *Life) open(ctx context.Context) error {
 	config := serving.Config{
-		Store: life.store, Numbering: life.driver.Numbering, MustBegin: life.driver.MustBegin,
+		Store: life.store, Numbering: life.driver.Numbering, MustBegin: life.driver.MustBegin, Observer: life.driver.Observer,
 		Make: func(record []byte) (serving.Plugin, bool, error) {
 			made, renewed, err := life.driver.Maker.Make(record)
 			if err != nil {
@@ -194,6 +202,9 @@ func (life *Life) open(ctx context.Context) error {
 	}
 	life.core = core
 	life.backend.Serve(core)
+	if life.driver.Observer != nil {
+		life.driver.Observer.Serves(core)
+	}
 	return nil
 }
 
@@ -230,6 +241,9 @@ func (life *Life) endCore() error {
 	defer cancel()
 	life.core.Finish(ctx)
 	life.core.Close()
+	if life.driver.Observer != nil {
+		life.driver.Observer.Serves(nil)
+	}
 	return life.core.Err()
 }
 

@@ -119,7 +119,7 @@ func (core *Core) act(key key, request Request, known Known, joined *act) ([]byt
 	it := &act{request: request, number: known.Number, volume: known.Volume}
 	core.acts.begin(key, it)
 	var err error
-	it.gave, err = request.Act(core.acting, known)
+	it.gave, err = core.acted(request, known)
 	core.acts.end(key, it, err == nil)
 	return it.gave, err
 }
@@ -133,7 +133,7 @@ func (core *Core) undo(ctx context.Context, request Request) (Answer, error) {
 	}
 	if acts {
 		core.acts.forget(known.Volume)
-		gave, err := request.Act(core.acting, known)
+		gave, err := core.acted(request, known)
 		if err != nil {
 			return Answer{}, noReply(err)
 		}

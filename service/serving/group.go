@@ -68,6 +68,7 @@ func (core *Core) run(ctx context.Context, opened chan<- error) {
 	defer close(core.done)
 	err := core.load(ctx)
 	if err == nil {
+		core.count()
 		core.source, err = core.config.Numbering(core.latest())
 	}
 	opened <- err
@@ -125,15 +126,14 @@ func (core *Core) carryOut(jobs []*job) {
 
 // settle commits what a group changed, where each is staged before all else, tells its jobs so, and empties it.
 func (core *Core) settle(group *group) {
-	ctx := context.Background()
 	if core.err == nil && len(group.notes) > 0 {
 		notes := append(core.paths.Late(), group.notes...)
-		if err := core.notes.Commit(ctx, notes); err != nil {
+		if err := core.notes.Commit(context.Background(), notes); err != nil {
 			core.err = err
 		}
 	}
 	if core.err == nil && (group.confirm || len(group.order)+len(group.sides) > 0) {
-		if err := store.CommitWith(ctx, core.config.Store, group.sides, group.list()); err != nil {
+		if err := core.commit(group); err != nil {
 			core.err = err
 		}
 	}
@@ -303,6 +303,9 @@ func (core *Core) ask(group *group, request Request, number frames.Number) (aske
 	result := asked{known: core.known(number, volume), isFresh: touches(changes, volume)}
 	result.isAnothers = reply.Kind != request.Body.Kind() || !core.isLast(volume, number, request, result.isFresh)
 	result.isOK = reply.Status == 0 && !result.isAnothers
+	if result.isOK && !result.isFresh && result.known.Row != nil {
+		core.config.Observer.Repeated(reply.Kind)
+	}
 	group.add(changes)
 	core.apply(changes)
 	result.answer = Answer{Reply: reply, Row: core.known(number, volume).Row}

@@ -44,8 +44,9 @@ type Config struct {
 	Store     store.Store
 	Notes     func(context.Context) (Notes, error) // opens them, once the plugin is made; nil of a controller
 	Numbering Numbering
-	MustBegin bool // no call is taken of a session that wasn't begun (Begin)
-	Calls     int  // how many may wait or be under way: 0 for 2,048
+	MustBegin bool     // no call is taken of a session that wasn't begun (Begin)
+	Calls     int      // how many may wait or be under way: 0 for 2,048
+	Observer  Observer // may be nil
 }
 
 // A Request is a call, and what the driver does besides. Judge and Act may be nil.
@@ -90,6 +91,8 @@ var (
 
 // A Core is a plugin over its store. It has one goroutine, bound to its thread, which makes all calls of the plugin.
 type Core struct {
+	counts counts
+
 	config Config
 	source numbers.Source
 	turns  turns
@@ -121,6 +124,9 @@ type Core struct {
 func Open(ctx context.Context, config Config) (*Core, error) {
 	if config.Calls == 0 {
 		config.Calls = usualCalls
+	}
+	if config.Observer == nil {
+		config.Observer = unobserved{}
 	}
 	core := &Core{
 		config: config, jobs: make(chan *job), stop: make(chan struct{}), done: make(chan struct{}), idle: make(chan struct{}),
