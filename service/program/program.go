@@ -13,8 +13,6 @@ import (
 	"strings"
 	"time"
 
-	"go.uber.org/zap"
-
 	"tufayon/service/carrying"
 	"tufayon/service/etcd"
 	"tufayon/service/numbers"
@@ -77,13 +75,6 @@ func Checked(output io.Writer, file, set string, name secure.Name, until time.Ti
 	if !until.IsZero() {
 		fmt.Fprintf(output, "the certificate of %v is valid until %v\n", name, until)
 	}
-}
-
-// Logger writes lines of JSON to standard error, all of them.
-func Logger() (*zap.Logger, error) {
-	config := zap.NewProductionConfig()
-	config.Sampling, config.DisableCaller, config.DisableStacktrace = nil, true, true
-	return config.Build()
 }
 
 // OpenStore opens a process's store, and waits until the process leads where that is in etcd. There it says where it is.

@@ -83,7 +83,9 @@ func ReadPlugin(file string, role secure.Role) (*PluginSettings, error) {
 	return settings, nil
 }
 
-// plugin is this one's name among them.
+// Name is this plugin's among them: controller, or node: and the id.
+func (settings *PluginSettings) Name() string { return settings.plugin() }
+
 func (settings *PluginSettings) plugin() string {
 	if settings.Role == secure.Node {
 		return carrying.NodeName(settings.Plugin.Node)

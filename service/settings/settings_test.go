@@ -42,6 +42,9 @@ func TestRead(t *testing.T) {
 	if config := string(read.Set.Config()); config != `{"greatest":1000,"nodes":[{"id":"n1","slots":3},{"id":"n2","slots":4}]}`+"\n" {
 		t.Errorf("CONFIG is %s", config)
 	}
+	if read.Process.History != read.Process.Store+".history" {
+		t.Errorf("the history is %s", read.Process.History)
+	}
 	if read.Process.Store != filepath.Join(filepath.Dir(file), "orchestrator.db") || read.Set.Times.Patience != 300 || read.Process.Calls.Node != 32 {
 		t.Errorf("%+v", read)
 	}
@@ -86,6 +89,11 @@ func TestFaults(t *testing.T) {
 		}},
 		{set, `{"set": "set.json", "listen": ":7101", "etcd": {"endpoints": ["e"], "prefix": "p", "lease": 1}, "certificate": "c", "key": "k", "authorities": "a"}`,
 			[]string{`process.json: address: ":7101" is neither`}},
+		{set, `{"set": "set.json", "store": "s", "listen": "unix:///o", "watch": "10.0.0.1:9480", "log": "loud"}`, []string{
+			`process.json: watch: "10.0.0.1:9480" isn't on loopback`, `process.json: log: "loud" is none of debug, info, warn, error`,
+		}},
+		{set, `{"set": "set.json", "store": "s", "listen": "unix:///o", "watch": "unix:///o"}`, []string{`process.json: watch: "unix:///o" is that of listen too`}},
+		{set, `{"set": "set.json", "store": "s", "listen": "unix:///o", "watch": ":9480", "log": "war"}`, []string{`watch: ":9480" is neither`, `isn't on loopback`, `log: "war"`}},
 		{set, `{"set": "set.json", "listen": "unix:///o"}`, []string{"process.json: store: either this file is there, or etcd"}},
 		{set, `{"set": "set.json", "listen": "unix:///o", "store": "s", "etcd": {"ca": "ca.pem"}}`, []string{
 			"store: either", "etcd.endpoints: there are none", "etcd.prefix: it is missing", "etcd.certificate: ca, certificate and key", "etcd.lease: 0 isn't above 0",

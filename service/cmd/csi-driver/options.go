@@ -12,11 +12,13 @@ import (
 	"strings"
 	"time"
 
+	"tufayon/service/carrying"
 	"tufayon/service/driver"
 	"tufayon/service/etcd"
 	"tufayon/service/life"
 	"tufayon/service/numbers"
 	"tufayon/service/plugin"
+	"tufayon/service/program"
 	"tufayon/service/secure"
 	"tufayon/service/settings"
 	"tufayon/service/store"
@@ -39,6 +41,8 @@ type options struct {
 
 	etcd etcd.Config // of a controller
 
+	watch, log string // where metrics are served, and the least level of a log of calls: nothing where they are empty
+
 	maxVolumes int64 // of a node
 	hooks      string
 }
@@ -55,6 +59,8 @@ func parse(words []string) (*options, error) {
 	source := flags.String("numbers", "metadata", "metadata, or arrival")
 	flags.StringVar(&options.name, "name", settings.UsualName, "the plugin's name")
 	flags.Uint64Var(&options.mostAbove, "sessions-above", settings.UsualAbove, "how far a call's session may be above the latest one; 0 for any")
+	flags.StringVar(&options.watch, "watch", "", "where metrics are served: unix://PATH, or HOST:PORT on loopback")
+	flags.StringVar(&options.log, "log", "", "has a line for each call: debug, info, warn or error")
 	endpoints := ""
 	if options.maker.IsController {
 		options.addController(flags, &endpoints)
@@ -175,6 +181,25 @@ func (options *options) driver() life.Driver {
 		fmt.Fprintf(os.Stderr, "csi-driver: %s\n", line)
 	}
 	return it
+}
+
+// watched is what the options say, with what is to be told of it, and what ends that.
+func (options *options) watched() (life.Driver, func(), error) {
+	it := options.driver()
+	if options.watch == "" && options.log == "" {
+		return it, func() {}, nil
+	}
+	plugin := carrying.Controller
+	if !it.Maker.IsController {
+		plugin = carrying.NodeName(string(it.Maker.Name))
+	}
+	told, more, end, err := program.WatchPlugin("csi-driver", plugin, options.watch, options.log)
+	if err != nil {
+		return it, nil, err
+	}
+	it.Observer = told
+	it.Doors[0].Options = append(it.Doors[0].Options, more...)
+	return it, end, nil
 }
 
 // deeds say what does what calls ask for.
