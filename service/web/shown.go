@@ -2,6 +2,7 @@ package web
 
 import (
 	"sort"
+	"strings"
 
 	"tufayon/service/carrying"
 	"tufayon/service/history"
@@ -106,7 +107,7 @@ func (source *Source) plugins(leads *host.Host) []plugin {
 	}
 	sort.Strings(rest)
 	for _, name := range rest {
-		add(name, name[len(carrying.NodeName("")):], states[name])
+		add(name, strings.TrimPrefix(name, carrying.NodeName("")), states[name])
 	}
 	return list
 }
