@@ -34,7 +34,7 @@ const (
 	deleteCall = "/csi.v1.Controller/DeleteVolume"
 	attachCall = "/csi.v1.Controller/ControllerPublishVolume"
 	detachCall = "/csi.v1.Controller/ControllerUnpublishVolume"
-	within     = 20 * time.Second // what should come soon
+	within     = 60 * time.Second // what should come soon, on a machine that is busy
 )
 
 // noNodes is a configuration that lists none.
