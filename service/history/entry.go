@@ -34,6 +34,7 @@ type Entry struct {
 
 	// IsCut says that something is missing between this and what the volume was like later: it is told, and is no part of a schedule.
 	IsCut bool                    `json:"cut,omitempty"`
+	line  []byte                  // as the file has it, once it is known
 	Rows  map[string]*records.Row `json:"rows,omitempty"` // of a session or a loss: as the volumes are then that it changed; null of names that are free
 }
 

@@ -79,12 +79,13 @@ func (made *History) read(content []byte) error {
 	return nil
 }
 
-func (it *file) write(entry Entry) {
+// write writes a line, unless the file is to be written anew.
+func (it *file) write(line []byte) {
 	if it.err != nil || it.isStale {
 		return
 	}
 	it.lines++
-	it.buffer.Write(encode(entry)) // it remembers what fails, until it is flushed
+	it.buffer.Write(line) // it remembers what fails, until it is flushed
 	it.buffer.WriteByte('\n')
 }
 
@@ -112,13 +113,17 @@ func (made *History) rewrite() error {
 		return err
 	}
 	buffer := bufio.NewWriterSize(anew, 64<<10)
-	write := func(value any) {
-		buffer.Write(encode(value))
+	write := func(line []byte) {
+		buffer.Write(line)
 		buffer.WriteByte('\n')
 	}
-	write(head{Version: fileVersion, Before: made.before, Base: made.base})
+	write(encode(head{Version: fileVersion, Before: made.before, Base: made.base}))
 	for at := range made.entries {
-		write(&made.entries[at])
+		entry := &made.entries[at]
+		if entry.line == nil {
+			entry.line = encode(entry)
+		}
+		write(entry.line)
 	}
 	if err = buffer.Flush(); err == nil {
 		err = os.Rename(it.path+".new", it.path)

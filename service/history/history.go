@@ -123,10 +123,11 @@ func (made *History) keep(batch []host.Happening) {
 		} else if before := batch[at].Before; !same(made.rows[entry.Name], before) {
 			made.cut(map[string]*records.Row{entry.Name: before})
 		}
-		made.add(entry)
 		if made.file != nil {
-			made.file.write(entry)
+			entry.line = encode(&entry)
+			made.file.write(entry.line)
 		}
+		made.add(entry)
 	}
 	if made.file != nil {
 		made.save()
@@ -210,10 +211,13 @@ func (made *History) cut(begin map[string]*records.Row) {
 	for at := range made.entries {
 		entry := &made.entries[at]
 		if _, isCut := begin[entry.Name]; isCut {
-			entry.IsCut = true
+			entry.IsCut, entry.line = true, nil
 		}
 		for name := range begin {
-			delete(entry.Rows, name)
+			if _, isThere := entry.Rows[name]; isThere {
+				delete(entry.Rows, name)
+				entry.line = nil
+			}
 		}
 	}
 	for name, row := range begin {

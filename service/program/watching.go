@@ -4,6 +4,9 @@ import (
 	"context"
 	"fmt"
 	"net"
+	"os"
+	"path/filepath"
+	"strings"
 	"time"
 
 	"go.uber.org/zap"
@@ -103,6 +106,11 @@ func WatchPlugin(program, plugin string, behind *upstream.Proxy, address, level 
 	}
 	if behind != nil {
 		watchUpstream(behind, told, log)
+	}
+	if carrying.IsLocal(address) { // the folder may be the endpoint's, which is this user's alone
+		if err := os.MkdirAll(filepath.Dir(strings.TrimPrefix(address, "unix://")), 0o700); err != nil {
+			return nil, nil, nil, err
+		}
 	}
 	end, err := Watch{Address: address, May: IsOwn, Log: log}.Serve(web.Options{Metrics: told.Handler(), Ready: told.Ready})
 	return told, watchedOptions(told, log), end, err

@@ -6,6 +6,8 @@ import (
 	"fmt"
 	"io"
 	"net/http"
+	"os"
+	"path/filepath"
 	"strings"
 	"testing"
 	"time"
@@ -66,9 +68,13 @@ func TestWatchWords(t *testing.T) {
 			t.Errorf("%v: %v", it, err)
 		}
 	}
-	told, options, end, err := WatchPlugin("csi-driver", "controller", nil, "unix://"+t.TempDir()+"/watch", "")
+	folder := filepath.Join(t.TempDir(), "endpoint")
+	told, options, end, err := WatchPlugin("csi-driver", "controller", nil, "unix://"+folder+"/watch", "")
 	if err != nil || told == nil || len(options) == 0 {
 		t.Fatalf("at a socket: %v", err)
 	}
-	end()
+	defer end()
+	if found, err := os.Stat(folder); err != nil || found.Mode().Perm() != 0o700 {
+		t.Errorf("the folder: %v, %v", found, err)
+	}
 }

@@ -129,7 +129,8 @@ func TestEvents(t *testing.T) {
 		return len(it.Plugins) == 3 && it.Plugins[0].Name == "controller" && it.Plugins[2].Name == "node:n2"
 	})
 	wait("all volumes", func(it said) bool { return it.Whole && len(it.Volumes) == 1 && it.Volumes[0].Name == "v\n<b>\"" })
-	wait("what happened", func(it said) bool { return len(it.Entries) == 3 })
+	entries := 0
+	wait("what happened", func(it said) bool { entries += len(it.Entries); return entries == 3 })
 	made.does(use("v\n<b>\"", "n2", "/a"))
 	wait("a change", func(it said) bool {
 		return len(it.Volumes) == 1 && len(it.Volumes[0].At) == 1 && it.Volumes[0].At[0].Node == "n2"
