@@ -114,6 +114,10 @@ class Compared:
         self.replay.limit.start()
         self.driver = self.begin()
         self.capacities = {}
+        self.live = {}  # whether each volume that a controller made is there; those that it has forgotten aren't listed
+        self.heard = 0  # the latest session
+        self.last = {}  # of each volume the number and the frame of its last call, as far as this driver has seen it
+        self.unsure = {}  # of volumes the number of a call of which it isn't known whether this driver, or the one before, has seen it first
         self.statuses = {}
         self.lost = 0  # calls that got no reply, since the driver was killed
 
@@ -125,6 +129,9 @@ class Compared:
         kind, at, frame, request = self.drawing.draw()
         of_kind, status, volume, detail = reply_to(self.replay, frame)
         right = (status, detail) if of_kind == frames.KINDS[kind] else (9, "number")
+        about = volume or int(getattr(request, "volume_id", 0))
+        if self.is_others(kind, at, frame, about, right):
+            right = (9, "number")
         call = self.driver.start(kind, request, at)
         if killed is not None:
             timer = threading.Timer(killed, lambda: self.driver.process.send_signal(signal.SIGKILL))
@@ -133,15 +140,35 @@ class Compared:
             timer.join()
             self.driver.kill()
             self.driver = self.begin()
+            self.last.clear()
             if came[0] == 14:
                 self.lost += 1
                 came = self.driver.ask(kind, request, at)
+                self.unsure[about] = at
         else:
             came = ended(call)
+        if self.unsure.get(about) == at and came[:2] == (9, "number"):
+            right = (9, "number")
         wanted(f"call {self.drawing.count}, {kind} {at}: {request!s}", came[:2], right)
         self.statuses[right] = self.statuses.get(right, 0) + 1
         if kind == "CreateVolume" and right[0] == 0:
             self.made(request, volume, came[2])
+
+    def is_others(self, kind, at, frame, volume, right):
+        """Whether a call has the number of the volume's last one, which was another. A controller knows the last call only of volumes that it made."""
+        if at[0] > self.heard:
+            self.heard = at[0]
+            self.live = {it: is_live for it, is_live in self.live.items() if is_live}
+        if kind == "CreateVolume" and right[0] == 0:
+            self.live.setdefault(volume, True)
+        elif kind == "DeleteVolume" and right[0] == 0 and volume in self.live:
+            self.live[volume] = False
+        if right[0] == 10 or not volume or not self.of_node and volume not in self.live:
+            return False
+        number, last = self.last.get(volume, (None, None))
+        if number is None or at > number:
+            self.last[volume] = at, frame
+        return number == at and last != frame
 
     def made(self, request, volume, response):
         bounds = request.capacity_range

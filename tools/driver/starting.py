@@ -165,7 +165,7 @@ def client(box):
         (["CreateVolume", asked], 9, "", 'csi-client: 9 FailedPrecondition "number"\n'),
         (["Probe"], 0, '{"ready":true}\n', ""),
         (["-number", "1.2", "DeleteVolume", '{"volumeId":"1"}'], 0, "{}\n", ""),
-        (["ListVolumes"], 12, "", 'csi-client: 12 Unimplemented "no call ListVolumes"\n'),
+        (["ListSnapshots"], 12, "", 'csi-client: 12 Unimplemented "no call ListSnapshots"\n'),
         (["Probe", "{}", "{}"], 64, "", usage),
         (["-other", "Probe"], 64, "", usage),
     ):

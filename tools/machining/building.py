@@ -5,11 +5,12 @@ import shutil
 import subprocess
 
 HERE = os.path.dirname(os.path.abspath(__file__))
-NEEDED = ("ip", "unshare", "etcd", "openssl", "mount", "protoc", "protoc-gen-go", "go", "cc", "rt")
+NEEDED = ("ip", "setpriv", "unshare", "etcd", "openssl", "mount", "protoc", "protoc-gen-go", "go", "cc", "rt")
 SOURCES = "/usr/share/gocode/src"
 PACKAGES = ("google.golang.org/grpc", "go.etcd.io/etcd/clientv3", "github.com/mattn/go-sqlite3", "github.com/spf13/cobra", "go.uber.org/zap", "golang.org/x/sys/unix")
 TRY = "mount -t tmpfs tmpfs /run && ip netns add h1 && ip tuntap add dev wire0 mode tap && ip link set wire0 netns h1"
-SPACES = ("unshare", "--net", "--mount", "--pid", "--fork", "--mount-proc", "--kill-child")  # of a run
+# What a run is started with: namespaces of its own, with which all of it goes, also where the one who started it is killed.
+SPACES = ("setpriv", "--pdeathsig", "KILL", "unshare", "--net", "--mount", "--pid", "--fork", "--mount-proc", "--kill-child")
 
 
 def missing():
@@ -59,6 +60,12 @@ class Edit:
         return before
 
 
+def put_back(files):
+    for path, text in files.items():
+        with open(path, "w", encoding="utf-8") as it:
+            it.write(text)
+
+
 class Building:
     """The programs in a folder: `programs` as they are, and those with an edit below `broken`."""
 
@@ -91,12 +98,16 @@ class Building:
             names = "tufayon-orchestrator tufayon-controller tufayon-node tufayonctl"
             self.go(f'cd "$1/go/src/tufayon/service"; for it in {names}; do in_turn go build -o "$2/$it" "./cmd/$it"; done', self.folder, built)
         finally:
-            for path, text in before.items():
-                with open(path, "w", encoding="utf-8") as it:
-                    it.write(text)
+            put_back(before)
         if not os.path.exists(self.wire):
             self.go('cd "$top/tools/machining/wire"; test -z "$(gofmt -l .)"; go vet .; go build -o "$3" .', self.folder, self.library, self.wire)
         return built
+
+    def try_edits(self):
+        """Tries that each edit can be applied, and builds nothing."""
+        self.lay_out()
+        for name in os.listdir(f"{HERE}/broken"):
+            put_back(Edit(name.removesuffix(".edit")).apply(self.tree))
 
     def go(self, script, folder, *words):
         self.run(f'service_environment "$1/go" "{self.library}"; {script}', folder, *words)

@@ -1,0 +1,100 @@
+package life
+
+import (
+	"context"
+	"errors"
+	"net"
+	"path/filepath"
+	"strings"
+	"testing"
+	"time"
+
+	"google.golang.org/grpc"
+	"google.golang.org/grpc/codes"
+	"google.golang.org/grpc/metadata"
+	"google.golang.org/grpc/status"
+
+	"tufayon/service/driver"
+	"tufayon/service/numbers"
+	"tufayon/service/plugin"
+	"tufayon/service/store"
+	"tufayon/service/wire"
+)
+
+const within = 10 * time.Second // what should come soon
+
+// lived runs a node over a file of a folder, until the test ends, or what it gives is called, which gives what it ended by; and a client of it.
+func lived(t *testing.T, folder, id string) (*Life, wire.NodeClient, func() error) {
+	t.Helper()
+	socket, said := filepath.Join(folder, "d", "s"), make(chan string, 9)
+	life := New(Driver{
+		Program: "a test", Name: "a.example", Maker: plugin.Maker{Name: []byte(id)}, Numbering: ByMetadata(1000), Notes: filepath.Join(folder, "n.db.driver"),
+		Open: func(ctx context.Context) (store.Store, error) {
+			return store.OpenSQLite(ctx, filepath.Join(folder, "n.db"))
+		},
+		Doors: []Door{{Address: socket, Listen: func() (net.Listener, error) { return driver.Listen(socket) }}},
+		Say:   func(line string) { said <- line },
+	})
+	ctx, stop := context.WithCancel(context.Background())
+	ended := make(chan error, 1)
+	go func() { ended <- life.Run(ctx) }()
+	end := func() error {
+		stop()
+		err := <-ended
+		ended <- err
+		return err
+	}
+	t.Cleanup(func() { end() })
+	select {
+	case line := <-said:
+		if line != "serves at "+socket {
+			t.Fatal(line)
+		}
+	case err := <-ended:
+		ended <- err
+		return life, nil, end
+	}
+	connection, err := grpc.Dial("unix://"+socket, grpc.WithInsecure())
+	if err != nil {
+		t.Fatal(err)
+	}
+	t.Cleanup(func() { connection.Close() })
+	return life, wire.NewNodeClient(connection), end
+}
+
+func stage(client wire.NodeClient, number string) error {
+	ctx, cancel := context.WithTimeout(metadata.AppendToOutgoingContext(context.Background(), numbers.Key, number), within)
+	defer cancel()
+	_, err := client.NodeStageVolume(ctx, &wire.NodeStageVolumeRequest{VolumeId: "1", StagingTargetPath: "/s", VolumeCapability: &wire.VolumeCapability{
+		AccessType: &wire.VolumeCapability_Block{Block: &wire.VolumeCapability_BlockVolume{}},
+		AccessMode: &wire.VolumeCapability_AccessMode{Mode: wire.VolumeCapability_AccessMode_SINGLE_NODE_WRITER},
+	}})
+	return err
+}
+
+// A plugin is made anew while it is served; one that can't be made of the record, or at all, leaves the one that was.
+func TestRemake(t *testing.T) {
+	folder := t.TempDir()
+	life, client, end := lived(t, folder, "n1")
+	if err := stage(client, "1.1"); err != nil {
+		t.Fatal(err)
+	}
+	for id, want := range map[string]error{"n1": nil, "n2": plugin.BadRecord, strings.Repeat("n", 256): plugin.BadName} {
+		err := life.Remake(context.Background(), plugin.Maker{Name: []byte(id)})
+		if !errors.Is(err, want) {
+			t.Errorf("as %s: %v, not %v", id, err, want)
+		}
+		if err := stage(client, "1.1"); err != nil {
+			t.Errorf("after it was made as %s: %v", id, err)
+		}
+	}
+	if err := stage(client, "0.9"); status.Code(err) != codes.Aborted {
+		t.Errorf("a call of before: %v", err)
+	}
+	if err := end(); err != nil {
+		t.Errorf("it ended by %v", err)
+	}
+	if _, _, end := lived(t, folder, "n2"); !errors.Is(end(), plugin.BadRecord) {
+		t.Error("another node's record")
+	}
+}
