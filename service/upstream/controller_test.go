@@ -4,6 +4,7 @@ import (
 	"context"
 	"fmt"
 	"strings"
+	"sync"
 	"testing"
 	"time"
 
@@ -122,27 +123,39 @@ func TestFailed(t *testing.T) {
 func TestWaitedFor(t *testing.T) {
 	box, ctx := newBox(t, upstream.Options{}).start(), soon(t)
 	id := box.made(ctx, "v")
+	begun, goesOn, once := make(chan struct{}), make(chan struct{}), sync.Once{}
 	box.behind.Fault = func(method string) upstreamtest.Fault {
 		if method == attachCall {
-			return upstreamtest.Fault{Before: 500 * time.Millisecond}
+			once.Do(func() { close(begun) })
+			<-goesOn
 		}
 		return upstreamtest.Fault{}
 	}
-	short, cancel := context.WithTimeout(ctx, 100*time.Millisecond)
-	defer cancel()
-	request, _, err := upstreamtest.Call(short, box.client, attachCall, attaches(id, "n1", writer), "same")
-	if status.Code(err) != codes.DeadlineExceeded {
+	caller, givesUp := context.WithCancel(ctx)
+	request, err := proto.Marshal(attaches(id, "n1", writer))
+	if err != nil {
+		t.Fatal(err)
+	}
+	calls := func(ctx context.Context) <-chan error {
+		ended := make(chan error, 1)
+		go func() {
+			response, err := passing.Call(ctx, box.client, attachCall, request)
+			if its := box.behind.Responses(request); err == nil && (len(its) != 1 || string(its[0]) != string(response.Message)) {
+				err = fmt.Errorf("the response is %x, of %x", response.Message, its)
+			}
+			ended <- err
+		}()
+		return ended
+	}
+	first := calls(caller)
+	<-begun
+	givesUp()
+	if err := <-first; status.Code(err) != codes.Canceled {
 		t.Errorf("the caller gave up: %v", err)
 	}
-	joined := make(chan error, 1)
-	go func() {
-		response, err := passing.Call(ctx, box.client, attachCall, request)
-		if its := box.behind.Responses(request); err == nil && (len(its) != 1 || string(its[0]) != string(response.Message)) {
-			err = fmt.Errorf("the response is %x, of %x", response.Message, its)
-		}
-		joined <- err
-	}()
-	time.Sleep(100 * time.Millisecond)
+	joined := calls(ctx)
+	time.Sleep(300 * time.Millisecond) // it waits by then
+	time.AfterFunc(100*time.Millisecond, func() { close(goesOn) })
 	box.does(ctx, detachCall, detaches(id, "n1"))
 	if err := <-joined; err != nil {
 		t.Errorf("the repeat: %v", err)

@@ -183,21 +183,22 @@ func (box *box) fails(ctx context.Context, running *exec.Cmd, its eachCall, it o
 		once.Do(func() { close(begun) })
 		return it.fault
 	})
-	patience := within
-	if it.name == "late" {
-		patience = 100 * time.Millisecond
-	}
-	short, cancel := context.WithTimeout(ctx, patience)
-	defer cancel()
+	caller, givesUp := context.WithCancel(ctx)
+	defer givesUp()
 	ended := make(chan error, 1)
 	go func() {
-		_, _, err := upstreamtest.Call(short, box.client, its.method, messages[its.method], "first", grpc.WaitForReady(true))
+		_, _, err := upstreamtest.Call(caller, box.client, its.method, messages[its.method], "first", grpc.WaitForReady(true))
 		ended <- err
 	}()
-	if it.kills {
+	if it.kills || it.name == "late" {
 		<-begun
 		time.Sleep(50 * time.Millisecond)
+	}
+	if it.kills {
 		running.Process.Kill()
+	}
+	if it.name == "late" {
+		givesUp()
 	}
 	if it.kills || it.kill != 0 {
 		running.Wait()

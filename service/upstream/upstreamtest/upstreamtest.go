@@ -99,12 +99,14 @@ func (upstream *Upstream) Restart() {
 }
 
 // Die has it gone at once: what it hasn't done by now it never does.
-func (upstream *Upstream) Die() {
+func (upstream *Upstream) Die() { upstream.ended().Stop() }
+
+// ended gives the server of the life that is over now.
+func (upstream *Upstream) ended() *grpc.Server {
 	upstream.mutex.Lock()
-	server := upstream.server
+	defer upstream.mutex.Unlock()
 	upstream.life++
-	upstream.mutex.Unlock()
-	server.Stop()
+	return upstream.server
 }
 
 // Set sets what goes wrong from now on.
@@ -296,7 +298,7 @@ func (upstream *Upstream) answer(method string, request []byte, life int) ([]byt
 		return nil, fault.Refuse
 	}
 	if fault.Die {
-		go upstream.Die()
+		go upstream.ended().Stop() // which waits for this call
 		return nil, errDead
 	}
 	upstream.mutex.Lock()
