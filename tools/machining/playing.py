@@ -12,6 +12,7 @@ from machining.wiring import play  # noqa: E402
 
 MOST = 8  # records of a server's handshake, with its alert
 
+
 def is_answer(came):
     """Whether what came is anything but a server's part of a handshake of TLS 1.3, with its end, or an alert alone."""
     kinds = []
