@@ -42,9 +42,15 @@ func (it plugins) States() map[string]carrying.State { return it }
 // serve serves a new orchestrator of nodes n1, n2 and so on at a listener.
 func serve(t testing.TB, kept store.Store, carrier host.Carrier, nodes int, listener net.Listener, known credentials.TransportCredentials, roles *api.Roles) *host.Host {
 	t.Helper()
-	options := host.Options{
-		Store: kept, Carrier: carrier, Log: zap.NewNop(), Times: host.Times{Patience: time.Minute, Retry: time.Millisecond, MostRetry: time.Second},
-	}
+	return serveBy(t, host.Options{Store: kept, Carrier: carrier, Log: zap.NewNop()}, nodes, listener, known, roles)
+}
+
+// serveBy serves one by these options, and those of the server.
+func serveBy(
+	t testing.TB, options host.Options, nodes int, listener net.Listener, known credentials.TransportCredentials, roles *api.Roles, more ...grpc.ServerOption,
+) *host.Host {
+	t.Helper()
+	options.Times = host.Times{Patience: time.Minute, Retry: time.Millisecond, MostRetry: time.Second}
 	states := plugins{carrying.Controller: {Address: "unix:///c", Connection: "READY"}, "node:n1": {Address: "unix:///n1", Queued: 3, Trouble: "gone"}}
 	for at := 1; at <= nodes; at++ {
 		options.Nodes = append(options.Nodes, fmt.Sprint("n", at))
@@ -53,7 +59,7 @@ func serve(t testing.TB, kept store.Store, carrier host.Carrier, nodes int, list
 	if err != nil {
 		t.Fatal(err)
 	}
-	leading, server := api.New(states, nil, roles, known, zap.NewNop())
+	leading, server := api.New(states, nil, roles, known, options.Log, more...)
 	leading.Lead(made)
 	go server.Serve(listener)
 	t.Cleanup(func() { server.Stop(); made.Close() })

@@ -13,7 +13,6 @@ import (
 	"tufayon/service/host"
 	"tufayon/service/numbers"
 	"tufayon/service/plugin"
-	"tufayon/service/records"
 )
 
 const (
@@ -22,17 +21,10 @@ const (
 	maxTarget = frames.MaxTarget
 )
 
-// refusals are the orchestrator's, by their numbers: docs/OPERATING.md, "Refusals".
-var refusals = map[host.Refusal]struct {
-	code codes.Code
-	name string
-}{
-	1: {codes.AlreadyExists, "NameUsed"}, 2: {codes.NotFound, "NoSuchVolume"}, 3: {codes.FailedPrecondition, "NotCreated"},
-	4: {codes.FailedPrecondition, "Busy"}, 5: {codes.NotFound, "NoSuchNode"}, 6: {codes.FailedPrecondition, "NotCapable"},
-	7: {codes.FailedPrecondition, "HeldElsewhere"}, 8: {codes.FailedPrecondition, "WriterElsewhere"},
-	9: {codes.FailedPrecondition, "HeldOtherwise"}, 10: {codes.FailedPrecondition, "TargetTaken"}, 11: {codes.NotFound, "NoSuchTarget"},
-	12: {codes.FailedPrecondition, "InUse"}, 13: {codes.FailedPrecondition, "Idle"}, 14: {codes.ResourceExhausted, "NumbersSpent"},
-	15: {codes.ResourceExhausted, "Full"}, 16: {codes.ResourceExhausted, "NoMemory"}, 17: {codes.FailedPrecondition, "NodeInUse"},
+// codeOf are the statuses of refusals by their names, where it isn't FAILED_PRECONDITION.
+var codeOf = map[string]codes.Code{
+	"NameUsed": codes.AlreadyExists, "NoSuchVolume": codes.NotFound, "NoSuchNode": codes.NotFound, "NoSuchTarget": codes.NotFound,
+	"NumbersSpent": codes.ResourceExhausted, "Full": codes.ResourceExhausted, "NoMemory": codes.ResourceExhausted,
 }
 
 // statusOf is the status of an error of a host's.
@@ -40,10 +32,10 @@ func statusOf(err error) error {
 	var refusal host.Refusal
 	switch {
 	case errors.As(err, &refusal):
-		if its, isKnown := refusals[refusal]; isKnown {
-			return status.Error(its.code, its.name)
+		if code, isOther := codeOf[refusal.Name()]; isOther {
+			return status.Error(code, refusal.Name())
 		}
-		return status.Error(codes.FailedPrecondition, refusal.Error())
+		return status.Error(codes.FailedPrecondition, refusal.Name())
 	case errors.Is(err, host.ErrInvalid):
 		return status.Error(codes.InvalidArgument, err.Error())
 	case errors.Is(err, host.ErrBusy):
@@ -101,11 +93,9 @@ func (judged *judge) capabilities(values []*wire.Capability) []frames.Capability
 	return capabilities
 }
 
-var goals = map[records.Goal]string{records.ToCreate: "create", records.ToUse: "use", records.ToStop: "stop", records.ToDelete: "delete"}
-
 func volumeOf(volume host.Volume) *wire.Volume {
 	message := &wire.Volume{
-		Name: volume.Name, Id: volume.ID, Exists: wire.Known(volume.Exists), Goal: goals[volume.Goal], GoalNode: volume.Node, GoalTarget: volume.Target,
+		Name: volume.Name, Id: volume.ID, Exists: wire.Known(volume.Exists), Goal: volume.Goal.String(), GoalNode: volume.Node, GoalTarget: volume.Target,
 		Tries: uint32(volume.Tries), HeldUpBy: volume.HeldUpBy, Trouble: volume.Trouble, Required: volume.Required, Limit: volume.Limit,
 	}
 	if !volume.Since.IsZero() {

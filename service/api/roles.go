@@ -38,7 +38,7 @@ func ParseRole(name string) (Role, bool) {
 // needed is the role that each call needs. What isn't listed, health and reflection, any peer may call.
 var needed = map[string]Role{
 	"Create": Operates, "Use": Operates, "Stop": Operates, "Delete": Operates, "Restart": Operates, "Lose": Loses,
-	"Get": Reads, "List": Reads, "Watch": Reads, "Nodes": Reads,
+	"Get": Reads, "List": Reads, "Watch": Reads, "Nodes": Reads, "History": Reads,
 }
 
 // Roles say which role a caller has: a client of the set by its name, and a user at a Unix socket by its number. They may be set anew at any time.

@@ -19,8 +19,10 @@ import (
 
 	"tufayon/service/api/wire"
 	"tufayon/service/carrying"
+	"tufayon/service/history"
 	"tufayon/service/host"
 	"tufayon/service/records"
+	"tufayon/service/tracing"
 )
 
 // Service is the name under which the service says whether it serves.
@@ -48,6 +50,7 @@ type Server struct {
 	health  *health.Server
 	mutex   sync.RWMutex
 	leads   *host.Host // nil while this process doesn't lead
+	history *history.History
 }
 
 // New makes a server, which doesn't lead, and a gRPC server of its service, its health and its reflection. Who may call what, the roles say. The address of
@@ -118,6 +121,7 @@ func (server *Server) do(ctx context.Context, command host.Command) (*wire.Volum
 	if err != nil {
 		return nil, err
 	}
+	command.Trace = tracing.From(ctx)
 	answer, err := leads.Do(ctx, command)
 	if err != nil {
 		return nil, statusOf(err)

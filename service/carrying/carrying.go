@@ -12,6 +12,7 @@ import (
 
 	"google.golang.org/grpc"
 	"google.golang.org/grpc/codes"
+	"google.golang.org/grpc/connectivity"
 	"google.golang.org/grpc/metadata"
 	"google.golang.org/grpc/status"
 
@@ -196,6 +197,11 @@ type State struct {
 	UnderWay   int    // calls
 	Queued     int    // calls that wait for their turn, or until it is reached
 	Trouble    string // why it isn't reached
+}
+
+// IsReached says whether calls can be made at it, as far as is known.
+func (state State) IsReached() bool {
+	return state.Connection == connectivity.Ready.String() && state.Trouble == ""
 }
 
 // States says how it stands with each plugin, by its name.

@@ -85,6 +85,9 @@ func (backend *Backend) core() (Core, error) {
 	return backend.served, nil
 }
 
+// Core gives the core, or refuses a call by 14 `not ready`.
+func (backend *Backend) Core() (Core, error) { return backend.core() }
+
 // carry carries a request to the plugin, and gives the refusal where there is one. What the plugin itself replied is marked by the call's number.
 func (backend *Backend) carry(ctx context.Context, request serving.Request) (serving.Answer, error) {
 	core, err := backend.core()

@@ -44,7 +44,7 @@ func (node *node) carry(ctx context.Context, body frames.Body, deed hooks.Deed, 
 	judge := request.Judge
 	request.Judge = func(known serving.Known) error {
 		row, err := rowOf(known)
-		if err != nil || isStale(row, known) {
+		if err != nil || known.IsBehind(row.Last) {
 			return err // the plugin refuses it
 		}
 		if deed.Staging != "" && known.Staging != "" && known.Staging != deed.Staging {
@@ -62,11 +62,6 @@ func rowOf(known serving.Known) (records.Staged, error) {
 		return records.Staged{}, status.Error(codes.Internal, err.Error())
 	}
 	return row, nil
-}
-
-// isStale says whether the plugin refuses a call by its number, so that nothing else is to be judged: the call is of before.
-func isStale(row records.Staged, known serving.Known) bool {
-	return known.Number.Session < known.Session || known.Number.IsBefore(row.Last)
 }
 
 // undo carries a call that undoes something. By arrival one of a volume that has no row is done: the plugin would say so too, and keep the call of an

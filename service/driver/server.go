@@ -29,11 +29,11 @@ var numbered = map[string]bool{
 }
 
 // NewServer makes a server with the health service alone, which judges of each request first its number, if it is of a call that has one, and then
-// whether the proto has its fields. A panic ends the call alone, and is told on standard error, after the program's name.
+// whether the proto has its fields. Interceptors among other options come before all that. A panic ends the call alone, and is told on standard error, after the program's name.
 func NewServer(backend *Backend, limits *limiting.Limits, program string, more ...grpc.ServerOption) *grpc.Server {
-	options := append(limits.Options(), grpc.MaxRecvMsgSize(maxMessage), grpc.MaxHeaderListSize(maxMetadata),
+	options := append(append(limits.Options(), more...), grpc.MaxRecvMsgSize(maxMessage), grpc.MaxHeaderListSize(maxMetadata),
 		grpc.ChainUnaryInterceptor(limits.Intercept, recovering(os.Stderr, program), backend.admit))
-	server := grpc.NewServer(append(options, more...)...)
+	server := grpc.NewServer(options...)
 	grpc_health_v1.RegisterHealthServer(server, backend.health)
 	return server
 }

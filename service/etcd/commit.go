@@ -44,30 +44,37 @@ func (leading *leading) begin(ctx context.Context) error {
 	if got, err = leading.get(ctx, leading.wholeKey()); err != nil || len(got.Kvs) == 0 {
 		return err
 	}
-	kept, err := leading.read(ctx, leading.prefix+"/next/")
+	edits, err := leading.early(ctx)
 	if err != nil {
 		return err
 	}
-	changes := make([]store.Change, 0, len(kept))
-	for _, it := range kept {
-		isPut := strings.HasPrefix(string(it.Value), "+")
-		if !isPut && string(it.Value) != "-" {
-			return fmt.Errorf("%w: it has another value under %s", store.ErrNotOpened, leading.nextKey(it.Key))
+	return leading.carryOver(ctx, edits)
+}
+
+// early reads the changes of a large commit.
+func (leading *leading) early(ctx context.Context) ([]edit, error) {
+	var edits []edit
+	for folder, place := range map[string]string{nextFolder: partsFolder, nextTextsFolder: textsFolder} {
+		kept, err := leading.read(ctx, leading.prefix+folder)
+		if err != nil {
+			return nil, err
 		}
-		change := store.Change{Key: it.Key, Out: !isPut}
-		if isPut {
-			change.Value = it.Value[1:]
+		for _, it := range kept {
+			key, value := strings.TrimPrefix(string(it.Key), leading.prefix+folder), string(it.Value)
+			if value != "-" && !strings.HasPrefix(value, "+") {
+				return nil, fmt.Errorf("%w: it has another value under %s", store.ErrNotOpened, it.Key)
+			}
+			edits = append(edits, edit{leading.prefix + place + key, string(it.Key), value[1:], value == "-"})
 		}
-		changes = append(changes, change)
 	}
-	return leading.carryOver(ctx, changes)
+	return edits, nil
 }
 
 // try asks for a transaction that is as large as any. It isn't carried out.
 func (leading *leading) try(ctx context.Context) error {
 	operations := make([]clientv3.Op, 0, mostOperations+1)
 	for row := uint64(0); row <= mostOperations; row++ {
-		operations = append(operations, clientv3.OpPut(leading.nextKey(row), strings.Repeat(" ", mostBytes/(mostOperations+1))))
+		operations = append(operations, clientv3.OpPut(fmt.Sprintf("%s%s%016x", leading.prefix, nextFolder, row), strings.Repeat(" ", mostBytes/(mostOperations+1))))
 	}
 	_, err := leading.transact(ctx, "", operations, leading.leads, leading.never)
 	if err != nil && !errors.Is(err, store.ErrTooSmall) {
@@ -79,15 +86,6 @@ func (leading *leading) try(ctx context.Context) error {
 // Commit makes changes under the condition that this process leads: by one transaction, or where they are too many, or too large, by several, of which
 // one makes them all.
 func (leading *leading) Commit(ctx context.Context, anew bool, changes []store.Change) error {
-	return leading.commit(ctx, anew, nil, changes)
-}
-
-// CommitWith puts sides with changes.
-func (leading *leading) CommitWith(ctx context.Context, sides []store.Side, changes []store.Change) error {
-	return leading.commit(ctx, false, sides, changes)
-}
-
-func (leading *leading) commit(ctx context.Context, anew bool, sides []store.Side, changes []store.Change) error {
 	if anew {
 		parts, err := leading.Load(ctx)
 		if err != nil {
@@ -99,19 +97,29 @@ func (leading *leading) commit(ctx context.Context, anew bool, sides []store.Sid
 		}
 		changes = append(removals, changes...)
 	}
-	changes = lastOfEach(changes)
-	if len(changes)+len(sides) == 0 {
+	return leading.commit(ctx, leading.editsOf(lastOfEach(changes)), nil)
+}
+
+// CommitWith puts sides with changes.
+func (leading *leading) CommitWith(ctx context.Context, sides []store.Side, changes []store.Change) error {
+	return leading.commit(ctx, leading.editsOf(lastOfEach(changes)), leading.putsOf(sides))
+}
+
+// CommitBoth makes the changes of both in the same way.
+func (leading *leading) CommitBoth(ctx context.Context, changes []store.Change, texts []store.Text) error {
+	return leading.commit(ctx, append(leading.editsOf(lastOfEach(changes)), leading.textEditsOf(texts)...), nil)
+}
+
+// commit makes edits, of which no two are of one key, and puts sides.
+func (leading *leading) commit(ctx context.Context, edits []edit, puts []clientv3.Op) error {
+	if len(edits)+len(puts) == 0 {
 		return leading.confirm(ctx)
 	}
-	puts := make([]clientv3.Op, 0, len(sides))
-	for _, side := range sides {
-		puts = append(puts, clientv3.OpPut(leading.sidesKey()+side.Name, string(side.Value)))
-	}
-	operations := append(leading.operations(changes), puts...)
+	operations := append(operationsOf(edits), puts...)
 	if len(split(operations)) == 1 {
 		return leading.change(ctx, operations)
 	}
-	return leading.commitInParts(ctx, changes, puts)
+	return leading.commitInParts(ctx, edits, puts)
 }
 
 // lastOfEach has one change for each key, since a transaction may name none twice.
@@ -129,14 +137,14 @@ func lastOfEach(changes []store.Change) []store.Change {
 	return last
 }
 
-// operations carry changes out.
-func (leading *leading) operations(changes []store.Change) []clientv3.Op {
-	operations := make([]clientv3.Op, 0, len(changes))
-	for _, change := range changes {
-		if change.Out {
-			operations = append(operations, clientv3.OpDelete(leading.partKey(change.Key)))
+// operationsOf carry edits out.
+func operationsOf(edits []edit) []clientv3.Op {
+	operations := make([]clientv3.Op, 0, len(edits))
+	for _, it := range edits {
+		if it.out {
+			operations = append(operations, clientv3.OpDelete(it.key))
 		} else {
-			operations = append(operations, clientv3.OpPut(leading.partKey(change.Key), string(change.Value)))
+			operations = append(operations, clientv3.OpPut(it.key, it.value))
 		}
 	}
 	return operations
@@ -161,16 +169,16 @@ func split(operations []clientv3.Op) [][]clientv3.Op {
 func sizeOf(it clientv3.Op) int { return len(it.KeyBytes()) + len(it.ValueBytes()) + 32 }
 
 // commitInParts writes the changes beside the record first, and makes them by a last transaction, which puts the sides too. Then they are carried over.
-func (leading *leading) commitInParts(ctx context.Context, changes []store.Change, sides []clientv3.Op) error {
-	notes := make([]clientv3.Op, 0, len(changes))
-	for _, change := range changes {
+func (leading *leading) commitInParts(ctx context.Context, edits []edit, sides []clientv3.Op) error {
+	notes := make([]clientv3.Op, 0, len(edits))
+	for _, it := range edits {
 		value := "-"
-		if !change.Out {
-			value = "+" + string(change.Value)
+		if !it.out {
+			value = "+" + it.value
 		}
-		notes = append(notes, clientv3.OpPut(leading.nextKey(change.Key), value))
+		notes = append(notes, clientv3.OpPut(it.early, value))
 	}
-	if err := leading.change(ctx, []clientv3.Op{leading.forgetNext()}); err != nil {
+	if err := leading.change(ctx, leading.forgetEarly()); err != nil {
 		return err
 	}
 	for _, piece := range split(notes) {
@@ -181,21 +189,23 @@ func (leading *leading) commitInParts(ctx context.Context, changes []store.Chang
 	if err := leading.change(ctx, append(sides, clientv3.OpPut(leading.wholeKey(), ""))); err != nil {
 		return err
 	}
-	return leading.carryOver(ctx, changes)
+	return leading.carryOver(ctx, edits)
 }
 
-// carryOver has a large commit, which was made, in the parts themselves.
-func (leading *leading) carryOver(ctx context.Context, changes []store.Change) error {
-	for _, piece := range split(leading.operations(changes)) {
+// carryOver has a large commit, which was made, in the parts and texts themselves.
+func (leading *leading) carryOver(ctx context.Context, edits []edit) error {
+	for _, piece := range split(operationsOf(edits)) {
 		if err := leading.change(ctx, piece); err != nil {
 			return err
 		}
 	}
-	return leading.change(ctx, []clientv3.Op{clientv3.OpDelete(leading.wholeKey()), leading.forgetNext()})
+	return leading.change(ctx, append(leading.forgetEarly(), clientv3.OpDelete(leading.wholeKey())))
 }
 
-func (leading *leading) forgetNext() clientv3.Op {
-	return clientv3.OpDelete(leading.prefix+"/next/", clientv3.WithPrefix())
+func (leading *leading) forgetEarly() []clientv3.Op {
+	return []clientv3.Op{
+		clientv3.OpDelete(leading.prefix+nextFolder, clientv3.WithPrefix()), clientv3.OpDelete(leading.prefix+nextTextsFolder, clientv3.WithPrefix()),
+	}
 }
 
 // confirm says whether this process leads.
@@ -245,7 +255,7 @@ func (leading *leading) transact(ctx context.Context, mark string, operations []
 		}
 		select {
 		case <-leading.session.Done():
-			return false, fmt.Errorf("%w: %v", store.ErrUnknown, err)
+			return false, fmt.Errorf("%w: %v: %v", store.ErrUnknown, store.ErrLost, err)
 		case <-ctx.Done():
 			return false, fmt.Errorf("%w: %v", store.ErrUnknown, err)
 		case <-time.After(again):

@@ -30,6 +30,7 @@ type Config struct {
 	Prefix               string
 	CA, Certificate, Key string // files of TLS
 	LeaseSeconds         int
+	Texts                bool   // a keeper's: texts beside the record, without which it is refused, or with which
 	Says                 string // what this process says of itself while it waits or leads: where it is. Nothing is the machine and the process
 }
 
@@ -45,7 +46,8 @@ type leading struct {
 	last    string // what the last one left under the key of their count
 }
 
-// Open waits until this process leads, tries that etcd takes the largest transaction, and finishes a commit that an earlier process left half way.
+// Open waits until this process leads, and gives a store, which keeps texts (store.Keeper) where that is asked for.
+// It tries that etcd takes the largest transaction, and finishes a commit that an earlier process left half way.
 func (config Config) Open(ctx context.Context) (store.Store, error) {
 	client, err := config.client()
 	if err != nil {
@@ -54,6 +56,9 @@ func (config Config) Open(ctx context.Context) (store.Store, error) {
 	opened, err := config.lead(ctx, client)
 	if err == nil {
 		if err = opened.begin(ctx); err == nil {
+			err = opened.judge(ctx, config.Texts)
+		}
+		if err == nil {
 			return opened, nil
 		}
 		opened.Close()

@@ -4,9 +4,6 @@ import (
 	"context"
 	"errors"
 	"fmt"
-	"net"
-	"os"
-	"os/exec"
 	"reflect"
 	"strings"
 	"testing"
@@ -14,6 +11,7 @@ import (
 
 	"go.etcd.io/etcd/clientv3"
 
+	"tufayon/service/etcd/etcdtest"
 	"tufayon/service/store"
 )
 
@@ -43,27 +41,7 @@ func TestLastOfEach(t *testing.T) {
 // server is etcd as Debian starts it, on loopback.
 func server(t *testing.T) Config {
 	t.Helper()
-	if _, err := exec.LookPath("etcd"); err != nil {
-		t.Skip("there is no etcd")
-	}
-	client, peer := port(t), port(t)
-	running := exec.Command("etcd", "--data-dir", t.TempDir(), "--listen-client-urls", client, "--advertise-client-urls", client,
-		"--listen-peer-urls", peer, "--initial-advertise-peer-urls", peer, "--initial-cluster", "default="+peer)
-	if err := running.Start(); err != nil {
-		t.Fatal(err)
-	}
-	t.Cleanup(func() { running.Process.Kill(); running.Wait() })
-	return Config{Endpoints: []string{client}, Prefix: "/t", LeaseSeconds: 5}
-}
-
-func port(t *testing.T) string {
-	t.Helper()
-	listener, err := net.Listen("tcp", "127.0.0.1:0")
-	if err != nil {
-		t.Fatal(err)
-	}
-	defer listener.Close()
-	return "http://" + listener.Addr().String()
+	return Config{Endpoints: []string{etcdtest.Start(t)}, Prefix: "/t", LeaseSeconds: 5}
 }
 
 func open(t *testing.T, config Config) *leading {
@@ -99,9 +77,6 @@ func (leading *leading) wants(t *testing.T, want map[uint64]string) {
 
 // Small commits and large ones, one that is cut short before and after it is made, and one whose outcome isn't known.
 func TestCommit(t *testing.T) {
-	if os.Getenv("TUFAYON_TEST_ETCD") == "" {
-		t.Skip("it starts etcd only where it is asked to")
-	}
 	ctx, config := context.Background(), server(t)
 	kept := open(t, config)
 	want := map[uint64]string{}
@@ -134,7 +109,7 @@ func TestCommit(t *testing.T) {
 	commit(true, put(5, "anew"))
 	// Cut short before it is made: nothing.
 	changes := put(500, "next")
-	for _, piece := range split([]clientv3.Op{clientv3.OpPut(kept.nextKey(1), "+next")}) {
+	for _, piece := range split([]clientv3.Op{clientv3.OpPut(kept.editsOf([]store.Change{{Key: 1}})[0].early, "+next")}) {
 		if err := kept.change(ctx, piece); err != nil {
 			t.Fatal(err)
 		}
@@ -146,10 +121,10 @@ func TestCommit(t *testing.T) {
 	// Cut short once it is made: the next process carries it over.
 	var notes []clientv3.Op
 	for _, change := range changes {
-		notes = append(notes, clientv3.OpPut(kept.nextKey(change.Key), "+next"))
+		notes = append(notes, clientv3.OpPut(kept.editsOf([]store.Change{change})[0].early, "+next"))
 		want[change.Key] = "next"
 	}
-	notes = append(notes, clientv3.OpPut(kept.nextKey(550), "-"))
+	notes = append(notes, clientv3.OpPut(kept.editsOf([]store.Change{{Key: 550}})[0].early, "-"))
 	delete(want, 550)
 	for _, piece := range append(split(notes), []clientv3.Op{clientv3.OpPut(kept.wholeKey(), "")}) {
 		if err := kept.change(ctx, piece); err != nil {
@@ -159,7 +134,7 @@ func TestCommit(t *testing.T) {
 	kept.Close()
 	kept = open(t, config)
 	kept.wants(t, want)
-	for _, key := range []string{kept.wholeKey(), "/t/next/"} {
+	for _, key := range []string{kept.wholeKey(), "/t/next/", "/t/nexttexts/"} {
 		if got, err := kept.client.Get(ctx, key, clientv3.WithPrefix()); err != nil || len(got.Kvs) > 0 {
 			t.Errorf("%s is left: %v", key, err)
 		}
@@ -186,4 +161,70 @@ func TestCommit(t *testing.T) {
 	kept.wants(t, want)
 	old.Close()
 	kept.Close()
+}
+
+// Texts are committed with the record, by one transaction or in pieces; a store that keeps them is opened as one that does, and no other way.
+func TestTexts(t *testing.T) {
+	config, ctx := server(t), context.Background()
+	config.Texts = true
+	kept := open(t, config)
+	record, texts := map[uint64]string{}, map[string]string{}
+	wants := func() {
+		t.Helper()
+		kept.wants(t, record)
+		found, err := kept.Texts(ctx)
+		if err != nil || len(found) != len(texts) {
+			t.Errorf("it has %d texts, %v, not %d", len(found), err, len(texts))
+		}
+		for _, it := range found {
+			if value, is := texts[it.Key]; !is || value != it.Value {
+				t.Errorf("text %q is %q, not %q", it.Key, it.Value, value)
+			}
+		}
+	}
+	for _, count := range []uint64{1, 30, 400} {
+		var changes []store.Change
+		var edits []store.Text
+		for at := uint64(0); at < count; at++ {
+			changes = append(changes, store.Change{Key: at, Value: []byte(fmt.Sprint(count))})
+			edits = append(edits, store.Text{Key: fmt.Sprintf("volume/%d", at), Value: fmt.Sprint("a/b ", count)})
+			record[at], texts[fmt.Sprintf("volume/%d", at)] = fmt.Sprint(count), fmt.Sprint("a/b ", count)
+		}
+		if err := kept.CommitBoth(ctx, changes, edits); err != nil {
+			t.Fatal(err)
+		}
+		wants()
+	}
+	delete(record, 3)
+	delete(texts, "volume/3")
+	if err := kept.CommitBoth(ctx, []store.Change{{Key: 3, Out: true}}, []store.Text{{Key: "volume/3", Out: true}}); err != nil {
+		t.Fatal(err)
+	}
+	wants()
+	// Cut short once it is made: the next process carries both over.
+	for _, it := range append(kept.editsOf([]store.Change{{Key: 5}}), kept.textEditsOf([]store.Text{{Key: "volume/5"}})...) {
+		if err := kept.change(ctx, []clientv3.Op{clientv3.OpPut(it.early, "+later"), clientv3.OpPut(kept.wholeKey(), "")}); err != nil {
+			t.Fatal(err)
+		}
+	}
+	record[5], texts["volume/5"] = "later", "later"
+	kept.Close()
+	kept = open(t, config)
+	wants()
+	kept.Close()
+	for _, other := range []Config{{Prefix: "/t"}, {Prefix: "/plain", Texts: true}} {
+		other.Endpoints, other.LeaseSeconds = config.Endpoints, 5
+		if other.Texts {
+			plain := other
+			plain.Texts = false
+			opened := open(t, plain)
+			if err := opened.Commit(ctx, false, []store.Change{{Key: 0, Value: []byte("h")}}); err != nil {
+				t.Fatal(err)
+			}
+			opened.Close()
+		}
+		if _, err := other.Open(ctx); !errors.Is(err, store.ErrNotOpened) {
+			t.Errorf("%+v is opened: %v", other, err)
+		}
+	}
 }

@@ -28,6 +28,9 @@ const (
 
 const replyBit = 128
 
+// Stale is the detail of a plugin's ABORTED to a call that its fence doesn't let through.
+const Stale = "stale"
+
 var kindNames = [...]string{
 	CreateVolumeKind: "CreateVolume", DeleteVolumeKind: "DeleteVolume",
 	ControllerPublishVolumeKind: "ControllerPublishVolume", ControllerUnpublishVolumeKind: "ControllerUnpublishVolume",

@@ -177,6 +177,9 @@ func (host *Host) Watch(current bool, name string) *Watching {
 	return it
 }
 
+// Events are what happens. The channel is closed where the host ended, or the watcher was too slow.
+func (it *Watching) Events() <-chan Event { return it.events }
+
 // Next waits for the next events, and gives all that are there. It fails with ErrSlow, ErrEnded, or the context's error.
 func (it *Watching) Next(ctx context.Context) ([]Event, error) {
 	select {

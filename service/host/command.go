@@ -31,6 +31,7 @@ type Command struct {
 	Capability      frames.Capability   // of a use
 	Readonly        bool                // of a use
 	AtRest          bool                // it is answered once nothing is wanted of the volume any more, and not once it is committed
+	Trace           string              // which the calls that are made for it carry, if it has one
 }
 
 // reached says whether what was asked for is so, of a volume at rest.
@@ -64,6 +65,20 @@ const (
 	full         Refusal = 15
 	noMemory     Refusal = 16
 )
+
+// refusalNames are by the refusals' numbers, from 1.
+var refusalNames = [...]string{
+	"NameUsed", "NoSuchVolume", "NotCreated", "Busy", "NoSuchNode", "NotCapable", "HeldElsewhere", "WriterElsewhere", "HeldOtherwise", "TargetTaken",
+	"NoSuchTarget", "InUse", "Idle", "NumbersSpent", "Full", "NoMemory", "NodeInUse",
+}
+
+// Name is the refusal's, as docs/OPERATING.md, "Refusals", lists them.
+func (refusal Refusal) Name() string {
+	if refusal < 1 || int(refusal) > len(refusalNames) {
+		return refusal.Error()
+	}
+	return refusalNames[refusal-1]
+}
 
 func (refusal Refusal) Error() string { return fmt.Sprintf("refused %d", uint32(refusal)) }
 
@@ -110,6 +125,7 @@ func (it *asking) ask(host *Host, work *work) error {
 		work.answer(it.waiter, answered{err: it.ctx.Err()})
 		return nil
 	}
+	before := host.core.row(it.Name)
 	outcome, err := host.core.ask(it.Command)
 	switch refusal := Refusal(outcome.Refusal); {
 	case errors.Is(err, plugin.BadName), errors.Is(err, frames.ErrLimit):
@@ -124,6 +140,7 @@ func (it *asking) ask(host *Host, work *work) error {
 		it.isAgain = true
 		return errSession
 	case refusal != 0:
+		host.tells(work, Happening{What: Commanded, Name: it.Name, Before: before, Command: it.Command, Refusal: refusal})
 		work.answer(it.waiter, answered{err: refusal})
 		return nil
 	}
@@ -134,14 +151,16 @@ func (it *asking) ask(host *Host, work *work) error {
 	volume := host.volume(it.Name)
 	waits := it.AtRest && !outcome.IsMet
 	if !outcome.IsMet {
-		volume.trouble, volume.why = "", ""
+		volume.trouble, volume.why, volume.trace = "", "", it.Trace
 	}
 	if waits {
 		host.waiters.add(it.Name, it.waiter)
 	}
-	if err := host.took(volume, row, outcome.Frame, work); err != nil {
+	sent, err := host.took(volume, row, outcome.Frame, work)
+	if err != nil {
 		return err
 	}
+	host.tells(work, Happening{What: Commanded, Name: it.Name, Before: before, Command: it.Command, IsMet: outcome.IsMet, Sent: sent})
 	if !waits {
 		work.answer(it.waiter, answered{answer: Answer{Volume: volume.shown(), Met: outcome.IsMet, Reached: outcome.IsMet}})
 	}

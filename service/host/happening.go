@@ -20,6 +20,7 @@ type sending struct {
 	name  string
 	call  frames.Call
 	until time.Time // when its plugin has to be reached, if there is such a time
+	trace string
 }
 
 // heard is what came of a call: a reply, or why there is none.
@@ -63,7 +64,7 @@ func (it *heard) ask(host *Host, work *work) error {
 
 // isStale says whether a plugin has heard of a later call of the volume, or of a later session, than the open call: never in runs of one orchestrator.
 func isStale(reply frames.Reply) bool {
-	return reply.Status == uint8(codes.Aborted) && reply.Detail == "stale"
+	return reply.Status == uint8(codes.Aborted) && reply.Detail == frames.Stale
 }
 
 // wantsRoom says whether a plugin refused a call since its rows, those of earlier sessions among them, were all taken. It forgets those once it has
@@ -91,6 +92,7 @@ func (host *Host) deliver(volume *volume, it *heard, work *work) error {
 		host.failed(volume, errIgnored, work)
 		return nil
 	}
+	before := volume.row
 	row, err := host.core.note()
 	if err != nil {
 		return err
@@ -102,7 +104,9 @@ func (host *Host) deliver(volume *volume, it *heard, work *work) error {
 	} else {
 		volume.failures++
 	}
-	return host.took(volume, row, outcome.Frame, work)
+	sent, err := host.took(volume, row, outcome.Frame, work)
+	host.tells(work, Happening{What: Replied, Name: it.name, Before: before, Call: it.call, Reply: it.reply, Sent: sent})
+	return err
 }
 
 // failed notes that a call got no reply.
@@ -113,6 +117,7 @@ func (host *Host) failed(volume *volume, why error, work *work) {
 	volume.trouble = carrying.PluginOf(volume.open) + ": " + why.Error()
 	work.changed[volume.row.Name] = volume
 	host.wakeLater(volume)
+	host.tells(work, Happening{What: Unanswered, Name: volume.row.Name, Before: volume.row, Call: volume.open, Why: why.Error()})
 }
 
 // woken says that it is time to tell a volume's timeout.
@@ -145,11 +150,14 @@ func (host *Host) timeout(volume *volume, work *work) error {
 	case outcome.Refusal != 0: // nothing is wanted
 		return nil
 	}
+	before := volume.row
 	row, err := host.core.note()
 	if err != nil {
 		return err
 	}
-	return host.took(volume, row, outcome.Frame, work)
+	sent, err := host.took(volume, row, outcome.Frame, work)
+	host.tells(work, Happening{What: TimedOut, Name: volume.row.Name, Before: before, Sent: sent})
+	return err
 }
 
 // wanted says that something was wanted of a volume when a session began.

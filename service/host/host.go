@@ -18,6 +18,7 @@ import (
 	"tufayon/service/frames"
 	"tufayon/service/numbers"
 	"tufayon/service/store"
+	"tufayon/service/tracing"
 )
 
 const (
@@ -48,13 +49,18 @@ type Options struct {
 	Times   Times
 	Log     *zap.Logger
 	Clock   func() time.Time // by which sessions begin, in seconds since 1970; nil for those after the last one
+	// Observers are told what happens.
+	Observers []Observer
 }
 
 // A Host is an orchestrator that runs. Its methods may be called side by side.
 type Host struct {
-	carrier Carrier
-	times   Times
-	log     *zap.Logger
+	committing int64 // since when a commit is under way, in Unix nanoseconds, or 0
+
+	carrier   Carrier
+	times     Times
+	log       *zap.Logger
+	observers []Observer
 
 	commands chan event // of callers
 	happened chan event // what came of calls, and timeouts
@@ -85,7 +91,7 @@ func Open(ctx context.Context, options Options) (*Host, error) {
 		return nil, err
 	}
 	host := &Host{
-		carrier: options.Carrier, times: options.Times, log: options.Log,
+		carrier: options.Carrier, times: options.Times, log: options.Log, observers: options.Observers,
 		commands: make(chan event, mostCommands), happened: make(chan event), stop: make(chan struct{}), done: make(chan struct{}),
 		waiters: newWaiters(), board: newBoard(),
 		core: core, volumes: map[string]*volume{},
@@ -124,7 +130,9 @@ func (host *Host) run(ctx context.Context, nodes []string, opened chan<- error) 
 	}
 	work := newWork()
 	host.began(work)
+	host.tells(work, Happening{What: Began, Why: "the service starts"})
 	host.publish(work)
+	host.observe(work)
 	host.openPlugins()
 	opened <- nil
 	for host.err == nil {
@@ -204,7 +212,7 @@ func (host *Host) carryOut(batch []event) error {
 			return err
 		}
 	}
-	if err := host.core.commit(context.Background()); err != nil {
+	if err := host.commit(); err != nil {
 		return err
 	}
 	host.publish(work)
@@ -220,6 +228,7 @@ func (host *Host) carryOut(batch []event) error {
 	for _, answer := range work.after {
 		answer()
 	}
+	host.observe(work) // nobody waits for that
 	if host.core.counts.gone >= enoughGone && host.core.counts.wanted == 0 && len(host.queue) == 0 && !host.isLast {
 		host.queue = append(host.queue, &beginning{why: "names of deleted volumes are forgotten"})
 	}
@@ -229,20 +238,32 @@ func (host *Host) carryOut(batch []event) error {
 // call makes a call, and tells what came of it.
 func (host *Host) call(ctx context.Context, epoch uint64, it sending) {
 	began := time.Now()
-	reply, err := host.carrier.Carry(ctx, it.call, it.until)
+	reply, err := host.carrier.Carry(tracing.Into(ctx, it.trace), it.call, it.until)
 	if ctx.Err() != nil {
 		return // it was given up
 	}
+	took := time.Since(began)
+	for _, observer := range host.observers {
+		observer.Called(it.call, reply, err, took)
+	}
+	host.tell(&heard{name: it.name, epoch: epoch, call: it.call, reply: reply, err: err})
+	host.logs(it, reply, err, took) // nobody waits for that
+}
+
+// logs has a line of the log for a call.
+func (host *Host) logs(it sending, reply frames.Reply, err error, took time.Duration) {
 	fields := []zap.Field{
 		zap.String("volume", it.name), zap.Stringer("kind", it.call.Kind()), zap.String("plugin", carrying.PluginOf(it.call)),
-		zap.Uint64("session", it.call.Number.Session), zap.Uint64("call", it.call.Number.Call), zap.Duration("took", time.Since(began)),
+		zap.Uint64("session", it.call.Number.Session), zap.Uint64("call", it.call.Number.Call), zap.Duration("took", took),
+	}
+	if it.trace != "" {
+		fields = append(fields, zap.String("trace", it.trace))
 	}
 	if err != nil {
 		host.log.Warn("a call got no reply", append(fields, zap.Error(err))...)
-	} else {
-		host.log.Info("a call", append(fields, zap.Uint8("status", reply.Status), zap.String("detail", reply.Detail))...)
+		return
 	}
-	host.tell(&heard{name: it.name, epoch: epoch, call: it.call, reply: reply, err: err})
+	host.log.Info("a call", append(fields, zap.Uint8("status", reply.Status), zap.String("detail", reply.Detail))...)
 }
 
 // tell hands an event to the loop.

@@ -46,6 +46,7 @@ func (it *beginning) ask(host *Host, work *work) error {
 	} else {
 		host.log.Info("a session begins", zap.Uint64("session", host.core.session), zap.String("why", it.why), zap.Strings("nodes", nodes))
 		host.began(work)
+		host.tells(work, Happening{What: Began, Why: it.why})
 	}
 	if it.answered != nil {
 		came := begun{session: host.core.session, err: err}
@@ -79,6 +80,7 @@ func (it *losing) ask(host *Host, work *work) error {
 		host.log.Warn("a node is lost", zap.String("node", it.node), zap.Uint64("session", came.session))
 		work.lost = it.node
 		host.began(work)
+		host.tells(work, Happening{What: Lost, Node: it.node})
 	}
 	work.after = append(work.after, func() { it.answered <- came })
 	return nil

@@ -14,6 +14,10 @@ type Volume struct {
 	Since        time.Time // since when something is wanted of it, as this process knows it
 	HeldUpBy     string    // the plugin whose reply is waited for: controller, or node: and its id
 	Trouble      string    // why the last call got no reply or was refused, or why what was asked for was given up
+	// Due is the kind of the call that is under way or comes next, while something is wanted: 0 before the first one of a process. Again is when its
+	// timeout is told, if none is under way.
+	Due   frames.Kind
+	Again time.Time
 }
 
 // volume is what the loop knows of a volume beside its row.
@@ -32,6 +36,8 @@ type volume struct {
 	wantRoom bool        // one of them was refused since the plugin had no room
 	isQuick  bool        // the last one was refused by the plugin's driver: patience wouldn't help
 	wakes    uint64      // counts the times at which a timeout is to be told: only the last one counts
+	again    time.Time   // the last of them
+	trace    string      // of the last command, which calls carry
 }
 
 func (volume *volume) shown() Volume {
@@ -39,8 +45,11 @@ func (volume *volume) shown() Volume {
 	if shown.Trouble == "" {
 		shown.Trouble = volume.why
 	}
+	if volume.row.Goal != records.None {
+		shown.Due, shown.Again = volume.kind, volume.again
+	}
 	if volume.isOpen {
-		shown.HeldUpBy = carrying.PluginOf(volume.open)
+		shown.HeldUpBy, shown.Again = carrying.PluginOf(volume.open), time.Time{}
 	}
 	return shown
 }
@@ -70,8 +79,9 @@ func (host *Host) volume(name string) *volume {
 	return it
 }
 
-// took takes over what the orchestrator was asked about a volume: its row, where that changed, and the frame that is to be sent once that is committed.
-func (host *Host) took(it *volume, row *records.Row, frame []byte, work *work) error {
+// took takes over what the orchestrator was asked about a volume: its row, where that changed, and the frame that is to be sent once that is committed,
+// whose call it gives.
+func (host *Host) took(it *volume, row *records.Row, frame []byte, work *work) (*frames.Call, error) {
 	if row != nil {
 		if isGivenUp(it.row, row) {
 			it.why = it.trouble
@@ -82,7 +92,7 @@ func (host *Host) took(it *volume, row *records.Row, frame []byte, work *work) e
 	if it.row.Goal == records.None {
 		it.rests()
 		host.waiters.rest(work, it)
-		return nil
+		return nil, nil
 	}
 	now := time.Now()
 	if it.since.IsZero() {
@@ -92,19 +102,19 @@ func (host *Host) took(it *volume, row *records.Row, frame []byte, work *work) e
 		if !it.isOpen {
 			host.wakeLater(it)
 		}
-		return nil
+		return nil, nil
 	}
 	call, err := frames.DecodeCall(frame)
 	if err != nil {
-		return err
+		return nil, err
 	}
 	it.sends(call, now)
 	until := time.Time{}
 	if it.row.Goal == records.ToUse {
 		until = it.first.Add(host.times.Patience)
 	}
-	host.send(sending{name: it.row.Name, call: call, until: until}, work)
-	return nil
+	host.send(sending{name: it.row.Name, call: call, until: until, trace: it.trace}, work)
+	return &call, nil
 }
 
 // isGivenUp says whether a create or a use is wanted no more that wasn't reached.
@@ -122,5 +132,6 @@ func (host *Host) wakeLater(it *volume) {
 		goal = records.None
 	}
 	delay := host.times.delay(goal, it.row.Tries, it.failures, time.Since(it.first))
+	it.again = time.Now().Add(delay)
 	time.AfterFunc(delay, func() { host.tell(woken) })
 }

@@ -17,6 +17,7 @@ type work struct {
 	sends     []sending
 	held      []sending // calls whose plugins haven't begun the session
 	after     []func()  // answers
+	told      []Happening
 }
 
 func newWork() *work { return &work{changed: map[string]*volume{}} }

@@ -16,6 +16,7 @@ import (
 	"tufayon/service/plugin"
 	"tufayon/service/serving"
 	"tufayon/service/store"
+	"tufayon/service/upstream"
 	"tufayon/service/version"
 )
 
@@ -33,12 +34,21 @@ type Driver struct {
 	IsByArrival bool // Numbering is ByArrival: there is no orchestrator that begins sessions
 	MustBegin   bool // a service begins them, and no call comes before
 	Open        func(context.Context) (store.Store, error)
-	Waits       bool        // opening waits to lead
-	Notes       string      // a node's file of staging paths; none of a controller
-	Hooks       hooks.Hooks // what does what calls ask for; nil where nothing does: the ledger alone is kept
-	MaxVolumes  int64       // as NodeGetInfo tells it
+	Waits       bool            // opening waits to lead
+	Notes       string          // a node's file of staging paths; none of a controller
+	Hooks       hooks.Hooks     // what does what calls ask for; nil where nothing does: the ledger alone is kept
+	MaxVolumes  int64           // as NodeGetInfo tells it
+	Upstream    *upstream.Proxy // the driver behind, to which calls go in place of all this; nil where there is none. Its store is a store.Keeper
 	Doors       []Door
 	Say         func(line string) // tells whoever runs it how far it is
+	Observer    Observer          // may be nil
+}
+
+// An Observer is told what a driver does.
+type Observer interface {
+	serving.Observer
+	// Serves tells that calls are answered from now on, by this core, or by none: nil.
+	Serves(core *serving.Core)
 }
 
 // A Door is where a driver is called.
@@ -107,15 +117,25 @@ func (life *Life) listen() error {
 			return err
 		}
 		limits := limiting.New()
-		server := driver.NewServer(life.backend, limits, life.driver.Program, door.Options...)
-		driver.RegisterIdentity(server, life.backend, life.driver.Name, version.Number)
-		if !door.IsLocal {
-			life.register(server)
-		}
+		server := life.server(door, limits)
 		life.servers = append(life.servers, server)
 		go func() { life.served <- server.Serve(limits.Listen(listener)) }()
 	}
 	return nil
+}
+
+// server makes the server of a door.
+func (life *Life) server(door Door, limits *limiting.Limits) *grpc.Server {
+	it := &life.driver
+	if it.Upstream != nil && !door.IsLocal {
+		return it.Upstream.Server(life.backend, limits, it.Program, door.Options...)
+	}
+	server := driver.NewServer(life.backend, limits, it.Program, door.Options...)
+	driver.RegisterIdentity(server, life.backend, it.Name, version.Number)
+	if !door.IsLocal {
+		life.register(server)
+	}
+	return server
 }
 
 // register adds the plugin's services to a server.
@@ -170,7 +190,8 @@ func (life *Life) serve(ctx context.Context) error {
 // open makes the plugin of what the store has, and has the servers serve it.
 func (life *Life) open(ctx context.Context) error {
 	config := serving.Config{
-		Store: life.store, Numbering: life.driver.Numbering, MustBegin: life.driver.MustBegin,
+		Store: life.store, Numbering: life.driver.Numbering, MustBegin: life.driver.MustBegin, Observer: life.driver.Observer,
+		Texts: life.driver.Upstream != nil,
 		Make: func(record []byte) (serving.Plugin, bool, error) {
 			made, renewed, err := life.driver.Maker.Make(record)
 			if err != nil {
@@ -193,7 +214,15 @@ func (life *Life) open(ctx context.Context) error {
 		return err
 	}
 	life.core = core
+	if behind := life.driver.Upstream; behind != nil {
+		if err := behind.Opened(ctx, core, life.driver.Maker); err != nil {
+			return err
+		}
+	}
 	life.backend.Serve(core)
+	if life.driver.Observer != nil {
+		life.driver.Observer.Serves(core)
+	}
 	return nil
 }
 
@@ -230,6 +259,9 @@ func (life *Life) endCore() error {
 	defer cancel()
 	life.core.Finish(ctx)
 	life.core.Close()
+	if life.driver.Observer != nil {
+		life.driver.Observer.Serves(nil)
+	}
 	return life.core.Err()
 }
 
@@ -251,7 +283,7 @@ func (life *Life) finish() {
 	}
 }
 
-// A closer is a store that is open.
+// A closer is a store that is open, or a connection.
 type closer interface{ Close() error }
 
 func (life *Life) stores() []closer {
@@ -261,6 +293,9 @@ func (life *Life) stores() []closer {
 	}
 	if life.notes != nil {
 		stores = append(stores, life.notes)
+	}
+	if life.driver.Upstream != nil {
+		stores = append(stores, life.driver.Upstream)
 	}
 	return stores
 }

@@ -45,6 +45,14 @@ func (limits *Limits) Intercept(ctx context.Context, request any, _ *grpc.UnaryS
 	return handle(ctx, request)
 }
 
+// InterceptStream does the same with streams.
+func (limits *Limits) InterceptStream(server any, stream grpc.ServerStream, _ *grpc.StreamServerInfo, handle grpc.StreamHandler) error {
+	if stream.Context().Value(above{}) != nil {
+		return errConnections
+	}
+	return handle(server, stream)
+}
+
 // counting counts connections.
 type counting struct {
 	limits *Limits

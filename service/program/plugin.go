@@ -19,12 +19,17 @@ import (
 	"google.golang.org/grpc/keepalive"
 
 	"tufayon/service/carrying"
+	"tufayon/service/daemon"
 	"tufayon/service/life"
+	"tufayon/service/metrics"
+	"tufayon/service/numbers"
 	"tufayon/service/plugin"
 	"tufayon/service/secure"
 	"tufayon/service/settings"
 	"tufayon/service/store"
+	"tufayon/service/upstream"
 	"tufayon/service/version"
+	"tufayon/service/web"
 )
 
 // Main is the program of a plugin of this role: it ends the process.
@@ -62,7 +67,7 @@ func RunPlugin(ctx context.Context, program string, role secure.Role, words []st
 		Checked(output, read.File, read.Plugin.Place.Set, read.CertificateName(), until)
 		return nil
 	}
-	log, err := Logger()
+	log, err := daemon.Logger(read.Plugin.Log)
 	if err != nil {
 		return err
 	}
@@ -83,6 +88,7 @@ type serving struct {
 	read  *settings.PluginSettings
 	log   *zap.Logger
 	life  *life.Life
+	told  *metrics.Driver
 	users atomic.Value // []uint32: who may call at a Unix socket
 }
 
@@ -92,8 +98,19 @@ func servePlugin(ctx context.Context, program string, read *settings.PluginSetti
 	defer signal.Stop(anew)
 	running := &serving{read: read, log: log}
 	running.users.Store(read.Plugin.Users)
-	running.life = life.New(running.driver(program))
+	unwatch, err := running.watch(program)
+	if err != nil {
+		return err
+	}
+	defer unwatch()
+	it, err := running.driver(program)
+	if err != nil {
+		return err
+	}
+	running.life = life.New(it)
 	ctx, end := context.WithCancel(ctx)
+	alive(ctx, running.told)
+	defer daemon.Stopping()
 	ended := make(chan error, 1)
 	go func() { ended <- running.life.Run(ctx) }()
 	defer end()
@@ -109,19 +126,44 @@ func servePlugin(ctx context.Context, program string, read *settings.PluginSetti
 	}
 }
 
+// watch has the plugin watched, until what it gives is called.
+func (running *serving) watch(program string) (end func(), err error) {
+	read := running.read
+	running.told = metrics.NewDriver(program, read.Name())
+	running.told.Ends = Ends(read.Plugin.Files(), read.CertificateName())
+	return Watch{
+		Address: read.Plugin.Watch, Files: read.Plugin.Files(), May: running.may, Log: running.log,
+		Admit: secure.Those(read.Set.Name, secure.Client, secure.Orchestrator),
+	}.Serve(web.Options{Metrics: running.told.Handler(), Ready: running.told.Ready})
+}
+
 // driver is what the settings say.
-func (running *serving) driver(program string) life.Driver {
+func (running *serving) driver(program string) (life.Driver, error) {
 	read := &running.read.Plugin
+	hasUpstream := read.Upstream != ""
 	it := life.Driver{
-		Program: program, Name: read.Name, Maker: makerOf(running.read), Numbering: life.ByMetadata(read.SessionsAbove), MustBegin: true,
-		Open:  func(ctx context.Context) (store.Store, error) { return OpenStore(ctx, &read.Place, read.Listen) },
+		Program: program, Name: read.Name, Maker: makerOf(running.read), Numbering: life.ByMetadata(read.SessionsAbove), MustBegin: !hasUpstream,
+		Open: func(ctx context.Context) (store.Store, error) {
+			return openStore(ctx, &read.Place, read.Listen, hasUpstream)
+		},
 		Waits: read.Etcd != nil, Hooks: deedsOf(running.read).Hooks(), MaxVolumes: read.MaxVolumes,
-		Doors: running.doors(), Say: func(line string) { running.log.Info(line) },
+		Doors: running.doors(), Say: func(line string) { running.log.Info(line); daemon.Ready(line) }, Observer: running.told,
 	}
 	if running.read.Role == secure.Node {
 		it.Notes = read.Store + ".driver"
 	}
-	return it
+	if read.Numbers == settings.ByArrival {
+		it.Numbering, it.IsByArrival = life.ByArrival, true
+		running.log.Info(numbers.SmallerPromise)
+	}
+	var err error
+	if hasUpstream {
+		it.Upstream, err = upstream.New(upstream.Options{Address: read.Upstream, Adopt: read.Adopt, Lost: read.Lost, Node: read.Node})
+	}
+	if it.Upstream != nil {
+		watchUpstream(it.Upstream, running.told, running.log)
+	}
+	return it, err
 }
 
 // deedsOf say what does what calls ask for. Whatever takes the place of commands and mounts is put in here.
@@ -149,11 +191,11 @@ func (running *serving) doors() []life.Door {
 	called := life.Door{
 		Address: read.Listen,
 		Listen:  func() (net.Listener, error) { return Listen(read.Listen) },
-		Options: []grpc.ServerOption{
-			grpc.Creds(running.known(read.Listen)), grpc.ConnectionTimeout(10 * time.Second),
+		Options: append(watchedOptions(running.told, running.log),
+			grpc.Creds(running.known(read.Listen)), grpc.ConnectionTimeout(10*time.Second),
 			grpc.KeepaliveEnforcementPolicy(keepalive.EnforcementPolicy{MinTime: 5 * time.Second, PermitWithoutStream: true}),
 			grpc.KeepaliveParams(keepalive.ServerParameters{Time: 30 * time.Second, Timeout: 10 * time.Second}),
-		},
+		),
 	}
 	if read.Local == "" {
 		return []life.Door{called}

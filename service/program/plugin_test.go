@@ -5,7 +5,9 @@ import (
 	"context"
 	"errors"
 	"fmt"
+	"io"
 	"net"
+	"net/http"
 	"os"
 	"path/filepath"
 	"strings"
@@ -25,6 +27,7 @@ import (
 	"tufayon/service/numbers"
 	"tufayon/service/secure"
 	"tufayon/service/secure/securetest"
+	"tufayon/service/upstream/upstreamtest"
 	"tufayon/service/wire"
 )
 
@@ -229,6 +232,63 @@ func TestController(t *testing.T) {
 	if err := end(); err != nil {
 		t.Errorf("it ended by %v", err)
 	}
+}
+
+// A controller and a node before another driver, as their files say.
+func TestUpstream(t *testing.T) {
+	ctx, cancel := context.WithTimeout(context.Background(), 2*within)
+	defer cancel()
+	set := newSet(t)
+	set.nodes = []string{"n1 127.0.0.1:1"}
+	set.list()
+	upstreamtest.Start(t, set.path("u.sock")).Has("old", "old")
+	behind := fmt.Sprintf(`"upstream": "unix://%s", "numbers": "arrival"`, set.path("u.sock"))
+	set.start(secure.Controller, set.process("c.json", "tufayon://s1/controller",
+		fmt.Sprintf(`"store": "c.db", "listen": "unix://%s", "adopt": true, "watch": "unix://%s", %s`, set.path("c.sock"), set.path("w.sock"), behind)))
+	set.start(secure.Node, set.process("n1.json", "tufayon://s1/node/n1",
+		fmt.Sprintf(`"store": "n1.db", "node": "n1", "listen": "unix://%s", %s`, set.path("n1.sock"), behind)))
+	controller, node := upstreamtest.Dial(t, set.path("c.sock")), upstreamtest.Dial(t, set.path("n1.sock"))
+	attach := &wire.ControllerPublishVolumeRequest{VolumeId: "old", NodeId: "a node of the platform's", VolumeCapability: how}
+	if _, _, err := upstreamtest.Call(ctx, controller, "/csi.v1.Controller/ControllerPublishVolume", attach, "1", grpc.WaitForReady(true)); err != nil {
+		t.Errorf("attached: %v", err)
+	}
+	attach.NodeId = "n2"
+	_, _, err := upstreamtest.Call(ctx, controller, "/csi.v1.Controller/ControllerPublishVolume", attach, "2")
+	if told := status.Convert(err); told.Code() != codes.FailedPrecondition || told.Message() != "a node of the platform's" {
+		t.Errorf("attached twice: %v", err)
+	}
+	watched := set.scraped("w.sock")
+	for _, it := range []string{
+		`tufayon_driver_nodes{plugin="controller"} 3`, `tufayon_driver_nodes_limit{plugin="controller"} 64`, `tufayon_driver_rows{plugin="controller"} 1`,
+		`tufayon_driver_calls_total{kind="ControllerPublishVolume",plugin="controller",status="FailedPrecondition"} 1`,
+		`tufayon_driver_deeds_total{kind="ControllerPublishVolume",outcome="done",plugin="controller"} 1`,
+	} {
+		if !strings.Contains(watched, it) {
+			t.Errorf("who watches isn't told %s: %s", it, watched)
+		}
+	}
+	stage := &wire.NodeStageVolumeRequest{VolumeId: "old", StagingTargetPath: "/s", VolumeCapability: how}
+	if _, _, err := upstreamtest.Call(ctx, node, "/csi.v1.Node/NodeStageVolume", stage, "3", grpc.WaitForReady(true)); err != nil {
+		t.Errorf("staged: %v", err)
+	}
+}
+
+// scraped is what is told at a Unix socket to who watches.
+func (set *set) scraped(name string) string {
+	set.Helper()
+	client := &http.Client{Transport: &http.Transport{DisableKeepAlives: true, DialContext: func(ctx context.Context, _, _ string) (net.Conn, error) {
+		return (&net.Dialer{}).DialContext(ctx, "unix", set.path(name))
+	}}}
+	answer, err := client.Get("http://localhost/metrics")
+	if err != nil {
+		set.Fatal(err)
+	}
+	defer answer.Body.Close()
+	text, err := io.ReadAll(answer.Body)
+	if err != nil {
+		set.Fatal(err)
+	}
+	return string(text)
 }
 
 // What its words and files say, and the statuses by which it ends.

@@ -13,8 +13,6 @@ import (
 	"strings"
 	"time"
 
-	"go.uber.org/zap"
-
 	"tufayon/service/carrying"
 	"tufayon/service/etcd"
 	"tufayon/service/numbers"
@@ -79,21 +77,22 @@ func Checked(output io.Writer, file, set string, name secure.Name, until time.Ti
 	}
 }
 
-// Logger writes lines of JSON to standard error, all of them.
-func Logger() (*zap.Logger, error) {
-	config := zap.NewProductionConfig()
-	config.Sampling, config.DisableCaller, config.DisableStacktrace = nil, true, true
-	return config.Build()
-}
-
 // OpenStore opens a process's store, and waits until the process leads where that is in etcd. There it says where it is.
 func OpenStore(ctx context.Context, place *settings.Place, says string) (store.Store, error) {
-	if place.Etcd == nil {
-		return store.OpenSQLite(ctx, place.Store)
+	return openStore(ctx, place, says, false)
+}
+
+// openStore does the same with a store that keeps texts, or with one that doesn't.
+func openStore(ctx context.Context, place *settings.Place, says string, texts bool) (store.Store, error) {
+	switch {
+	case place.Etcd != nil:
+		config := etcdOf(place.Etcd)
+		config.Says, config.Texts = says, texts
+		return config.Open(ctx)
+	case texts:
+		return store.OpenKeeper(ctx, place.Store)
 	}
-	config := etcdOf(place.Etcd)
-	config.Says = says
-	return config.Open(ctx)
+	return store.OpenSQLite(ctx, place.Store)
 }
 
 func etcdOf(its *settings.Etcd) etcd.Config {

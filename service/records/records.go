@@ -27,8 +27,17 @@ func Session(head []byte) (uint64, error) {
 	return binary.BigEndian.Uint64(head[len(head)-8:]), nil
 }
 
+// Next is the id of the next volume that a controller makes, as its head's value says: 0 once all were given.
+func Next(head []byte) (uint64, error) {
+	if len(head) != 18 || head[0] != version || head[1] != 0 {
+		return 0, ErrValue
+	}
+	return binary.BigEndian.Uint64(head[2:]), nil
+}
+
 // A Volume is what a controller's row says of a volume that it made: nothing where there is no row.
 type Volume struct {
+	Name         string
 	Live         bool
 	Capacity     uint64
 	Capabilities []frames.Capability
@@ -46,8 +55,7 @@ func ReadVolume(value []byte) (Volume, error) {
 	if head != version || state < 1 || state > 2 {
 		return Volume{}, ErrValue
 	}
-	from.text() // its name
-	volume := Volume{Live: state == 1, Capacity: from.number(), Capabilities: from.capabilities()}
+	volume := Volume{Name: from.text(), Live: state == 1, Capacity: from.number(), Capabilities: from.capabilities()}
 	for count := from.byte(); count > 0 && from.err == nil; count-- {
 		volume.Nodes = append(volume.Nodes, from.text())
 		from.capability()

@@ -28,8 +28,11 @@ func TestValues(t *testing.T) {
 	if session != 1 || err != nil {
 		t.Errorf("a controller's head: %d, %v", session, err)
 	}
+	if next, err := Next(bytesOf(t, "03 00 0000000000000002 0000000000000001")); next != 2 || err != nil {
+		t.Errorf("a controller's head: %d, %v", next, err)
+	}
 	volume, err := ReadVolume(bytesOf(t, "03 01 0176 000000000000000a 01 00 01 00 0000000000000001 0000000000000001 81 00 0000000000000001 00"))
-	if err != nil || !reflect.DeepEqual(volume, Volume{true, 10, []frames.Capability{block}, nil, frames.Number{Session: 1, Call: 1}}) {
+	if err != nil || !reflect.DeepEqual(volume, Volume{"v", true, 10, []frames.Capability{block}, nil, frames.Number{Session: 1, Call: 1}}) {
 		t.Errorf("a controller's row: %+v, %v", volume, err)
 	}
 	session, err = OrchestratorSession(bytesOf(t, "03 02 0000000000000003 02 026e31 026e32"))

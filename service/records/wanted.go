@@ -18,6 +18,11 @@ const (
 	ToDelete
 )
 
+// String is the goal as a command is called: nothing of none.
+func (goal Goal) String() string {
+	return map[Goal]string{ToCreate: "create", ToUse: "use", ToStop: "stop", ToDelete: "delete"}[goal]
+}
+
 // A Wanted is what an orchestrator's row says of a volume's name, and of what is wanted of it. The fields after Goal are a use's; a stop has the
 // first two.
 type Wanted struct {

@@ -33,6 +33,15 @@ func (files Files) Server(admit Admit, refused Refused) credentials.TransportCre
 	})}
 }
 
+// HTTPS is the configuration of a server of HTTP that these peers may ask. It tells nobody who is refused.
+func (files Files) HTTPS(admit Admit) *tls.Config {
+	return &tls.Config{
+		MinVersion: tls.VersionTLS13, ClientAuth: tls.RequestClientCert, SessionTicketsDisabled: true,
+		GetCertificate:   func(*tls.ClientHelloInfo) (*tls.Certificate, error) { return files.own() },
+		VerifyConnection: files.verify(x509.ExtKeyUsageClientAuth, admit),
+	}
+}
+
 // Client gives the credentials of a client that speaks to one peer, whatever its address.
 func (files Files) Client(wanted Name, refused Refused) credentials.TransportCredentials {
 	return named{refused: refused, TransportCredentials: credentials.NewTLS(&tls.Config{

@@ -61,6 +61,7 @@ func (acts *acts) end(key key, it *act, succeeded bool) {
 	acts.mutex.Lock()
 	defer acts.mutex.Unlock()
 	delete(acts.running, key)
+	it.request = Request{} // what is private doesn't stay
 	if succeeded {
 		acts.last[it.volume] = it
 	}
@@ -78,11 +79,11 @@ func (acts *acts) forget(volume uint64) {
 func (core *Core) do(ctx context.Context, key key, request Request, joined *act) (Answer, error) {
 	var asked asked
 	err := core.inTurn(ctx, func(group *group) (bool, error) {
-		number, err := core.number(ctx, request, true)
+		plan, err := core.plan(ctx, request, true)
 		if err != nil {
 			return false, err
 		}
-		asked, err = core.ask(group, request, number)
+		asked, err = core.askAll(group, plan)
 		return true, err
 	})
 	if err != nil {
@@ -97,8 +98,8 @@ func (core *Core) do(ctx context.Context, key key, request Request, joined *act)
 	if !asked.isFresh {
 		joined = nil // a duplicate is known by its number alone
 	}
-	if key.volume == 0 { // a volume was made: nobody else acts on it meanwhile
-		made := keyOf(frames.DeleteVolume{ID: asked.known.Volume})
+	if request.Bind == nil && key.volume == 0 { // a volume was made: nobody else acts on it meanwhile
+		made := keyOf(Request{Body: frames.DeleteVolume{ID: asked.known.Volume}})
 		if err := core.turns.take(context.Background(), made, nil); err != nil {
 			return Answer{}, err
 		}
@@ -106,9 +107,9 @@ func (core *Core) do(ctx context.Context, key key, request Request, joined *act)
 	}
 	asked.answer.Acted, err = core.act(key, request, asked.known, joined)
 	if err != nil {
-		return Answer{}, noReply(err)
+		return Answer{}, request.failed(err)
 	}
-	return asked.answer, nil
+	return asked.answer, core.keepAfter(request, asked.known, asked.answer.Acted)
 }
 
 // act does what a call asks for, unless that is known to be done, and gives what Act gave.
@@ -119,7 +120,7 @@ func (core *Core) act(key key, request Request, known Known, joined *act) ([]byt
 	it := &act{request: request, number: known.Number, volume: known.Volume}
 	core.acts.begin(key, it)
 	var err error
-	it.gave, err = request.Act(core.acting, known)
+	it.gave, err = core.acted(request, known)
 	core.acts.end(key, it, err == nil)
 	return it.gave, err
 }
@@ -131,20 +132,15 @@ func (core *Core) undo(ctx context.Context, request Request) (Answer, error) {
 	if err != nil {
 		return Answer{}, err
 	}
-	if acts {
+	if acts || request.Always && asked.isOK {
 		core.acts.forget(known.Volume)
-		gave, err := request.Act(core.acting, known)
+		gave, err := core.acted(request, known)
 		if err != nil {
-			return Answer{}, noReply(err)
+			return Answer{}, request.failed(err)
 		}
-		err = core.inTurn(context.Background(), func(group *group) (bool, error) {
-			number, err := core.number(ctx, request, false)
-			if err != nil {
-				return false, err
-			}
-			asked, err = core.ask(group, request, number)
-			return true, err
-		})
+		if acts {
+			asked, err = core.letGo(ctx, request)
+		}
 		if err != nil {
 			return Answer{}, err
 		}
@@ -156,16 +152,29 @@ func (core *Core) undo(ctx context.Context, request Request) (Answer, error) {
 	return asked.answer, nil
 }
 
-// tryUndo asks a copy of the plugin whether something is to be undone, and if not, the plugin: what the copy said nobody else can have changed.
-func (core *Core) tryUndo(ctx context.Context, request Request) (asked asked, known Known, acts bool, err error) {
-	err = core.inTurn(ctx, func(group *group) (bool, error) {
-		number, err := core.number(ctx, request, true)
+// letGo has the plugin let go of what was undone.
+func (core *Core) letGo(ctx context.Context, request Request) (asked asked, err error) {
+	err = core.inTurn(context.Background(), func(group *group) (bool, error) {
+		plan, err := core.plan(ctx, request, false)
 		if err != nil {
 			return false, err
 		}
-		known = core.known(number, request.Body.Volume())
-		if acts, err = core.allows(request, known); err == nil && !acts {
-			asked, err = core.ask(group, request, number)
+		asked, err = core.askAll(group, plan)
+		return true, err
+	})
+	return asked, err
+}
+
+// tryUndo asks a copy of the plugin whether something is to be undone, and if not, the plugin: what the copy said nobody else can have changed.
+func (core *Core) tryUndo(ctx context.Context, request Request) (asked asked, known Known, acts bool, err error) {
+	err = core.inTurn(ctx, func(group *group) (bool, error) {
+		plan, err := core.plan(ctx, request, true)
+		if err != nil {
+			return false, err
+		}
+		known = core.knownOf(plan)
+		if acts, err = core.allows(plan, known); err == nil && !acts {
+			asked, err = core.askAll(group, plan)
 		}
 		return true, err
 	})

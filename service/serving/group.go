@@ -35,13 +35,17 @@ type group struct {
 	order   []uint64
 	changes map[uint64]store.Change // the last one of each key
 	bytes   int
+	texts   []store.Text // committed with the changes: the last one of each key
+	textAt  map[string]int
 	notes   []store.Note // committed before the changes
 	taken   []uint64     // volumes that aren't staged any more, once the changes are committed
 	sides   []store.Side
 	confirm bool
 }
 
-func newGroup() *group { return &group{changes: map[uint64]store.Change{}} }
+func newGroup() *group {
+	return &group{changes: map[uint64]store.Change{}, textAt: map[string]int{}}
+}
 
 func (group *group) add(changes []store.Change) {
 	for _, change := range changes {
@@ -53,7 +57,22 @@ func (group *group) add(changes []store.Change) {
 	}
 }
 
-func (group *group) isFull() bool { return len(group.order) >= mostChanges || group.bytes >= mostBytes }
+// addTexts adds changes of texts.
+func (group *group) addTexts(texts []store.Text) {
+	for _, it := range texts {
+		at, there := group.textAt[it.Key]
+		if !there {
+			at, group.texts = len(group.texts), append(group.texts, store.Text{})
+			group.textAt[it.Key] = at
+		}
+		group.texts[at] = it
+		group.bytes += len(it.Key) + len(it.Value) + 64
+	}
+}
+
+func (group *group) isFull() bool {
+	return len(group.order)+len(group.texts) >= mostChanges || group.bytes >= mostBytes
+}
 
 func (group *group) list() []store.Change {
 	changes := make([]store.Change, 0, len(group.order))
@@ -68,6 +87,7 @@ func (core *Core) run(ctx context.Context, opened chan<- error) {
 	defer close(core.done)
 	err := core.load(ctx)
 	if err == nil {
+		core.count()
 		core.source, err = core.config.Numbering(core.latest())
 	}
 	opened <- err
@@ -125,15 +145,14 @@ func (core *Core) carryOut(jobs []*job) {
 
 // settle commits what a group changed, where each is staged before all else, tells its jobs so, and empties it.
 func (core *Core) settle(group *group) {
-	ctx := context.Background()
 	if core.err == nil && len(group.notes) > 0 {
 		notes := append(core.paths.Late(), group.notes...)
-		if err := core.notes.Commit(ctx, notes); err != nil {
+		if err := core.notes.Commit(context.Background(), notes); err != nil {
 			core.err = err
 		}
 	}
-	if core.err == nil && (group.confirm || len(group.order)+len(group.sides) > 0) {
-		if err := store.CommitWith(ctx, core.config.Store, group.sides, group.list()); err != nil {
+	if core.err == nil && (group.confirm || len(group.order)+len(group.texts)+len(group.sides) > 0) {
+		if err := core.commit(group); err != nil {
 			core.err = err
 		}
 	}
@@ -193,8 +212,12 @@ func (core *Core) load(ctx context.Context) error {
 	if err != nil {
 		return err
 	}
-	if len(changes) > 0 {
-		if err := core.config.Store.Commit(ctx, renewed, changes); err != nil {
+	texts, err := core.loadTexts(ctx, parts)
+	if err != nil {
+		return err
+	}
+	if len(changes)+len(texts) > 0 {
+		if err := core.commitLoaded(ctx, renewed, changes, texts); err != nil {
 			return err
 		}
 		if renewed {
@@ -303,8 +326,12 @@ func (core *Core) ask(group *group, request Request, number frames.Number) (aske
 	result := asked{known: core.known(number, volume), isFresh: touches(changes, volume)}
 	result.isAnothers = reply.Kind != request.Body.Kind() || !core.isLast(volume, number, request, result.isFresh)
 	result.isOK = reply.Status == 0 && !result.isAnothers
+	if result.isOK && !result.isFresh && result.known.Row != nil {
+		core.config.Observer.Repeated(reply.Kind)
+	}
 	group.add(changes)
 	core.apply(changes)
+	core.takeOut(group, changes)
 	result.answer = Answer{Reply: reply, Row: core.known(number, volume).Row}
 	core.note(group, request, result)
 	return result, nil
@@ -344,42 +371,6 @@ func (core *Core) answerOf(plugin Plugin, request Request, number frames.Number)
 		return frames.Reply{}, core.end(fmt.Errorf("the plugin's reply: %w", err))
 	}
 	return reply, nil
-}
-
-// allows asks a copy of the plugin, with the row of the call's volume alone, whether the plugin would carry out a call that undoes something: what it
-// answers to such a call hangs on nothing else.
-func (core *Core) allows(request Request, known Known) (bool, error) {
-	if known.Row == nil {
-		return false, nil
-	}
-	record := store.Record([]store.Part{{Key: records.HeadKey, Value: core.parts[records.HeadKey]}, {Key: known.Volume, Value: known.Row}})
-	scratch, _, err := core.config.Make(record)
-	if errors.Is(err, store.ErrMemory) {
-		return false, errMemory
-	}
-	if err != nil {
-		return false, core.end(fmt.Errorf("a copy of the plugin: %w", err))
-	}
-	defer scratch.Free()
-	reply, err := core.answerOf(scratch, request, known.Number)
-	if err != nil {
-		return false, err
-	}
-	changes, err := scratch.Changes()
-	if err != nil {
-		return false, errMemory
-	}
-	return reply.Status == 0 && reply.Kind == request.Body.Kind() && touches(changes, known.Volume), nil
-}
-
-// touches says whether the volume's row was put in: each call that the fence let through is kept there, and no other.
-func touches(changes []store.Change, volume uint64) bool {
-	for _, change := range changes {
-		if change.Key == volume && !change.Out {
-			return true
-		}
-	}
-	return false
 }
 
 // takeBack undoes the last call, whose changes are lost: what was asked before it is committed, and the plugin is made again of the store.

@@ -11,6 +11,7 @@ import (
 	"google.golang.org/grpc/status"
 
 	"tufayon/service/frames"
+	"tufayon/service/identities"
 	"tufayon/service/numbers"
 	"tufayon/service/staging"
 	"tufayon/service/store"
@@ -44,8 +45,10 @@ type Config struct {
 	Store     store.Store
 	Notes     func(context.Context) (Notes, error) // opens them, once the plugin is made; nil of a controller
 	Numbering Numbering
-	MustBegin bool // no call is taken of a session that wasn't begun (Begin)
-	Calls     int  // how many may wait or be under way: 0 for 2,048
+	MustBegin bool     // no call is taken of a session that wasn't begun (Begin)
+	Calls     int      // how many may wait or be under way: 0 for 2,048
+	Texts     bool     // ids are texts, which the store keeps beside the record: it is a store.Keeper
+	Observer  Observer // may be nil
 }
 
 // A Request is a call, and what the driver does besides. Judge and Act may be nil.
@@ -54,10 +57,22 @@ type Request struct {
 	Body    frames.Body
 	Staging string // the staging path that it names, if it names one
 	Like    string // what else is asked: only compared, to see whether a repeat asks the same
+	// Bind says of which calls the request is made, in place of Body, each time before the plugin is asked: on its goroutine, without waiting. Kind is then
+	// which of CSI's calls it is, and Key what one request at a time may be about.
+	Bind func(View) (Bound, error)
+	Kind frames.Kind
+	Key  string
+	Also func() string // another one, once Key is taken: none where it is empty, or nil
 	// Judge refuses the call before the plugin is asked: then nothing was changed. It is run on the plugin's goroutine, and doesn't wait.
 	Judge func(Known) error
 	// Act does what the call asks for, or undoes it. What it gives becomes the Answer's Acted. It returns soon once the context ends.
 	Act func(context.Context, Known) ([]byte, error)
+	// Always has Act done where the plugin allows a call that undoes something, whether or not the store has what it undoes.
+	Always bool
+	// Keep says, of what Act gave, which texts are to be kept beside the record before there is an answer. It is run on the plugin's goroutine.
+	Keep func(View, Known, []byte) ([]store.Text, error)
+	// Failed is what a call gets whose deed failed: nil for 14, and the error's text.
+	Failed func(error) error
 }
 
 // Known is what the store has of a call's volume before that call; where Act is run for a duplicate, with that call.
@@ -67,6 +82,11 @@ type Known struct {
 	Session uint64        // the latest that the plugin has heard of
 	Row     []byte        // nil where the volume has none
 	Staging string        // where it is staged, if it is
+}
+
+// IsBehind says whether the plugin refuses a call by its number, where the volume's last call is this, so that nothing else is to be judged.
+func (known Known) IsBehind(last frames.Number) bool {
+	return known.Number.Session < known.Session || known.Number.IsBefore(last)
 }
 
 // An Answer is the plugin's reply, the value of the volume's row where it has one, and what Act gave.
@@ -90,6 +110,8 @@ var (
 
 // A Core is a plugin over its store. It has one goroutine, bound to its thread, which makes all calls of the plugin.
 type Core struct {
+	counts counts
+
 	config Config
 	source numbers.Source
 	turns  turns
@@ -113,6 +135,7 @@ type Core struct {
 	parts  map[uint64][]byte // the record, with what was asked since the last commit
 	notes  Notes
 	paths  *staging.Paths
+	texts  *identities.Table // nil where there are none
 	begun  begun
 	last   map[uint64]last // by the volumes' ids
 }
@@ -121,6 +144,9 @@ type Core struct {
 func Open(ctx context.Context, config Config) (*Core, error) {
 	if config.Calls == 0 {
 		config.Calls = usualCalls
+	}
+	if config.Observer == nil {
+		config.Observer = unobserved{}
 	}
 	core := &Core{
 		config: config, jobs: make(chan *job), stop: make(chan struct{}), done: make(chan struct{}), idle: make(chan struct{}),
@@ -210,13 +236,19 @@ func (core *Core) Carry(ctx context.Context, request Request) (Answer, error) {
 		return Answer{}, err
 	}
 	defer core.leave()
-	key := keyOf(request.Body)
+	key := keyOf(request)
 	joined := core.acts.find(key, request)
 	if err := core.turns.take(ctx, key, core.done); err != nil {
 		return Answer{}, err
 	}
 	defer core.turns.leave(key)
-	if request.Act != nil && undoes(request.Body.Kind()) {
+	if also := request.also(); also.name != "" {
+		if err := core.turns.take(ctx, also, core.done); err != nil {
+			return Answer{}, err
+		}
+		defer core.turns.leave(also)
+	}
+	if request.Act != nil && undoes(request.kind()) {
 		return core.undo(ctx, request)
 	}
 	return core.do(ctx, key, request, joined)
@@ -241,8 +273,11 @@ func (core *Core) Row(ctx context.Context, volume uint64) ([]byte, error) {
 	return known.Row, err
 }
 
-// noReply is what a call gets whose deed failed: to who asked, no reply came, so that it asks again, or has it undone.
-func noReply(err error) error {
+// failed is what a call gets whose deed failed: unless the request says otherwise, no reply came to who asked, so that it asks again, or has it undone.
+func (request Request) failed(err error) error {
+	if request.Failed != nil {
+		return request.Failed(err)
+	}
 	if told, is := status.FromError(err); is {
 		return status.Error(codes.Unavailable, told.Message())
 	}

@@ -15,11 +15,30 @@ type key struct {
 	name   string
 }
 
-func keyOf(body frames.Body) key {
-	if create, is := body.(frames.CreateVolume); is {
+func keyOf(request Request) key {
+	if request.Bind != nil {
+		return key{name: request.Key}
+	}
+	if create, is := request.Body.(frames.CreateVolume); is {
 		return key{name: create.Name}
 	}
-	return key{volume: body.Volume()}
+	return key{volume: request.Body.Volume()}
+}
+
+// also is the other key of a request, if it has one.
+func (request Request) also() key {
+	if request.Also == nil {
+		return key{}
+	}
+	return key{name: request.Also()}
+}
+
+// kind is which of CSI's calls a request is.
+func (request Request) kind() frames.Kind {
+	if request.Bind != nil {
+		return request.Kind
+	}
+	return request.Body.Kind()
 }
 
 // undoes says whether calls of a kind undo what others did.
@@ -59,6 +78,14 @@ func (turns *turns) take(ctx context.Context, key key, done <-chan struct{}) err
 		turns.giveUp(key, turn)
 		return errEnded
 	}
+}
+
+// isTaken says whether somebody has a key.
+func (turns *turns) isTaken(key key) bool {
+	turns.mutex.Lock()
+	defer turns.mutex.Unlock()
+	_, taken := turns.queues[key]
+	return taken
 }
 
 // giveUp takes back that somebody waits; whose turn it is by now hands it on.

@@ -13,8 +13,10 @@ import (
 
 	"tufayon/service/api"
 	"tufayon/service/carrying"
+	"tufayon/service/daemon"
 	"tufayon/service/frames"
 	"tufayon/service/secure"
+	"tufayon/service/web"
 )
 
 // setName is what a set may be called: a label of a domain, since it stands where a URI has its host.
@@ -158,6 +160,23 @@ func (place *Place) check(to *checking) {
 	checkAddress(to, "listen", place.Listen)
 	if place.IsTLS() && (place.Certificate == "" || place.Key == "" || place.Authorities == "") {
 		to.refuse("certificate", "certificate, key and authorities are there together, or none of them")
+	}
+	place.checkWatch(to)
+}
+
+// checkWatch checks where and how much is told. Beyond this machine metrics are told only to who is known.
+func (place *Place) checkWatch(to *checking) {
+	if place.Watch != "" {
+		checkAddress(to, "watch", place.Watch)
+		if place.Watch == place.Listen {
+			to.refuse("watch", "%q is that of listen too", place.Watch)
+		}
+		if !carrying.IsLocal(place.Watch) && !web.IsLoopback(place.Watch) && !place.IsTLS() {
+			to.refuse("watch", "%q isn't on loopback: there has to be a certificate", place.Watch)
+		}
+	}
+	if place.Log != "" && !strings.Contains(" "+strings.Join(daemon.Levels, " ")+" ", " "+place.Log+" ") {
+		to.refuse("log", "%q is none of %s", place.Log, strings.Join(daemon.Levels, ", "))
 	}
 }
 

@@ -25,6 +25,10 @@ type Plugin struct {
 	Session        uint64            `json:"session"`
 	Hooks          string            `json:"hooks"` // mounts, or none: where there is no command
 	MaxVolumes     int64             `json:"max_volumes"`
+	Upstream       string            `json:"upstream"` // unix://PATH: the driver behind, in place of commands and hooks. With it:
+	Numbers        string            `json:"numbers"`  // metadata, or arrival
+	Adopt          bool              `json:"adopt"`    // of a controller, with the next one
+	Lost           []string          `json:"lost"`
 }
 
 // PluginSettings are both files of a plugin's process.
@@ -61,14 +65,16 @@ var Deeds = map[secure.Role]map[string]string{
 func ReadPlugin(file string, role secure.Role) (*PluginSettings, error) {
 	settings := &PluginSettings{
 		File: file, Role: role, Set: usualSet(),
-		Plugin: Plugin{Name: UsualName, SessionsAbove: UsualAbove, CommandSeconds: 120},
-	}
-	if role == secure.Node {
-		settings.Plugin.Hooks = Mounts
+		Plugin: Plugin{Name: UsualName, SessionsAbove: UsualAbove, CommandSeconds: 120, Numbers: ByMetadata},
 	}
 	plugin := &settings.Plugin
 	if err := readBoth(file, plugin, &plugin.Place, &settings.Set); err != nil {
 		return nil, err
+	}
+	if plugin.Hooks == "" && role == secure.Node {
+		if plugin.Hooks = Mounts; plugin.Upstream != "" {
+			plugin.Hooks = NoHooks
+		}
 	}
 	if plugin.Listen == "" && (role == secure.Node || settings.Set.Controller != "") {
 		plugin.Listen = settings.Set.Addresses()[settings.plugin()] // as the others find it
@@ -83,7 +89,9 @@ func ReadPlugin(file string, role secure.Role) (*PluginSettings, error) {
 	return settings, nil
 }
 
-// plugin is this one's name among them.
+// Name is this plugin's among them: controller, or node: and the id.
+func (settings *PluginSettings) Name() string { return settings.plugin() }
+
 func (settings *PluginSettings) plugin() string {
 	if settings.Role == secure.Node {
 		return carrying.NodeName(settings.Plugin.Node)
@@ -101,7 +109,7 @@ var PluginName = regexp.MustCompile(`^[A-Za-z0-9]([-.A-Za-z0-9]{0,61}[A-Za-z0-9]
 func (settings *PluginSettings) check(to *checking) {
 	plugin := &settings.Plugin
 	plugin.Place.check(to)
-	if local := plugin.Local; local != "" && (!carrying.IsLocal(local) || !filepath.IsAbs(strings.TrimPrefix(local, "unix://")) || local == plugin.Listen) {
+	if local := plugin.Local; local != "" && (!isSocket(local) || local == plugin.Listen) {
 		to.refuse("local", "%q is no unix://PATH, with an absolute path, of its own", local)
 	}
 	if !PluginName.MatchString(plugin.Name) {
@@ -118,11 +126,52 @@ func (settings *PluginSettings) check(to *checking) {
 			to.refuse("commands."+deed, "%q is no absolute path", command)
 		}
 	}
+	settings.checkUpstream(to)
 	if settings.Role == secure.Node {
 		settings.checkNode(to)
 	} else if plugin.Node != "" || plugin.Session != 0 || plugin.Hooks != "" || plugin.MaxVolumes != 0 {
 		to.refuse("node", "node, session, hooks and max_volumes are a node's")
 	}
+}
+
+// What the key numbers says.
+const (
+	ByMetadata = "metadata"
+	ByArrival  = "arrival"
+)
+
+// checkUpstream judges what is said of a driver behind.
+func (settings *PluginSettings) checkUpstream(to *checking) {
+	plugin := &settings.Plugin
+	if plugin.Upstream == "" {
+		if plugin.Numbers != ByMetadata || plugin.Adopt || len(plugin.Lost) > 0 {
+			to.refuse("upstream", "without one there is no numbers, adopt or lost")
+		}
+		return
+	}
+	if !isSocket(plugin.Upstream) || plugin.Upstream == plugin.Listen {
+		to.refuse("upstream", "%q is no unix://PATH, with an absolute path, of its own", plugin.Upstream)
+	}
+	if !carrying.IsLocal(plugin.Listen) {
+		to.refuse("listen", "%q is no Unix socket: a set's orchestrator doesn't know the ids of an upstream", plugin.Listen)
+	}
+	if len(plugin.Commands) > 0 || plugin.Hooks == Mounts && settings.Role == secure.Node || plugin.MaxVolumes != 0 {
+		to.refuse("upstream", "with one there are no commands, mounts or max_volumes")
+	}
+	if plugin.Numbers != ByMetadata && plugin.Numbers != ByArrival {
+		to.refuse("numbers", "%q is neither %s nor %s", plugin.Numbers, ByMetadata, ByArrival)
+	}
+	if len(plugin.Lost) > 0 && plugin.Numbers != ByArrival {
+		to.refuse("lost", "it is for numbers by arrival: who numbers calls detaches what is lost")
+	}
+	if settings.Role == secure.Node && (plugin.Adopt || len(plugin.Lost) > 0) {
+		to.refuse("adopt", "adopt and lost are a controller's")
+	}
+}
+
+// isSocket says whether an address is unix://PATH, with an absolute path.
+func isSocket(address string) bool {
+	return carrying.IsLocal(address) && filepath.IsAbs(strings.TrimPrefix(address, "unix://"))
 }
 
 func (settings *PluginSettings) checkNode(to *checking) {

@@ -50,6 +50,8 @@ type Place struct {
 	Certificate string `json:"certificate"`
 	Key         string `json:"key"`
 	Authorities string `json:"authorities"`
+	Watch       string `json:"watch"` // where metrics are served, unix://PATH or HOST:PORT; nowhere where it is empty
+	Log         string `json:"log"`   // the least level that is logged
 }
 
 // A Process is the file of the orchestrator's service.
@@ -59,6 +61,8 @@ type Process struct {
 	Clients map[string]string `json:"clients"` // the role of each client of the set, by its name
 	Users   map[string]string `json:"users"`   // the role of each user of this machine, by its number
 	Calls   Calls             `json:"calls"`
+	History string            `json:"history"` // the file of the last events; beside the store where that is one and this is empty
+	Draws   string            `json:"draws"`   // csi-replay, which draws pictures for the page; none where it is empty
 }
 
 // Etcd says where a store is in etcd, and how this process leads.
@@ -109,8 +113,11 @@ func (faults Faults) Error() string { return strings.Join(faults, "\n") }
 // Read reads both files of the orchestrator's service. What is wrong with them in themselves is told, each fault with its place: Faults.
 func Read(file string) (*Settings, error) {
 	settings := &Settings{File: file, Set: usualSet(), Process: Process{Calls: Calls{Controller: 64, Node: 32, Caller: 1000}}}
-	if err := readBoth(file, &settings.Process, &settings.Process.Place, &settings.Set); err != nil {
+	if err := readBoth(file, &settings.Process, &settings.Process.Place, &settings.Set, &settings.Process.History, &settings.Process.Draws); err != nil {
 		return nil, err
+	}
+	if settings.Process.History == "" && settings.Process.Store != "" {
+		settings.Process.History = settings.Process.Store + ".history"
 	}
 	if settings.Process.Address == "" {
 		settings.Process.Address = settings.Process.Listen
@@ -124,15 +131,15 @@ func Read(file string) (*Settings, error) {
 // usualSet has what a set's file may leave out.
 func usualSet() Set { return Set{Times: Times{Patience: 300, Answer: 150, Retry: 1, MostRetry: 60}} }
 
-// readBoth reads the file of a process, in which this place is, and the set's, and has the paths of the former count from its folder.
-func readBoth(file string, process any, place *Place, set *Set) error {
+// readBoth reads the file of a process, in which this place and more paths are, and the set's, and has the paths of the former count from its folder.
+func readBoth(file string, process any, place *Place, set *Set, more ...*string) error {
 	if err := readJSON(file, process); err != nil {
 		return Faults{err.Error()}
 	}
 	if place.Set == "" {
 		return Faults{file + ": set: the set's file is missing"}
 	}
-	paths := []*string{&place.Set, &place.Store, &place.Certificate, &place.Key, &place.Authorities}
+	paths := append(more, &place.Set, &place.Store, &place.Certificate, &place.Key, &place.Authorities)
 	if etcd := place.Etcd; etcd != nil {
 		paths = append(paths, &etcd.CA, &etcd.Certificate, &etcd.Key)
 	}

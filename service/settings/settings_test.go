@@ -42,6 +42,9 @@ func TestRead(t *testing.T) {
 	if config := string(read.Set.Config()); config != `{"greatest":1000,"nodes":[{"id":"n1","slots":3},{"id":"n2","slots":4}]}`+"\n" {
 		t.Errorf("CONFIG is %s", config)
 	}
+	if read.Process.History != read.Process.Store+".history" {
+		t.Errorf("the history is %s", read.Process.History)
+	}
 	if read.Process.Store != filepath.Join(filepath.Dir(file), "orchestrator.db") || read.Set.Times.Patience != 300 || read.Process.Calls.Node != 32 {
 		t.Errorf("%+v", read)
 	}
@@ -86,6 +89,11 @@ func TestFaults(t *testing.T) {
 		}},
 		{set, `{"set": "set.json", "listen": ":7101", "etcd": {"endpoints": ["e"], "prefix": "p", "lease": 1}, "certificate": "c", "key": "k", "authorities": "a"}`,
 			[]string{`process.json: address: ":7101" is neither`}},
+		{set, `{"set": "set.json", "store": "s", "listen": "unix:///o", "watch": "10.0.0.1:9480", "log": "loud"}`, []string{
+			`process.json: watch: "10.0.0.1:9480" isn't on loopback`, `process.json: log: "loud" is none of debug, info, warn, error`,
+		}},
+		{set, `{"set": "set.json", "store": "s", "listen": "unix:///o", "watch": "unix:///o"}`, []string{`process.json: watch: "unix:///o" is that of listen too`}},
+		{set, `{"set": "set.json", "store": "s", "listen": "unix:///o", "watch": ":9480", "log": "war"}`, []string{`watch: ":9480" is neither`, `isn't on loopback`, `log: "war"`}},
 		{set, `{"set": "set.json", "listen": "unix:///o"}`, []string{"process.json: store: either this file is there, or etcd"}},
 		{set, `{"set": "set.json", "listen": "unix:///o", "store": "s", "etcd": {"ca": "ca.pem"}}`, []string{
 			"store: either", "etcd.endpoints: there are none", "etcd.prefix: it is missing", "etcd.certificate: ca, certificate and key", "etcd.lease: 0 isn't above 0",
@@ -140,6 +148,10 @@ func TestReadPlugin(t *testing.T) {
 		read.CertificateName().String() != "tufayon://s1/node/n1" {
 		t.Errorf("%+v", read)
 	}
+	behind := strings.Replace(node, `"commands": {"stage": "/bin/stage"}`, `"upstream": "unix:///u", "numbers": "arrival"`, 1)
+	if read, err := settings.ReadPlugin(write(t, set, behind), secure.Node); err != nil || read.Plugin.Hooks != settings.NoHooks {
+		t.Errorf("before another driver: %+v, %v", read, err)
+	}
 	other := its
 	other.Users, other.Session, other.Key = []uint32{8}, 3, "k"
 	if keys := its.Others(&other); strings.Join(keys, " ") != "key session" {
@@ -158,6 +170,11 @@ func TestReadPlugin(t *testing.T) {
 		{secure.Node, strings.Replace(node, `"stage": "/bin/stage"`, `"attach": "bin"`, 1), []string{"commands.attach: a node has no such deed", `commands.attach: "bin" is no absolute path`}},
 		{secure.Node, strings.Replace(node, `"users": [7]`, `"listen": ":7102"`, 1), []string{"process.json: listen: over TCP there have to be"}},
 		{secure.Controller, node, []string{"commands.stage: a controller has no such deed", "node: node, session, hooks and max_volumes are a node's"}},
+		{secure.Node, strings.Replace(node, `"users": [7]`, `"upstream": "/u", "numbers": "some", "lost": ["n1"], "hooks": "mounts", "listen": "127.0.0.1:1"`, 1), []string{
+			`upstream: "/u" is no unix://PATH`, `listen: "127.0.0.1:1" is no Unix socket`, "upstream: with one there are no commands, mounts or max_volumes",
+			`numbers: "some" is neither metadata nor arrival`, "lost: it is for numbers by arrival", "adopt: adopt and lost are a controller's", "over TCP there have to be",
+		}},
+		{secure.Controller, `{"set": "set.json", "store": "c.db", "adopt": true}`, []string{"upstream: without one there is no numbers, adopt or lost"}},
 		{secure.Controller, `{"set": "set.json"}`, []string{"store: either this file is there, or etcd"}},
 	} {
 		_, err := settings.ReadPlugin(write(t, set, it.process), it.role)

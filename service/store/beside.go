@@ -88,7 +88,7 @@ func (beside *beside) open(ctx context.Context, record *sql.DB, makes bool) erro
 		return fmt.Errorf("%w: %v", ErrNotOpened, err)
 	}
 	db.SetMaxOpenConns(1)
-	if err = prepare(ctx, db, listBeside, makeBeside); err == nil {
+	if err = prepare(ctx, db, table{lists: listBeside, makes: makeBeside}); err == nil {
 		err = db.QueryRowContext(ctx, lastMade).Scan(&beside.made)
 	}
 	if err != nil {
@@ -174,7 +174,11 @@ func (store *sqlite) CommitWith(ctx context.Context, sides []Side, changes []Cha
 	}
 	put := make(chan error, 1)
 	go func() { put <- beside.put(ctx, sides) }()
-	err := store.commit(ctx, false, changes, fmt.Sprintf("PRAGMA user_version = %d", (beside.made+1)%counts))
+	mark := fmt.Sprintf("PRAGMA user_version = %d", (beside.made+1)%counts)
+	err := store.commit(ctx, false, changes, func(tx *sql.Tx) error {
+		_, err := tx.ExecContext(ctx, mark)
+		return err
+	})
 	if failed := <-put; failed != nil && err == nil {
 		err = fmt.Errorf("%w: %v", ErrDevice, failed)
 	}

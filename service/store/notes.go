@@ -43,7 +43,7 @@ func OpenNotes(ctx context.Context, path string) (*Notes, error) {
 		return nil, fmt.Errorf("%w: %v", ErrNotes, err)
 	}
 	db.SetMaxOpenConns(1) // one connection, which has the lock
-	if err := prepare(ctx, db, listNotNote, makeNotes); err != nil {
+	if err := prepare(ctx, db, table{lists: listNotNote, makes: makeNotes}); err != nil {
 		db.Close()
 		return nil, fmt.Errorf("%w: %v", ErrNotes, err)
 	}

@@ -33,6 +33,15 @@ type sqlite struct {
 
 // OpenSQLite opens the file of a store, and makes it where it is missing. It holds the file's lock until it is closed.
 func OpenSQLite(ctx context.Context, path string) (Store, error) {
+	opened, err := openSQLite(ctx, path, table{lists: listOther, makes: makeTable})
+	if err != nil {
+		return nil, err
+	}
+	return opened, nil
+}
+
+// openSQLite opens a file that has these tables.
+func openSQLite(ctx context.Context, path string, has table) (*sqlite, error) {
 	absolute, err := filepath.Abs(path)
 	if err != nil {
 		return nil, fmt.Errorf("%w: %v", ErrNotOpened, err)
@@ -44,8 +53,7 @@ func OpenSQLite(ctx context.Context, path string) (Store, error) {
 	}
 	db.SetMaxOpenConns(1) // one connection, which has the lock
 	store := &sqlite{db: db, lost: make(chan struct{}), beside: beside{path: path + ".beside"}}
-	err = prepare(ctx, db, listOther, makeTable)
-	if err == nil {
+	if err = prepare(ctx, db, has); err == nil {
 		store.put, err = db.PrepareContext(ctx, putPart)
 	}
 	if err == nil {
@@ -58,14 +66,25 @@ func OpenSQLite(ctx context.Context, path string) (Store, error) {
 	return store, nil
 }
 
-// prepare makes a table where it is missing, and takes the file's lock. It changes no other database: what is listed counts what else one has.
-func prepare(ctx context.Context, db *sql.DB, listOther, makeTable string) error {
+// A table says what a file has: lists counts what else one lists, makes makes what is missing, and judge, where there is one, refuses what it has.
+type table struct {
+	lists, makes string
+	judge        func(context.Context, *sql.DB) error
+}
+
+// prepare makes what is missing, and takes the file's lock. It changes no other database.
+func prepare(ctx context.Context, db *sql.DB, has table) error {
 	var others int
-	if err := db.QueryRowContext(ctx, listOther).Scan(&others); err != nil {
+	if err := db.QueryRowContext(ctx, has.lists).Scan(&others); err != nil {
 		return err
 	}
 	if others > 0 {
 		return errors.New("it has other tables")
+	}
+	if has.judge != nil {
+		if err := has.judge(ctx, db); err != nil {
+			return err
+		}
 	}
 	// Only now: this writes the mode into the file, where it stays.
 	var mode string
@@ -76,7 +95,7 @@ func prepare(ctx context.Context, db *sql.DB, listOther, makeTable string) error
 		return fmt.Errorf("it stays in the mode %s", mode)
 	}
 	return transact(ctx, db, func(tx *sql.Tx) error {
-		_, err := tx.ExecContext(ctx, makeTable)
+		_, err := tx.ExecContext(ctx, has.makes)
 		return err
 	})
 }
@@ -120,11 +139,11 @@ func (store *sqlite) Commit(ctx context.Context, anew bool, changes []Change) er
 	if !anew && len(changes) == 0 {
 		return nil // the file's lock says that it is ours
 	}
-	return store.commit(ctx, anew, changes, "")
+	return store.commit(ctx, anew, changes, func(*sql.Tx) error { return nil })
 }
 
-// commit makes changes, and has the file's user_version set by a statement, where there is one.
-func (store *sqlite) commit(ctx context.Context, anew bool, changes []Change, mark string) error {
+// commit makes changes, and more in the same transaction.
+func (store *sqlite) commit(ctx context.Context, anew bool, changes []Change, more func(*sql.Tx) error) error {
 	err := transact(ctx, store.db, func(tx *sql.Tx) error {
 		if anew {
 			if _, err := tx.ExecContext(ctx, takeAll); err != nil {
@@ -137,11 +156,7 @@ func (store *sqlite) commit(ctx context.Context, anew bool, changes []Change, ma
 				return err
 			}
 		}
-		if mark == "" {
-			return nil
-		}
-		_, err := tx.ExecContext(ctx, mark)
-		return err
+		return more(tx)
 	})
 	if err != nil {
 		return fmt.Errorf("%w: %v", ErrDevice, err)

@@ -221,13 +221,27 @@ def together(client):
 GROUPS = (identity, creating, deleting, validating, attaching, capabilities, missing, life, unknown, together)
 
 
+def forget(box):
+    """Takes away what a group left."""
+    for path in (*glob.glob(box.at("*.db*")), box.at("staging")):
+        if os.path.isdir(path):
+            shutil.rmtree(path)
+        elif os.path.exists(path):
+            os.remove(path)
+
+
+def hooks_here():
+    """Mounts, where they may be made."""
+    try:
+        own_namespace()
+        return "mounts"
+    except LeftOut:
+        return "none"
+
+
 def suite(numbers):
     def body(box):
-        try:
-            own_namespace()
-            hooks = "mounts"
-        except LeftOut:
-            hooks = "none"
+        hooks = hooks_here()
         calls = 0
         for group in GROUPS:
             client = Client(box, numbers, hooks)
@@ -235,11 +249,7 @@ def suite(numbers):
             group(client)
             wanted(f"{group.__name__}: their ends", [client.controller.stop(), client.node.stop()], [0, 0])
             calls += client.call
-            for path in (*glob.glob(box.at("*.db*")), box.at("staging")):
-                if os.path.isdir(path):
-                    shutil.rmtree(path)
-                elif os.path.exists(path):
-                    os.remove(path)
+            forget(box)
         return f"{len(GROUPS)} groups, {calls} calls, hooks {hooks}"
 
     return body

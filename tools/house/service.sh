@@ -25,3 +25,19 @@ in_turn() {
         "$@"
     fi
 }
+
+# Runs the benchmarks of the package $2 for the script $1, with the words that follow for `go test`, over the library that tools/embed leaves, or -l LIBRARY.
+benchmark_service() {
+    local name="$1" package="$2" library="$top/crates/csi_embedded/out/libcsi_embedded.a" folder
+    shift 2
+    if [ "${1-}" = -l ]; then
+        library="$(realpath "${2:?}")"
+        shift 2
+    fi
+    [ -f "$library" ] || { echo "$name: there is no $library: tools/embed leaves it" >&2; return 1; }
+    folder="$(mktemp -d)"
+    trap "rm -rf '$folder'" EXIT
+    service_tree "$folder/go" "$library"
+    cd "$folder/go/src/tufayon/service"
+    go test -run none -bench . -benchtime 1s "$@" "$package"
+}

@@ -10,6 +10,7 @@ from . import (
     joined,
     kills,
     largest,
+    opening,
     orchestrators,
     pages,
     pictures,
@@ -26,7 +27,7 @@ from . import (
 
 # Those that draw nothing, the longest first.
 SUBJECTS = (
-    *(devices, faults, streams, full, largest, groups, worlds, records, rows, plugins, orchestrators, changes, configs, schedules),
+    *(devices, faults, streams, full, opening, largest, groups, worlds, records, rows, plugins, orchestrators, changes, configs, schedules),
     *(words, help, shown, pages, script),
 )
 

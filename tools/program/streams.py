@@ -5,6 +5,7 @@ from . import full, stores
 from .frames import block, create, mount, reply, stage
 from .largest import OWN
 from .orchestrators import CONFIG, MOST, padded
+from .plugins import given_of
 from .running import Pipe, ended, of_rows, wanted
 from .talks import Talk, about, first, line
 
@@ -79,13 +80,20 @@ STREAMS = [  # the words, the pieces, and the first line
 ]
 
 
+CHANGES_ALL = {  # what changes each row of a full store
+    "controller": given_of(full.NEXT_OF_CONTROLLER),
+    "node": given_of(full.NEXT_OF_NODE),
+    "orchestrator": line({"lose": "n1"}),
+}
+
+
 def full_store(box, name):
-    """A full store is told and opened in so much room."""
+    """A full store is told, opened, and changed as a whole in so much room."""
     word, parts = OWN[name]
     box.put("config", full.CONFIG if name != "orchestrator" else CONFIG)
     stores.make(box.at("db"), parts())
-    for words in (("record", "db"), (name, "db", word)):
-        ran = box.run(*words, preexec_fn=limited(FULL_ROOM))
+    for words, given in ((("record", "db"), b""), ((name, "db", word), b""), ((name, "db", word), CHANGES_ALL[name])):
+        ran = box.run(*words, given=given, preexec_fn=limited(FULL_ROOM))
         wanted(f"{words} in {FULL_ROOM // MB} MB", (ran.status, ran.error), (0, b""))
 
 

@@ -48,7 +48,7 @@ kept_remains _ _ (live_remains v live) = inl refl
 kept_remains _ _ (dead_goes v dead) = inr refl
 
 -- so it is of what is kept for a thing
-kept_begun : (session : ℕ) (state : ControllerState) (thing : PluginThing) → IsOrderly state → (kept_in_row (begun session state) thing ≡ kept_in_row state thing) ⊎ (kept_in_row (begun session state) thing ≡ None)
+pub kept_begun : (session : ℕ) (state : ControllerState) (thing : PluginThing) → IsOrderly state → (kept_in_row (begun session state) thing ≡ kept_in_row state thing) ⊎ (kept_in_row (begun session state) thing ≡ None)
 kept_begun session state thing orderly =
     subst (λ (k : Option Kept). (k ≡ kept_in_row state thing) ⊎ (k ≡ None)) (sym (kept_of_row (begun session state) thing))
     (subst (λ (k : Option Kept). (option_map (λ (v : Volume). v.kept) (row_of (begun session state) thing) ≡ k) ⊎ (option_map (λ (v : Volume). v.kept) (row_of (begun session state) thing) ≡ None)) (sym (kept_of_row state thing))

@@ -17,3 +17,4 @@ pub mod Nowhere
 pub mod Counts
 pub mod OneRow
 pub mod Plan
+pub mod Raised

@@ -176,7 +176,7 @@ module _ (node : List ℕ) (state : NodeState) (current : AreCurrent state) wher
           subst (λ (k : Kept). k.number.session ≤ state.session) row.2 (current.before row.0 (among-find (λ (row : AnsweredVolume). row.id == id) state.rows row.0 row.1))
 
   -- a call that begins a session begins it so
-  has_begun : (number : Number) → begins state.session number ≡ true → HasBegun number (view_of node state) (view_of node (begun number.session state))
+  pub has_begun : (number : Number) → begins state.session number ≡ true → HasBegun number (view_of node state) (view_of node (begun number.session state))
   has_begun number later =
       has-begun state.session number (held_on node state) (held_on node (begun number.session state)) (kept_on node state) (kept_on node (begun number.session state)) later
       (begun-held node number.session state) (begun-kept node number.session state) up_to

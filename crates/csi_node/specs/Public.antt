@@ -10,3 +10,4 @@ pub mod View
 pub mod Judging
 pub mod Changes
 pub mod Plan
+pub mod Raised

@@ -20,7 +20,7 @@ use Rattle.csi_orchestrator.proofs.RowsTold.{IsTold}
 use Rattle.csi_orchestrator.proofs.EntriesTold.{IsUnknown, told-row}
 
 -- the parts with these rows, after a call of the session
-abbrev parts_after : List (List ℕ) → Number → List RowShown → OrchestratorParts
+abbrev pub parts_after : List (List ℕ) → Number → List RowShown → OrchestratorParts
 parts_after nodes last rows = record { nodes = nodes; last = last; rows = rows }
 
 -- a history in the session tells these rows
@@ -55,7 +55,7 @@ none-told nodes session =
     }
 
 -- of a name without a row nothing is shown
-no-row : (parts : OrchestratorParts) (name : List ℕ) → row_of parts.rows name ≡ None → IsUnknown (orchestrator_view parts) name
+pub no-row : (parts : OrchestratorParts) (name : List ℕ) → row_of parts.rows name ≡ None → IsUnknown (orchestrator_view parts) name
 no-row parts name none =
     record {
       marks = λ thing is. ap (λ n. mark_in (mark_of thing) (row_of parts.rows n)) is ∙ ap (mark_in (mark_of thing)) none;
@@ -101,7 +101,7 @@ pub all-told : ViewFollows → (nodes : List (List ℕ)) (session : ℕ) (rows :
 all-told follows nodes session rows apart each = more-told follows nodes session [] rows apart each (none-told nodes session)
 
 -- no row has an open call
-none-open : (nodes : List (List ℕ)) (rows : List RowShown) (name : List ℕ) → AllByRecursion (IsRestorable nodes) rows → option_and_then open_in_row (row_of rows name) ≡ None
+pub none-open : (nodes : List (List ℕ)) (rows : List RowShown) (name : List ℕ) → AllByRecursion (IsRestorable nodes) rows → option_and_then open_in_row (row_of rows name) ≡ None
 none-open nodes rows name each = by (row_of rows name) refl
   where
     by : (o : Option RowShown) → row_of rows name ≡ o → option_and_then open_in_row o ≡ None

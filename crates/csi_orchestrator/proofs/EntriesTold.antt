@@ -38,13 +38,13 @@ use Rattle.csi_orchestrator.proofs.RowsAfterSending.{mark-same}
 use Rattle.csi_orchestrator.proofs.RowsTold.{IsTold, own, call_now, IsSentNow, sent-now, done, tried}
 
 -- none of a list is of the text of one from which all are apart
-none-of : {X : Type 0} (key : X → List ℕ) (x : X) (xs : List X) → AllByRecursion (λ y. same_text (key x) (key y) ≡ false) xs → find (λ y. same_text (key y) (key x)) xs ≡ None
+pub none-of : {X : Type 0} (key : X → List ℕ) (x : X) (xs : List X) → AllByRecursion (λ y. same_text (key x) (key y) ≡ false) xs → find (λ y. same_text (key y) (key x)) xs ≡ None
 none-of key x xs apart = find-of_none (λ y. same_text (key y) (key x)) xs (each-weaker (λ y. same_text (key x) (key y) ≡ false) (λ y. same_text (key y) (key x) ≡ false) xs (λ y f. same_text-flip (key y) (key x) ∙ f) apart)
 
 -- ---- an entry
 
 -- entries of which the same is known are told too
-told-alike : (rest : OrchestratorView) (name : List ℕ) (arguments : Arguments) (id : Option ℕ) (exists : Known) (old new : List NodeEntryShown)
+unfoldable pub told-alike : (rest : OrchestratorView) (name : List ℕ) (arguments : Arguments) (id : Option ℕ) (exists : Known) (old new : List NodeEntryShown)
     → ((thing : Thing) → mark_of thing (still name arguments id exists new) ≡ mark_of thing (still name arguments id exists old))
     → ((there : List ℕ) → mark_of (Attached name there) (still name arguments id exists new) ≢ No → held_on_node (still name arguments id exists new) there ≡ held_on_node (still name arguments id exists old) there)
     → IsTold rest (still name arguments id exists old) → IsTold rest (still name arguments id exists new)
@@ -75,7 +75,7 @@ told-alike rest name arguments id exists old new same held told =
     reads = told.reads
 
 -- one more, of which nothing is known
-told-more : (rest : OrchestratorView) (name : List ℕ) (arguments : Arguments) (id : Option ℕ) (exists : Known) (node : List ℕ) (capability : Capability) (readonly : Bool) (later : List NodeEntryShown)
+unfoldable pub told-more : (rest : OrchestratorView) (name : List ℕ) (arguments : Arguments) (id : Option ℕ) (exists : Known) (node : List ℕ) (capability : Capability) (readonly : Bool) (later : List NodeEntryShown)
     → find (λ (e : NodeEntryShown). same_text e.node node) later ≡ None → IsTold rest (still name arguments id exists later) → IsTold rest (still name arguments id exists (entry_of node capability readonly No No [] ∷ later))
 told-more rest name arguments id exists node capability readonly later none told =
     told-alike rest name arguments id exists later (entry_of node capability readonly No No [] ∷ later) (more-marks name arguments id exists node capability readonly later none) (λ there. held there (same_text node there)) told
@@ -89,7 +89,7 @@ told-more rest name arguments id exists node capability readonly later none told
     held there false maybe = refl
 
 -- how it is held once its attachment is marked
-attach-holds : (name : List ℕ) (arguments : Arguments) (id : Option ℕ) (exists : Known) (entry : NodeEntryShown) (later : List NodeEntryShown) (target : List ℕ) (known : Known) (view : OrchestratorView)
+pub attach-holds : (name : List ℕ) (arguments : Arguments) (id : Option ℕ) (exists : Known) (entry : NodeEntryShown) (later : List NodeEntryShown) (target : List ℕ) (known : Known) (view : OrchestratorView)
     → Reads (still name arguments id exists (entry ∷ later)) view name → (there : List ℕ) → mark_of (Attached name there) (still name arguments id exists (node_marked known Attachment target entry ∷ later)) ≢ No
     → held_on_node (still name arguments id exists (node_marked known Attachment target entry ∷ later)) there
     ≡ option_or (held_by_call there (calls.ControllerPublishVolume 0 entry.node entry.capability entry.readonly)) (view.holdings name there)
@@ -110,7 +110,7 @@ attach-holds name arguments id exists entry later target known view reads there 
     by false was m = was m
 
 -- it is held as before where another aspect is marked
-still-held : (name : List ℕ) (arguments : Arguments) (id : Option ℕ) (exists : Known) (old new : NodeEntryShown) (later : List NodeEntryShown) → new.node ≡ old.node → held_at new ≡ held_at old
+pub still-held : (name : List ℕ) (arguments : Arguments) (id : Option ℕ) (exists : Known) (old new : NodeEntryShown) (later : List NodeEntryShown) → new.node ≡ old.node → held_at new ≡ held_at old
     → ((there : List ℕ) → mark_of (Attached name there) (still name arguments id exists (new ∷ later)) ≡ mark_of (Attached name there) (still name arguments id exists (old ∷ later)))
     → (view : OrchestratorView) → Reads (still name arguments id exists (old ∷ later)) view name → (there : List ℕ) → mark_of (Attached name there) (still name arguments id exists (new ∷ later)) ≢ No
     → held_on_node (still name arguments id exists (new ∷ later)) there ≡ view.holdings name there
@@ -188,7 +188,7 @@ told-entries follows rest name arguments id exists (e ∷ later) apart targets t
 -- ---- the volume
 
 -- what is known of it
-exist-marks : (name : List ℕ) (arguments : Arguments) (id after : Option ℕ) (was now : Known) (thing : Thing) → name_in thing ≡ name
+pub exist-marks : (name : List ℕ) (arguments : Arguments) (id after : Option ℕ) (was now : Known) (thing : Thing) → name_in thing ≡ name
     → mark_of thing (still name arguments after now []) ≡ cond (same_thing thing (Exists name)) now (mark_of thing (still name arguments id was []))
 exist-marks name arguments id after was now (Exists m) is = sym (ap (λ b. cond b now was) (subst (λ n. same_text m n ≡ true) is (text-same m)))
 exist-marks name arguments id after was now thing is = refl
@@ -228,14 +228,14 @@ abbrev pub wanting : Goal → ℕ → RowShown → RowShown
 wanting goal tries row = record { name = row.name; arguments = row.arguments; id = row.id; exists = row.exists; goal = Some goal; open_call = None; tries = tries; node_entries = row.node_entries }
 
 -- the arguments stay those that are told
-arguments-noted : (goal : Goal) (arguments : Arguments) (o : Option Arguments) → Some arguments ≡ o → Some arguments ≡ option_or (arguments_in_goal (Some (goal_shown arguments goal))) o
+pub arguments-noted : (goal : Goal) (arguments : Arguments) (o : Option Arguments) → Some arguments ≡ o → Some arguments ≡ option_or (arguments_in_goal (Some (goal_shown arguments goal))) o
 arguments-noted Create arguments o e = refl
 arguments-noted (Use usage) arguments o e = e
 arguments-noted (Stop node target) arguments o e = e
 arguments-noted Delete arguments o e = e
 
 -- it is noted
-told-noted : ViewFollows → (rest : OrchestratorView) (name : List ℕ) (arguments : Arguments) (id : Option ℕ) (exists : Known) (entries : List NodeEntryShown) (goal : Goal) → IsTold rest (still name arguments id exists entries)
+unfoldable pub told-noted : ViewFollows → (rest : OrchestratorView) (name : List ℕ) (arguments : Arguments) (id : Option ℕ) (exists : Known) (entries : List NodeEntryShown) (goal : Goal) → IsTold rest (still name arguments id exists entries)
     → IsTold rest (wanting goal 0 (still name arguments id exists entries))
 told-noted follows rest name arguments id exists entries goal told =
     record {
@@ -339,7 +339,7 @@ pub record IsUnknown (view : OrchestratorView) (name : List ℕ) : Type 0 where
   pub open_calls : view.open_calls name ≡ None
 
 -- its creation was noted, and isn't wanted any more
-told-new : ViewFollows → (rest : OrchestratorView) (history : History) (name : List ℕ) (arguments : Arguments) → IsWellFormed history → Agrees rest history → IsUnknown rest name → IsTold rest (still name arguments None No [])
+unfoldable pub told-new : ViewFollows → (rest : OrchestratorView) (history : History) (name : List ℕ) (arguments : Arguments) → IsWellFormed history → Agrees rest history → IsUnknown rest name → IsTold rest (still name arguments None No [])
 told-new follows rest history name arguments form agrees unknown =
     record {
       view = after_noted name None once;

@@ -73,6 +73,7 @@ pub mod Opened
 pub mod Judged
 pub mod FirstEntries
 pub mod AllTold
+pub mod FittedRows
 pub mod EntriesTold
 pub mod RowsTold
 pub mod WalksOn
@@ -85,3 +86,4 @@ pub mod PutPlaces
 pub mod ChangedRows
 pub mod RestingRows
 pub mod FewRows
+pub mod StaleReplies

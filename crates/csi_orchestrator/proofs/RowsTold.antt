@@ -44,7 +44,7 @@ abbrev pub number_after : Number → Number
 number_after last = record { session = last.session; call = last.call + 1 }
 
 -- it comes next
-next-number : (last : Number) → IsNextNumber last (number_after last)
+pub next-number : (last : Number) → IsNextNumber last (number_after last)
 next-number last =
     let same : nat_lt last.session last.session ≡ false = le-ltb last.session last.session (omega arith) in
     let equal : (last.session == last.session) ≡ true = eq-eqb last.session last.session refl in
@@ -84,12 +84,12 @@ sent-now follows view history name party call form agrees named quiet = record {
 -- ---- a call that succeeds, or is given up, where nothing is wanted
 
 -- what is known of what the call touches, over what was known before
-over : (b : Bool) (known mid was now : Known) → was ≡ now → cond b known was ≡ cond b known (cond b mid now)
+pub over : (b : Bool) (known mid was now : Known) → was ≡ now → cond b known was ≡ cond b known (cond b mid now)
 over true known mid was now e = refl
 over false known mid was now e = e
 
 -- it succeeds
-pub done : ViewFollows → (rest : OrchestratorView) (name : List ℕ) (arguments : Arguments) (id : Option ℕ) (was now : Known) (before after : List NodeEntryShown) (party : Party) (call : Call) (brought : Option ℕ)
+unfoldable pub done : ViewFollows → (rest : OrchestratorView) (name : List ℕ) (arguments : Arguments) (id : Option ℕ) (was now : Known) (before after : List NodeEntryShown) (party : Party) (call : Call) (brought : Option ℕ)
     → IsOfName name call → DetachesNothing name party call
     → ((thing : Thing) → name_in thing ≡ name
     → mark_of thing (still name arguments (option_or (id_brought call brought) id) now after) ≡ cond (is_thing thing (thing_at name party call)) (known_by_success call) (mark_of thing (still name arguments id was before)))
@@ -134,7 +134,7 @@ done follows rest name arguments id was now before after party call brought name
     sent = sent-now follows view told.history name party call told.form told.agrees named quiet
 
 -- it is given up
-pub tried : ViewFollows → (rest : OrchestratorView) (name : List ℕ) (arguments : Arguments) (id : Option ℕ) (was now : Known) (before after : List NodeEntryShown) (party : Party) (call : Call)
+unfoldable pub tried : ViewFollows → (rest : OrchestratorView) (name : List ℕ) (arguments : Arguments) (id : Option ℕ) (was now : Known) (before after : List NodeEntryShown) (party : Party) (call : Call)
     → IsOfName name call → DetachesNothing name party call
     → ((thing : Thing) → name_in thing ≡ name → mark_of thing (still name arguments id now after) ≡ cond (is_thing thing (thing_at name party call)) Maybe (mark_of thing (still name arguments id was before)))
     → ((view : OrchestratorView) → Reads (still name arguments id was before) view name → (node : List ℕ) → mark_of (Attached name node) (still name arguments id now after) ≢ No

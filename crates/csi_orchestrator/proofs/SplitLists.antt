@@ -1,5 +1,5 @@
 -- Searches and changes in a list at one of its entries, and what holds of the parts of a list.
-use Rattle.std.proofs.Common.{◌≡◌, ℕ, List, [], ◌∷◌, ◌++◌, Bool, true, false, cond, refl, ◌∙◌, ap}
+use Rattle.std.proofs.Common.{◌≡◌, ℕ, List, [], ◌∷◌, ◌++◌, Bool, false, cond, refl, ◌∙◌, ap}
 use Rattle.std.specs.Prelude.{Some, None, find, ◌||◌}
 use Rattle.std.specs.List.{AllByRecursion, list_any}
 use Rattle.csi_lists.specs.Model.Members.{EachTwo}

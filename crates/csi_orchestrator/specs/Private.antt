@@ -18,3 +18,4 @@ pub mod Decisions
 pub mod Judging
 pub mod Judged
 pub mod WorkedRecords
+pub mod Stale

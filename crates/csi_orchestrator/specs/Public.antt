@@ -19,4 +19,6 @@ pub mod Laws
 pub mod Refusals
 pub mod Judging
 pub mod Record
+pub mod Raised
+pub mod Stale
 pub mod Changed

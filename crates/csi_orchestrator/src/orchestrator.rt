@@ -7,6 +7,8 @@ ghost use Rattle.csi_orchestrator.specs.declared.fault.Heard.{Heard as HeardShow
 ghost use Rattle.csi_orchestrator.specs.declared.thing.Known.TheVariants.{No};
 ghost use Rattle.csi_orchestrator.specs.declared.thing.Thing.{Thing as ThingShown};
 
+mod stale;
+
 use crate::beginning::session_with;
 use crate::catalog::Catalog;
 use crate::fault::{Heard, OrchFault, OrchRecordFault};

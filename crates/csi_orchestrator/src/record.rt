@@ -43,6 +43,7 @@ impl OrchestratorRecord {
     ghost use Rattle.csi_orchestrator.specs.Public.Catalog.{rows_of};
     ghost use Rattle.csi_orchestrator.specs.Public.CoreParts.{orchestrator_parts_shown, IsFiled};
     ghost use Rattle.csi_orchestrator.specs.Public.Record.{AreNodesFit, IsRecordRefusal};
+    ghost use Rattle.csi_orchestrator.specs.Public.Raised.{raised_record};
     ghost use Rattle.csi_orchestrator.specs.Public.Restored.{AreRestorable};
     ghost use Rattle.csi_orchestrator.specs.Public.Shown.{row_shown, closed};
     ghost use Rattle.csi_orchestrator.specs.Public.Sound.{AreSoundParts};
@@ -105,6 +106,16 @@ impl OrchestratorRecord {
         ensures few { AllByRecursion IsRowFew result.now }
     {
         self.catalog.rows()
+    }
+
+    /// Raises its session to this one, where that is later: what is opened from it is in a later session still, and uses no number of one that
+    /// this record doesn't know of. It takes no memory.
+    pub fn raise(&mut self, session: u64)
+        ensures { self.new ≡ raised_record session self.old }
+    {
+        if self.session < session {
+            self.session = session;
+        }
     }
 
     // What is opened from it, in this session and with these nodes.

@@ -8,7 +8,9 @@ ghost use Rattle.csi_orchestrator.specs.Model.Moves.{Comes, Hears, hears};
 ghost use Rattle.csi_orchestrator.specs.Public.Shown.{row_shown};
 ghost use Rattle.csi_orchestrator.specs.Model.Shown.{open_in_row};
 ghost use Rattle.csi_orchestrator.specs.Private.RowMoves.{is_issued_as, row_moves, step_heard, RowsAnswer, IsMoveOf};
+ghost use Rattle.csi_orchestrator.specs.Private.Stale.{tells_stale};
 ghost use Rattle.csi_orchestrator.specs.Public.Changed.{is_numbered};
+ghost use Rattle.csi_orchestrator.specs.Public.Stale.{is_stale_reply};
 ghost use Rattle.csi_orchestrator.specs.Public.Sound.{AreSoundRows};
 ghost use Rattle.csi_orchestrator.specs.Public.Catalog.{rows_of, IsIndexed};
 ghost use Rattle.csi_orchestrator.specs.Public.CoreParts.{orchestrator_parts_shown, IsFiled};
@@ -108,7 +110,29 @@ fn step_of(kind: Kind, reply: &Reply) -> Step
     }
 }
 
+// Whether the reply says that its call was stale.
+fn is_stale(reply: &Reply) -> bool
+    ensures { result ≡ is_stale_reply reply.now }
+{
+    match reply.status {
+        Status::Aborted => reply.detail.as_str() == "stale",
+        _ => false,
+    }
+}
+
 impl OrchestratorCore {
+    /// Whether a frame says of an open call that it was stale. It takes no memory.
+    pub fn is_told_stale(&self, frame: &Frame) -> bool
+        requires filed { IsFiled self.now }
+        ensures { result ≡ tells_stale (orchestrator_parts_shown self.now) frame.now.number frame.now.party frame.now.body }
+    {
+        let Body::Reply(kind, reply) = frame.body() else {
+            return false;
+        };
+        is_stale(reply)
+            && index_replied(&self.catalog, frame.number(), frame.party(), *kind).is_some()
+    }
+
     /// What becomes of a frame: the reply to an open call tells what the call did, and the next call is
     /// sent; where none is sent it takes no memory. Whatever else comes is ignored, which takes none. An
     /// `Err` changes nothing, so that the frame can be delivered again.

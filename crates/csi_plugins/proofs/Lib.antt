@@ -1,3 +1,4 @@
 pub mod JoinedRuns
 pub mod NoRecords
+pub mod PluginRuns
 pub mod Tellings

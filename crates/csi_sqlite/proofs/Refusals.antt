@@ -7,7 +7,7 @@ use Rattle.sqlite.specs.State.{State}
 use Rattle.csi_stores.specs.declared.keep.KeepFault.{KeepFault}
 use Rattle.csi_stores.specs.declared.keep.KeepFault.TheVariants.{Device, NoMemory, BadRecord, Full}
 use Rattle.csi_sqlite.specs.Private.Tables.{IsCounted}
-use Rattle.csi_sqlite.specs.Public.Refusals.{IsToldFault, MakesChange}
+use Rattle.csi_sqlite.specs.Public.Refusals.{IsToldFault, WantsMemory, IsToldOfCopies, MakesChange}
 
 -- an error is told as a failing device where it isn't want of memory
 pub told : (P : Error → Type 0) (before after : ℕ) (error : Error) (fault : KeepFault) → IsCounted before after fault → ((fault ≡ NoMemory) ↔ (error ≡ SqliteFailure OutOfMemory)) → P error → IsToldFault P fault
@@ -16,10 +16,10 @@ told P before after error NoMemory counted memory refuses = subst P (memory.0 re
 told P before after error (BadRecord place) counted memory refuses = absurd counted
 told P before after error Full counted memory refuses = absurd counted
 
--- the same, where it is known to be one or the other
-pub told_so : (P : Error → Type 0) (error : Error) (fault : KeepFault) → ((fault ≡ NoMemory) ↔ (error ≡ SqliteFailure OutOfMemory)) → (fault ≡ Device) ⊎ (fault ≡ NoMemory) → P error → IsToldFault P fault
-told_so P error fault memory (inl device) refuses = subst (IsToldFault P) (sym device) (error, λ is. absurd (let e = sym device ∙ memory.1 is in cc), refuses)
-told_so P error fault memory (inr wanting) refuses = subst (IsToldFault P) (sym wanting) (subst P (memory.0 wanting) refuses)
+-- an error at opening copies, where it is known to be one or the other
+pub told_of_copies : (P : Error → Type 0) (error : Error) (fault : KeepFault) → ((fault ≡ NoMemory) ↔ WantsMemory error) → (fault ≡ Device) ⊎ (fault ≡ NoMemory) → P error → IsToldOfCopies P fault
+told_of_copies P error fault memory (inl device) refuses = subst (IsToldOfCopies P) (sym device) (error, λ wants. absurd (let e = sym device ∙ memory.1 wants in cc), refuses)
+told_of_copies P error fault memory (inr wanting) refuses = subst (IsToldOfCopies P) (sym wanting) (error, memory.0 wanting, refuses)
 
 -- a change that is made in a transaction leaves it open
 pub still_inside : (key : ℕ) (value : Option (List ℕ)) (old new : State) → MakesChange key value old new → IsTrue new.in_transaction

@@ -1,6 +1,7 @@
 -- The thing that a sent call does or undoes, by its id: each sent call is for the volume of its name, a name was given one id, and
 -- lists of sent calls are searched for a thing by either.
 use Rattle.std.proofs.Common.{◌≡◌, ℕ, List, [], ◌∷◌, Bool, true, false, Option, Some, None, IsTrue, refl, sym, ◌∙◌, ap, subst, inl, inr, arith}
+use Rattle.std.proofs.lemmas.Bool.{false≢true}
 use Rattle.std.proofs.lemmas.Bool.Decides.{nat_tests}
 use Rattle.csi_types.specs.declared.number.Number.{Number}
 use Rattle.csi_types.specs.declared.call.Call.{Call}
@@ -13,6 +14,7 @@ use Rattle.csi_types.specs.Model.Call.{kind_of}
 use Rattle.csi_types.specs.Public.Call.{is_party_of}
 use Rattle.csi_types.specs.Model.Frame.{Frame}
 use Rattle.csi_types.specs.Public.PluginThing.{PluginThing, Exists, Attached, Staged, Published, same_plugin_thing}
+use Rattle.csi_types.proofs.Equality.{same_plugin_thing-tells}
 use Rattle.csi_lists.specs.Model.Members.{IsAmong, EachTwo}
 use Rattle.csi_lists.proofs.Members.{each_of}
 use Rattle.csi_types.specs.Model.Number.{is_before, IsBefore}
@@ -43,6 +45,14 @@ is_plugin_thing plugin_thing (Some other) = same_plugin_thing plugin_thing other
 -- the call does or undoes the thing
 abbrev pub is_of : PluginThing → Issued → Bool
 is_of plugin_thing issued = is_plugin_thing plugin_thing (plugin_thing_at issued.name issued.party issued.call)
+
+-- the thing of a call of it
+pub of-thing-at : (thing : PluginThing) (call : Issued) → is_of thing call ≡ true → plugin_thing_at call.name call.party call.call ≡ Some thing
+of-thing-at thing call of = by (plugin_thing_at call.name call.party call.call) refl of
+  where
+    by : (o : Option PluginThing) → plugin_thing_at call.name call.party call.call ≡ o → is_plugin_thing thing o ≡ true → plugin_thing_at call.name call.party call.call ≡ Some thing
+    by None e of = absurd (false≢true of)
+    by (Some k) e of = e ∙ ap Some (sym ((same_plugin_thing-tells thing k).0 of))
 
 -- the call is for the plugin of its kind, and for a volume that has the name so
 abbrev pub IsFor : (List ℕ → ℕ → Type 0) → List ℕ → Party → Call → Type 0

@@ -1,5 +1,5 @@
 -- What is so of a world after each choice.
-use Rattle.std.proofs.Common.{◌≡◌, ℕ, ◌<◌, List, [], ◌∷◌, ◌++◌, map, Option, Some, None, refl, sym, ◌∙◌, ap, subst, inl, inr, ⊎_elim, arith}
+use Rattle.std.proofs.Common.{◌≡◌, ℕ, ◌<◌, ◌≤◌, List, [], ◌∷◌, ◌++◌, map, Option, Some, None, refl, sym, ◌∙◌, ap, subst, inl, inr, ⊎_elim, arith}
 use Rattle.std.proofs.lemmas.Bool.Decides.{nat_tests}
 use Rattle.std.proofs.lemmas.Option.{none-some}
 use Rattle.csi_types.specs.declared.number.Number.{Number}
@@ -72,20 +72,23 @@ module _ (laws : PluginLaws) (world : World) (right : IsRight world) where
       let guarded = may.allowed.guarded in
       let frames : List Frame = world.frames ++ frame_of call ∷ [] in
       let later = after-all world.history call.number right.last may.numbered.later in
+      let above = subst (λ s. so_far.floor ≤ s) may.numbered.same_session right.good.floor.last in
       let mine = own-guarded world.history world.frames (told_by given world) given so_far detached call.name call.party call.call guarded in
       record {
         good = record {
           reached = still-reached world world.config frames (with_items world.history (Sent call ∷ [])) right.good.reached;
           given = given;
+          floor = record { controller = right.good.floor.controller; nodes = right.good.floor.nodes; last = above };
           well = record {
             so_far = record {
-              truth = truth-sent issued (latest world.history.items) world.frames (told_by given world) call so_far.truth later;
+              floor = so_far.floor;
+              truth = truth-sent so_far.floor issued (latest world.history.items) world.frames (told_by given world) call so_far.truth above later;
               closed = closed-told given world (all-closed laws world);
               named = record {
                 own_now = λ other among. ⊎_elim (λ e. subst (λ (x : Issued). IsOwnNow given x.name x.party x.call) (sym e) mine) (so_far.named.own_now other) among;
                 own_old = so_far.named.own_old;
                 made = λ other reply id create required limit capabilities among is ok has_id.
-                    ⊎_elim (λ e. absurd (unanswered issued (latest world.history.items) world.frames (told_by given world) call reply so_far.truth later (subst (λ (x : Issued). IsAnsweredOk frames x reply) e ok)))
+                    ⊎_elim (λ e. absurd (unanswered so_far.floor issued (latest world.history.items) world.frames (told_by given world) call reply so_far.truth above later (subst (λ (x : Issued). IsAnsweredOk frames x reply) e ok)))
                     (λ there.
                     let before = before_call world.frames call other.number other.party (kind_of other.call) reply ok.0 in
                     so_far.named.made other reply id create required limit capabilities there is (before, ok.1) has_id) among;
@@ -148,6 +151,7 @@ configured-right world config right =
       good = record {
         reached = still-reached world config world.frames world.history right.good.reached;
         given = right.good.given;
+        floor = record { controller = right.good.floor.controller; nodes = right.good.floor.nodes; last = right.good.floor.last };
         well = record { so_far = well.so_far; of_controller = well.of_controller; creates = well.creates; ended = well.ended; old_spent = well.old_spent };
       };
       last = right.last;
@@ -198,8 +202,10 @@ empty-right laws config =
       good = record {
         reached = empty-reached config;
         given = [];
+        floor = record { controller = omega arith; nodes = λ at among. omega arith; last = omega arith };
         well = record {
           so_far = record {
+            floor = 0;
             truth = record {
               calls = λ frame c among is. absurd among;
               replies = λ number party kind reply among. absurd among;

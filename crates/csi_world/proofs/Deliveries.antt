@@ -1,6 +1,7 @@
 -- A world after a plugin got a frame that was sent.
-use Rattle.std.proofs.Common.{◌≡◌, ℕ, List, Option, Some, None, option_map, refl, sym, ◌∙◌, ap, subst, inl, ⊎_elim, arith}
-use Rattle.std.proofs.lemmas.Bool.{false≢true}
+use Rattle.std.proofs.Common.{◌≡◌, ℕ, ◌<◌, ◌≤◌, List, Bool, true, false, cond, Option, Some, None, option_map, refl, sym, ◌∙◌, ap, subst, inl, ⊎_elim, arith}
+use Rattle.std.specs.Prelude.{nat_lt}
+use Rattle.std.proofs.lemmas.Bool.{false≢true, ltb-true, ltb-false}
 use Rattle.std.proofs.lemmas.Option.{none-some, same_Some}
 use Rattle.csi_types.specs.declared.number.Number.{Number}
 use Rattle.csi_types.specs.declared.capability.Capability.{Capability}
@@ -16,10 +17,12 @@ use Rattle.csi_fence.specs.Public.Delivery.{CallBecomes, IsClosed, IsDelivered}
 use Rattle.csi_types.specs.Model.Frame.{Frame}
 use Rattle.csi_types.specs.Public.PluginThing.{PluginThing, Exists, HasId, asked}
 use Rattle.csi_lists.specs.Model.Members.{IsAmong}
-use Rattle.csi_types.specs.Model.Replies.{call_frame}
+use Rattle.csi_types.specs.Model.Call.{kind_of}
+use Rattle.csi_types.specs.Model.Replies.{call_frame, reply_frame, stale_reply}
+use Rattle.csi_types.specs.Model.Same.{same_party}
 use Rattle.csi_controller.specs.Model.State.{Volume, ControllerState}
 use Rattle.csi_controller.specs.Public.State.{volume_with_id}
-use Rattle.csi_fence.specs.Model.Fenced.{Fenced}
+use Rattle.csi_fence.specs.Model.Fenced.{Fenced, answered_only, unanswered}
 use Rattle.csi_controller.specs.Model.Fenced as controller
 use Rattle.csi_controller.specs.Public.Safe.{ControllerSafetyLaw}
 use Rattle.csi_controller.specs.Public.View as controllers
@@ -39,14 +42,16 @@ use Rattle.csi_world.proofs.Lifetimes.{latest, calls_since, since-sent}
 use Rattle.csi_world.proofs.NamedCalls.{own, for-weaker}
 use Rattle.csi_world.proofs.SeenCalls.{IsAnsweredBy}
 use Rattle.csi_world.proofs.HeardReplies.{sent-more}
-use Rattle.csi_world.proofs.RepliesTold.{answer_to, delivery_of, ok-either, truth-answered}
+use Rattle.csi_world.proofs.RepliesTold.{answer_to, delivery_of, ok-either, truth-answered, ok-low, truth-low}
 use Rattle.csi_world.proofs.StagedAttached.{stands-answered}
 use Rattle.csi_world.proofs.NotLive.{ended-answered, old-answered}
 use Rattle.csi_world.proofs.Forgotten.{told_by, closed-told}
 use Rattle.csi_world.proofs.KnownThings.{IsSoFar}
 use Rattle.csi_world.proofs.PluginSafety.{exclusive}
 use Rattle.csi_world.proofs.RecordedRight.{IsWell}
-use Rattle.csi_world.proofs.PluginsReached.{IsReached, controller-next, node-next, node-of-frames, node_state-same, node_state-other, with_node-same}
+use Rattle.csi_world.proofs.PluginsReached.{IsReached, found-at, controller-next, node-next, node-of-frames, node_state-same, node_state-other, with_node-same}
+use Rattle.csi_world.proofs.Floors.{HasFloor, under, floor-controller, floor-node, floor-with_state}
+use Rattle.csi_world.proofs.JudgedCalls.{low-call}
 use Rattle.csi_world.proofs.DeliveredCalls.{with_plugins, AreEffects, given-once, effects, given-live}
 
 -- the laws of the plugins
@@ -86,6 +91,7 @@ pub record IsGood (world : World) : Type 0 where
   pub reached : IsReached world
   pub given : List GivenId
   pub well : IsWell world given
+  pub floor : HasFloor (well.so_far).floor world
 
 -- a sent call that came to its plugin, and what the plugins know then
 module _ (laws : PluginLaws) (world : World) (controller : ControllerState) (nodes : List NodeAt) (call : Issued) where
@@ -94,17 +100,19 @@ module _ (laws : PluginLaws) (world : World) (controller : ControllerState) (nod
   next = with_plugins world controller nodes
 
   -- all that is so of a world stays so, where the plugin goes on as its laws say, and the others are as they were
-  good-delivered : IsGood world → IsAmong call (issued_in world.history.items) → IsReached next → controllers.KeepsNames world.controller controller → controllers.AreNamed controller
+  good-delivered : (good : IsGood world) → HasFloor (good.well.so_far).floor next → IsAmong call (issued_in world.history.items) → IsReached next → controllers.KeepsNames world.controller controller → controllers.AreNamed controller
       → ChangesOnly call.party world next → (thing : Option PluginThing) → IsAnsweredBy world.controller controller call.party call.call thing → (answer : Option Frame)
       → IsDelivered call.party call.number call.call thing (plugin_view world call.party) (plugin_view next call.party) answer → IsGood (with_frame answer next)
-  good-delivered good among reached keeps names only thing by answer delivered =
+  good-delivered good floor among reached keeps names only thing by answer delivered =
       subst (λ (f : Option Frame). IsGood (with_frame f next)) (sym delivered.is_answer)
       (record {
         reached = record { controller = reached.controller; nodes = reached.nodes; alike = reached.alike };
         given = more;
+        floor = record { controller = floor.controller; nodes = floor.nodes; last = floor.last };
         well = record {
           so_far = record {
-            truth = truth-answered issued world.frames (told_by given world) (told_by more next) call plugin_thing kind reply here (latest world.history.items)
+            floor = so_far.floor;
+            truth = truth-answered issued world.frames (told_by given world) (told_by more next) call plugin_thing kind reply so_far.floor here (latest world.history.items)
                 (λ is. among-find (is_of plugin_thing) (calls_since plugin_thing world.history.items) call is) so_far.truth so_far.closed made.told made.met;
             closed = closed-told more next (all-closed laws next);
             named = record {
@@ -116,7 +124,7 @@ module _ (laws : PluginLaws) (world : World) (controller : ControllerState) (nod
                   (made-now next more call plugin_thing reply id create required limit capabilities its.by_name following.1.of
                   (now.2 (created now.0 create required limit capabilities is there)) (ap (λ (x : Issued). x.call) (sym now.0) ∙ is)
                   (ap (λ (x : Reply). x.id) (sym now.1) ∙ has_id)))
-                  (ok-either issued world.frames (told_by given world) (told_by more next) call plugin_thing kind reply here (latest world.history.items) so_far.truth made.told made.met other r (since-sent (Exists other.name) world.history.items other there) ok);
+                  (ok-either issued world.frames (told_by given world) (told_by more next) call plugin_thing kind reply so_far.floor here (latest world.history.items) so_far.truth made.told made.met other r (since-sent (Exists other.name) world.history.items other there) ok);
             };
             are_given = given-once world controller nodes call given more plugin_thing kind reply well following.1 made.plain;
             heard = λ number status id there. sent-more issued issued world.frames (answer_to call kind reply) number status id (λ c also. also) (so_far.heard number status id there);
@@ -180,7 +188,7 @@ module _ (laws : PluginLaws) (world : World) (controller : ControllerState) (nod
           (subst (λ p. CallBecomes thing (delivery_of call kind reply) (plugin_view world p) (plugin_view next p)) (sym its.of_party) delivered.becomes)
 
 -- a controller that gets no frame keeps its names
-names-stay : (controller : ControllerState) → controllers.KeepsNames controller controller
+pub names-stay : (controller : ControllerState) → controllers.KeepsNames controller controller
 names-stay controller =
     record { grows = omega arith; comes = λ id volume is. inl (there id volume is); stays = λ id volume is live. there id volume is; stays_ended = λ id given none. none }
   where
@@ -188,9 +196,9 @@ names-stay controller =
     there id volume is = record { there = volume; is_found = ap (λ n. volume_with_id n controller) (id-of_found id controller volume is) ∙ is; same_name = refl }
 
 -- a plugin got a sent call
-call-got : PluginLaws → (world : World) (name : List ℕ) (number : Number) (party : Party) (c : Call) → IsGood world
+call-got : PluginLaws → (world : World) (name : List ℕ) (number : Number) (party : Party) (c : Call) (good : IsGood world) → (good.well.so_far).floor ≤ number.session
     → IsAmong {X = Issued} (record { name = name; number = number; party = party; call = c }) (issued_in world.history.items) → IsGood (answered_by_plugin world (call_frame number party c))
-call-got laws world name number Controller c good among =
+call-got laws world name number Controller c good above among =
     let call : Issued = record { name = name; number = number; party = Controller; call = c } in
     let frame : Frame = call_frame number Controller c in
     let after : Fenced ControllerState = controller.fenced world.config world.controller frame in
@@ -198,13 +206,14 @@ call-got laws world name number Controller c good among =
     let of_kind = (of_thing (HasName good.given) name Controller c (own world.history.items world.frames good.given good.well.so_far.named call among)).of_kind in
     let delivered = subst (λ (s : ControllerState). controllers.IsDeliveredTo world.config s number c) (sym came.1) (laws.controller.delivered world.config came.0 number c of_kind) in
     let next = controller-next world.config world.controller frame came in
-    good-delivered laws world after.state world.nodes call good among (record { controller = next; nodes = good.reached.nodes; alike = good.reached.alike })
+    let floor : HasFloor (good.well.so_far).floor (with_plugins world after.state world.nodes) = record { controller = floor-controller world.config (good.well.so_far).floor world.controller number Controller (bodies.Call c) above good.floor.controller; nodes = good.floor.nodes; last = good.floor.last } in
+    good-delivered laws world after.state world.nodes call good floor among (record { controller = next; nodes = good.reached.nodes; alike = good.reached.alike })
     (subst (λ (s : ControllerState). controllers.KeepsNames s (controller.fenced world.config s frame).state) (sym came.1) (laws.names.keeps_names world.config came.0 frame)) (subst controllers.AreNamed (sym next.1) (laws.names.named next.0)) (others after.state) delivered.thing delivered.is_thing after.reply delivered.is_delivered
   where
     others : (s : ControllerState) → ChangesOnly Controller world (record world { controller = s })
     others s Controller e = absurd (false≢true (sym e))
     others s (Node id) e = refl
-call-got laws world name number (Node id) c good among = by (node_state id world) refl
+call-got laws world name number (Node id) c good above among = by (node_state id world) refl
   where
     others : (s : NodeState) → ChangesOnly (Node id) world (with_node id s world)
     others s Controller e = refl
@@ -221,17 +230,91 @@ call-got laws world name number (Node id) c good among = by (node_state id world
         let delivered = subst (λ (s : NodeState). nodes.IsDeliveredTo id s number c) (sym frames.2) (laws.node.delivered id frames.0 frames.1 number c of_kind) in
         let new_view = ap (node_view id (over_at world)) (sym (node_state-same id state after.state world is)) in
         let now = subst (λ v. IsDelivered (Node id) number c (nodes.thing_of id c) (nodes.view_of id state) v after.reply) new_view delivered in
-        good-delivered laws world world.controller changed.nodes call good among (node-next world id state (call_frame number (Node id) c) good.reached is)
+        let found = found-at id world state is in
+        let own = subst (λ (s : NodeState). (good.well.so_far).floor ≤ s.session) found.3 (good.floor.nodes found.0 found.1) in
+        let floor : HasFloor (good.well.so_far).floor (with_plugins world world.controller changed.nodes) = record {
+          controller = good.floor.controller;
+          nodes = floor-with_state (good.well.so_far).floor id after.state world.nodes (floor-node id (good.well.so_far).floor state number (Node id) (bodies.Call c) above own) good.floor.nodes;
+          last = good.floor.last;
+        } in
+        good-delivered laws world world.controller changed.nodes call good floor among (node-next world id state (call_frame number (Node id) c) good.reached is)
         (names-stay world.controller) good.well.of_controller.names (others after.state) (nodes.thing_of id c) (inl refl) after.reply
         (subst (λ v. IsDelivered (Node id) number c (nodes.thing_of id c) v (plugin_view changed (Node id)) after.reply) (ap (node_view id (over_at world)) (sym is)) now)
+
+-- a call of a session below the floor is told to be stale
+good-low : (world : World) (number : Number) (party : Party) (kind : Kind) (good : IsGood world) → number.session < (good.well.so_far).floor → IsGood (with_frame (Some (reply_frame number party kind stale_reply)) world)
+good-low world number party kind good low =
+    record {
+      reached = record { controller = good.reached.controller; nodes = good.reached.nodes; alike = good.reached.alike };
+      given = good.given;
+      floor = record { controller = good.floor.controller; nodes = good.floor.nodes; last = good.floor.last };
+      well = record {
+        so_far = record {
+          floor = so_far.floor;
+          truth = truth-low so_far.floor issued (latest world.history.items) world.frames (told_by good.given world) number party kind so_far.truth low;
+          closed = so_far.closed;
+          named = record {
+            own_now = so_far.named.own_now;
+            own_old = so_far.named.own_old;
+            made = λ other r id create required limit capabilities there is ok has_id.
+                so_far.named.made other r id create required limit capabilities there is (ok-low number party kind world.frames other r ok) has_id;
+          };
+          are_given = so_far.are_given;
+          heard = λ n status id there. sent-more issued issued world.frames (reply_frame number party kind stale_reply) n status id (λ c also. also) (so_far.heard n status id there);
+          stands = so_far.stands;
+          timed = so_far.timed;
+          undone = so_far.undone;
+        };
+        of_controller = good.well.of_controller;
+        creates = good.well.creates;
+        ended = good.well.ended;
+        old_spent = good.well.old_spent;
+      };
+    }
+  where
+    so_far : IsSoFar world.history world.frames (told_by good.given world) good.given
+    so_far = good.well.so_far
+
+    issued : List Issued
+    issued = issued_in world.history.items
+
+-- its plugin changes nothing
+low-got : (world : World) (number : Number) (party : Party) (c : Call) (good : IsGood world) → number.session < (good.well.so_far).floor → IsGood (answered_by_plugin world (call_frame number party c))
+low-got world number Controller c good low =
+    let below = under number.session (good.well.so_far).floor world.controller.session low good.floor.controller in
+    subst (λ (f : Fenced ControllerState). IsGood (with_frame f.reply (record world { controller = f.state }))) (sym (low-call (controller.controller_with world.config) world.controller number Controller c below))
+    (good-low world number Controller (kind_of c) good low)
+low-got world number (Node id) c good low = by (node_state id world) refl
+  where
+    by : (o : Option NodeState) → node_state id world ≡ o → IsGood (answered_by_node id world (call_frame number (Node id) c) o)
+    by None is = good
+    by (Some state) is =
+        let found = found-at id world state is in
+        let own = subst (λ (s : NodeState). (good.well.so_far).floor ≤ s.session) found.3 (good.floor.nodes found.0 found.1) in
+        let below = under number.session (good.well.so_far).floor state.session low own in
+        subst (λ (f : Fenced NodeState). IsGood (with_frame f.reply (with_node id f.state world))) (sym (low-call (node.node_at id) state number (Node id) c below)) (at (same_party (Node id) (Node id)))
+      where
+        at : (b : Bool) → IsGood (let f : Fenced NodeState = cond b (answered_only (node.node_at id) state number (kind_of c) stale_reply) (unanswered state) in with_frame f.reply (with_node id f.state world))
+        at true = subst (λ (w : World). IsGood (with_frame (Some (reply_frame number (Node id) (kind_of c) stale_reply)) w)) (sym (with_node-same world id state good.reached is)) (good-low world number (Node id) (kind_of c) good low)
+        at false = subst IsGood (sym (with_node-same world id state good.reached is)) good
 
 -- a frame came that was sent; plugins answer no reply
 got : PluginLaws → (world : World) (number : Number) (party : Party) (body : Body) → IsGood world
     → IsAmong {X = Frame} (record { number = number; party = party; body = body }) world.frames → IsGood (answered_by_plugin world (record { number = number; party = party; body = body }))
-got laws world number party (bodies.Call c) good among =
-    let of = good.well.so_far.truth.calls (record { number = number; party = party; body = bodies.Call c }) c among refl in
-    let call : Issued = of.call in
-    subst (λ (f : Frame). IsGood (answered_by_plugin world f)) (sym of.is) (call-got laws world call.name call.number call.party call.call good of.among)
+got laws world number party (bodies.Call c) good among = by (nat_lt number.session (good.well.so_far).floor) refl
+  where
+    frame : Frame
+    frame = record { number = number; party = party; body = bodies.Call c }
+
+    by : (b : Bool) → nat_lt number.session (good.well.so_far).floor ≡ b → IsGood (answered_by_plugin world frame)
+    by true low = low-got world number party c good (ltb-true number.session (good.well.so_far).floor low)
+    by false high =
+        let above = ltb-false number.session (good.well.so_far).floor high in
+        ⊎_elim
+        (λ of. let call : Issued = of.call in
+        subst (λ (f : Frame). IsGood (answered_by_plugin world f)) (sym of.is)
+        (call-got laws world call.name call.number call.party call.call good (subst (λ (f : Frame). (good.well.so_far).floor ≤ f.number.session) of.is above) of.among))
+        (λ low. absurd (omega (arith, low, above))) (good.well.so_far.truth.calls frame c among refl)
 got laws world number Controller (bodies.Reply kind reply) good among = good
 got laws world number (Node id) (bodies.Reply kind reply) good among = by (node_state id world) refl
   where

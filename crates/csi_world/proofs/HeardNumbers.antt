@@ -11,12 +11,11 @@ use Rattle.csi_types.specs.Model.Call.{kind_of}
 use Rattle.csi_types.specs.Model.Config.{Config}
 use Rattle.csi_types.specs.Model.Frame.{Frame}
 use Rattle.csi_types.specs.Model.Number.{IsBefore}
-use Rattle.csi_types.specs.Model.Same.{same_text, same_party}
+use Rattle.csi_types.specs.Model.Same.{same_text}
 use Rattle.csi_lists.specs.Model.Members.{IsAmong}
 use Rattle.csi_lists.proofs.Members.{among-either, among-filter, among-map}
-use Rattle.csi_fence.specs.Model.Fence.{Kept, begins}
-use Rattle.csi_fence.specs.Model.Fenced.{Fenced, Machine, in_session, answered_in, unanswered, fenced_parts}
-use Rattle.csi_fence.proofs.Judged.{Judgement, was_over, was_fresh, was_repeated, was_stale, was_judged}
+use Rattle.csi_fence.specs.Model.Fence.{Kept}
+use Rattle.csi_fence.specs.Model.Fenced.{Fenced, fenced_parts}
 use Rattle.csi_controller.specs.Model.State.{Volume, ControllerState, is_row_for}
 use Rattle.csi_controller.specs.Model.Table as controller_table
 use Rattle.csi_controller.specs.Model.Table.{ended_volume}
@@ -30,38 +29,11 @@ use Rattle.csi_orchestrator.specs.Model.Readings.{last_number}
 use Rattle.csi_world.specs.Model.World.{NodeAt, World, empty_world, node_id, new_node, node_state, with_state, with_node, with_frame}
 use Rattle.csi_world.specs.Model.Step.{answered_by, answered_by_node, answered_by_plugin}
 use Rattle.csi_world.specs.Public.Step.{Choice, Sends, Closes, Takes, Notes, Starts, Forgets, Answers, Joins, Loses, Configures, MayChoose, MayChooseAll, chosen, chosen_all}
+use Rattle.csi_world.proofs.JudgedCalls.{call-so, changed-sessions}
 use Rattle.csi_world.proofs.PluginsReached.{found-at, knows-nothing}
 use Rattle.csi_world.proofs.Deliveries.{PluginLaws}
 use Rattle.csi_world.proofs.RightWorlds.{IsRight, then-before}
 use Rattle.csi_world.proofs.ChoicesRight.{chosen-right}
-
--- ---- what one call keeps
-
--- what is kept where the session of a call begins, and where it is carried out, each frame of it keeps
-module _ {State : Type 0} (machine : Machine State) (I : State → Type 0) (number : Number) (call : Call) (begins_so : (state : State) → I state → I (machine.begun number.session state))
-    (carries_so : (state : State) → I state → I (machine.carried_out state number call).state) where
-  -- the state in which it is judged
-  session-so : (state : State) → I state → I (in_session machine number state)
-  session-so state so = by (begins (machine.session state) number)
-    where
-      by : (b : Bool) → I (cond b (machine.begun number.session state) state)
-      by true = begins_so state so
-      by false = so
-
-  -- the state after it, whatever the fence makes of it
-  judged-so : (state : State) (after : Fenced State) → Judgement machine state number call after → I state → I after.state
-  judged-so state _ (was_over over) so = so
-  judged-so state _ (was_fresh not_over fresh) so = carries_so (in_session machine number state) (session-so state so)
-  judged-so state _ (was_repeated kept not_over is spent same) so = session-so state so
-  judged-so state _ (was_stale kept not_over is spent) so = session-so state so
-
-  -- the state after the frame
-  pub call-so : (state : State) (party : Party) → I state → I (fenced_parts machine state number party (bodies.Call call)).state
-  call-so state party so = by (same_party party machine.party)
-    where
-      by : (b : Bool) → I (cond b (answered_in machine state number call) (unanswered state)).state
-      by true = judged-so state (answered_in machine state number call) (was_judged machine state number call) so
-      by false = so
 
 -- ---- numbers
 
@@ -111,14 +83,6 @@ changed-kept last state kept (controller_table.Ends id) new heard volume among =
     subst (λ (k : Kept). IsUpTo last k.number) (sym (ap (λ (v : Volume). v.kept) from.2 ∙ ended-kept id from.0)) (heard.kept from.0 from.1)
 changed-kept last state kept (controller_table.Attaches holding) new heard volume among = heard.kept volume among
 changed-kept last state kept (controller_table.Detaches id node) new heard volume among = heard.kept volume among
-
--- a change leaves the session
-changed-sessions : (state : ControllerState) (kept : Kept) (change : controller_table.Change) → (controller_table.changed state kept change).session ≡ state.session
-changed-sessions state kept controller_table.Stays = refl
-changed-sessions state kept (controller_table.Makes name capacity capabilities) = refl
-changed-sessions state kept (controller_table.Ends id) = refl
-changed-sessions state kept (controller_table.Attaches holding) = refl
-changed-sessions state kept (controller_table.Detaches id node) = refl
 
 -- what a row keeps once a call is kept
 kept-then : (last : Number) (call : Call) (kept : Kept) (volume : Volume) → IsUpTo last kept.number → IsUpTo last volume.kept.number → IsUpTo last (controllers.kept_in call kept volume).kept.number
@@ -250,8 +214,11 @@ answered-heard world frame up heard = by frame.party
 -- a call that was sent has no later number
 pub sent-up : (world : World) → IsRight world → (frame : Frame) → IsAmong frame world.frames → (call : Call) → frame.body ≡ bodies.Call call → IsUpTo (last_number world.history) frame.number
 sent-up world right frame among call is =
-    let of = right.good.well.so_far.truth.calls frame call among is in
-    subst (λ (f : Frame). IsUpTo (last_number world.history) f.number) (sym of.is) (right.last of.call of.among)
+    ⊎_elim (λ of. subst (λ (f : Frame). IsUpTo (last_number world.history) f.number) (sym of.is) (right.last of.call of.among))
+    (λ low. inr (earlier frame.number (last_number world.history) (right.good.well.so_far).floor low right.good.floor.last)) (right.good.well.so_far.truth.calls frame call among is)
+  where
+    earlier : (a b : Number) (floor : ℕ) → a.session < floor → floor ≤ b.session → IsBefore a b
+    earlier a b floor low above = let less : a.session < b.session = omega (arith, low, above) in grind (arith, nat_tests)
 
 -- where a session starts, its last number is later
 started-up : (last : Number) (session : ℕ) → last.session < session → IsUpTo (record { session = session; call = 0 }) last

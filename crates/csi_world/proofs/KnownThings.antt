@@ -40,7 +40,8 @@ EndedUndone items = (name : List ℕ) (call : Issued) → find (touches (things.
 
 -- what is so of a history, the frames that were sent, the things, and the ids that were given
 pub record IsSoFar (history : History) (frames : List Frame) (view : PluginView) (given : List GivenId) : Type 0 where
-  pub truth : Truth (issued_in history.items) (latest history.items) frames view
+  pub floor : ℕ
+  pub truth : Truth floor (issued_in history.items) (latest history.items) frames view
   pub closed : IsClosed view
   pub named : Named history.items frames given
   pub are_given : AreGiven given

@@ -22,6 +22,8 @@ pub mod Forgotten
 pub mod GuardedCalls
 pub mod RecordedRight
 pub mod PluginsReached
+pub mod JudgedCalls
+pub mod Floors
 pub mod DeliveredCalls
 pub mod Deliveries
 pub mod RightWorlds
@@ -30,6 +32,16 @@ pub mod NodesLost
 pub mod NodesJoined
 pub mod ChoicesRight
 pub mod WorldSafety
+pub mod MoreFrames
+pub mod CallsTold
+pub mod RaisedPlugins
+pub mod RecoveredRows
+pub mod RecoveredNumbers
+pub mod RecoveredPlugins
+pub mod RecoveredThings
+pub mod RecoveredWorlds
+pub mod RaisedWorlds
+pub mod RecoverySafety
 pub mod RunSteps
 pub mod CarriedFrames
 pub mod SystemInputs
@@ -59,3 +71,7 @@ pub mod SettledFrames
 pub mod GoalCalls
 pub mod WaitingWorlds
 pub mod AnsweredWaits
+pub mod PlainReplies
+pub mod KeptCalls
+pub mod OpenCalls
+pub mod NeverStale

@@ -426,14 +426,17 @@ module _ (laws : PluginLaws) (world : World) (right : IsRight world) (name : Lis
 
   -- the name is forgotten
   pub forgets-right : IsRight next
+  unfolding so_far well
   forgets-right =
       record {
         good = record {
           reached = still-reached world world.config world.frames (with_items world.history (item ∷ [])) right.good.reached;
           given = later;
+          floor = record { controller = right.good.floor.controller; nodes = right.good.floor.nodes; last = right.good.floor.last };
           well = record {
             so_far = record {
-              truth = truth-ended (issued_in items) (latest items) (latest (item ∷ items)) world.frames (told_by given world) (told_by later next) ending so_far.truth;
+              floor = so_far.floor;
+              truth = truth-ended so_far.floor (issued_in items) (latest items) (latest (item ∷ items)) world.frames (told_by given world) (told_by later next) ending so_far.truth;
               closed = closed-told later next (all-closed laws next);
               named = record {
                 own_now = λ call among. own-now call (same_text name call.name) refl among;

@@ -1,5 +1,5 @@
 -- The rows of nodes: each is of another volume, and of a call that was sent to the node for it.
-use Rattle.std.proofs.Common.{◌≡◌, ◌⊎◌, ℕ, List, [], ◌∷◌, map, not, Bool, true, false, cond, Option, Some, None, ◌==◌, refl, sym, ◌∙◌, ap, subst, inl, inr, ⊎_elim}
+use Rattle.std.proofs.Common.{◌≡◌, ◌⊎◌, ℕ, ◌<◌, ◌≤◌, List, [], ◌∷◌, map, not, Bool, true, false, cond, Option, Some, None, ◌==◌, refl, sym, ◌∙◌, ap, subst, inl, inr, ⊎_elim}
 use Rattle.std.specs.Prelude.{is_some}
 use Rattle.std.proofs.lemmas.Bool.{eqb-true}
 use Rattle.csi_types.specs.declared.number.Number.{Number}
@@ -8,15 +8,17 @@ use Rattle.csi_types.specs.declared.call.Party.{Party}
 use Rattle.csi_types.specs.declared.call.Party.TheVariants.{Controller, Node}
 use Rattle.csi_types.specs.declared.frame.Body.{Body}
 use Rattle.csi_types.specs.declared.frame.Body.TheVariants as bodies
+use Rattle.csi_types.specs.Model.Call.{kind_of}
 use Rattle.csi_types.specs.Model.Config.{Config}
 use Rattle.csi_types.specs.Model.Frame.{Frame}
-use Rattle.csi_types.specs.Model.Same.{same_text}
+use Rattle.csi_types.specs.Model.Replies.{stale_reply}
+use Rattle.csi_types.specs.Model.Same.{same_text, same_party}
 use Rattle.csi_types.proofs.Equality.{same_text-tells}
 use Rattle.csi_lists.specs.Model.Members.{IsAmong, EachTwo}
 use Rattle.csi_lists.proofs.Members.{among-either, among-filter, among-map, none_passes}
 use Rattle.csi_lists.proofs.Pairs.{two-append, two-filter, two-map, two-more}
 use Rattle.csi_fence.specs.Model.Fence.{Kept}
-use Rattle.csi_fence.specs.Model.Fenced.{Fenced, fenced_parts}
+use Rattle.csi_fence.specs.Model.Fenced.{Fenced, answered_only, unanswered, fenced_parts}
 use Rattle.csi_fence.proofs.FramesKeep.{frames_keep}
 use Rattle.csi_node.specs.Model.State.{NodeState, AnsweredVolume, joined_node, staged_of, row_with_id, volume_of}
 use Rattle.csi_node.specs.Model.Table as table
@@ -33,7 +35,8 @@ use Rattle.csi_world.proofs.PluginsReached.{found-at, knows-nothing}
 use Rattle.csi_world.proofs.Deliveries.{PluginLaws}
 use Rattle.csi_world.proofs.RightWorlds.{IsRight}
 use Rattle.csi_world.proofs.ChoicesRight.{chosen-right}
-use Rattle.csi_world.proofs.HeardNumbers.{call-so}
+use Rattle.csi_world.proofs.JudgedCalls.{call-so, low-call}
+use Rattle.csi_world.proofs.Floors.{under}
 
 -- ---- each is of another volume
 
@@ -131,14 +134,23 @@ carried-called issued node state one sent to called = by _ (was_carried node sta
         (keep-either (volume_of one.call) (kept_of state one.number one.call) (table.changed state (table.lifecycle_row state one.call).change) row among)
 
 -- a node got a frame that was sent to it
-node-called : (issued : List Issued) (node : List ℕ) (state : NodeState) (number : Number) (body : Body) → ((call : Call) → body ≡ bodies.Call call → (one : Issued) × IsAmong one issued × (one.party ≡ Node node) × (one.number ≡ number) × (one.call ≡ call))
+node-called : (issued : List Issued) (node : List ℕ) (state : NodeState) (number : Number) (body : Body) → ((call : Call) → body ≡ bodies.Call call → ((one : Issued) × IsAmong one issued × (one.party ≡ Node node) × (one.number ≡ number) × (one.call ≡ call)) ⊎ (number.session < state.session))
     → AreCalled issued node state → AreCalled issued node (fenced_parts (nodes.node_at node) state number (Node node) body).state
-node-called issued node state number (bodies.Call call) of called =
-    let one = of call refl in
-    call-so (nodes.node_at node) (AreCalled issued node) number call
-    (λ s so row among. so row (among-filter (λ (r : AnsweredVolume). is_some (staged_of r.id s)) s.rows row among))
-    (λ s so. subst (λ (x : Number × Call). AreCalled issued node (nodes.carried_out node s x.0 x.1 (table.node_row s x.1)).state) (λ i. (one.3 i, one.4 i)) (carried-called issued node s one.0 one.1 one.2 so))
-    state (Node node) called
+node-called issued node state number (bodies.Call call) of called = ⊎_elim own stale (of call refl)
+  where
+    own : (one : Issued) × IsAmong one issued × (one.party ≡ Node node) × (one.number ≡ number) × (one.call ≡ call) → AreCalled issued node (fenced_parts (nodes.node_at node) state number (Node node) (bodies.Call call)).state
+    own one =
+        call-so (nodes.node_at node) (AreCalled issued node) number call
+        (λ s so row among. so row (among-filter (λ (r : AnsweredVolume). is_some (staged_of r.id s)) s.rows row among))
+        (λ s so. subst (λ (x : Number × Call). AreCalled issued node (nodes.carried_out node s x.0 x.1 (table.node_row s x.1)).state) (λ i. (one.3 i, one.4 i)) (carried-called issued node s one.0 one.1 one.2 so))
+        state (Node node) called
+
+    stale : number.session < state.session → AreCalled issued node (fenced_parts (nodes.node_at node) state number (Node node) (bodies.Call call)).state
+    stale low = subst (λ (f : Fenced NodeState). AreCalled issued node f.state) (sym (low-call (nodes.node_at node) state number (Node node) call low)) (at (same_party (Node node) (Node node)))
+      where
+        at : (b : Bool) → AreCalled issued node (let f : Fenced NodeState = cond b (answered_only (nodes.node_at node) state number (kind_of call) stale_reply) (unanswered state) in f.state)
+        at true = called
+        at false = called
 node-called issued node state number (bodies.Reply kind reply) of called = called
 
 -- so it is by each choice that may be made
@@ -158,10 +170,14 @@ chosen-called world (Answers frame) right may called = by frame.party refl
     more None next so = so
     more (Some one) next so = so
 
-    sent : (node : List ℕ) → frame.party ≡ Node node → (call : Call) → frame.body ≡ bodies.Call call → (one : Issued) × IsAmong one issued × (one.party ≡ Node node) × (one.number ≡ frame.number) × (one.call ≡ call)
+    floor : ℕ
+    floor = (right.good.well.so_far).floor
+
+    sent : (node : List ℕ) → frame.party ≡ Node node → (call : Call) → frame.body ≡ bodies.Call call
+        → ((one : Issued) × IsAmong one issued × (one.party ≡ Node node) × (one.number ≡ frame.number) × (one.call ≡ call)) ⊎ (frame.number.session < floor)
     sent node to call is =
-        let of = right.good.well.so_far.truth.calls frame call may is in
-        (of.call, of.among, ap (λ (f : Frame). f.party) (sym of.is) ∙ to, ap (λ (f : Frame). f.number) (sym of.is), same (of.call).call call (ap (λ (f : Frame). f.body) (sym of.is) ∙ is))
+        ⊎_elim (λ of. inl (of.call, of.among, ap (λ (f : Frame). f.party) (sym of.is) ∙ to, ap (λ (f : Frame). f.number) (sym of.is), same (of.call).call call (ap (λ (f : Frame). f.body) (sym of.is) ∙ is)))
+        (λ low. inr low) (right.good.well.so_far.truth.calls frame call may is)
       where
         same : (a b : Call) → bodies.Call a ≡ bodies.Call b → a ≡ b
         same a b h = cc
@@ -180,9 +196,10 @@ chosen-called world (Answers frame) right may called = by frame.party refl
     at_node id to (Some state) e =
         let found = found-at id world state e in
         let own : AreCalled issued id state = subst (λ (n : List ℕ × NodeState). AreCalled issued n.0 n.1) (λ i. (found.2 i, found.3 i)) (called found.0 found.1) in
+        let there = subst (λ (s : NodeState). floor ≤ s.session) found.3 (right.good.floor.nodes found.0 found.1) in
         let next : NodeState = (nodes.fenced id state frame).state in
         more (nodes.fenced id state frame).reply (with_node id next world)
-        (with_one id next (subst (λ p. AreCalled issued id (fenced_parts (nodes.node_at id) state frame.number p frame.body).state) (sym to) (node-called issued id state frame.number frame.body (sent id to) own)))
+        (with_one id next (subst (λ p. AreCalled issued id (fenced_parts (nodes.node_at id) state frame.number p frame.body).state) (sym to) (node-called issued id state frame.number frame.body (λ call is. ⊎_elim (λ of. inl of) (λ low. inr (under frame.number.session floor state.session low there)) (sent id to call is)) own)))
 
     by : (party : Party) → frame.party ≡ party → AllCalled (answered_by world frame party)
     by Controller to = more _ (record world { controller = _ }) called

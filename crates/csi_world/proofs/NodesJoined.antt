@@ -20,6 +20,7 @@ use Rattle.csi_world.proofs.StagedAttached.{stands-ended}
 use Rattle.csi_world.proofs.KnownThings.{IsSoFar}
 use Rattle.csi_world.proofs.RecordedRight.{IsWell}
 use Rattle.csi_world.proofs.PluginsReached.{joined-other, joined-none, joined-reached}
+use Rattle.csi_world.proofs.Floors.{floor-joined}
 use Rattle.csi_world.proofs.Deliveries.{PluginLaws, all-closed}
 use Rattle.csi_world.proofs.RightWorlds.{IsRight}
 
@@ -124,14 +125,17 @@ module _ (laws : PluginLaws) (world : World) (right : IsRight world) (node : Lis
 
   -- the node joins
   pub joins-right : IsRight next
+  unfolding so_far well
   joins-right =
       record {
         good = record {
           reached = joined-reached session node world none right.good.reached;
           given = given;
+          floor = floor-joined world session node right.good.floor.last right.good.floor;
           well = record {
             so_far = record {
-              truth = truth-ended (issued_in items) (latest items) (latest items) world.frames (told_by given world) (told_by given next) ending so_far.truth;
+              floor = so_far.floor;
+              truth = truth-ended so_far.floor (issued_in items) (latest items) (latest items) world.frames (told_by given world) (told_by given next) ending so_far.truth;
               closed = closed-told given next (all-closed laws next);
               named = so_far.named;
               are_given = so_far.are_given;

@@ -26,6 +26,7 @@ use Rattle.csi_world.proofs.StagedAttached.{stands-ended, stands-noted}
 use Rattle.csi_world.proofs.KnownThings.{IsSoFar}
 use Rattle.csi_world.proofs.RecordedRight.{IsWell}
 use Rattle.csi_world.proofs.PluginsReached.{lost-other, lost-same, lost-reached}
+use Rattle.csi_world.proofs.Floors.{floor-lost}
 use Rattle.csi_world.proofs.Deliveries.{PluginLaws, all-closed}
 use Rattle.csi_world.proofs.RightWorlds.{IsRight}
 
@@ -131,14 +132,17 @@ module _ (laws : PluginLaws) (world : World) (right : IsRight world) (node : Lis
 
   -- the node is lost
   pub loses-right : IsRight next
+  unfolding so_far well
   loses-right =
       record {
         good = record {
           reached = let still = lost-reached node world right.good.reached in record { controller = still.controller; nodes = still.nodes; alike = still.alike };
           given = given;
+          floor = floor-lost (with_history (item ∷ []) world) node (record { controller = right.good.floor.controller; nodes = right.good.floor.nodes; last = right.good.floor.last });
           well = record {
             so_far = record {
-              truth = truth-ended (issued_in items) (latest items) (latest (item ∷ items)) world.frames (told_by given world) (told_by given next) ending so_far.truth;
+              floor = so_far.floor;
+              truth = truth-ended so_far.floor (issued_in items) (latest items) (latest (item ∷ items)) world.frames (told_by given world) (told_by given next) ending so_far.truth;
               closed = closed-told given next (all-closed laws next);
               named = record { own_now = so_far.named.own_now; own_old = so_far.named.own_old; made = so_far.named.made };
               are_given = so_far.are_given;

@@ -46,7 +46,7 @@ controller-more state [] one = refl
 controller-more state (f ∷ fs) one = controller-more (controller.fenced f.config state f.frame).state fs one
 
 -- the same of a node
-node-more : (id : List ℕ) (state : NodeState) (frames : List Frame) (frame : Frame) → after_frames id state (frames ++ frame ∷ []) ≡ (node.fenced id (after_frames id state frames) frame).state
+pub node-more : (id : List ℕ) (state : NodeState) (frames : List Frame) (frame : Frame) → after_frames id state (frames ++ frame ∷ []) ≡ (node.fenced id (after_frames id state frames) frame).state
 node-more id state [] frame = refl
 node-more id state (f ∷ fs) frame = node-more id (node.fenced id state f).state fs frame
 

@@ -1,6 +1,6 @@
 -- What the replies that were sent tell of the things: the latest call of a thing, if it was answered OK, left the thing
 -- as it asks, and its number is spent. It is kept by a call that is sent, and by one that a plugin gets.
-use Rattle.std.proofs.Common.{◌≡◌, ◌⊎◌, List, [], ◌∷◌, ◌++◌, Bool, true, false, cond, Option, Some, None, is_some, IsTrue, refl, sym, ◌∙◌, ap, subst, inl, inr, ⊎_elim}
+use Rattle.std.proofs.Common.{◌≡◌, ◌⊎◌, ◌<◌, ◌≤◌, ℕ, List, [], ◌∷◌, ◌++◌, Bool, true, false, cond, Option, Some, None, is_some, IsTrue, refl, sym, ◌∙◌, ap, subst, inl, inr, ⊎_elim, arith}
 use Rattle.std.proofs.lemmas.Bool.{false≢true}
 use Rattle.std.proofs.lemmas.Option.{none-some, same_Some}
 use Rattle.csi_lists.proofs.Options.{some_is_not_none, is_some-map}
@@ -22,7 +22,7 @@ use Rattle.csi_lists.proofs.Members.{all_of, among-append, among-either}
 use Rattle.csi_types.specs.Model.Number.{IsBefore}
 use Rattle.csi_types.specs.Model.Reply.{is_ok_status}
 use Rattle.csi_types.specs.Public.Reply.{has_id_by_rule}
-use Rattle.csi_types.specs.Model.Replies.{reply_frame}
+use Rattle.csi_types.specs.Model.Replies.{reply_frame, stale_reply}
 use Rattle.csi_types.proofs.Equality.{same_plugin_thing-tells}
 use Rattle.csi_orchestrator.specs.Model.Thing.{Issued, is_doing}
 use Rattle.csi_orchestrator.specs.Public.Steps.{frame_of}
@@ -46,12 +46,13 @@ pub record IsFrameOf (issued : List Issued) (frame : Frame) : Type 0 where
 abbrev pub IsNoLater : (PluginThing → Option Issued) → PluginThing → Issued → Type 0
 IsNoLater latest thing call = (last : Issued) × (latest thing ≡ Some last) × ((call ≡ last) ⊎ IsBefore call.number last.number)
 
--- what is so of the calls that were sent, of the latest one of each thing, of all frames, and of the things
-pub record Truth (issued : List Issued) (latest : PluginThing → Option Issued) (frames : List Frame) (view : PluginView) : Type 0 where
+-- what is so of the calls that were sent, of the latest one of each thing, of all frames, and of the things. Frames of sessions below the floor may be
+-- of calls that this history doesn't have: their plugins have reached the floor, and carry none of them out
+pub record Truth (floor : ℕ) (issued : List Issued) (latest : PluginThing → Option Issued) (frames : List Frame) (view : PluginView) : Type 0 where
   -- what was sent: calls that were issued, and replies to their numbers, an OK with an id where it must, what is kept
   -- among them
-  pub calls : (frame : Frame) (call : Call) → IsAmong frame frames → frame.body ≡ bodies.Call call → IsFrameOf issued frame
-  pub replies : (number : Number) (party : Party) (kind : Kind) (reply : Reply) → IsAmong (reply_frame number party kind reply) frames → IsSent issued number
+  pub calls : (frame : Frame) (call : Call) → IsAmong frame frames → frame.body ≡ bodies.Call call → IsFrameOf issued frame ⊎ (frame.number.session < floor)
+  pub replies : (number : Number) (party : Party) (kind : Kind) (reply : Reply) → IsAmong (reply_frame number party kind reply) frames → IsSent issued number ⊎ (number.session < floor)
   pub ids : (number : Number) (party : Party) (kind : Kind) (reply : Reply) → IsAmong (reply_frame number party kind reply) frames → reply.status ≡ Ok → IsTrue (has_id_by_rule kind reply)
   pub kept : (thing : PluginThing) (kept : Kept) → view.kept thing ≡ Some kept → IsAmong (reply_frame kept.number (party_of thing) kept.kind kept.reply) frames
   pub numbers : EachTwo ComesAfter issued
@@ -75,23 +76,23 @@ pub before_call : (frames : List Frame) (call : Issued) (number : Number) (party
 before_call frames call number party kind reply among = ⊎_elim (λ there. there) (λ e. absurd (reply_is_call number party kind reply call e)) (among-either frames (frame_of call) _ among)
 
 -- a new number has no reply
-pub unanswered : (issued : List Issued) (latest : PluginThing → Option Issued) (frames : List Frame) (view : PluginView) (call : Issued) (reply : Reply) → Truth issued latest frames view → ((older : Issued) → IsAmong older issued → IsBefore older.number call.number)
-    → IsAnsweredOk (frames ++ frame_of call ∷ []) call reply → ⊥
-unanswered issued latest frames view call reply truth later ok =
-    let sent = truth.replies call.number call.party (kind_of call.call) reply (before_call frames call call.number call.party (kind_of call.call) reply ok.0) in
-    before-irreflexive call.number (subst (λ n. IsBefore n call.number) sent.has_number (later sent.call sent.among))
+pub unanswered : (floor : ℕ) (issued : List Issued) (latest : PluginThing → Option Issued) (frames : List Frame) (view : PluginView) (call : Issued) (reply : Reply) → Truth floor issued latest frames view → floor ≤ call.number.session
+    → ((older : Issued) → IsAmong older issued → IsBefore older.number call.number) → IsAnsweredOk (frames ++ frame_of call ∷ []) call reply → ⊥
+unanswered floor issued latest frames view call reply truth above later ok =
+    ⊎_elim (λ sent. before-irreflexive call.number (subst (λ n. IsBefore n call.number) sent.has_number (later sent.call sent.among))) (λ low. absurd (omega (arith, low, above)))
+    (truth.replies call.number call.party (kind_of call.call) reply (before_call frames call call.number call.party (kind_of call.call) reply ok.0))
 
 -- a call is sent
-pub truth-sent : (issued : List Issued) (latest : PluginThing → Option Issued) (frames : List Frame) (view : PluginView) (call : Issued) → Truth issued latest frames view
-    → ((older : Issued) → IsAmong older issued → IsBefore older.number call.number) → Truth (call ∷ issued) (λ thing. cond (is_of thing call) (Some call) (latest thing)) (frames ++ frame_of call ∷ []) view
-truth-sent issued latest frames view call truth later =
+pub truth-sent : (floor : ℕ) (issued : List Issued) (latest : PluginThing → Option Issued) (frames : List Frame) (view : PluginView) (call : Issued) → Truth floor issued latest frames view → floor ≤ call.number.session
+    → ((older : Issued) → IsAmong older issued → IsBefore older.number call.number) → Truth floor (call ∷ issued) (λ thing. cond (is_of thing call) (Some call) (latest thing)) (frames ++ frame_of call ∷ []) view
+truth-sent floor issued latest frames view call truth above later =
     record {
       calls = λ frame c among is.
-          ⊎_elim (λ there. let old = truth.calls frame c there is in record { call = old.call; among = inr old.among; is = old.is }) (λ e. record { call = call; among = inl refl; is = e })
+          ⊎_elim (λ there. ⊎_elim (λ old. inl (record { call = old.call; among = inr old.among; is = old.is })) (λ low. inr low) (truth.calls frame c there is)) (λ e. inl (record { call = call; among = inl refl; is = e }))
           (among-either frames (frame_of call) frame among);
       replies = λ number party kind reply among.
-          let sent = truth.replies number party kind reply (before_call frames call number party kind reply among) in
-          record { call = sent.call; among = inr sent.among; has_number = sent.has_number };
+          ⊎_elim (λ sent. inl (record { call = sent.call; among = inr sent.among; has_number = sent.has_number })) (λ low. inr low)
+          (truth.replies number party kind reply (before_call frames call number party kind reply among));
       ids = λ number party kind reply among. truth.ids number party kind reply (before_call frames call number party kind reply among);
       kept = λ thing kept is. among-append frames (frame_of call ∷ []) _ (truth.kept thing kept is);
       numbers = (all_of (ComesAfter call) issued later, truth.numbers);
@@ -117,12 +118,12 @@ truth-sent issued latest frames view call truth later =
     order other thing (inr there) of false is = truth.order other thing there of
 
     spent : (other : Issued) (thing : PluginThing) (reply : Reply) → IsAmong other (call ∷ issued) → is_of thing other ≡ true → IsAnsweredOk (frames ++ frame_of call ∷ []) other reply → IsTrue (view.is_spent thing other.number)
-    spent other thing reply (inl e) of ok = absurd (unanswered issued latest frames view call reply truth later (subst (λ (x : Issued). IsAnsweredOk (frames ++ frame_of call ∷ []) x reply) e ok))
+    spent other thing reply (inl e) of ok = absurd (unanswered floor issued latest frames view call reply truth above later (subst (λ (x : Issued). IsAnsweredOk (frames ++ frame_of call ∷ []) x reply) e ok))
     spent other thing reply (inr there) of ok = truth.spent other thing reply there of (older_ok other reply ok)
 
     told : (other : Issued) (thing : PluginThing) (reply : Reply) (b : Bool) → is_of thing call ≡ b → cond b (Some call) (latest thing) ≡ Some other → IsAnsweredOk (frames ++ frame_of call ∷ []) other reply
         → view.held thing ≡ asked other.call reply
-    told other thing reply true of e ok = absurd (unanswered issued latest frames view call reply truth later (subst (λ (x : Issued). IsAnsweredOk (frames ++ frame_of call ∷ []) x reply) (sym (same_Some call other e)) ok))
+    told other thing reply true of e ok = absurd (unanswered floor issued latest frames view call reply truth above later (subst (λ (x : Issued). IsAnsweredOk (frames ++ frame_of call ∷ []) x reply) (sym (same_Some call other e)) ok))
     told other thing reply false of e ok = truth.told other thing reply e (older_ok other reply ok)
 
     untouched : (thing : PluginThing) (b : Bool) → is_of thing call ≡ b → cond b (Some call) (latest thing) ≡ None → view.held thing ≡ None
@@ -146,7 +147,7 @@ one-thing call a b p q = by (plugin_thing_at call.name call.party call.call) p q
     by (Some k) p q = (same_plugin_thing-tells a k).0 p ∙ sym ((same_plugin_thing-tells b k).0 q)
 
 -- the frame of a reply tells its kind and what it says
-reply-parts : (a b : Number) (p q : Party) (k l : Kind) (r s : Reply) → reply_frame a p k r ≡ reply_frame b q l s → (k ≡ l) × (r ≡ s)
+pub reply-parts : (a b : Number) (p q : Party) (k l : Kind) (r s : Reply) → reply_frame a p k r ≡ reply_frame b q l s → (k ≡ l) × (r ≡ s)
 reply-parts a b p q k l r s e = let body : bodies.Reply k r ≡ bodies.Reply l s = ap (λ (f : Frame). f.body) e in (cc, cc)
 
 -- the status OK passes the test
@@ -247,9 +248,9 @@ module _ (issued : List Issued) (frames : List Frame) (old new : PluginView) (ca
       }
 
   -- an OK is an old one, or the answer, and then the call's thing is as it asks
-  pub ok-either : (here : Type 0) (latest : PluginThing → Option Issued) → Truth issued latest frames old → IsEffect → IsMet here → (other : Issued) (r : Reply) → IsAmong other issued → IsAnsweredOk (frames ++ answer_to call kind reply ∷ []) other r
+  pub ok-either : (floor : ℕ) (here : Type 0) (latest : PluginThing → Option Issued) → Truth floor issued latest frames old → IsEffect → IsMet here → (other : Issued) (r : Reply) → IsAmong other issued → IsAnsweredOk (frames ++ answer_to call kind reply ∷ []) other r
       → IsAnsweredOk frames other r ⊎ ((other ≡ call) × (r ≡ reply) × (here → new.held thing ≡ asked call.call reply) × IsTrue (new.is_spent thing call.number))
-  ok-either here latest truth effect met other r among ok =
+  ok-either floor here latest truth effect met other r among ok =
       ⊎_elim (λ there. inl (there, ok.1)) (λ e.
       let says : r ≡ reply = (reply-parts _ _ _ _ (kind_of other.call) kind r reply e).1 in
       let one : other ≡ call = one-number issued truth.numbers other call among effect.among (ap (λ (f : Frame). f.number) e) in
@@ -258,12 +259,12 @@ module _ (issued : List Issued) (frames : List Frame) (old new : PluginView) (ca
       (among-either frames (answer_to call kind reply) (reply_frame other.number other.party (kind_of other.call) r) ok.0)
 
   -- after a plugin answered a sent call
-  pub truth-answered : (here : Type 0) (latest : PluginThing → Option Issued) → (latest thing ≡ Some call → here) → Truth issued latest frames old → IsClosed old → IsEffect → IsMet here → Truth issued latest (frames ++ answer_to call kind reply ∷ []) new
-  truth-answered here latest since truth closed effect met =
+  pub truth-answered : (floor : ℕ) (here : Type 0) (latest : PluginThing → Option Issued) → (latest thing ≡ Some call → here) → Truth floor issued latest frames old → IsClosed old → IsEffect → IsMet here → Truth floor issued latest (frames ++ answer_to call kind reply ∷ []) new
+  truth-answered floor here latest since truth closed effect met =
       record {
         calls = λ frame c among is. ⊎_elim (λ there. truth.calls frame c there is) (λ e. absurd (no_call c (sym (ap (λ (f : Frame). f.body) e) ∙ is))) (among-either frames _ frame among);
         replies = λ number party k r among.
-            ⊎_elim (truth.replies number party k r) (λ e. record { call = call; among = effect.among; has_number = sym (ap (λ (f : Frame). f.number) e) }) (among-either frames _ _ among);
+            ⊎_elim (truth.replies number party k r) (λ e. inl (record { call = call; among = effect.among; has_number = sym (ap (λ (f : Frame). f.number) e) })) (among-either frames _ _ among);
         ids = λ number party k r among ok.
             ⊎_elim (λ there. truth.ids number party k r there ok) (λ e. rule k r (reply-parts number call.number party call.party k kind r reply e) ok) (among-either frames _ _ among);
         kept = effect.kept;
@@ -272,13 +273,13 @@ module _ (issued : List Issued) (frames : List Frame) (old new : PluginView) (ca
         order = λ other k among of. ⊎_elim (λ no_later. inl no_later) (λ spent. inr (effect.spent k other.number spent)) (truth.order other k among of);
         spent = λ other k r among of ok.
             ⊎_elim (λ was. effect.spent k other.number (truth.spent other k r among of was))
-            (λ now. ap (λ (x : Issued). new.is_spent k x.number) now.0 ∙ ap (λ x. new.is_spent x call.number) (its_thing k other now.0 of) ∙ now.3) (ok-either here latest truth effect met other r among ok);
+            (λ now. ap (λ (x : Issued). new.is_spent k x.number) now.0 ∙ ap (λ x. new.is_spent x call.number) (its_thing k other now.0 of) ∙ now.3) (ok-either floor here latest truth effect met other r among ok);
         told = λ other k r found ok.
             ⊎_elim (λ was. stays k (λ same fresh. overtaken other r (subst (λ x. latest x ≡ Some other) same found) was fresh) ∙ truth.told other k r found was)
             (λ now.
             let same : k ≡ thing = its_thing k other now.0 (truth.found k other found).1 in
             ap new.held same ∙ now.2 (since (ap latest (sym same) ∙ found ∙ ap Some now.0)) ∙ ap (asked call.call) (sym now.1) ∙ ap (λ (x : Issued). asked x.call r) (sym now.0))
-            (ok-either here latest truth effect met other r (truth.found k other found).0 ok);
+            (ok-either floor here latest truth effect met other r (truth.found k other found).0 ok);
         untouched = λ k none. stays k (λ same fresh. never (subst (λ x. latest x ≡ None) same none) fresh) ∙ truth.untouched k none;
       }
     where
@@ -335,8 +336,8 @@ kept-before : (issued : List Issued) (before after : PluginThing → Option Issu
 kept-before issued before after old new ending k x is = ⊎_elim (λ same. same.kept x is) (λ over. over.kept x is) (ending k)
 
 -- what is so of the replies is so then
-pub truth-ended : (issued : List Issued) (before after : PluginThing → Option Issued) (frames : List Frame) (old new : PluginView) → AreEnding issued before after old new → Truth issued before frames old → Truth issued after frames new
-truth-ended issued before after frames old new ending truth =
+pub truth-ended : (floor : ℕ) (issued : List Issued) (before after : PluginThing → Option Issued) (frames : List Frame) (old new : PluginView) → AreEnding issued before after old new → Truth floor issued before frames old → Truth floor issued after frames new
+truth-ended floor issued before after frames old new ending truth =
     record {
       calls = truth.calls;
       replies = truth.replies;
@@ -351,3 +352,46 @@ truth-ended issued before after frames old new ending truth =
       told = λ call k reply is ok. ⊎_elim (λ same. same.held ∙ truth.told call k reply (sym same.latest ∙ is) ok) (λ over. absurd (none-some call (sym over.latest ∙ is))) (ending k);
       untouched = λ k none. ⊎_elim (λ same. same.held ∙ truth.untouched k (sym same.latest ∙ none)) (λ over. over.held) (ending k);
     }
+
+-- ---- a call of a session below the floor
+
+-- a stale call isn't answered OK
+stale-refused : (reply : Reply) → reply ≡ stale_reply → reply.status ≡ Ok → ⊥
+stale-refused reply is ok = clash (sym (ap (λ (r : Reply). r.status) is) ∙ ok)
+  where
+    clash : stale_reply.status ≡ Ok → ⊥
+    clash h = cc
+
+-- an OK isn't the answer to it
+pub ok-low : (number : Number) (party : Party) (kind : Kind) (frames : List Frame) (call : Issued) (reply : Reply) → IsAnsweredOk (frames ++ reply_frame number party kind stale_reply ∷ []) call reply → IsAnsweredOk frames call reply
+ok-low number party kind frames call reply ok = (
+  ⊎_elim (λ there. there) (λ e. absurd (stale-refused reply (reply-parts call.number number call.party party (kind_of call.call) kind reply stale_reply e).1 ok.1))
+      (among-either frames (reply_frame number party kind stale_reply) _ ok.0),
+  ok.1,
+)
+
+-- its plugin says that it is stale
+pub truth-low : (floor : ℕ) (issued : List Issued) (latest : PluginThing → Option Issued) (frames : List Frame) (view : PluginView) (number : Number) (party : Party) (kind : Kind) → Truth floor issued latest frames view → number.session < floor
+    → Truth floor issued latest (frames ++ reply_frame number party kind stale_reply ∷ []) view
+truth-low floor issued latest frames view number party kind truth low =
+    record {
+      calls = λ frame c among is. ⊎_elim (λ there. truth.calls frame c there is) (λ e. absurd (no_call c (sym (ap (λ (f : Frame). f.body) e) ∙ is))) (among-either frames last frame among);
+      replies = λ n p k r among. ⊎_elim (truth.replies n p k r) (λ e. inr (subst (λ (x : Number). x.session < floor) (sym (ap (λ (f : Frame). f.number) e)) low)) (among-either frames last _ among);
+      ids = λ n p k r among ok. truth.ids n p k r (before n p k r among ok) ok;
+      kept = λ thing k is. among-append frames (last ∷ []) _ (truth.kept thing k is);
+      numbers = truth.numbers;
+      found = truth.found;
+      order = truth.order;
+      spent = λ call thing reply among of ok. truth.spent call thing reply among of (ok-low number party kind frames call reply ok);
+      told = λ call thing reply found ok. truth.told call thing reply found (ok-low number party kind frames call reply ok);
+      untouched = truth.untouched;
+    }
+  where
+    last : Frame
+    last = reply_frame number party kind stale_reply
+
+    no_call : (c : Call) → bodies.Reply kind stale_reply ≡ bodies.Call c → ⊥
+    no_call c h = cc
+
+    before : (n : Number) (p : Party) (k : Kind) (r : Reply) → IsAmong (reply_frame n p k r) (frames ++ last ∷ []) → r.status ≡ Ok → IsAmong (reply_frame n p k r) frames
+    before n p k r among ok = ⊎_elim (λ there. there) (λ e. absurd (stale-refused r (reply-parts n number p party k kind r stale_reply e).1 ok)) (among-either frames last _ among)

@@ -25,6 +25,7 @@ use Rattle.csi_world.proofs.StagedAttached.{stands-noted, Stands}
 use Rattle.csi_world.proofs.KnownThings.{IsSoFar}
 use Rattle.csi_world.proofs.RecordedRight.{IsWell}
 use Rattle.csi_world.proofs.PluginsReached.{still-reached}
+use Rattle.csi_world.proofs.Floors.{floor-noted}
 use Rattle.csi_world.proofs.Deliveries.{PluginLaws, all-closed, IsGood}
 
 -- each sent number is the last one, or before it
@@ -70,8 +71,10 @@ noted-right laws world item right quiet told last =
       good = record {
         reached = still-reached world world.config world.frames (with_items world.history (item ∷ [])) right.good.reached;
         given = given;
+        floor = floor-noted world (item ∷ []) right.good.floor quiet.grows;
         well = record {
           so_far = record {
+            floor = so_far.floor;
             truth = truth;
             closed = closed-told given next (all-closed laws next);
             named = record {
@@ -117,8 +120,8 @@ noted-right laws world item right quiet told last =
     told_view : told_by given next ≡ told_by given world
     told_view = λ i. told_with given world (λ thing. quiet.over thing i)
 
-    truth : Truth (issued_in (item ∷ items)) (latest (item ∷ items)) world.frames (told_by given next)
+    truth : Truth so_far.floor (issued_in (item ∷ items)) (latest (item ∷ items)) world.frames (told_by given next)
     truth =
-        subst (λ (list : List Issued). Truth list (latest (item ∷ items)) world.frames (told_by given next)) (sym quiet.same)
-        (subst (λ (l : PluginThing → Option Issued). Truth (issued_in items) l world.frames (told_by given next)) (λ i thing. find (is_of thing) (sym (quiet.since thing) i))
-        (subst (λ (v : PluginView). Truth (issued_in items) (latest items) world.frames v) (sym told_view) so_far.truth))
+        subst (λ (list : List Issued). Truth so_far.floor list (latest (item ∷ items)) world.frames (told_by given next)) (sym quiet.same)
+        (subst (λ (l : PluginThing → Option Issued). Truth so_far.floor (issued_in items) l world.frames (told_by given next)) (λ i thing. find (is_of thing) (sym (quiet.since thing) i))
+        (subst (λ (v : PluginView). Truth so_far.floor (issued_in items) (latest items) world.frames v) (sym told_view) so_far.truth))

@@ -5,4 +5,6 @@ pub mod Settling
 pub mod Simulating
 pub mod System
 pub mod Laws
+pub mod Recovery
 pub mod Outcomes
+pub mod Stale

@@ -12,6 +12,7 @@ import (
 	"tufayon/service/life"
 	"tufayon/service/numbers"
 	"tufayon/service/plugin"
+	"tufayon/service/program"
 	"tufayon/service/store"
 	"tufayon/service/version"
 )
@@ -31,7 +32,7 @@ func statusOf(err error) int {
 	switch {
 	case err == nil:
 		return 0
-	case errors.Is(err, errUsage):
+	case errors.Is(err, errUsage), errors.Is(err, program.ErrUsage):
 		return 2
 	case errors.Is(err, plugin.BadName), errors.Is(err, plugin.BadRecord), errors.Is(err, plugin.EarlierSession),
 		errors.Is(err, numbers.ErrSpent), errors.Is(err, store.ErrNotes), errors.Is(err, store.ErrBeside):
@@ -49,5 +50,10 @@ func run(ctx context.Context, words []string) error {
 	if err != nil {
 		return err
 	}
-	return life.New(options.driver()).Run(ctx)
+	watched, end, err := options.watched()
+	if err != nil {
+		return err
+	}
+	defer end()
+	return life.New(watched).Run(ctx)
 }

@@ -12,14 +12,17 @@ import (
 	"strings"
 	"time"
 
+	"tufayon/service/carrying"
 	"tufayon/service/driver"
 	"tufayon/service/etcd"
 	"tufayon/service/life"
 	"tufayon/service/numbers"
 	"tufayon/service/plugin"
+	"tufayon/service/program"
 	"tufayon/service/secure"
 	"tufayon/service/settings"
 	"tufayon/service/store"
+	"tufayon/service/upstream"
 )
 
 var errUsage = errors.New("usage: csi-driver controller [OPTION..] DB CONFIG, " +
@@ -39,8 +42,12 @@ type options struct {
 
 	etcd etcd.Config // of a controller
 
+	watch, log string // where metrics are served, and the least level of a log of calls: nothing where they are empty
+
 	maxVolumes int64 // of a node
 	hooks      string
+
+	upstream upstream.Options
 }
 
 func parse(words []string) (*options, error) {
@@ -55,6 +62,8 @@ func parse(words []string) (*options, error) {
 	source := flags.String("numbers", "metadata", "metadata, or arrival")
 	flags.StringVar(&options.name, "name", settings.UsualName, "the plugin's name")
 	flags.Uint64Var(&options.mostAbove, "sessions-above", settings.UsualAbove, "how far a call's session may be above the latest one; 0 for any")
+	flags.StringVar(&options.watch, "watch", "", "where metrics are served: unix://PATH, or HOST:PORT on loopback")
+	flags.StringVar(&options.log, "log", "", "has a line for each call: debug, info, warn or error")
 	endpoints := ""
 	if options.maker.IsController {
 		options.addController(flags, &endpoints)
@@ -62,6 +71,7 @@ func parse(words []string) (*options, error) {
 		options.addNode(flags)
 	}
 	flags.IntVar(&options.hookSeconds, "hook-seconds", 120, "how long a command may take")
+	flags.StringVar(&options.upstream.Address, "upstream", "", "the driver behind, unix://PATH")
 	if err := flags.Parse(words[1:]); err != nil {
 		return nil, fmt.Errorf("%w (%v)", errUsage, err)
 	}
@@ -73,6 +83,9 @@ func parse(words []string) (*options, error) {
 		return nil, errUsage
 	}
 	options.byArrival = *source == "arrival"
+	if fault := options.upstreamFault(flags); fault != "" {
+		return nil, fmt.Errorf("%w (%s)", errUsage, fault)
+	}
 	if options.byArrival && options.maker.Session > 0 {
 		return nil, fmt.Errorf("%w (by arrival there is no session of a joining)", errUsage)
 	}
@@ -81,6 +94,9 @@ func parse(words []string) (*options, error) {
 		return nil, fmt.Errorf("%w (%v)", errUsage, err)
 	}
 	options.maker.Name = []byte(name)
+	if !options.maker.IsController {
+		options.upstream.Node = name
+	}
 	if options.maker.IsController {
 		if options.maker.Name, err = os.ReadFile(name); err != nil {
 			return nil, fmt.Errorf("device: %w", err)
@@ -103,6 +119,31 @@ func (options *options) fit() bool {
 		return etcd.Prefix+etcd.CA+etcd.Certificate+etcd.Key == ""
 	}
 	return etcd.Prefix != "" && etcd.LeaseSeconds > 0 && (isTLS || etcd.CA+etcd.Certificate+etcd.Key == "")
+}
+
+// upstreamFault says what is wrong with the words of a driver that stands before another one.
+func (options *options) upstreamFault(flags *flag.FlagSet) string {
+	its, given := options.upstream, map[string]bool{}
+	flags.Visit(func(it *flag.Flag) { given[it.Name] = true })
+	if its.Address == "" {
+		if given["adopt"] || given["lost"] || given["upstream"] {
+			return "--adopt and --lost are of a driver before an --upstream"
+		}
+		return ""
+	}
+	if _, err := driver.SocketOf(its.Address); err != nil {
+		return err.Error()
+	}
+	if len(its.Lost) > 0 && !options.byArrival {
+		return "--lost is for --numbers arrival: who numbers calls detaches what is lost"
+	}
+	for name := range given {
+		if strings.HasPrefix(name, "on-") || name == "hooks" || name == "hook-seconds" || name == "max-volumes" || name == "name" {
+			return "with --upstream there is no --" + name
+		}
+	}
+	options.hooks = settings.NoHooks
+	return ""
 }
 
 // words takes what stands behind the options: DB, unless the store is in etcd, CONFIG or ID, which it gives, and of a node SESSION, where it is said.
@@ -129,6 +170,11 @@ func (options *options) addController(flags *flag.FlagSet, endpoints *string) {
 	flags.StringVar(&options.etcd.CA, "etcd-ca", "", "the certificate of who signed etcd's")
 	flags.StringVar(&options.etcd.Certificate, "etcd-cert", "", "this client's certificate")
 	flags.StringVar(&options.etcd.Key, "etcd-key", "", "its key")
+	flags.BoolVar(&options.upstream.Adopt, "adopt", false, "volumes that were there before are taken up when they are attached")
+	flags.Func("lost", "a node that is gone for good", func(node string) error {
+		options.upstream.Lost = append(options.upstream.Lost, node)
+		return nil
+	})
 	flags.IntVar(&options.etcd.LeaseSeconds, "lease-seconds", 10, "how long this process leads after it was heard of last")
 }
 
@@ -149,14 +195,17 @@ func (options *options) waits() bool { return len(options.etcd.Endpoints) > 0 }
 
 // open opens the store, and waits until this process leads where it is in etcd.
 func (options *options) open(ctx context.Context) (store.Store, error) {
-	if options.waits() {
+	if options.etcd.Texts = options.upstream.Address != ""; options.waits() {
 		return options.etcd.Open(ctx)
+	}
+	if options.etcd.Texts {
+		return store.OpenKeeper(ctx, options.database)
 	}
 	return store.OpenSQLite(ctx, options.database)
 }
 
 // driver is what the options say.
-func (options *options) driver() life.Driver {
+func (options *options) driver() (life.Driver, error) {
 	it := life.Driver{
 		Program: "csi-driver", Name: options.name, Maker: options.maker, Numbering: life.ByMetadata(options.mostAbove), Open: options.open,
 		Waits: options.waits(), Hooks: options.deeds().Hooks(), MaxVolumes: options.maxVolumes,
@@ -168,13 +217,38 @@ func (options *options) driver() life.Driver {
 	if options.byArrival {
 		it.Numbering, it.IsByArrival = life.ByArrival, true
 	}
+	if options.upstream.Address != "" {
+		var err error
+		if it.Upstream, err = upstream.New(options.upstream); err != nil {
+			return life.Driver{}, err
+		}
+	}
 	it.Say = func(line string) {
 		if options.byArrival && strings.HasPrefix(line, "serves") {
 			fmt.Fprintf(os.Stderr, "csi-driver: %s\n", numbers.SmallerPromise)
 		}
 		fmt.Fprintf(os.Stderr, "csi-driver: %s\n", line)
 	}
-	return it
+	return it, nil
+}
+
+// watched is what the options say, with what is to be told of it, and what ends that.
+func (options *options) watched() (life.Driver, func(), error) {
+	it, err := options.driver()
+	if err != nil || options.watch == "" && options.log == "" {
+		return it, func() {}, err
+	}
+	plugin := carrying.Controller
+	if !it.Maker.IsController {
+		plugin = carrying.NodeName(string(it.Maker.Name))
+	}
+	told, more, end, err := program.WatchPlugin("csi-driver", plugin, it.Upstream, options.watch, options.log)
+	if err != nil {
+		return it, nil, err
+	}
+	it.Observer = told
+	it.Doors[0].Options = append(it.Doors[0].Options, more...)
+	return it, end, nil
 }
 
 // deeds say what does what calls ask for.

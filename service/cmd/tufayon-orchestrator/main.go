@@ -9,6 +9,7 @@ import (
 	"os/signal"
 	"syscall"
 
+	"tufayon/service/daemon"
 	"tufayon/service/program"
 	"tufayon/service/settings"
 	"tufayon/service/version"
@@ -48,7 +49,7 @@ func run(ctx context.Context, words []string, output io.Writer) error {
 		program.Checked(output, read.File, read.Process.Place.Set, read.Name(), until)
 		return nil
 	}
-	log, err := program.Logger()
+	log, err := daemon.Logger(read.Process.Log)
 	if err != nil {
 		return err
 	}

@@ -16,6 +16,7 @@ import (
 
 	"tufayon/service/api"
 	"tufayon/service/carrying"
+	"tufayon/service/daemon"
 	"tufayon/service/host"
 	"tufayon/service/program"
 	"tufayon/service/secure"
@@ -37,6 +38,7 @@ type service struct {
 	roles    *api.Roles
 	server   *api.Server
 	grpc     *grpc.Server
+	watching *watching
 	anew     <-chan os.Signal // says that the files are to be read anew
 }
 
@@ -51,21 +53,20 @@ func serve(ctx context.Context, read *settings.Settings, log *zap.Logger) error 
 		return err
 	}
 	defer running.carrier.Close()
-	listener, err := program.Listen(read.Process.Listen)
+	var err error
+	if running.watching, err = running.watch(); err != nil {
+		return err
+	}
+	defer running.watching.close()
+	running.watching.alive(ctx)
+	served, end, err := running.listen()
 	if err != nil {
 		return err
 	}
-	defer listener.Close()
-	leader, closeFinder, err := program.Leader(&read.Process.Place)
-	if err != nil {
-		return err
-	}
-	defer closeFinder()
-	running.server, running.grpc = api.New(running.carrier, leader, running.roles, running.credentials(), log, api.Rate(read.Process.Calls.Caller)...)
-	defer running.grpc.Stop()
-	served := make(chan error, 1)
-	go func() { served <- running.grpc.Serve(listener) }()
+	defer end()
 	log.Info("waits for the store", zap.String("address", read.Process.Listen))
+	daemon.Ready("waits for the store")
+	defer daemon.Stopping()
 	kept, err := program.OpenStore(ctx, &read.Process.Place, read.Process.Address)
 	if err != nil {
 		if ctx.Err() != nil {
@@ -78,6 +79,28 @@ func serve(ctx context.Context, read *settings.Settings, log *zap.Logger) error 
 		err = closed
 	}
 	return err
+}
+
+// listen has the API served, while this process waits to lead too. It gives what ends that, and what ended it where that wasn't called.
+func (running *service) listen() (served <-chan error, end func(), err error) {
+	read := running.settings
+	leader, closeFinder, err := program.Leader(&read.Process.Place)
+	if err != nil {
+		return nil, nil, err
+	}
+	listener, err := program.Listen(read.Process.Listen)
+	if err != nil {
+		closeFinder()
+		return nil, nil, err
+	}
+	running.server, running.grpc = api.New(running.carrier, leader, running.roles, running.credentials(), running.log,
+		append(running.watching.options(), api.Rate(read.Process.Calls.Caller)...)...)
+	running.watching.find(leader)
+	running.watching.metrics.Server.InitializeMetrics(running.grpc)
+	running.server.Keep(running.watching.history)
+	ended := make(chan error, 1)
+	go func() { ended <- running.grpc.Serve(listener) }()
+	return ended, func() { running.grpc.Stop(); listener.Close(); closeFinder() }, nil
 }
 
 // connect makes connections to the plugins.
@@ -100,7 +123,7 @@ func (running *service) lead(ctx context.Context, kept store.Store, served <-cha
 	times := running.settings.Set.Times
 	var err error
 	running.host, err = host.Open(ctx, host.Options{
-		Store: kept, Nodes: running.settings.Set.IDs(), Carrier: running.carrier, Log: running.log, Clock: time.Now,
+		Store: kept, Nodes: running.settings.Set.IDs(), Carrier: running.carrier, Log: running.log, Clock: time.Now, Observers: running.watching.observers(),
 		Times: host.Times{Patience: settings.Seconds(times.Patience), Retry: settings.Seconds(times.Retry), MostRetry: settings.Seconds(times.MostRetry)},
 	})
 	if err != nil {
@@ -108,6 +131,9 @@ func (running *service) lead(ctx context.Context, kept store.Store, served <-cha
 	}
 	defer running.host.Close()
 	running.server.Lead(running.host)
+	running.watching.lead(running.host)
+	defer running.watching.lead(nil)
+	daemon.Status(fmt.Sprintf("leads, session %d", running.host.Session()))
 	running.log.Info("serves", zap.String("address", running.settings.Process.Listen), zap.Uint64("session", running.host.Session()))
 	return running.wait(ctx, served)
 }
@@ -172,6 +198,7 @@ func (running *service) readAnew(ctx context.Context) error {
 	if err := running.stays(read); err != nil {
 		return err
 	}
+	running.watching.configure(read)
 	both := running.settings.Set.Addresses()
 	for plugin, address := range read.Set.Addresses() {
 		both[plugin] = address
@@ -210,6 +237,10 @@ func (running *service) stays(read *settings.Settings) error {
 		{anew.File + ": listen", old.Process.Listen != anew.Process.Listen},
 		{anew.File + ": address", old.Process.Address != anew.Process.Address},
 		{anew.File + ": calls", old.Process.Calls != anew.Process.Calls},
+		{anew.File + ": watch", old.Process.Watch != anew.Process.Watch},
+		{anew.File + ": log", old.Process.Log != anew.Process.Log},
+		{anew.File + ": history", old.Process.History != anew.Process.History},
+		{anew.File + ": draws", old.Process.Draws != anew.Process.Draws},
 		{anew.File + ": certificate, key, authorities", old.Process.Certificate != anew.Process.Certificate || old.Process.Key != anew.Process.Key ||
 			old.Process.Authorities != anew.Process.Authorities},
 	} {

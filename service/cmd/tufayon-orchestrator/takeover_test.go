@@ -3,9 +3,6 @@ package main
 import (
 	"context"
 	"fmt"
-	"net"
-	"os"
-	"os/exec"
 	"testing"
 	"time"
 
@@ -13,37 +10,14 @@ import (
 	"google.golang.org/grpc/status"
 
 	"tufayon/service/api/wire"
+	"tufayon/service/etcd/etcdtest"
 )
-
-// startEtcd starts a server of etcd on loopback, until the test ends, and gives its endpoint.
-func startEtcd(t *testing.T) string {
-	t.Helper()
-	var urls []string
-	for range "12" {
-		listener, err := net.Listen("tcp", "127.0.0.1:0")
-		if err != nil {
-			t.Fatal(err)
-		}
-		urls = append(urls, "http://"+listener.Addr().String())
-		listener.Close()
-	}
-	command := exec.Command("etcd", "--data-dir", t.TempDir(), "--listen-client-urls", urls[0], "--advertise-client-urls", urls[0],
-		"--listen-peer-urls", urls[1], "--initial-advertise-peer-urls", urls[1], "--initial-cluster", "default="+urls[1], "--max-txn-ops", "8500")
-	if err := command.Start(); err != nil {
-		t.Fatal(err)
-	}
-	t.Cleanup(func() { command.Process.Kill(); command.Wait() })
-	return urls[0]
-}
 
 // Over etcd one service leads and another waits: when the first ends, the second goes on with what is wanted.
 func TestTakeover(t *testing.T) {
-	if os.Getenv("TUFAYON_TEST_ETCD") == "" {
-		t.Skip("it starts etcd only where it is asked to")
-	}
 	ctx, cancel := context.WithTimeout(context.Background(), 6*within)
 	defer cancel()
-	endpoint, made := startEtcd(t), newFiles(t)
+	endpoint, made := etcdtest.Start(t), newFiles(t)
 	made.list("n1") // which isn't there yet
 	second := &files{t: t, folder: made.folder, address: "unix://" + made.path("second.sock"), process: "second.json", plugins: made.plugins}
 	made.process = "first.json"

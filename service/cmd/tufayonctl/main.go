@@ -38,6 +38,9 @@ const (
 // errUndone says that a volume came to rest, and what was asked for isn't so.
 var errUndone = errors.New("it was given up")
 
+// errNothing says that the history has nothing of a volume.
+var errNothing = errors.New("nothing is known of it")
+
 // errUsage says that the words are none that the program takes.
 var errUsage = errors.New("usage")
 
@@ -66,7 +69,7 @@ func codeOf(err error) int {
 	if err == nil {
 		return done
 	}
-	if errors.Is(err, errUndone) {
+	if errors.Is(err, errUndone) || errors.Is(err, errNothing) {
 		return refused
 	}
 	its, ok := status.FromError(err)
@@ -100,7 +103,7 @@ func (ctl *ctl) root() *cobra.Command {
 	flags.StringVar(&ctl.connecting.files.Authorities, "authorities", os.Getenv("TUFAYON_AUTHORITIES"), "over TCP: the certificates of the set's authorities")
 	flags.DurationVar(&ctl.connecting.timeout, "timeout", 0, "how long to wait for an answer (0: as long as it takes)")
 	flags.BoolVar(&ctl.isJSON, "json", false, "print JSON, a line for each answer")
-	root.AddCommand(ctl.create(), ctl.use(), ctl.stop(), ctl.delete(), ctl.get(), ctl.list(), ctl.nodes(), ctl.watch(), ctl.lose(), ctl.restart())
+	root.AddCommand(ctl.create(), ctl.use(), ctl.stop(), ctl.delete(), ctl.get(), ctl.list(), ctl.nodes(), ctl.watch(), ctl.lose(), ctl.restart(), ctl.history(), ctl.draw())
 	return root
 }
 

@@ -16,6 +16,7 @@ import (
 	"tufayon/service/api"
 	"tufayon/service/carrying"
 	"tufayon/service/frames"
+	"tufayon/service/history"
 	"tufayon/service/host"
 	"tufayon/service/host/hosttest"
 	"tufayon/service/secure"
@@ -28,8 +29,13 @@ func (it plugins) States() map[string]carrying.State { return it }
 // serve serves a new orchestrator of a node, of which a carrier answers the calls, and gives its address.
 func serve(t *testing.T, carrier host.Carrier) string {
 	t.Helper()
+	kept, err := history.Open("", history.Usual, zap.NewNop())
+	if err != nil {
+		t.Fatal(err)
+	}
+	kept.Configure([]byte(`{"greatest":1099511627776,"nodes":[{"id":"n1","slots":8}]}`))
 	made, err := host.Open(context.Background(), host.Options{
-		Store: hosttest.NewStore(), Nodes: []string{"n1"}, Carrier: carrier, Log: zap.NewNop(),
+		Store: hosttest.NewStore(), Nodes: []string{"n1"}, Carrier: carrier, Log: zap.NewNop(), Observers: []host.Observer{kept},
 		Times: host.Times{Patience: 20 * time.Millisecond, Retry: time.Millisecond, MostRetry: time.Millisecond},
 	})
 	if err != nil {
@@ -44,8 +50,9 @@ func serve(t *testing.T, carrier host.Carrier) string {
 	states := plugins{carrying.Controller: {Address: "unix:///c", Connection: "READY"}, "node:n1": {Address: "unix:///n1", Connection: "CONNECTING"}}
 	leading, server := api.New(states, nil, roles, secure.Local{May: roles.MayConnect}, zap.NewNop())
 	leading.Lead(made)
+	leading.Keep(kept)
 	go server.Serve(listener)
-	t.Cleanup(func() { server.Stop(); made.Close() })
+	t.Cleanup(func() { server.Stop(); made.Close(); kept.Close() })
 	return "unix://" + listener.Addr().String()
 }
 
@@ -95,6 +102,26 @@ func TestWords(t *testing.T) {
 	says(t, address, "lose|n1", 2, `--promise "off for good, and its store never comes back"`)
 	says(t, address, "lose|n1|--promise|"+api.Promise, 0, "n1 is lost", "session 3")
 	says(t, address, "watch|--current|--timeout|50ms", 3, "DeadlineExceeded")
+}
+
+// What happened, as lines and as a schedule; and a picture of it, where csi-replay is there.
+func TestHistory(t *testing.T) {
+	address := serve(t, &hosttest.Carrier{})
+	says(t, address, "create|v\nw|--block|--wait", 0, "yes")
+	says(t, address, "use|v\nw|n1|/a|--block|--wait", 0, "n1:/a")
+	says(t, address, "create|x|--block|--wait", 0, "yes")
+	time.Sleep(200 * time.Millisecond) // the history comes behind the answers
+	says(t, address, "history|v\nw", 0, `"v\nw"`, "NodePublishVolume 1.4 to node:n1: OK, at rest", "session 1 begins")
+	says(t, address, "history|--most|1", 0, "x ", "CreateVolume 1.5 to controller: OK, at rest")
+	says(t, address, "history|x|--schedule", 0, `{"config":{"greatest":1099511627776,"nodes":[]}`, `{"deliver":2}`)
+	says(t, address, "history|--json", 0, `"what":"create"`)
+	says(t, address, "draw|nobody", 1, "nobody: nothing is known of it")
+	says(t, address, "draw|x|--program|/nowhere", 2, "/nowhere")
+	program := os.Getenv("TUFAYON_TEST_PROGRAM")
+	if program == "" {
+		t.Skip("left out, since there is no csi-replay: TUFAYON_TEST_PROGRAM")
+	}
+	says(t, address, "draw|v\nw|--program|"+program, 0, "<svg", "NodePublishVolume", "Audit: nothing wrong")
 }
 
 // Of several services it asks the one that leads, and of one that doesn't lead that which it says, once it says it.

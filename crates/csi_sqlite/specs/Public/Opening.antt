@@ -17,16 +17,16 @@ use Rattle.csi_stores.specs.Public.Stores.{Found}
 use Rattle.csi_sqlite.specs.Public.Declared.{parts_schema}
 use Rattle.csi_sqlite.specs.Public.Listed.{ListsOther}
 use Rattle.csi_sqlite.specs.Public.Loading.{Stores}
-use Rattle.csi_sqlite.specs.Public.Refusals.{IsToldFault}
+use Rattle.csi_sqlite.specs.Public.Refusals.{IsToldFault, IsToldOfCopies}
 use Rattle.csi_sqlite.specs.Public.Statements.{RefusesToMake}
 use Rattle.csi_sqlite.specs.Public.Tables.{StoresParts, HoldsParts}
 
 -- ---- why it isn't opened
 
--- SQLite refused to open these files, by an error that is told: want of memory as that, and any other as a failing device
+-- SQLite refused to open these copies in memory, by an error that is told: want of memory as that, and any other as a failing device
 pub record RefusesFiles {D : Type 0} (g : Ghosts D) (files : Files D) (fault : KeepFault) : Type 0 where
   pub rest : Leftover D g
-  pub told : IsCleanLeft rest → IsToldFault (FailsToOpenFiles files rest) fault
+  pub told : IsCleanLeft rest → IsToldOfCopies (FailsToOpenFiles files rest) fault
 
 -- the table isn't there that has to be
 pub record LacksTable {S : Type 0} (g : StoreGhosts S) (connection : Held S) (fault : KeepFault) : Type 0 where

@@ -4,7 +4,7 @@ use Rattle.byteorder.specs.Endian.{big_bytes}
 use Rattle.sqlite_trees.specs.declared.store.Store.{Ghosts}
 use Rattle.sqlite.specs.declared.error.Error.{Error}
 use Rattle.sqlite.specs.declared.error.Error.TheVariants.{SqliteFailure}
-use Rattle.sqlite.specs.declared.error.ErrorCode.TheVariants.{OutOfMemory}
+use Rattle.sqlite.specs.declared.error.ErrorCode.TheVariants.{OutOfMemory, SystemIoFailure}
 use Rattle.sqlite.specs.Order.{Row}
 use Rattle.sqlite.specs.State.{State, IsRolledBack, Survives}
 use Rattle.sqlite.specs.Steps.{FailsToCommit}
@@ -22,6 +22,16 @@ IsToldFault Refuses Device = (error : Error) × (error ≢ SqliteFailure OutOfMe
 IsToldFault Refuses NoMemory = Refuses (SqliteFailure OutOfMemory)
 IsToldFault Refuses (BadRecord place) = ⊥
 IsToldFault Refuses Full = ⊥
+
+-- The same of copies in memory. Nothing of their disks fails but an allocation, so that a failing one is told as want of memory too.
+abbrev pub WantsMemory : Error → Type 0
+WantsMemory error = (error ≡ SqliteFailure OutOfMemory) ⊎ (error ≡ SqliteFailure SystemIoFailure)
+
+abbrev pub IsToldOfCopies : (Error → Type 0) → KeepFault → Type 0
+IsToldOfCopies Refuses Device = (error : Error) × (¬ WantsMemory error) × Refuses error
+IsToldOfCopies Refuses NoMemory = (error : Error) × WantsMemory error × Refuses error
+IsToldOfCopies Refuses (BadRecord place) = ⊥
+IsToldOfCopies Refuses Full = ⊥
 
 -- ---- loading
 

@@ -9,24 +9,37 @@ ghost use Rattle.csi_stores.specs.Public.Part.{StoredPart};
 ghost use Rattle.csi_sqlite.specs.Private.Looking.{ListsTableAtMost, IsJudged};
 ghost use Rattle.csi_sqlite.specs.Public.Listed.{ListsOther};
 ghost use Rattle.csi_sqlite.specs.Public.Opening.{IsNotFound, IsFoundIn};
+ghost use Rattle.csi_sqlite.specs.Public.Refusals.{WantsMemory};
 ghost use Rattle.csi_sqlite.specs.Public.Tables.{StoresParts, HoldsParts};
 
 use crate::rows::has_other;
+use crate::sqlite_keep::SqliteKeep;
 use crate::sqlite_keep::file::kept_files;
 use crate::sqlite_keep::half_made::{begin_log, is_half_made};
-use crate::sqlite_keep::{SqliteKeep, told};
 use csi_stores::KeepFault;
 use csi_types::NoMemory;
-use sqlite::{Alter, Connection, FileStore, Files, Options};
+use sqlite::{Alter, Connection, Error, ErrorCode, FileStore, Files, Options};
 use sqlite_disk::{Disk, Memory};
 use std::alloc::Global;
 use std::fs;
 use std::io::ErrorKind;
 use std::rt::Files as Reads;
 
+// What an error at opening copies in memory is to the keeper. Nothing of their disks fails but an allocation.
+fn told_of_copies(error: &Error) -> KeepFault
+    ensures memory { (result ≡ KeepFault.NoMemory) ↔ WantsMemory error.now }
+    ensures cause { (result ≡ KeepFault.Device) ⊎ (result ≡ KeepFault.NoMemory) }
+{
+    match error {
+        Error::SqliteFailure(ErrorCode::OutOfMemory) => KeepFault::NoMemory,
+        Error::SqliteFailure(ErrorCode::SystemIoFailure) => KeepFault::NoMemory,
+        _ => KeepFault::Device,
+    }
+}
+
 impl<D: Disk + Drop> SqliteKeep<FileStore<D>> {
-    /// The store that these two files have, a database file and its log, where they are a database that lists the table `parts` alone;
-    /// no table is made. `Device` stands for all refusals but want of memory.
+    /// The store that these two files have, copies in memory of a database file and its log, where they are a database that lists the table
+    /// `parts` alone; no table is made. `Device` stands for all refusals but want of memory, and in memory a disk fails for nothing else.
     pub fn find(alloc: Global, files: Files<D>) -> Result<SqliteKeep<FileStore<D>>, KeepFault>
         requires log { IsTrue (D.Disk.is_usable files.log) }
         requires db { IsTrue (D.Disk.is_usable files.db) }
@@ -39,7 +52,7 @@ impl<D: Disk + Drop> SqliteKeep<FileStore<D>> {
     {
         let connection = match Connection::open_files(alloc, files, Options::new(1)) {
             Ok(connection) => connection,
-            Err((error, _left)) => return Err(told(&error)),
+            Err((error, _left)) => return Err(told_of_copies(&error)),
         };
         kept_files(alloc, connection, true)
     }
@@ -196,7 +209,7 @@ fn files_listed_other<D: Disk + Drop>(connection: Connection<FileStore<D>>) -> b
     listed_other(connection)
 }
 
-// Refuses files that are no database, or one that lists anything but the table `parts`.
+// Refuses copies that are no database, or one that lists anything but the table `parts`.
 fn judge<D: Disk + Drop>(alloc: Global, files: Files<D>) -> Result<(), KeepFault>
     requires log { IsTrue (D.Disk.is_usable files.log) }
     requires db { IsTrue (D.Disk.is_usable files.db) }
@@ -211,7 +224,7 @@ fn judge<D: Disk + Drop>(alloc: Global, files: Files<D>) -> Result<(), KeepFault
             }
             Ok(())
         }
-        Err((error, _left)) => Err(told(&error)),
+        Err((error, _left)) => Err(told_of_copies(&error)),
     }
 }
 

@@ -1,7 +1,7 @@
 -- The connection is what SQLite found in the files, or it refused them.
 use Rattle.std.proofs.Common.{inl, inr, refl}
 use Rattle.sqlite.specs.Files.{FailsToOpenFiles}
-use Rattle.csi_sqlite.proofs.Refusals.{told_so}
+use Rattle.csi_sqlite.proofs.Refusals.{told_of_copies}
 use Rattle.csi_sqlite.proofs.sqlite_keep.found.judge.Goals as goal
 
 pub returns-else-files_listed_other-clause-taken : goal.returns-else-files_listed_other-clause-taken
@@ -15,5 +15,5 @@ pub returns-in-Err-clause-told : goal.returns-in-Err-clause-told
 returns-in-Err-clause-told g c =
     inl (record {
       rest = c.in-Err._left;
-      told = λ clean. told_so (FailsToOpenFiles c.args.files c.in-Err._left) c.in-Err.error c.told.result c.told.ensures.memory c.told.ensures.cause (c.in-Err.ensures.cause clean);
+      told = λ clean. told_of_copies (FailsToOpenFiles c.args.files c.in-Err._left) c.in-Err.error c.told_of_copies.result c.told_of_copies.ensures.memory c.told_of_copies.ensures.cause (c.in-Err.ensures.cause clean);
     })

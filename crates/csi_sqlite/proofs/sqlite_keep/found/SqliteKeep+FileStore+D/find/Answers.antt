@@ -6,7 +6,7 @@ use Rattle.sqlite.specs.Effect.{Database}
 use Rattle.sqlite.specs.State.{HasCleanDisk}
 use Rattle.sqlite.specs.Files.{file_state, Finds, FailsToOpenFiles}
 use Rattle.csi_sqlite.specs.Public.Tables.{StoresParts}
-use Rattle.csi_sqlite.proofs.Refusals.{told_so}
+use Rattle.csi_sqlite.proofs.Refusals.{told_of_copies}
 use Rattle.csi_sqlite.proofs.sqlite_keep.found.SqliteKeep+FileStore+D.find.Goals as goal
 
 pub returns-clause-finds : goal.returns-clause-finds
@@ -26,7 +26,7 @@ pub returns-in-Err-clause-told : goal.returns-in-Err-clause-told
 returns-in-Err-clause-told g c =
     inl (record {
       rest = c.in-Err._left;
-      told = λ clean. told_so (FailsToOpenFiles c.args.files c.in-Err._left) c.in-Err.error c.told.result c.told.ensures.memory c.told.ensures.cause (c.in-Err.ensures.cause clean);
+      told = λ clean. told_of_copies (FailsToOpenFiles c.args.files c.in-Err._left) c.in-Err.error c.told_of_copies.result c.told_of_copies.ensures.memory c.told_of_copies.ensures.cause (c.in-Err.ensures.cause clean);
     })
 
 pub returns-clause-told : goal.returns-clause-told

@@ -1,0 +1,10 @@
+//! Worked recoveries. Each function proves a statement, and does nothing.
+ghost use Rattle.csi_recovery.specs.Private.Worked.{WorkedMay, WorkedRows};
+
+fn rows()
+    ensures { WorkedRows }
+{}
+
+fn may()
+    ensures { WorkedMay }
+{}

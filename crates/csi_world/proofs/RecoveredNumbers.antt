@@ -1,0 +1,34 @@
+-- Numbers of one session, and of earlier ones.
+use Rattle.std.proofs.Common.{◌≡◌, ℕ, ◌<◌, ◌≤◌, ◌-◌, ap, inl, inr, arith}
+use Rattle.std.proofs.lemmas.Bool.Decides.{nat_tests}
+use Rattle.csi_types.specs.declared.number.Number.{Number}
+use Rattle.csi_types.specs.Model.Number.{IsBefore}
+use Rattle.csi_world.proofs.HeardNumbers.{IsUpTo}
+
+-- of two numbers of one session the later has the greater call
+pub greater : (a b : Number) → IsBefore a b → a.session ≡ b.session → a.call < b.call
+greater a b before same = grind (arith, nat_tests)
+
+-- and it is of no earlier session
+pub no-earlier : (a b : Number) → IsBefore a b → a.session ≤ b.session
+no-earlier a b before = grind (arith, nat_tests)
+
+-- a number of an earlier session comes before
+pub session-before : (a b : Number) → a.session < b.session → IsBefore a b
+session-before a b less = grind (arith, nat_tests)
+
+-- a number after the last one's call, in its session or a later one, is none up to the last one
+pub far : (last start number : Number) → last.session ≤ start.session → start.call ≡ last.call → IsBefore start number → start.session ≡ number.session → IsUpTo last number → ⊥
+far last start number low same after of (inl e) =
+    let more = greater start number after of in
+    let is : number.call ≡ last.call = ap (λ (n : Number). n.call) e in
+    omega (arith, more, is, same)
+far last start number low same after of (inr before) =
+    let more = greater start number after of in
+    let up = no-earlier number last before in
+    let less = greater number last before (omega (arith, up, low, of)) in
+    omega (arith, more, less, same)
+
+-- a session before one
+pub earlier-one : (a b : ℕ) → a < b → b - 1 < b
+earlier-one a b less = omega (arith, less)

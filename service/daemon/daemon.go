@@ -1,0 +1,54 @@
+// Package daemon tells systemd how a process does, where that runs it, and has its log go where it belongs.
+package daemon
+
+import (
+	"context"
+	"time"
+
+	systemd "github.com/coreos/go-systemd/daemon"
+)
+
+// Ready says that the process serves, or waits to lead: what it does now is told beside it.
+func Ready(status string) { notify(systemd.SdNotifyReady + "\nSTATUS=" + line(status)) }
+
+// Status says what it does now.
+func Status(status string) { notify("STATUS=" + line(status)) }
+
+// Stopping says that it is to end.
+func Stopping() { notify(systemd.SdNotifyStopping) }
+
+// notify tells systemd, if that asked for it. What fails is nobody's fault here.
+func notify(state string) { _, _ = systemd.SdNotify(false, state) }
+
+// line has a text be one line, as a status is.
+func line(text string) string {
+	bytes := []byte(text)
+	for at, it := range bytes {
+		if it < ' ' {
+			bytes[at] = ' '
+		}
+	}
+	return string(bytes)
+}
+
+// Watchdog tells systemd that the process is alive as long as it is, where the unit has a watchdog, until the context ends. It gives at once.
+func Watchdog(ctx context.Context, isAlive func() bool) {
+	within, err := systemd.SdWatchdogEnabled(false)
+	if err != nil || within == 0 {
+		return
+	}
+	go func() {
+		tick := time.NewTicker(within / 3)
+		defer tick.Stop()
+		for {
+			if isAlive() {
+				notify(systemd.SdNotifyWatchdog)
+			}
+			select {
+			case <-tick.C:
+			case <-ctx.Done():
+				return
+			}
+		}
+	}()
+}

@@ -1,0 +1,203 @@
+package history
+
+import (
+	"encoding/json"
+	"fmt"
+	"strings"
+	"time"
+
+	"google.golang.org/grpc/codes"
+
+	"tufayon/service/carrying"
+	"tufayon/service/frames"
+	"tufayon/service/host"
+	"tufayon/service/records"
+)
+
+// An Entry is an event of the service, as it is kept: a line of JSON.
+type Entry struct {
+	Time    int64  `json:"time"` // Unix milliseconds
+	Session uint64 `json:"session"`
+	What    string `json:"what"`           // create, use, stop, delete, reply, none, timeout, session or lose
+	Name    string `json:"name,omitempty"` // the volume's
+
+	Event   json.RawMessage `json:"event,omitempty"`   // of a command, a timeout or a loss: as a schedule has it
+	Outcome string          `json:"outcome,omitempty"` // of a command: sent, met, or "refused 4 Busy"
+	Call    *Call           `json:"call,omitempty"`    // of a reply, or of none: the call
+	Status  uint8           `json:"status,omitempty"`  // of a reply
+	Volume  uint64          `json:"volume,omitempty"`  // of a reply that made one: its id
+	Detail  string          `json:"detail,omitempty"`  // of a reply, or of none: why; of a session: why it began
+	Sent    *Call           `json:"sent,omitempty"`    // the call that is made now
+	Nodes   []string        `json:"nodes,omitempty"`   // of a session or a loss: the list
+	Config  json.RawMessage `json:"config,omitempty"`  // of a session: CONFIG
+	Row     *records.Row    `json:"row,omitempty"`     // as the volume is then
+
+	// IsCut says that something is missing between this and what the volume was like later: it is told, and is no part of a schedule.
+	IsCut bool                    `json:"cut,omitempty"`
+	Rows  map[string]*records.Row `json:"rows,omitempty"` // of a session or a loss: as the volumes are then that it changed; null of names that are free
+}
+
+// What entries are of, beside the commands.
+const (
+	reply    = "reply"
+	none     = "none"
+	timeout  = "timeout"
+	session  = "session"
+	lose     = "lose"
+	sent     = "sent"
+	met      = "met"
+	creating = "create"
+)
+
+// A Call is one of the orchestrator's.
+type Call struct {
+	Number frames.Number `json:"number"`
+	Kind   string        `json:"kind"`
+	Plugin string        `json:"plugin"`
+}
+
+// String is as a log has it.
+func (call Call) String() string {
+	return fmt.Sprintf("%s %d.%d to %s", call.Kind, call.Number.Session, call.Number.Call, call.Plugin)
+}
+
+func callOf(call frames.Call) *Call {
+	return &Call{Number: call.Number, Kind: call.Kind().String(), Plugin: carrying.PluginOf(call)}
+}
+
+// entryOf is what is kept of something that happened.
+func entryOf(it *host.Happening) Entry {
+	entry := Entry{Time: it.Time.UnixMilli(), Session: it.Session, Name: it.Name, Row: it.Row}
+	if it.Sent != nil {
+		entry.Sent = callOf(*it.Sent)
+	}
+	switch it.What {
+	case host.Commanded:
+		entry.What, entry.Event = eventOf(it.Command)
+		entry.Outcome = sent
+		if it.IsMet {
+			entry.Outcome = met
+		} else if it.Refusal != 0 {
+			entry.Outcome = fmt.Sprintf("refused %d %s", uint32(it.Refusal), it.Refusal.Name())
+		}
+	case host.Replied:
+		entry.What, entry.Call, entry.Status, entry.Volume, entry.Detail = reply, callOf(it.Call), it.Reply.Status, it.Reply.Volume, it.Reply.Detail
+	case host.Unanswered:
+		entry.What, entry.Call, entry.Detail = none, callOf(it.Call), it.Why
+	case host.TimedOut:
+		entry.What, entry.Event = timeout, encode(map[string]string{timeout: it.Name})
+	case host.Began:
+		entry.What, entry.Nodes, entry.Detail = session, it.Nodes, it.Why
+	case host.Lost:
+		entry.What, entry.Nodes, entry.Event = lose, it.Nodes, encode(map[string]string{lose: it.Node})
+	}
+	return entry
+}
+
+// Text is what the entry says, in a line, without its time and name.
+func (entry *Entry) Text() string {
+	text := ""
+	switch entry.What {
+	case reply:
+		text = fmt.Sprintf("%v: %v", *entry.Call, codes.Code(entry.Status))
+		if entry.Detail != "" {
+			text += " " + entry.Detail
+		}
+	case none:
+		return fmt.Sprintf("%v: %s", *entry.Call, entry.Detail)
+	case timeout:
+		text = "timeout"
+	case session:
+		return fmt.Sprintf("session %d begins: %s", entry.Session, entry.Detail)
+	case lose:
+		var event map[string]string
+		_ = json.Unmarshal(entry.Event, &event) // this package wrote it
+		return fmt.Sprintf("node %s is lost, session %d begins", event[lose], entry.Session)
+	default:
+		text = entry.asked()
+		if entry.Outcome != sent {
+			return text + ": " + entry.Outcome
+		}
+	}
+	if entry.Sent != nil {
+		text += ", sends " + entry.Sent.String()
+	} else if entry.What == reply {
+		text += ", at rest"
+	}
+	return text
+}
+
+// node is the one that a command names.
+func (entry *Entry) node() string {
+	var event map[string]struct{ Node string }
+	_ = json.Unmarshal(entry.Event, &event) // of a delete the value is a text
+	return event[entry.What].Node
+}
+
+// asked is the command, without the volume's name.
+func (entry *Entry) asked() string {
+	var event map[string]struct{ Node, Target string }
+	if json.Unmarshal(entry.Event, &event) != nil { // of a delete the value is a text
+		return entry.What
+	}
+	if it := event[entry.What]; it.Node != "" {
+		return fmt.Sprintf("%s at %s %s", entry.What, it.Node, it.Target)
+	}
+	return entry.What
+}
+
+// At is the entry's time.
+func (entry *Entry) At() time.Time { return time.UnixMilli(entry.Time) }
+
+// capability is one as a schedule has it.
+type capability struct {
+	Access string  `json:"access"`
+	Fs     *string `json:"fs,omitempty"`
+	Mode   uint8   `json:"mode"`
+}
+
+func capabilityOf(it frames.Capability) capability {
+	if it.Mount {
+		return capability{Access: "mount", Fs: &it.FsType, Mode: it.Mode}
+	}
+	return capability{Access: "block", Mode: it.Mode}
+}
+
+func capabilitiesOf(all []frames.Capability) []capability {
+	list := make([]capability, 0, len(all))
+	for _, it := range all {
+		list = append(list, capabilityOf(it))
+	}
+	return list
+}
+
+// eventOf is a command as a schedule has it, and its key.
+func eventOf(command host.Command) (key string, event json.RawMessage) {
+	var value any = command.Name
+	switch command.Kind {
+	case host.Create:
+		key, value = creating, map[string]any{
+			"capabilities": capabilitiesOf(command.Capabilities), "limit": command.Limit, "name": command.Name, "required": command.Required,
+		}
+	case host.Use:
+		key, value = "use", map[string]any{
+			"capability": capabilityOf(command.Capability), "name": command.Name, "node": command.Node, "readonly": command.Readonly, "target": command.Target,
+		}
+	case host.Stop:
+		key, value = "stop", map[string]any{"name": command.Name, "node": command.Node, "target": command.Target}
+	default:
+		key = "delete"
+	}
+	return key, encode(map[string]any{key: value})
+}
+
+// encode is a value as JSON, which texts, numbers and lists of them always can be. Bytes that are no UTF-8 become U+FFFD, as a schedule can't have them.
+func encode(value any) json.RawMessage {
+	bytes, _ := json.Marshal(value)
+	return bytes
+}
+
+// IsWrong says whether something was refused, got no reply, or was given up for lost.
+func (entry *Entry) IsWrong() bool {
+	return entry.What == none || entry.What == lose || entry.What == reply && entry.Status != 0 || strings.HasPrefix(entry.Outcome, "refused")
+}

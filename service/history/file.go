@@ -1,0 +1,145 @@
+package history
+
+import (
+	"bufio"
+	"bytes"
+	"encoding/json"
+	"errors"
+	"fmt"
+	"os"
+
+	"go.uber.org/zap"
+
+	"tufayon/service/records"
+)
+
+// A file has the base in its first line, and an entry in each one behind it. It is written anew once it has twice as many entries as are kept. Nothing
+// waits for the disk: a machine that dies loses the last ones.
+type file struct {
+	path    string
+	to      *os.File
+	buffer  *bufio.Writer
+	lines   int
+	isStale bool // it has to be written anew
+	err     error
+}
+
+// head is the first line.
+type head struct {
+	Version int    `json:"history"`
+	Before  uint64 `json:"before"`
+	Base    base   `json:"base"`
+}
+
+const fileVersion = 1
+
+// errOther says that a file is no history, or of another version.
+var errOther = errors.New("it is no history of this version")
+
+// open reads what a file has, and goes on behind that.
+func (made *History) open(path string) error {
+	content, err := os.ReadFile(path)
+	if err != nil && !errors.Is(err, os.ErrNotExist) {
+		return err
+	}
+	if len(content) > 0 {
+		if err := made.read(content); err != nil {
+			return fmt.Errorf("%s: %w", path, err)
+		}
+	}
+	made.file = &file{path: path, isStale: true}
+	made.save()
+	return made.file.err
+}
+
+// read reads the lines of a file. The last one, which a process that was killed didn't finish, is left out, and so is all from the first on that is none.
+func (made *History) read(content []byte) error {
+	lines := bytes.SplitAfter(content, []byte("\n"))
+	var first head
+	if json.Unmarshal(lines[0], &first) != nil || first.Version != fileVersion {
+		return errOther
+	}
+	made.base, made.before = first.Base, first.Before
+	if made.base.Rows == nil {
+		made.base.Rows = map[string]*records.Row{}
+	}
+	for name, row := range made.base.Rows {
+		made.rows[name] = row
+	}
+	for at, line := range lines[1:] {
+		var entry Entry
+		if !bytes.HasSuffix(line, []byte("\n")) || json.Unmarshal(line, &entry) != nil {
+			if len(line) > 0 {
+				made.log.Warn("the rest of the history can't be read", zap.Int("line", at+2))
+			}
+			break
+		}
+		made.add(entry)
+	}
+	return nil
+}
+
+func (it *file) write(entry Entry) {
+	if it.err != nil || it.isStale {
+		return
+	}
+	it.lines++
+	it.buffer.Write(encode(entry)) // it remembers what fails, until it is flushed
+	it.buffer.WriteByte('\n')
+}
+
+// save has the file have all. The lock is held. Where the file can't be written, the history goes on in memory.
+func (made *History) save() {
+	it := made.file
+	if it.err != nil {
+		return
+	}
+	if it.isStale || it.lines > 2*made.most {
+		it.err = made.rewrite()
+	} else {
+		it.err = it.buffer.Flush()
+	}
+	if it.err != nil {
+		made.log.Error("the history isn't kept any more", zap.Error(it.err))
+	}
+}
+
+// rewrite writes the file anew, in place of what is there.
+func (made *History) rewrite() error {
+	it := made.file
+	anew, err := os.OpenFile(it.path+".new", os.O_CREATE|os.O_TRUNC|os.O_WRONLY, 0o600)
+	if err != nil {
+		return err
+	}
+	buffer := bufio.NewWriterSize(anew, 64<<10)
+	write := func(value any) {
+		buffer.Write(encode(value))
+		buffer.WriteByte('\n')
+	}
+	write(head{Version: fileVersion, Before: made.before, Base: made.base})
+	for at := range made.entries {
+		write(&made.entries[at])
+	}
+	if err = buffer.Flush(); err == nil {
+		err = os.Rename(it.path+".new", it.path)
+	}
+	if err != nil {
+		anew.Close()
+		return err
+	}
+	if it.to != nil {
+		it.to.Close()
+	}
+	it.to, it.buffer, it.lines, it.isStale = anew, buffer, len(made.entries), false
+	return nil
+}
+
+func (it *file) close() error {
+	if it.to == nil {
+		return it.err
+	}
+	if err := it.to.Close(); it.err == nil {
+		it.err = err
+	}
+	return it.err
+}

@@ -1,0 +1,260 @@
+// Package history keeps the last events of an orchestrator's service, in a file where there is one, and gives them as a schedule, of all volumes or of
+// one, which csi-replay runs and draws: docs/SERVICE.md, "The history".
+package history
+
+import (
+	"bytes"
+	"encoding/json"
+	"fmt"
+	"reflect"
+	"sync"
+	"time"
+
+	"go.uber.org/zap"
+
+	"tufayon/service/frames"
+	"tufayon/service/host"
+	"tufayon/service/records"
+)
+
+// Usual is how many events are kept.
+const Usual = 10000
+
+// waiting is how many batches may wait to be kept: beyond that they are lost, and what they changed is found at the next one of each volume.
+const waiting = 4096
+
+// A base is what was before the first event that is kept: of the service, or of a volume.
+type base struct {
+	Config json.RawMessage         `json:"config,omitempty"`
+	Nodes  []string                `json:"nodes"` // the orchestrator's list
+	Rows   map[string]*records.Row `json:"rows"`  // by the volumes' names
+}
+
+// A History has the last events. It is a host's observer, and its methods may be called side by side.
+type History struct {
+	most int
+	log  *zap.Logger
+	come chan []host.Happening
+	done chan struct{}
+
+	mutex   sync.Mutex
+	config  json.RawMessage // of the service now
+	base    base
+	entries []Entry
+	before  uint64 // how many there were before these
+	lost    uint64
+	rows    map[string]*records.Row // as they are behind the last entry
+	isCut   bool                    // the next session says how volumes are, since something may be missing
+	file    *file
+	told    chan struct{} // closed, and made anew, when something came
+	once    sync.Once
+}
+
+// Open opens a history of at most so many events, over a file, or in memory alone where that is empty. What can't be read of a file is left out, and told
+// to the log.
+func Open(path string, most int, log *zap.Logger) (*History, error) {
+	made := &History{
+		most: most, log: log, come: make(chan []host.Happening, waiting), done: make(chan struct{}), told: make(chan struct{}), isCut: true,
+		base: base{Rows: map[string]*records.Row{}}, rows: map[string]*records.Row{},
+	}
+	if path != "" {
+		if err := made.open(path); err != nil {
+			return nil, fmt.Errorf("the history: %w", err)
+		}
+	}
+	go made.run()
+	return made, nil
+}
+
+// Configure says which CONFIG the shard has from now on.
+func (made *History) Configure(config []byte) {
+	made.mutex.Lock()
+	defer made.mutex.Unlock()
+	made.config = json.RawMessage(bytes.TrimSpace(config))
+}
+
+// Happened has events kept. Sessions wait for their place; other events that find none are lost, which is found at the next one of each volume.
+func (made *History) Happened(all []host.Happening) {
+	if first := all[0].What; first == host.Began || first == host.Lost {
+		made.come <- all
+		return
+	}
+	select {
+	case made.come <- all:
+	default:
+		made.mutex.Lock()
+		made.lost += uint64(len(all))
+		made.mutex.Unlock()
+	}
+}
+
+// Called is nothing to a history.
+func (*History) Called(frames.Call, frames.Reply, error, time.Duration) {}
+
+// Committed is nothing to a history.
+func (*History) Committed(time.Duration, error) {}
+
+// Close keeps what has come, and gives the file up. Nothing may come any more.
+func (made *History) Close() error {
+	made.once.Do(func() { close(made.come) })
+	<-made.done
+	if made.file == nil {
+		return nil
+	}
+	return made.file.close()
+}
+
+func (made *History) run() {
+	defer close(made.done)
+	for batch := range made.come {
+		made.keep(batch)
+	}
+}
+
+// keep keeps a batch.
+func (made *History) keep(batch []host.Happening) {
+	made.mutex.Lock()
+	defer made.mutex.Unlock()
+	for at := range batch {
+		entry := entryOf(&batch[at])
+		if entry.What == session || entry.What == lose {
+			entry.Rows = made.begins(&batch[at])
+			entry.Config = made.config
+		} else if before := batch[at].Before; !same(made.rows[entry.Name], before) {
+			made.cut(map[string]*records.Row{entry.Name: before})
+		}
+		made.add(entry)
+		if made.file != nil {
+			made.file.write(entry)
+		}
+	}
+	if made.file != nil {
+		made.save()
+	}
+	close(made.told)
+	made.told = make(chan struct{})
+}
+
+// add takes an entry in, and lets the oldest go where there are too many.
+func (made *History) add(entry Entry) {
+	made.learn(&entry, made.rows)
+	if len(made.entries) == 0 && made.before == 0 && made.base.Config == nil {
+		made.base.Config, made.base.Nodes = entry.Config, entry.Nodes
+	}
+	made.entries = append(made.entries, entry)
+	for len(made.entries) > made.most {
+		oldest := &made.entries[0]
+		made.learn(oldest, made.base.Rows)
+		if oldest.What == session || oldest.What == lose {
+			made.base.Config, made.base.Nodes = oldest.Config, oldest.Nodes
+		}
+		made.entries = made.entries[1:]
+		made.before++
+	}
+}
+
+// learn has rows be as they are behind an entry.
+func (*History) learn(entry *Entry, rows map[string]*records.Row) {
+	for name, row := range entry.Rows {
+		rows[name] = row
+		if row == nil {
+			delete(rows, name)
+		}
+	}
+	if entry.Name == "" || entry.IsCut {
+		return
+	}
+	if entry.Row == nil {
+		delete(rows, entry.Name)
+		return
+	}
+	rows[entry.Name] = entry.Row
+}
+
+// begins holds what a session began with against what the entries say. A volume that is otherwise, since something is missing, begins anew: its earlier
+// entries are no part of a schedule any more (cut). The first session of a process is such. It gives what the session changed.
+func (made *History) begins(it *host.Happening) map[string]*records.Row {
+	present := make(map[string]*records.Row, len(it.Rows))
+	for _, row := range it.Rows {
+		present[row.Name] = row
+	}
+	if made.isCut {
+		cut := map[string]*records.Row{}
+		for name, row := range present {
+			if !same(made.rows[name], row) {
+				cut[name] = row
+			}
+		}
+		if len(cut) > 0 {
+			made.log.Warn("the history has not all that happened to some volumes", zap.Int("volumes", len(cut)))
+			made.cut(cut)
+		}
+	}
+	made.isCut = false
+	changed := map[string]*records.Row{}
+	for name, row := range made.rows {
+		if !same(row, present[name]) {
+			changed[name] = present[name]
+		}
+	}
+	for name, row := range present {
+		if made.rows[name] == nil {
+			changed[name] = row
+		}
+	}
+	return changed
+}
+
+// cut leaves the entries of volumes out of schedules, in which these rows are what they begin with.
+func (made *History) cut(begin map[string]*records.Row) {
+	for at := range made.entries {
+		entry := &made.entries[at]
+		if _, isCut := begin[entry.Name]; isCut {
+			entry.IsCut = true
+		}
+		for name := range begin {
+			delete(entry.Rows, name)
+		}
+	}
+	for name, row := range begin {
+		made.base.Rows[name] = row
+		if row == nil {
+			delete(made.base.Rows, name)
+		}
+	}
+	if made.file != nil {
+		made.file.isStale = true
+	}
+}
+
+// same says whether two rows say the same.
+func same(some, other *records.Row) bool {
+	if some == other || some == nil || other == nil {
+		return some == other
+	}
+	return reflect.DeepEqual(some, other)
+}
+
+// Count says how many events there are, and how many were lost since this process began.
+func (made *History) Count() (kept int, lost uint64) {
+	made.mutex.Lock()
+	defer made.mutex.Unlock()
+	return len(made.entries), made.lost
+}
+
+// Last gives the last entries, at most so many, of a volume or of all, and sessions and losses with both; and behind a count of entries, which is handed
+// in again to get what came since.
+func (made *History) Last(name string, most int, behind uint64) (last []Entry, count uint64, more <-chan struct{}) {
+	made.mutex.Lock()
+	defer made.mutex.Unlock()
+	count = made.before + uint64(len(made.entries))
+	for at := len(made.entries) - 1; at >= 0 && made.before+uint64(at) >= behind && len(last) < most; at-- {
+		if entry := made.entries[at]; name == "" || entry.Name == "" || entry.Name == name {
+			last = append(last, entry)
+		}
+	}
+	for i, j := 0, len(last)-1; i < j; i, j = i+1, j-1 {
+		last[i], last[j] = last[j], last[i]
+	}
+	return last, count, made.told
+}

@@ -1,0 +1,117 @@
+package program
+
+import (
+	"context"
+	"fmt"
+	"net"
+	"time"
+
+	"go.uber.org/zap"
+	"google.golang.org/grpc"
+
+	"tufayon/service/carrying"
+	"tufayon/service/daemon"
+	"tufayon/service/driver"
+	"tufayon/service/metrics"
+	"tufayon/service/secure"
+	"tufayon/service/upstream"
+	"tufayon/service/web"
+)
+
+// A Watch says where and to whom a process tells how it does.
+type Watch struct {
+	Address string
+	Files   *secure.Files         // over TCP beyond this machine
+	Admit   secure.Admit          // who may ask there
+	May     func(uid uint32) bool // who may at a Unix socket
+	Log     *zap.Logger
+}
+
+// Serve serves, until what it gives is called. Without an address it does nothing.
+func (watch Watch) Serve(options web.Options) (end func(), err error) {
+	if watch.Address == "" {
+		return func() {}, nil
+	}
+	listener, err := Listen(watch.Address)
+	if err != nil {
+		return nil, err
+	}
+	switch {
+	case carrying.IsLocal(watch.Address):
+		options.Known = secure.Local{May: watch.May, Refused: func(from net.Addr, why error) {
+			watch.Log.Warn("who would watch is refused", zap.Stringer("from", from), zap.Error(why))
+		}}
+	case !web.IsLoopback(watch.Address):
+		options.TLS = watch.Files.HTTPS(watch.Admit)
+	}
+	options.Log = watch.Log
+	server := web.New(options)
+	ended := make(chan struct{})
+	go func() {
+		defer close(ended)
+		if err := server.Serve(listener); err != nil {
+			watch.Log.Error("nobody can watch any more", zap.Error(err))
+		}
+	}()
+	watch.Log.Info("can be watched", zap.String("address", watch.Address))
+	return func() { server.Close(); <-ended }, nil
+}
+
+// Ends tells when the certificate in these files ends, by its file: nothing where there is none.
+func Ends(files *secure.Files, name secure.Name) func() map[string]time.Time {
+	return func() map[string]time.Time {
+		if files == nil {
+			return nil
+		}
+		until, err := files.Check(name)
+		if err != nil {
+			until = time.Unix(0, 0) // it counts as one that has ended
+		}
+		return map[string]time.Time{files.Certificate: until}
+	}
+}
+
+// watchers see each call of a plugin.
+func watchers(told *metrics.Driver, log *zap.Logger) []grpc.UnaryServerInterceptor {
+	return []grpc.UnaryServerInterceptor{told.Intercept, driver.Logging(log)}
+}
+
+// watchedOptions are those of a plugin's server that is watched.
+func watchedOptions(told *metrics.Driver, log *zap.Logger) []grpc.ServerOption {
+	return []grpc.ServerOption{grpc.ChainUnaryInterceptor(watchers(told, log)...)}
+}
+
+// watchUpstream has the calls of a driver before another one seen, and its nodes counted.
+func watchUpstream(behind *upstream.Proxy, told *metrics.Driver, log *zap.Logger) {
+	behind.Watch(watchers(told, log)...)
+	told.Nodes = behind.Nodes
+}
+
+// WatchPlugin has a plugin of csi-driver's watched at an address, a Unix socket's or one on loopback. It gives what the plugin's life and servers need,
+// and what ends it. Behind is the upstream where the plugin stands before one, or nil.
+func WatchPlugin(program, plugin string, behind *upstream.Proxy, address, level string) (*metrics.Driver, []grpc.ServerOption, func(), error) {
+	log, err := daemon.Logger(level)
+	if err != nil {
+		return nil, nil, nil, fmt.Errorf("%w: %v", ErrUsage, err)
+	}
+	if level == "" {
+		log = zap.NewNop()
+	}
+	told := metrics.NewDriver(program, plugin)
+	if address != "" && !carrying.IsLocal(address) && !web.IsLoopback(address) {
+		return nil, nil, nil, fmt.Errorf("%w: %q is neither a Unix socket nor on loopback", ErrUsage, address)
+	}
+	if behind != nil {
+		watchUpstream(behind, told, log)
+	}
+	end, err := Watch{Address: address, May: IsOwn, Log: log}.Serve(web.Options{Metrics: told.Handler(), Ready: told.Ready})
+	return told, watchedOptions(told, log), end, err
+}
+
+// Alive tells systemd how a plugin does, until the context ends.
+func alive(ctx context.Context, told *metrics.Driver) {
+	daemon.Watchdog(ctx, func() bool { return told.Committing() < mostCommitting })
+}
+
+// mostCommitting is how long a commit may take until systemd's watchdog ends the process: etcd is asked for 60 s at most.
+const mostCommitting = 2 * time.Minute

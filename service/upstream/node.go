@@ -1,0 +1,131 @@
+package upstream
+
+import (
+	"google.golang.org/grpc/codes"
+	"google.golang.org/grpc/status"
+
+	"tufayon/service/frames"
+	"tufayon/service/identities"
+	"tufayon/service/records"
+	"tufayon/service/serving"
+	"tufayon/service/store"
+	"tufayon/service/wire"
+)
+
+// errStaged refuses a staging path other than the one at which the volume is staged.
+var errStaged = status.Error(codes.FailedPrecondition, "staged otherwise")
+
+// atPath judges the staging path that a call names, if it names one: one of a volume that is staged is the one that is kept. Of a call that is stale the
+// plugin says so.
+func atPath(path string) func(serving.Known) error {
+	return func(known serving.Known) error {
+		row, err := records.ReadStaged(known.Row)
+		if err != nil {
+			return status.Error(codes.Internal, err.Error())
+		}
+		if !known.IsBehind(row.Last) && path != "" && known.Staging != "" && known.Staging != path {
+			return errStaged
+		}
+		return nil
+	}
+}
+
+// volume is a volume in a node's books: the id that it has there, or gets with this call.
+func (proxy *Proxy) volume(view serving.View, id string) (volume uint64, texts []store.Text, there bool) {
+	table := view.Table()
+	if volume, there = table.ID(id); there {
+		return volume, nil, true
+	}
+	volume = table.Most() + 1
+	return volume, []store.Text{identities.Put(volume, id)}, false
+}
+
+// path judges a staging path that has to be there.
+func (fitting *fitting) path(value string) {
+	fitting.refuse("staging_target_path", value == "" || len(value) > mostText)
+}
+
+// stage reads a NodeStageVolume.
+func (proxy *Proxy) stage(call *call) (serving.Request, error) {
+	fit, asked := fitting{}, wire.NodeStageVolumeRequest{}
+	fit.read(call, &asked)
+	id := fit.id(asked.GetVolumeId())
+	fit.path(asked.GetStagingTargetPath())
+	capability := atNode(fit.capability("volume_capability", asked.GetVolumeCapability()))
+	request := proxy.atNode(frames.NodeStageVolumeKind, id, asked.GetStagingTargetPath())
+	request.Bind = func(view serving.View) (serving.Bound, error) {
+		volume, texts, _ := proxy.volume(view, id)
+		return serving.Bound{Bodies: []frames.Body{frames.NodeStageVolume{ID: volume, Capability: capability}}, Texts: append(texts, fit.kept...)}, nil
+	}
+	return request, fit.err
+}
+
+// atNode is a request to a node's plugin.
+func (proxy *Proxy) atNode(kind frames.Kind, id, path string) serving.Request {
+	return serving.Request{Node: proxy.options.Node, Kind: kind, Key: keyOfID(id), Staging: path, Judge: atPath(path)}
+}
+
+// unstage reads a NodeUnstageVolume.
+func (proxy *Proxy) unstage(call *call) (serving.Request, error) {
+	fit, asked := fitting{}, wire.NodeUnstageVolumeRequest{}
+	fit.read(call, &asked)
+	id := fit.id(asked.GetVolumeId())
+	fit.path(asked.GetStagingTargetPath())
+	request := proxy.atNode(frames.NodeUnstageVolumeKind, id, asked.GetStagingTargetPath())
+	request.Always = true
+	request.Bind = func(view serving.View) (serving.Bound, error) {
+		volume, texts, there := proxy.volume(view, id)
+		if !there && !call.isNumbered {
+			return serving.Bound{}, nil
+		}
+		return serving.Bound{Bodies: []frames.Body{frames.NodeUnstageVolume{ID: volume}}, Texts: texts}, nil
+	}
+	return request, fit.err
+}
+
+// publish reads a NodePublishVolume. One without a staging path is of an upstream that stages nothing: in the books the volume is staged with its first
+// publication.
+func (proxy *Proxy) publish(call *call) (serving.Request, error) {
+	fit, asked := fitting{}, wire.NodePublishVolumeRequest{}
+	fit.read(call, &asked)
+	id, path := fit.id(asked.GetVolumeId()), asked.GetStagingTargetPath()
+	fit.refuse("staging_target_path", len(path) > mostText)
+	body := frames.NodePublishVolume{
+		Target:     fit.text("target_path", asked.GetTargetPath(), frames.MaxTarget),
+		Capability: atNode(fit.capability("volume_capability", asked.GetVolumeCapability())), Readonly: asked.GetReadonly(),
+	}
+	request := proxy.atNode(frames.NodePublishVolumeKind, id, path)
+	request.Bind = func(view serving.View) (serving.Bound, error) {
+		volume, texts, _ := proxy.volume(view, id)
+		body.ID = volume
+		bound := serving.Bound{Texts: append(texts, fit.kept...)}
+		if row, err := records.ReadStaged(view.Row(volume)); path == "" && err == nil && !row.IsStaged {
+			bound.Bodies = append(bound.Bodies, frames.NodeStageVolume{ID: volume, Capability: body.Capability})
+		}
+		bound.Bodies = append(bound.Bodies, body)
+		return bound, nil
+	}
+	return request, fit.err
+}
+
+// unpublish reads a NodeUnpublishVolume. A volume that was staged with its first publication is unstaged with its last one.
+func (proxy *Proxy) unpublish(call *call) (serving.Request, error) {
+	fit, asked := fitting{}, wire.NodeUnpublishVolumeRequest{}
+	fit.read(call, &asked)
+	id, target := fit.id(asked.GetVolumeId()), fit.text("target_path", asked.GetTargetPath(), frames.MaxTarget)
+	request := proxy.atNode(frames.NodeUnpublishVolumeKind, id, "")
+	request.Always = true
+	request.Bind = func(view serving.View) (serving.Bound, error) {
+		volume, texts, there := proxy.volume(view, id)
+		if !there && !call.isNumbered {
+			return serving.Bound{}, nil
+		}
+		bound := serving.Bound{Bodies: []frames.Body{frames.NodeUnpublishVolume{ID: volume, Target: target}}, Texts: texts}
+		row, err := records.ReadStaged(view.Row(volume))
+		if err == nil && row.IsStaged && view.Staging(volume) == "" && len(row.Targets) == 1 && row.Targets[0] == target {
+			bound.Bodies = append(bound.Bodies, frames.NodeUnstageVolume{ID: volume})
+		}
+		return bound, nil
+	}
+	return request, fit.err
+}

@@ -1,0 +1,124 @@
+package upstream_test
+
+import (
+	"fmt"
+	"strings"
+	"testing"
+
+	"github.com/golang/protobuf/proto"
+	"google.golang.org/grpc/codes"
+
+	"tufayon/service/upstream"
+	"tufayon/service/wire"
+)
+
+const (
+	stageCall     = "/csi.v1.Node/NodeStageVolume"
+	unstageCall   = "/csi.v1.Node/NodeUnstageVolume"
+	publishCall   = "/csi.v1.Node/NodePublishVolume"
+	unpublishCall = "/csi.v1.Node/NodeUnpublishVolume"
+
+	single = wire.VolumeCapability_AccessMode_SINGLE_NODE_SINGLE_WRITER
+)
+
+func stages(id, path string, mode wire.VolumeCapability_AccessMode_Mode) *wire.NodeStageVolumeRequest {
+	return &wire.NodeStageVolumeRequest{VolumeId: id, StagingTargetPath: path, VolumeCapability: in(mode), Secrets: map[string]string{"key": "k"},
+		PublishContext: map[string]string{"device": "/dev/x"}}
+}
+
+func unstages(id, path string) *wire.NodeUnstageVolumeRequest {
+	return &wire.NodeUnstageVolumeRequest{VolumeId: id, StagingTargetPath: path}
+}
+
+func publishes(id, path, target string, mode wire.VolumeCapability_AccessMode_Mode) *wire.NodePublishVolumeRequest {
+	return &wire.NodePublishVolumeRequest{VolumeId: id, StagingTargetPath: path, TargetPath: target, VolumeCapability: in(mode)}
+}
+
+func unpublishes(id, target string) *wire.NodeUnpublishVolumeRequest {
+	return &wire.NodeUnpublishVolumeRequest{VolumeId: id, TargetPath: target}
+}
+
+// The four calls of a node reach the upstream as they came, once the plugin allows them, under the upstream's ids.
+func TestNode(t *testing.T) {
+	box, ctx := newBox(t, upstream.Options{Node: "n1"}).start(), soon(t)
+	const id = "fs/1"
+	box.refuses(ctx, codes.FailedPrecondition, "not staged", publishCall, publishes(id, "/s", "/a", single))
+	box.does(ctx, stageCall, stages(id, "/s", single))
+	box.does(ctx, stageCall, stages(id, "/s", single))
+	box.refuses(ctx, codes.FailedPrecondition, "staged otherwise", stageCall, stages(id, "/other", single))
+	box.refuses(ctx, codes.FailedPrecondition, "staged otherwise", publishCall, publishes(id, "/other", "/a", single))
+	box.does(ctx, publishCall, publishes(id, "/s", "/a", single))
+	box.refuses(ctx, codes.FailedPrecondition, "/a", publishCall, publishes(id, "/s", "/b", single))
+	box.refuses(ctx, codes.FailedPrecondition, "/a", unstageCall, unstages(id, "/s"))
+	box.restart()
+	box.refuses(ctx, codes.FailedPrecondition, "/a", unstageCall, unstages(id, "/s"))
+	box.refuses(ctx, codes.FailedPrecondition, "staged otherwise", unstageCall, unstages(id, "/other"))
+	box.does(ctx, unpublishCall, unpublishes(id, "/a"))
+	box.does(ctx, unstageCall, unstages(id, "/s"))
+	box.does(ctx, unstageCall, unstages(id, "/s"))
+	box.does(ctx, unpublishCall, unpublishes("nobody's", "/a"))
+	box.does(ctx, stageCall, stages(id, "/other", writers))
+	long := "/" + strings.Repeat("t", 4000)
+	box.does(ctx, publishCall, publishes(id, "/other", long, writers))
+	box.does(ctx, publishCall, publishes(id, "/other", long+"u", writers))
+	box.refuses(ctx, codes.FailedPrecondition, long, unstageCall, unstages(id, "/other"))
+	box.does(ctx, unpublishCall, unpublishes(id, long))
+	box.does(ctx, unpublishCall, unpublishes(id, long+"u"))
+	box.does(ctx, unstageCall, unstages(id, "/other"))
+	for _, it := range []struct {
+		text, method string
+		message      proto.Message
+	}{
+		{"volume_id", stageCall, stages("", "/s", single)}, {"staging_target_path", stageCall, stages(id, "", single)},
+		{"access_mode", stageCall, stages(id, "/s", 0)}, {"staging_target_path", unstageCall, unstages(id, "")},
+		{"target_path", publishCall, publishes(id, "/s", "", single)}, {"target_path", unpublishCall, unpublishes(id, "")},
+		{"staging_target_path", stageCall, stages(id, "/"+strings.Repeat("s", 4096), single)},
+	} {
+		box.refuses(ctx, codes.InvalidArgument, it.text, it.method, it.message)
+	}
+	box.refuses(ctx, codes.Unimplemented, "the other plugin's: a driver of its own stands before that", createCall, creates("v"))
+}
+
+// SINGLE_NODE_WRITER is what platforms call one node: several may use the volume there.
+func TestOneNode(t *testing.T) {
+	box, ctx := newBox(t, upstream.Options{Node: "n1"}).start(), soon(t)
+	box.does(ctx, stageCall, stages("v", "/s", writer))
+	for at := 0; at < 16; at++ {
+		box.does(ctx, publishCall, publishes("v", "/s", fmt.Sprint("/t", at), writer))
+	}
+	box.refuses(ctx, codes.ResourceExhausted, "targets", publishCall, publishes("v", "/s", "/one more", writer))
+}
+
+// An upstream that stages nothing: in the books a volume is staged from its first publication to its last one.
+func TestUnstaged(t *testing.T) {
+	for _, isNumbered := range []bool{false, true} {
+		box, ctx, count := newBox(t, upstream.Options{Node: "n1"}), soon(t), 0
+		box.metadata = isNumbered
+		box.start()
+		call := func(method string, message proto.Message) {
+			t.Helper()
+			its := ctx
+			if count += 2; isNumbered {
+				its = numbered(ctx, fmt.Sprint("1.", count))
+			}
+			box.does(its, method, message)
+		}
+		for round := 0; round < 2; round++ {
+			mode := []wire.VolumeCapability_AccessMode_Mode{writers, single}[round] // another one: it isn't staged any more
+			call(publishCall, publishes("v", "", "/a", mode))
+			if mode == writers {
+				call(publishCall, publishes("v", "", "/b", mode))
+				box.restart()
+				call(unpublishCall, unpublishes("v", "/a"))
+				call(publishCall, publishes("v", "", "/b", mode))
+				call(unpublishCall, unpublishes("v", "/b"))
+			} else {
+				call(unpublishCall, unpublishes("v", "/a"))
+			}
+		}
+		call(stageCall, stages("v", "/s", writers))
+		call(publishCall, publishes("v", "/s", "/c", writers))
+		call(unpublishCall, unpublishes("v", "/c"))
+		call(unstageCall, unstages("v", "/s"))
+	}
+}
