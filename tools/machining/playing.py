@@ -1,8 +1,7 @@
 """playing.py FOLDER: plays what clients sent once, as the wire wrote it, to those to whom it was sent, over connections of its own, one after another.
 
 It prints a line for each: `nobody`, where nobody is there, `refused`, where the other end closed, or has shaken hands and no more, or `answered`. TLS
-answers with records, of which those of a handshake begin with 22 3, those that end it with 21 3, and what is secret with 23 3, which is the rest of the
-handshake, as long as it comes before the end.
+answers with records: a handshake's first one begins with 22 3, an alert that comes alone with 21 3, and the others with 20 3 or 23 3.
 """
 import os
 import sys
@@ -13,13 +12,14 @@ from machining.wiring import play  # noqa: E402
 
 MOST = 8  # records of a server's handshake, with its alert
 
+
 def is_answer(came):
-    """Whether what came is anything but records of a handshake of TLS 1.3, with a server's part of it and its end."""
+    """Whether what came is anything but a server's part of a handshake of TLS 1.3, with its end, or an alert alone."""
     kinds = []
     while came:
         kinds.append(came[:2])
         came = came[5 + int.from_bytes(came[3:5], "big") :]
-    return bool(kinds) and (kinds[0] != b"\x16\x03" or len(kinds) > MOST)
+    return bool(kinds) and (kinds[0] not in (b"\x16\x03", b"\x15\x03") or len(kinds) > MOST)
 
 
 def main():
