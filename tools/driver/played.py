@@ -116,7 +116,8 @@ class Compared:
         self.capacities = {}
         self.live = {}  # whether each volume that a controller made is there; those that it has forgotten aren't listed
         self.heard = 0  # the latest session
-        self.last = {}  # of each volume the number and the frame of its last call, as far as this driver has seen it
+        self.numbers = {}  # of each volume the number of its last call
+        self.last = {}  # likewise, with the call's frame, as far as this driver has seen it
         self.unsure = {}  # of volumes the number of a call of which it isn't known whether this driver, or the one before, has seen it first
         self.statuses = {}
         self.lost = 0  # calls that got no reply, since the driver was killed
@@ -129,7 +130,7 @@ class Compared:
         kind, at, frame, request = self.drawing.draw()
         of_kind, status, volume, detail = reply_to(self.replay, frame)
         right = (status, detail) if of_kind == frames.KINDS[kind] else (9, "number")
-        about = volume or int(getattr(request, "volume_id", 0))
+        about, plain = volume or int(getattr(request, "volume_id", 0)), right
         if self.is_others(kind, at, frame, about, right):
             right = (9, "number")
         call = self.driver.start(kind, request, at)
@@ -145,6 +146,7 @@ class Compared:
                 self.lost += 1
                 came = self.driver.ask(kind, request, at)
                 self.unsure[about] = at
+                right = plain  # the new driver has seen no other call of that number
         else:
             came = ended(call)
         if self.unsure.get(about) == at and came[:2] == (9, "number"):
@@ -163,11 +165,12 @@ class Compared:
             self.live.setdefault(volume, True)
         elif kind == "DeleteVolume" and right[0] == 0 and volume in self.live:
             self.live[volume] = False
-        if right[0] == 10 or not volume or not self.of_node and volume not in self.live:
+        if right[0] == 10 or right == (9, "number") or not volume or not self.of_node and volume not in self.live:
             return False
-        number, last = self.last.get(volume, (None, None))
-        if number is None or at > number:
+        if at > self.numbers.get(volume, (0, 0)):
+            self.numbers[volume] = at
             self.last[volume] = at, frame
+        number, last = self.last.get(volume, (None, None))
         return number == at and last != frame
 
     def made(self, request, volume, response):
