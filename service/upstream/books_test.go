@@ -2,18 +2,18 @@ package upstream_test
 
 import (
 	"context"
+	"encoding/binary"
 	"fmt"
 	"reflect"
 	"strings"
-	"sync"
 	"testing"
 
 	"github.com/golang/protobuf/proto"
 	"google.golang.org/grpc/codes"
-	"google.golang.org/grpc/status"
 
+	"tufayon/service/identities"
+	"tufayon/service/store"
 	"tufayon/service/upstream"
-	"tufayon/service/upstream/upstreamtest"
 	"tufayon/service/wire"
 )
 
@@ -283,27 +283,36 @@ func TestOthers(t *testing.T) {
 	}
 }
 
+// full are books of 4,096 volumes, by docs/RECORDS.md: each made by call N of session 1, in mount ext4 and mode 1. Of the first alone there is an id.
+func full(t *testing.T, path string) {
+	t.Helper()
+	kept, err := store.OpenKeeper(context.Background(), path)
+	if err != nil {
+		t.Fatal(err)
+	}
+	number := func(value []byte, it uint64) []byte { return binary.BigEndian.AppendUint64(value, it) }
+	changes := []store.Change{{Key: 0, Value: number(number([]byte{3, 0}, 4097), 1)}}
+	for id := uint64(1); id <= 4096; id++ {
+		name := fmt.Sprint("v", id)
+		row := append([]byte{3, 1, byte(len(name))}, name...)
+		row = append(number(row, 10), "\x01\x01\x04ext4\x01\x00"...)
+		row = append(number(number(row, 1), id), 0x81, 0)
+		changes = append(changes, store.Change{Key: id, Value: append(number(row, id), 0)})
+	}
+	if err := kept.CommitBoth(context.Background(), changes, []store.Text{identities.Mark(), identities.Put(1, "kept")}); err != nil {
+		t.Fatal(err)
+	}
+	kept.Close()
+}
+
 // Where the books are full of volumes of which the upstream never gave an id, these are given up, by arrival; those that it has stay.
 func TestUnmade(t *testing.T) {
-	box, ctx := newBox(t, upstream.Options{}).start(), soon(t)
-	id := box.made(ctx, "kept")
-	box.does(ctx, attachCall, attaches(id, "n1", writer))
-	box.behind.Fault = func(string) upstreamtest.Fault {
-		return upstreamtest.Fault{Refuse: status.Error(codes.ResourceExhausted, "the upstream's")}
-	}
-	var all sync.WaitGroup
-	for client := 0; client < 64; client++ {
-		all.Add(1)
-		go func(client int) {
-			defer all.Done()
-			for at := 0; at < 66; at++ {
-				_, _, err := upstreamtest.Call(ctx, box.client, createCall, creates(fmt.Sprint("v", client, " ", at)), "x")
-				box.wants(err, codes.ResourceExhausted, "the upstream's")
-			}
-		}(client)
-	}
-	all.Wait()
-	box.behind.Fault = nil
+	box, ctx := newBox(t, upstream.Options{}), soon(t)
+	full(t, box.folder+"/books.db")
+	box.behind.Has("kept", "v1")
+	box.start()
+	box.does(ctx, attachCall, attaches("kept", "n1", writer))
 	box.made(ctx, "one more")
-	box.refuses(ctx, codes.FailedPrecondition, "n1", attachCall, attaches(id, "n2", writer))
+	box.made(ctx, "v4096")
+	box.refuses(ctx, codes.FailedPrecondition, "n1", attachCall, attaches("kept", "n2", writer))
 }
