@@ -37,7 +37,7 @@ func Main(program string, role secure.Role) {
 	if version.Told(program, os.Args[1:], os.Stdout) {
 		return
 	}
-	ctx, stop := signal.NotifyContext(context.Background(), syscall.SIGINT, syscall.SIGTERM)
+	ctx, stop := Signals()
 	err := RunPlugin(ctx, program, role, os.Args[1:], os.Stdout)
 	stop()
 	if err != nil {

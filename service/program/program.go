@@ -10,7 +10,9 @@ import (
 	"io"
 	"net"
 	"os"
+	"os/signal"
 	"strings"
+	"syscall"
 	"time"
 
 	"tufayon/service/carrying"
@@ -24,6 +26,12 @@ import (
 
 // ErrUsage says that the words of a command line are none that the program takes.
 var ErrUsage = errors.New("usage")
+
+// Signals gives a context that ends with SIGINT or SIGTERM. SIGHUP ends no process, also where it comes before it can read its files anew, or once it ends.
+func Signals() (context.Context, context.CancelFunc) {
+	signal.Notify(make(chan os.Signal, 1), syscall.SIGHUP)
+	return signal.NotifyContext(context.Background(), syscall.SIGINT, syscall.SIGTERM)
+}
 
 // StatusOf is the exit status of an end.
 func StatusOf(err error) int {

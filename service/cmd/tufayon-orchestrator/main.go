@@ -6,8 +6,6 @@ import (
 	"fmt"
 	"io"
 	"os"
-	"os/signal"
-	"syscall"
 
 	"tufayon/service/daemon"
 	"tufayon/service/program"
@@ -19,7 +17,7 @@ func main() {
 	if version.Told("tufayon-orchestrator", os.Args[1:], os.Stdout) {
 		return
 	}
-	ctx, stop := signal.NotifyContext(context.Background(), syscall.SIGINT, syscall.SIGTERM)
+	ctx, stop := program.Signals()
 	err := run(ctx, os.Args[1:], os.Stdout)
 	stop()
 	if err != nil {
