@@ -12,6 +12,7 @@ pub mod RecordRules
 pub mod ShownAfter
 pub mod RowsMachine
 pub mod AnswersTold
+pub mod RaisedStates
 pub mod Sessions
 pub mod Readers
 pub mod Copies

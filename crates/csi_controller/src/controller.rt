@@ -56,6 +56,7 @@ impl Controller {
     ghost use Rattle.csi_controller.specs.Public.RowsLaw.{ChangesAt};
     ghost use Rattle.csi_controller.specs.Model.State.{ControllerState, empty_controller, volume_named};
     ghost use Rattle.csi_controller.specs.Model.Fenced.{fenced, kept_for};
+    ghost use Rattle.csi_controller.specs.Public.Raised.{raised};
     ghost use Rattle.csi_fence.specs.Public.Repeats.{IsPlainRepeat};
     ghost use Rattle.csi_controller.specs.Public.Step.{answer_frame};
     ghost use Rattle.csi_lists.specs.Model.Members.{EachTwo};
@@ -135,6 +136,16 @@ impl Controller {
             return Ok(None);
         }
         step::answer(&mut self.rows, number, call)
+    }
+
+    /// This session begins, where it is later than the greatest that came, as if a call had begun it: every call of an earlier session is
+    /// stale from then on, and the volumes that were deleted are forgotten (this profile's own). It takes no memory.
+    pub fn raise(&mut self, session: u64)
+        ensures state { (state : ControllerState) → Shows self.old state → Shows self.new (raised session state) }
+        ensures current { IsCurrent self.new.session self.new.rows }
+        ensures config { self.new.config ≡ self.old.config }
+    {
+        self.rows.raise(session);
     }
 
     /// Id and capacity in bytes of the volume of this name, unless it was deleted. It takes no memory.

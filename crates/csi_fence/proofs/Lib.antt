@@ -5,6 +5,7 @@ pub mod StayingRows
 pub mod AnsweredRows
 pub mod RowsThere
 pub mod KeptRows
+pub mod RaisedRows
 pub mod Answering
 pub mod FreshRows
 pub mod AbsentRows

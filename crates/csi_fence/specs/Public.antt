@@ -7,3 +7,4 @@ pub mod Repeats
 pub mod Rows
 pub mod Simulating
 pub mod Table
+pub mod Raised

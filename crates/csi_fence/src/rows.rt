@@ -7,6 +7,7 @@ ghost use Rattle.csi_types.specs.Public.Lent.{lent_call};
 ghost use Rattle.csi_fence.specs.declared.fence.Verdict.TheVariants.{Fresh};
 ghost use Rattle.csi_fence.specs.Model.Fence.{verdict_of};
 ghost use Rattle.csi_fence.specs.Private.Rows.{IsCarriedAt, IsRecounted};
+ghost use Rattle.csi_fence.specs.Public.Raised.{raised_rows};
 ghost use Rattle.csi_fence.specs.Public.Rows.{AreKept, AreRising, Answers, put_row, rows_shown, staying, stays_in};
 
 use crate::answer::Answer;
@@ -345,5 +346,19 @@ impl<T: Table> Rows<T> {
             Some(place) => self.answer_at_row(place, number, call),
             None => self.answer_absent(number, call),
         }
+    }
+    /// This session begins, where it is later than the greatest that came, as if a call had begun it: empty rows are forgotten. It takes
+    /// no memory.
+    pub fn raise(&mut self, session: u64)
+        requires kept { AreKept T.plan T.is_sound (T.agrees self.old.table) (rows_shown T.own T.shown self.old.table self.old.session self.old.rows.items) self.old.empty }
+        ensures raised { rows_shown T.own T.shown self.new.table self.new.session self.new.rows.items
+            ≡ raised_rows T.plan session (rows_shown T.own T.shown self.old.table self.old.session self.old.rows.items) }
+        ensures kept { AreKept T.plan T.is_sound (T.agrees self.new.table) (rows_shown T.own T.shown self.new.table self.new.session self.new.rows.items) self.new.empty }
+        ensures fixed { T.fixed self.new.table ≡ T.fixed self.old.table }
+    {
+        if session <= self.session {
+            return;
+        }
+        self.begin(session, self.empty);
     }
 }

@@ -28,3 +28,4 @@ pub mod LeftOut
 pub mod ChangedRows
 pub mod FirstRefused
 pub mod RowsMachine
+pub mod RaisedStates

@@ -57,7 +57,7 @@ pub record RowsShowAll (old : NodeRows) (state : NodeState) : Type 0 where
 -- ---- a session that begins
 
 -- the rows that aren't empty show the state in which it has begun
-begun-shows : (session : ℕ) (old : NodeRows) (state : NodeState) → AreRowsSound old → RowsShowAll old state
+pub begun-shows : (session : ℕ) (old : NodeRows) (state : NodeState) → AreRowsSound old → RowsShowAll old state
     → RowsShowAll (record old { session = session; rows = filter (λ (row : NodeRowShown). not (node_plan.is_empty row)) old.rows }) (begun session state)
 begun-shows session old state sound shows = record {
   rows = subst (λ (l : List NodeRowShown). ShowsAll l (begun session state)) (sym (full-staged old.rows)) (forgotten-shows session old.rows state (rows_rise node_plan.id old.rows sound.rising) shows.rows);

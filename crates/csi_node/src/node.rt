@@ -83,6 +83,7 @@ impl Node {
     ghost use Rattle.csi_types.specs.Model.Replies.{call_frame};
     ghost use Rattle.csi_node.specs.Model.Fenced.{fenced};
     ghost use Rattle.csi_node.specs.Model.Record.{parts, Shows};
+    ghost use Rattle.csi_node.specs.Public.Raised.{raised};
     ghost use Rattle.csi_node.specs.Public.Record.{is_call_for, AreSoundRows, IsCurrent};
     ghost use Rattle.csi_node.specs.Model.OneRow.{node_row_shown};
     ghost use Rattle.csi_node.specs.Public.OneRow.{state_shown, IsSoundRow};
@@ -121,6 +122,16 @@ impl Node {
         ensures current { IsCurrent self.now.session (parts self.now.rows) }
     {
         self.rows.rows.as_slice()
+    }
+
+    /// This session begins, where it is later than the greatest that the node heard of, as if a call had begun it: every call of an earlier
+    /// session is stale from then on, and the rows of volumes that aren't staged are forgotten (this profile's own). It takes no memory.
+    pub fn raise(&mut self, session: u64)
+        ensures state { (state : NodeState) → Shows self.old state → Shows self.new (raised session state) }
+        ensures current { IsCurrent self.new.session (parts self.new.rows) }
+        ensures id { self.new.id ≡ self.old.id }
+    {
+        self.rows.raise(session);
     }
 
     // Answers a call to a node, behind the fence. An `Err` changes nothing.
