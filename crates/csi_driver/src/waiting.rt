@@ -1,6 +1,9 @@
 //! What waits of the items that were answered, frames or lines: what they changed is committed at once, and then their answers are written.
-ghost use Rattle.std.specs.Prelude.{◌≡◌, [], OnOk, IfErr};
-ghost use Rattle.csi_driver.specs.Public.Waiting.{Settles, SettleStops};
+ghost use Rattle.std.specs.Prelude.{◌≡◌, [], OnOk, OnErr, IfErr};
+ghost use Rattle.std.specs.Io.KnownBytes.{Appends};
+ghost use Rattle.csi_stores.specs.Public.Counting.{HasRisen};
+ghost use Rattle.csi_stores.specs.Public.Writing.{WritesFront};
+ghost use Rattle.csi_driver.specs.Public.Waiting.{IsCountedOn, Settles, SettleStops};
 
 use crate::merging::merge_heads;
 use csi_stores::{Counted, Keep, KeepFault, Part, WriteFailed, write_out};
@@ -63,7 +66,30 @@ impl Waiting {
         self.items = 0;
     }
 
-    /// Commits all that the items changed that wait, in one transaction, if there are any, and then writes their answers.
+    // Counts the items that wait as committed, and writes their answers.
+    fn write_answers<W: Write>(&mut self, writer: &mut Counted<W>) -> Result<(), AnswerFault>
+        ensures committed { IsCountedOn self.old self.new }
+        ensures answers { self.new.answers ≡ self.old.answers }
+        ensures out { OnOk result (self.new.out.items ≡ []) }
+        ensures parts { OnOk result (self.new.parts.items ≡ []) }
+        ensures items { OnOk result (self.new.items ≡ 0) }
+        ensures written { OnOk result (Appends (W.contents writer.old.inner) (W.contents writer.new.inner) self.old.out.items) }
+        ensures quiet { OnOk result (writer.new.faults ≡ writer.old.faults) }
+        ensures err { IfErr result (λ fault. fault ≡ AnswerFault.Output) }
+        ensures front { OnErr result (WritesFront (W.contents writer.old.inner) (W.contents writer.new.inner) self.old.out.items) }
+        ensures risen { OnErr result (HasRisen writer.old.faults writer.new.faults) }
+    {
+        self.committed = self.committed.saturating_add(self.items);
+        match write_out(writer, &self.out) {
+            Ok(()) => {
+                self.empty();
+                Ok(())
+            }
+            Err(WriteFailed) => Err(AnswerFault::Output),
+        }
+    }
+
+    /// Commits all that the items changed that wait, in one transaction, if they changed anything, and then writes their answers.
     pub fn settle<K: Keep, W: Write>(
         &mut self,
         keep: &mut K,
@@ -84,19 +110,15 @@ impl Waiting {
         if self.items == 0 {
             return Ok(());
         }
+        if self.parts.is_empty() {
+            return self.write_answers(writer);
+        }
         merge_heads(&mut self.parts);
         match keep.commit(&self.parts) {
             Ok(()) => {}
             Err(fault) => return Err(AnswerFault::Keep(fault)),
         }
-        self.committed = self.committed.saturating_add(self.items);
-        match write_out(writer, &self.out) {
-            Ok(()) => {
-                self.empty();
-                Ok(())
-            }
-            Err(WriteFailed) => Err(AnswerFault::Output),
-        }
+        self.write_answers(writer)
     }
 
     /// The same where many parts wait; else nothing.

@@ -94,15 +94,15 @@ fn each_commit_that_fails_leaves_all_of_its_steps_or_none(rt: HostRuntime) {
     }
 }
 
-// 20,000 empty lines, of which 16,384 are in the first piece; the second piece's commit fails.
+// 20,000 empty lines, of which 16,384 are in the first piece, whose answers aren't flushed.
 #[test]
-fn the_lines_of_16384_bytes_are_committed_at_once(rt: HostRuntime) {
+fn the_lines_of_16384_bytes_are_answered_at_once(rt: HostRuntime) {
     let mut given = room(&rt, 20_000);
     for _ in 0..20_000 {
         given.push(b'\n').expect(&rt, "room");
     }
     let devices = Devices {
-        commit: Some(2),
+        flush: Some(1),
         most: 100_000,
         ..SOUND
     };
