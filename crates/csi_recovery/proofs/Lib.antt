@@ -1,0 +1,5 @@
+pub mod Found
+pub mod Given
+pub mod Told
+pub mod StoresAgree
+pub mod Judged
