@@ -2,6 +2,7 @@
 use Rattle.std.proofs.Common.{◌≡◌, ◌<◌, ◌≤◌, ◌+◌, ◌-◌, ℕ, zero, suc, List, [], ◌∷◌, ◌++◌, Bool, true, false, cond, length, take, get_or, refl, sym, ◌∙◌, ap, subst, inl, inr, add-one, arith}
 use Rattle.std.specs.Prelude.{Option, Some, None, find}
 use Rattle.std.proofs.lemmas.Bool.{false≢true}
+use Rattle.std.proofs.lemmas.List.{take_all}
 use Rattle.csi_lists.specs.Model.Members.{IsAmong}
 use Rattle.csi_types.specs.Model.Same.{same_text}
 use Rattle.csi_node.specs.Model.Record.{NodeParts}
@@ -93,10 +94,4 @@ first-broken Rule given known place are inside before broken =
 
 -- all of them are the first so many
 pub all-given : (given : List NodeParts) (known : List GivenNode) (count : ℕ) → AreGiven given known → length given ≤ count → take count known ≡ known
-all-given given known count are over = let long = given-long given known are in take-all known count (omega (arith, long))
-  where
-    take-all : (xs : List GivenNode) (n : ℕ) → length xs ≤ n → take n xs ≡ xs
-    take-all [] zero le = refl
-    take-all [] (suc n) le = refl
-    take-all (x ∷ xs) zero le = absurd (omega arith)
-    take-all (x ∷ xs) (suc n) le = ap (λ (l : List GivenNode). x ∷ l) (take-all xs n (omega arith))
+all-given given known count are over = let long = given-long given known are in take_all count known (omega (arith, long))

@@ -13,12 +13,13 @@ use Rattle.csi_controller.specs.Public.Views as controller
 use Rattle.csi_node.specs.Model.Record.{NodeParts}
 use Rattle.csi_orchestrator.specs.declared.fault.OrchRecordFault.{OrchRecordFault}
 use Rattle.csi_orchestrator.specs.declared.fault.OrchRecordFault.TheVariants as record_faults
+use Rattle.csi_orchestrator.specs.Public.Judging.{IsFirstRefused}
 use Rattle.csi_orchestrator.specs.Public.Record.{IsRecordRefusal}
 use Rattle.csi_orchestrator.specs.Public.Restored.{AreRestorable}
 use Rattle.csi_recovery.specs.declared.fault.RecoveryFault.{RecoveryFault}
 use Rattle.csi_recovery.specs.declared.fault.RecoveryFault.TheVariants.{SameNode, NotLater, Disagrees, BadNodes, BadRow, NoMemory}
 use Rattle.csi_recovery.specs.Public.Recovered.{GivenNode, recovered_rows, Agree, MayRecover}
-use Rattle.csi_recovery.specs.Public.Judged.{IsKeptOf, IsGiven, AreGiven, AreApart, DoAgree, IsLater, AreFit, IsUnfit, IsRecoveryRefusal}
+use Rattle.csi_recovery.specs.Public.Judged.{IsKeptOf, IsGiven, AreGiven, AreApart, DoAgree, IsLater, AreFit, IsNotFree, IsUnfit, IsRecoveryRefusal}
 use Rattle.csi_recovery.specs.Private.Walks.{passed_on}
 use Rattle.csi_recovery.proofs.Given.{record-among, node-among}
 
@@ -139,8 +140,9 @@ unfit-refused nodes session state known (BadRow place) unfit = absurd unfit
 unfit-refused nodes session state known NoMemory unfit = absurd unfit
 
 -- where no record is made of the rows of fit stores, nothing is recovered
-pub passed-refused : (nodes : List (List ℕ)) (session : ℕ) (state : ControllerState) (known : List GivenNode) (fault : OrchRecordFault) → AreFit session state known → IsRecordRefusal nodes (recovered_rows state known) fault
+pub passed-refused : (nodes : List (List ℕ)) (session : ℕ) (state : ControllerState) (known : List GivenNode) (fault : OrchRecordFault) → AreFit session state known
+    → ((place : ℕ) → IsFirstRefused (AreRestorable nodes) (recovered_rows state known) place → IsNotFree nodes (recovered_rows state known) place) → IsRecordRefusal nodes (recovered_rows state known) fault
     → IsRecoveryRefusal nodes session state known (passed_on fault)
-passed-refused nodes session state known record_faults.BadNodes fit refused = (fit, refused)
-passed-refused nodes session state known (record_faults.BadRow place) fit refused = (fit, refused.0, refused.1)
-passed-refused nodes session state known record_faults.NoMemory fit refused = fit
+passed-refused nodes session state known record_faults.BadNodes fit not_free refused = (fit, refused)
+passed-refused nodes session state known (record_faults.BadRow place) fit not_free refused = (fit, refused.0, refused.1, not_free place refused.1)
+passed-refused nodes session state known record_faults.NoMemory fit not_free refused = fit

@@ -99,7 +99,7 @@ pub record HasFit (capability : Capability) (targets : List NodeTarget) (o : Opt
   pub same : held.capability ≡ capability
   pub flags : (there : NodeTarget) → IsAmong there targets → there.readonly ≡ held.readonly
 
-fit-has : (capability : Capability) (targets : List NodeTarget) (o : Option NodeHolding) → fits_holding capability targets o ≡ true → HasFit capability targets o
+pub fit-has : (capability : Capability) (targets : List NodeTarget) (o : Option NodeHolding) → fits_holding capability targets o ≡ true → HasFit capability targets o
 fit-has capability targets None fits = absurd (false≢true fits)
 fit-has capability targets (Some held) fits =
     let both = and_parts (same_capability held.capability capability) (list_all (has_flag held.readonly) targets) fits in

@@ -1,9 +1,11 @@
 //! Whether a node's record agrees with the controller's.
-ghost use Rattle.std.specs.Prelude.{◌≡◌, true, false, List, MatchOption};
-ghost use Rattle.std.specs.List.{list_all};
+ghost use Rattle.std.specs.Prelude.{◌≡◌, true, false, List, MatchOption, IfNone};
+ghost use Rattle.std.specs.List.{AllByRecursion, list_all};
 ghost use Rattle.std.specs.Option.{option_copied};
 ghost use Rattle.csi_controller.specs.Model.State.{ControllerState};
 ghost use Rattle.csi_controller.specs.Public.Core.{AreRisingRows};
+ghost use Rattle.csi_node.specs.Model.Record.{parts};
+ghost use Rattle.csi_node.specs.Public.Record.{AreSoundRows};
 ghost use Rattle.csi_recovery.specs.Public.Recovered.{GivenNode, Agree};
 ghost use Rattle.csi_recovery.specs.Public.Judged.{IsKeptOf, IsGiven, AreGiven, DoAgree, IsFirst};
 ghost use Rattle.csi_recovery.specs.Private.Walks.{has_flag as is_flagged, fits_holding as is_held_so, fits_row as is_fit};
@@ -77,14 +79,16 @@ fn fits(rows: &[ControllerRow], node: &NodeId, own: &[NodeRow]) -> bool
 fn agrees(controller: &ControllerRecord, kept: &NodeRecord) -> bool
     ensures yes { (state : ControllerState) (node : GivenNode) → IsKeptOf controller.now state → IsGiven kept.now node → result ≡ true → Agree state node }
     ensures no { (state : ControllerState) (node : GivenNode) → IsKeptOf controller.now state → IsGiven kept.now node → result ≡ false → Agree state node → ⊥ }
+    ensures rules { AreSoundRows (parts kept.now.rows) }
 {
     fits(controller.rows(), kept.id(), kept.rows())
 }
 
 /// The place, counted from 1, of the first node's record that disagrees with the controller's.
 pub(crate) fn first_disagreeing(controller: &ControllerRecord, given: &[NodeRecord]) -> Option<u64>
-    ensures { (state : ControllerState) (known : List GivenNode) → IsKeptOf controller.now state → AreGiven given.now known →
+    ensures agree { (state : ControllerState) (known : List GivenNode) → IsKeptOf controller.now state → AreGiven given.now known →
         MatchOption result (DoAgree state known) (IsFirst (DoAgree state) known) }
+    ensures rules { IfNone result (AllByRecursion (λ kept. AreSoundRows (parts kept.rows)) given.now) }
 {
     for (index, kept) in given.iter().enumerate() {
         let place = index as u64 + 1;

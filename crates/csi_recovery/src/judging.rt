@@ -1,8 +1,10 @@
 //! Whether an orchestrator may be made of these records, as far as its rows don't say it.
-ghost use Rattle.std.specs.Prelude.{◌≡◌, ◌&&◌, List, nat_lt, MatchOption};
-ghost use Rattle.std.specs.List.{list_all, list_any};
+ghost use Rattle.std.specs.Prelude.{◌≡◌, ◌&&◌, List, nat_lt, MatchOption, IfNone};
+ghost use Rattle.std.specs.List.{AllByRecursion, list_all, list_any};
 ghost use Rattle.csi_types.specs.Model.Same.{same_text};
 ghost use Rattle.csi_controller.specs.Model.State.{ControllerState};
+ghost use Rattle.csi_node.specs.Model.Record.{parts};
+ghost use Rattle.csi_node.specs.Public.Record.{AreSoundRows};
 ghost use Rattle.csi_recovery.specs.Public.Recovered.{GivenNode};
 ghost use Rattle.csi_recovery.specs.Public.Judged.{IsKeptOf, AreGiven, AreApart, IsFirst, AreFit, IsUnfit};
 
@@ -57,8 +59,9 @@ pub(crate) fn first_unfit(
     controller: &ControllerRecord,
     given: &[NodeRecord],
 ) -> Option<RecoveryFault>
-    ensures { (state : ControllerState) (known : List GivenNode) → IsKeptOf controller.now state → AreGiven given.now known →
+    ensures fit { (state : ControllerState) (known : List GivenNode) → IsKeptOf controller.now state → AreGiven given.now known →
         MatchOption result (AreFit session state known) (IsUnfit session state known) }
+    ensures rules { IfNone result (AllByRecursion (λ kept. AreSoundRows (parts kept.rows)) given.now) }
 {
     if let Some(place) = first_same(given) {
         return Some(RecoveryFault::SameNode(place));

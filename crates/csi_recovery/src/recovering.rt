@@ -1,10 +1,11 @@
 //! An orchestrator's record, made of what its plugins keep.
 ghost use Rattle.std.specs.Prelude.{◌≡◌, List, IfOk, IfErr, OnOk};
+ghost use Rattle.std.specs.List.{AllByRecursion};
 ghost use Rattle.csi_controller.specs.Model.State.{ControllerState};
 ghost use Rattle.csi_orchestrator.specs.Public.Record.{AreNodesFit};
 ghost use Rattle.csi_recovery.specs.declared.fault.RecoveryFault.{RecoveryFault as Fault};
-ghost use Rattle.csi_recovery.specs.Public.Recovered.{GivenNode, recovered as recovered_parts, MayRecover};
-ghost use Rattle.csi_recovery.specs.Public.Judged.{IsKeptOf, AreGiven, record_of, IsRecoveryRefusal};
+ghost use Rattle.csi_recovery.specs.Public.Recovered.{GivenNode, recovered as recovered_parts, recovered_rows, MayRecover};
+ghost use Rattle.csi_recovery.specs.Public.Judged.{IsKeptOf, AreGiven, AreFit, IsFreeRow, record_of, IsRecoveryRefusal};
 
 use crate::fault::{RecoveryFault, fault_of};
 use crate::judging::first_unfit;
@@ -38,10 +39,15 @@ pub fn recovered(
     ensures nodes { OnOk result (AreNodesFit nodes.items) }
     ensures may { (state : ControllerState) (known : List GivenNode) → IsKeptOf controller.now state → AreGiven given.now known →
         OnOk result (MayRecover nodes.items session state known) }
+    ensures rows { (state : ControllerState) (known : List GivenNode) → IsKeptOf controller.now state → AreGiven given.now known →
+        OnOk result (AllByRecursion (IsFreeRow nodes.items) (recovered_rows state known)) }
     ensures refused { (state : ControllerState) (known : List GivenNode) → IsKeptOf controller.now state → AreGiven given.now known →
         IfErr result (IsRecoveryRefusal nodes.items session state known) }
     ensures accepted { (state : ControllerState) (known : List GivenNode) → IsKeptOf controller.now state → AreGiven given.now known →
         AreNodesFit nodes.items → MayRecover nodes.items session state known → IfErr result (λ fault. fault ≡ Fault.NoMemory) }
+    ensures free { (state : ControllerState) (known : List GivenNode) → IsKeptOf controller.now state → AreGiven given.now known →
+        AreNodesFit nodes.items → AreFit session state known → AllByRecursion (IsFreeRow nodes.items) (recovered_rows state known) →
+        IfErr result (λ fault. fault ≡ Fault.NoMemory) }
 {
     if let Some(fault) = first_unfit(session, controller, given) {
         return Err(fault);

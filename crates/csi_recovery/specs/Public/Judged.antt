@@ -1,18 +1,21 @@
 -- What a recovery is made of, by the states that the plugins' records show, and why it is refused. This profile's own.
-use Rattle.std.specs.Prelude.{◌≡◌, ℕ, ◌-◌, ◌<◌, ◌≤◌, List, [], ◌∷◌, length, take, false}
+use Rattle.std.specs.Prelude.{◌≡◌, ◌≢◌, ℕ, ◌-◌, ◌<◌, ◌≤◌, List, [], ◌∷◌, length, take, slice_get, true, false, Some}
+use Rattle.std.specs.List.{list_any}
 use Rattle.csi_lists.specs.Model.Members.{IsAmong, EachTwo}
+use Rattle.csi_lists.specs.Public.Places.{AtMostOne}
 use Rattle.csi_types.specs.Model.Same.{same_text}
 use Rattle.csi_controller.specs.Model.State.{ControllerState}
 use Rattle.csi_controller.specs.Model.Shown.{RowsShow}
 use Rattle.csi_controller.specs.Public.Views as controller
 use Rattle.csi_node.specs.Model.Record.{NodeParts, Shows}
-use Rattle.csi_orchestrator.specs.Model.Shown.{OrchestratorParts}
+use Rattle.csi_orchestrator.specs.declared.thing.Known.TheVariants.{No}
+use Rattle.csi_orchestrator.specs.Model.Shown.{NodeEntryShown, RowShown, OrchestratorParts}
 use Rattle.csi_orchestrator.specs.Public.Judging.{IsFirstRefused}
 use Rattle.csi_orchestrator.specs.Public.Record.{RecordParts, AreNodesFit}
 use Rattle.csi_orchestrator.specs.Public.Restored.{AreRestorable}
 use Rattle.csi_recovery.specs.declared.fault.RecoveryFault.{RecoveryFault}
 use Rattle.csi_recovery.specs.declared.fault.RecoveryFault.TheVariants.{SameNode, NotLater, Disagrees, BadNodes, BadRow, NoMemory}
-use Rattle.csi_recovery.specs.Public.Recovered.{GivenNode, recovered_rows, Agree}
+use Rattle.csi_recovery.specs.Public.Recovered.{GivenNode, is_maybe, recovered_rows, Agree}
 
 -- the controller's record is of this state
 pub record IsKeptOf (kept : controller.RecordParts) (state : ControllerState) : Type 0 where
@@ -61,6 +64,18 @@ pub record IsFirst (Rule : List GivenNode → Type 0) (given : List GivenNode) (
   pub before : Rule (take (place - 1) given)
   pub refused : Rule (take place given) → ⊥
 
+-- a row of a volume that an orchestrator may have, where the stores are fit: the volume is staged at listed nodes only, and staged and
+-- published nowhere at one of them at most
+pub record IsFreeRow (nodes : List (List ℕ)) (row : RowShown) : Type 0 where
+  pub listed : (entry : NodeEntryShown) → IsAmong entry row.node_entries → entry.staged ≢ No → list_any (same_text entry.node) nodes ≡ true
+  pub once : AtMostOne (λ (entry : NodeEntryShown). is_maybe entry.staged) row.node_entries
+
+-- the row at this place, counted from 1, isn't one
+pub record IsNotFree (nodes : List (List ℕ)) (rows : List RowShown) (place : ℕ) : Type 0 where
+  pub row : RowShown
+  pub there : slice_get rows (place - 1) ≡ Some row
+  pub not_free : IsFreeRow nodes row → ⊥
+
 -- why the stores are unfit for it: the first of these that holds
 abbrev pub IsUnfit : ℕ → ControllerState → List GivenNode → RecoveryFault → Type 0
 IsUnfit session controller given (SameNode place) = IsFirst AreApart given place
@@ -79,4 +94,5 @@ IsRecoveryRefusal nodes session controller given (Disagrees place) = IsUnfit ses
 IsRecoveryRefusal nodes session controller given BadNodes = AreFit session controller given × (AreNodesFit nodes → ⊥)
 IsRecoveryRefusal nodes session controller given (BadRow place) =
     AreFit session controller given × AreNodesFit nodes × IsFirstRefused (AreRestorable nodes) (recovered_rows controller given) place
+    × IsNotFree nodes (recovered_rows controller given) place
 IsRecoveryRefusal nodes session controller given NoMemory = AreFit session controller given
