@@ -22,8 +22,8 @@ pub enum RecoveryFault {
     /// There are more than 64 nodes, or one stands there twice.
     #[error("no record has these nodes")]
     BadNodes,
-    /// The place, counted from 1, of the first live volume of which no record with these nodes has a row after those before it, as where
-    /// it is staged at a node that isn't among these, or staged and published nowhere at two nodes.
+    /// The place, counted from 1, of the first live volume that can't have a row: it is staged at a node that isn't among these, or staged
+    /// and published nowhere at two nodes.
     #[error("no record has row {0}")]
     BadRow(u64),
     /// An allocation was refused.

@@ -19,14 +19,15 @@ use std::alloc::Global;
 /// The record of the orchestrator with this list of nodes and this session, made of the controller's record and of those of the nodes whose
 /// stores are given, after its own store was lost (this profile's own). A node without a record here is lost. Each live volume has a row, by
 /// rising id: it is made, with the capacity that it has and no limit, and has an entry for each of its holdings. At a node that is given it is
-/// staged and published as there; what is staged and published nowhere may be staged, and its stop, at the target `/`, is wanted. Nothing is
-/// changed: what the plugins keep is to be raised to this session before the record is used (`raise` of `csi_controller` and `csi_node`).
+/// staged and published as there; where it is staged and published nowhere it may be staged, and its stop, at the target `/`, is wanted.
 ///
-/// It is refused, and the first of these that holds is told: with `SameNode` at the first record of a node that has an earlier one; with
+/// It is refused, and the first of these that holds is told: with `SameNode` at the first record that is of the node of an earlier one; with
 /// `NotLater` where the session isn't later than the controller's and each node's; with `Disagrees` at the first node at which a volume is
 /// staged that isn't attached there in that capability, or is published with another flag than it is attached with; with `BadNodes` for more
-/// than 64 nodes or a node that stands there twice; with `BadRow` at the first row that `OrchestratorRecord::try_new` refuses. It is
-/// refused with `NoMemory` where an allocation was, once the records were judged.
+/// than 64 nodes or one that stands there twice; with `BadRow` at the first live volume, counted by rising id, that is staged at a node that
+/// isn't among these, or staged and published nowhere at two nodes. It is refused with `NoMemory` where an allocation was, once the records
+/// were judged. The plugins stay as they are: they are raised to this session before an orchestrator is opened from the record
+/// (`Controller::raise`, `Node::raise`).
 pub fn recovered(
     alloc: Global,
     nodes: Vec<NodeId>,
