@@ -1,0 +1,7 @@
+pub mod Found
+pub mod Given
+pub mod Told
+pub mod StoresAgree
+pub mod Restorable
+pub mod Free
+pub mod Judged

@@ -2,4 +2,14 @@
 //! plugins keep. This profile's own.
 #![tactic(auto)]
 
+mod agreeing;
+mod entries;
+mod fault;
+mod finding;
+mod judging;
+mod recovering;
+mod rows;
 mod worked;
+
+pub use fault::RecoveryFault;
+pub use recovering::recovered;

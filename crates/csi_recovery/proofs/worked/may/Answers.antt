@@ -1,6 +1,6 @@
 -- Rule by rule.
-use Rattle.std.proofs.Common.{◌≡◌, ◌≢◌, ◌<◌, ◌⊎◌, ℕ, List, [], ◌∷◌, Bool, false, length, refl, sym, ◌∙◌, ap, subst, inl, inr, ⊎_elim, arith}
-use Rattle.std.specs.Prelude.{Some, codes}
+use Rattle.std.proofs.Common.{◌≡◌, ◌≢◌, ◌<◌, List, [], ◌∷◌, false, length, refl, sym, ◌∙◌, ap, subst, inl, inr, ⊎_elim, arith}
+use Rattle.std.specs.Prelude.{codes}
 use Rattle.std.proofs.lemmas.Option.{none-some}
 use Rattle.csi_lists.specs.Model.Members.{IsAmong}
 use Rattle.csi_types.specs.declared.holding.Holding.{Holding}
@@ -8,7 +8,7 @@ use Rattle.csi_node.specs.Model.State.{StagedVolume, PublishedVolume}
 use Rattle.csi_orchestrator.specs.declared.row.TargetEntry.{TargetEntry}
 use Rattle.csi_orchestrator.specs.declared.thing.Known.TheVariants.{Yes, No}
 use Rattle.csi_recovery.specs.Public.Recovered.{GivenNode, Agree}
-use Rattle.csi_recovery.specs.Private.Worked.{block, held, controller, first_given, second_given}
+use Rattle.csi_recovery.specs.Private.Worked.{held, controller, first_given, second_given}
 use Rattle.csi_recovery.proofs.worked.may.Goals as goal
 
 -- Yes isn't No
