@@ -4,4 +4,5 @@ pub mod Told
 pub mod StoresAgree
 pub mod Restorable
 pub mod Free
+pub mod Sessions
 pub mod Judged

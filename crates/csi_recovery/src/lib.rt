@@ -9,7 +9,9 @@ mod finding;
 mod judging;
 mod recovering;
 mod rows;
+mod session;
 mod worked;
 
 pub use fault::RecoveryFault;
 pub use recovering::recovered;
+pub use session::{SESSIONS_ABOVE, recovery_session};

@@ -1,5 +1,5 @@
-//! The tests of stores and of records as bytes: what keepers keep, in memory and in SQLite, and how records are written, read and refused. There
-//! is nothing else here: a crate that has no test of its own is proved once less.
+//! The tests of stores and of records as bytes: what keepers keep, in memory and in SQLite, how records are written, read and refused, and what
+//! is recovered of them. There is nothing else here: a crate that has no test of its own is proved once less.
 #![tactic(auto)]
 
 #[cfg(test)]
@@ -8,3 +8,5 @@ mod counted;
 mod keepers;
 #[cfg(test)]
 mod records;
+#[cfg(test)]
+mod recoveries;

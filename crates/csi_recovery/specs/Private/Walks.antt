@@ -1,5 +1,5 @@
 -- What is read of the records for a recovery, row by row. This profile's own.
-use Rattle.std.specs.Prelude.{ℕ, ◌==◌, List, [], ◌∷◌, map, find, Bool, true, false, ◌&&◌, Option, Some, None, option_and_then}
+use Rattle.std.specs.Prelude.{ℕ, ◌==◌, max, List, [], ◌∷◌, map, find, Bool, true, false, ◌&&◌, Option, Some, None, option_and_then}
 use Rattle.std.specs.List.{list_all}
 use Rattle.csi_types.specs.declared.capability.Capability.{Capability}
 use Rattle.csi_types.specs.Model.Same.{same_text, same_flag, same_capability}
@@ -103,3 +103,10 @@ fits_staged (Some capability) targets held = fits_holding capability targets hel
 -- a row of this node goes with the controller's rows
 abbrev pub fits_row : List ControllerRow → List ℕ → NodeRow → Bool
 fits_row rows node row = fits_staged row.staged row.targets.items (held_in rows row.id node)
+
+-- ---- sessions
+
+-- the greatest session of these records, 0 where there is none
+abbrev pub latest_kept : List NodeParts → ℕ
+latest_kept [] = 0
+latest_kept (kept ∷ others) = max kept.session (latest_kept others)
