@@ -139,11 +139,14 @@ func (guard *guard) tell(who, path string, request any, began time.Time, err err
 	if !isCommand && status.Code(err) != codes.PermissionDenied && status.Code(err) != codes.Unauthenticated {
 		return
 	}
-	fields := []zap.Field{
-		zap.String("who", who), zap.String("call", path), zap.Stringer("status", status.Code(err)), zap.Duration("took", time.Since(began)),
+	fields := append(make([]zap.Field, 0, 7),
+		zap.String("who", who), zap.String("call", path), zap.String("status", status.Code(err).String()), zap.Duration("took", time.Since(began)),
+	)
+	if named, ok := request.(interface{ GetName() string }); ok {
+		fields = append(fields, zap.String("volume", named.GetName()))
 	}
 	if text, ok := request.(fmt.Stringer); ok {
-		fields = append(fields, zap.String("request", text.String()))
+		fields = append(fields, zap.Stringer("request", text))
 	}
 	if err != nil {
 		fields = append(fields, zap.String("why", status.Convert(err).Message()))

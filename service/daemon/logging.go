@@ -3,6 +3,7 @@ package daemon
 import (
 	"encoding/json"
 	"fmt"
+	"io"
 	"os"
 	"strings"
 	"syscall"
@@ -16,7 +17,8 @@ import (
 var Levels = []string{"debug", "info", "warn", "error"}
 
 // Logger makes a log of a level, info where that is empty, in which each event is a line, and none is left out: of JSON, to standard error; or where
-// that is systemd's journal, to there, with a field for each key (TUFAYON_VOLUME, ..).
+// that is systemd's journal, to there, with a field for each key (TUFAYON_VOLUME, ..). It has to be synchronised at the end: an event below a warning is
+// written a moment after it was logged.
 func Logger(level string) (*zap.Logger, error) {
 	least := zapcore.InfoLevel
 	if level != "" {
@@ -25,13 +27,14 @@ func Logger(level string) (*zap.Logger, error) {
 		}
 	}
 	if isJournal() {
-		return zap.New(&toJournal{LevelEnabler: least, send: journal.Send}), nil
+		return zap.New(hold(least, toJournal{journal.Send})), nil
 	}
-	config := zap.NewProductionConfig()
-	config.Level = zap.NewAtomicLevelAt(least)
-	config.Sampling, config.DisableCaller, config.DisableStacktrace = nil, true, true
-	config.EncoderConfig.EncodeTime = zapcore.RFC3339NanoTimeEncoder
-	return config.Build()
+	return LoggerTo(os.Stderr, least), nil
+}
+
+// LoggerTo makes a log of lines of JSON, from a level on.
+func LoggerTo(to io.Writer, least zapcore.Level) *zap.Logger {
+	return zap.New(hold(least, newLines(to)))
 }
 
 // isJournal says whether standard error is the journal's, as systemd says in JOURNAL_STREAM: its device and inode.
@@ -43,35 +46,19 @@ func isJournal() bool {
 	return os.Getenv("JOURNAL_STREAM") == fmt.Sprintf("%d:%d", stream.Dev, stream.Ino) && journal.Enabled()
 }
 
-// toJournal writes entries to the journal.
+// toJournal sends entries to the journal.
 type toJournal struct {
-	zapcore.LevelEnabler
-	fields []zapcore.Field
-	send   func(message string, priority journal.Priority, variables map[string]string) error
-}
-
-// With adds fields to each entry.
-func (it *toJournal) With(fields []zapcore.Field) zapcore.Core {
-	more := append(append([]zapcore.Field{}, it.fields...), fields...)
-	return &toJournal{it.LevelEnabler, more, it.send}
-}
-
-// Check takes entries of its level.
-func (it *toJournal) Check(entry zapcore.Entry, checked *zapcore.CheckedEntry) *zapcore.CheckedEntry {
-	if it.Enabled(entry.Level) {
-		return checked.AddCore(entry, it)
-	}
-	return checked
+	send func(message string, priority journal.Priority, variables map[string]string) error
 }
 
 var priorities = map[zapcore.Level]journal.Priority{
 	zapcore.DebugLevel: journal.PriDebug, zapcore.InfoLevel: journal.PriInfo, zapcore.WarnLevel: journal.PriWarning, zapcore.ErrorLevel: journal.PriErr,
 }
 
-// Write writes an entry: a message that is one line, whatever stands in its fields, and the fields.
-func (it *toJournal) Write(entry zapcore.Entry, fields []zapcore.Field) error {
+// Write sends an entry: a message that is one line, whatever stands in its fields, and the fields.
+func (it toJournal) Write(entry zapcore.Entry, fields []zapcore.Field) error {
 	encoder := zapcore.NewMapObjectEncoder()
-	for _, field := range append(append([]zapcore.Field{}, it.fields...), fields...) {
+	for _, field := range fields {
 		field.AddTo(encoder)
 	}
 	message := entry.Message
@@ -94,5 +81,5 @@ func (it *toJournal) Write(entry zapcore.Entry, fields []zapcore.Field) error {
 	return it.send(message, priority, variables)
 }
 
-// Sync does nothing: each entry is sent at once.
-func (*toJournal) Sync() error { return nil }
+// Sync does nothing: each entry is sent when it is written.
+func (toJournal) Sync() error { return nil }

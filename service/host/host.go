@@ -200,6 +200,9 @@ func (host *Host) fromQueue() []event {
 // carryOut asks a batch's events, commits what they changed, and then has calls made and callers answered. Where it fails nothing may be answered any more.
 func (host *Host) carryOut(batch []event) error {
 	work := newWork()
+	if len(host.observers) > 0 {
+		work.told = make([]Happening, 0, len(batch))
+	}
 	for at, it := range batch {
 		err := it.ask(host, work)
 		if err == errSession {
@@ -252,10 +255,10 @@ func (host *Host) call(ctx context.Context, epoch uint64, it sending) {
 
 // logs has a line of the log for a call.
 func (host *Host) logs(it sending, reply frames.Reply, err error, took time.Duration) {
-	fields := []zap.Field{
-		zap.String("volume", it.name), zap.Stringer("kind", it.call.Kind()), zap.String("plugin", carrying.PluginOf(it.call)),
+	fields := append(make([]zap.Field, 0, 9),
+		zap.String("volume", it.name), zap.String("kind", it.call.Kind().String()), zap.String("plugin", carrying.PluginOf(it.call)),
 		zap.Uint64("session", it.call.Number.Session), zap.Uint64("call", it.call.Number.Call), zap.Duration("took", took),
-	}
+	)
 	if it.trace != "" {
 		fields = append(fields, zap.String("trace", it.trace))
 	}
