@@ -9,16 +9,17 @@ import (
 	"path/filepath"
 	"sort"
 	"sync"
+	"syscall"
 	"testing"
 	"time"
 
 	"go.uber.org/zap"
-	"go.uber.org/zap/zapcore"
 	"google.golang.org/grpc"
 
 	"tufayon/service/api"
 	"tufayon/service/api/wire"
 	"tufayon/service/carrying"
+	"tufayon/service/daemon"
 	"tufayon/service/history"
 	"tufayon/service/host"
 	"tufayon/service/host/hosttest"
@@ -29,7 +30,8 @@ import (
 )
 
 // BenchmarkWatched has the same done at two services in turn, of which one is watched: its metrics are counted and scraped each second, its history and
-// its log go to files, and a page follows. It tells how much longer a command takes there: `ratio`, of the sums, and `median-ratio`.
+// its log go to files, and a page follows. It tells how much longer a use and a stop take there: `ratio`, of the sums, and `median-ratio`; and how much more of the
+// processors, plugins and callers included: `processor-ratio`.
 func BenchmarkWatched(b *testing.B) {
 	for _, callers := range []int{1, 16, 64} {
 		b.Run(fmt.Sprint("callers=", callers), func(b *testing.B) { benchmarkWatched(b, callers) })
@@ -49,14 +51,15 @@ func benchmarkWatched(b *testing.B, callers int) {
 			}
 		}
 	}
-	var sums [2]time.Duration
+	var sums, spent [2]time.Duration
 	var took [2][]time.Duration
 	b.ResetTimer()
 	for done := 0; done < b.N; done += chunk {
 		for _, which := range [][]int{{0, 1}, {1, 0}}[done/chunk%2] {
-			began := time.Now()
+			began, before := time.Now(), processors()
 			took[which] = append(took[which], work(b, services[which], callers)...)
 			sums[which] += time.Since(began)
+			spent[which] += processors() - before
 		}
 	}
 	for _, it := range took {
@@ -65,7 +68,16 @@ func benchmarkWatched(b *testing.B, callers int) {
 	median := func(which int) float64 { return float64(took[which][len(took[which])/2]) / 1e6 }
 	b.ReportMetric(float64(sums[1])/float64(sums[0]), "ratio")
 	b.ReportMetric(median(1)/median(0), "median-ratio")
+	b.ReportMetric(float64(spent[1])/float64(spent[0]), "processor-ratio")
+	b.ReportMetric(float64(spent[0])/1e3/float64(len(took[0])), "processor-us")
 	b.ReportMetric(median(0), "median-ms")
+}
+
+// processors is what this process took of them.
+func processors() time.Duration {
+	var usage syscall.Rusage
+	syscall.Getrusage(syscall.RUSAGE_SELF, &usage)
+	return time.Duration(usage.Utime.Nano() + usage.Stime.Nano())
 }
 
 // work has callers use and stop a volume each, one after another, until a chunk is done, and tells how long each took.
@@ -131,8 +143,8 @@ func watched(b *testing.B, kept store.Store, listener net.Listener, known secure
 	if err != nil {
 		b.Fatal(err)
 	}
-	b.Cleanup(func() { keeps.Close(); file.Close() })
-	log := zap.New(zapcore.NewCore(zapcore.NewJSONEncoder(zap.NewProductionEncoderConfig()), zapcore.Lock(file), zap.InfoLevel))
+	log := daemon.LoggerTo(file, zap.InfoLevel)
+	b.Cleanup(func() { keeps.Close(); log.Sync(); file.Close() })
 	made := serveBy(b, host.Options{Store: kept, Carrier: &hosttest.Carrier{}, Log: log, Observers: []host.Observer{told, keeps}}, 8, listener, known, roles,
 		grpc.ChainUnaryInterceptor(told.Server.UnaryServerInterceptor()), grpc.ChainStreamInterceptor(told.Server.StreamServerInterceptor()))
 	leads := func() *host.Host { return made }
