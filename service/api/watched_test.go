@@ -30,8 +30,9 @@ import (
 )
 
 // BenchmarkWatched has the same done at two services in turn, of which one is watched: its metrics are counted and scraped each second, its history and
-// its log go to files, and a page follows. It tells how much longer a use and a stop take there: `ratio`, of the sums, and `median-ratio`; and how much more of the
-// processors, plugins and callers included: `processor-ratio`.
+// its log go to files, and a page follows. It tells how much longer a use and a stop take there: `ratio`, of the sums, `median-ratio`, of the medians, and
+// `turn-ratio`, the median of the ratios of two turns one after another, which counts on a machine that has much else to do; and likewise, in
+// `processor-ratio`, what the whole process takes of the processors, callers, plugins and who watches included.
 func BenchmarkWatched(b *testing.B) {
 	for _, callers := range []int{1, 16, 64} {
 		b.Run(fmt.Sprint("callers=", callers), func(b *testing.B) { benchmarkWatched(b, callers) })
@@ -51,26 +52,43 @@ func benchmarkWatched(b *testing.B, callers int) {
 			}
 		}
 	}
-	var sums, spent [2]time.Duration
 	var took [2][]time.Duration
+	var lasted, spent [2][]float64 // of each turn, in seconds
 	b.ResetTimer()
 	for done := 0; done < b.N; done += chunk {
 		for _, which := range [][]int{{0, 1}, {1, 0}}[done/chunk%2] {
 			began, before := time.Now(), processors()
 			took[which] = append(took[which], work(b, services[which], callers)...)
-			sums[which] += time.Since(began)
-			spent[which] += processors() - before
+			lasted[which] = append(lasted[which], time.Since(began).Seconds())
+			spent[which] = append(spent[which], (processors() - before).Seconds())
 		}
 	}
 	for _, it := range took {
 		sort.Slice(it, func(i, j int) bool { return it[i] < it[j] })
 	}
 	median := func(which int) float64 { return float64(took[which][len(took[which])/2]) / 1e6 }
-	b.ReportMetric(float64(sums[1])/float64(sums[0]), "ratio")
+	b.ReportMetric(sum(lasted[1])/sum(lasted[0]), "ratio")
 	b.ReportMetric(median(1)/median(0), "median-ratio")
-	b.ReportMetric(float64(spent[1])/float64(spent[0]), "processor-ratio")
-	b.ReportMetric(float64(spent[0])/1e3/float64(len(took[0])), "processor-us")
+	b.ReportMetric(turnRatio(lasted), "turn-ratio")
+	b.ReportMetric(turnRatio(spent), "processor-ratio")
 	b.ReportMetric(median(0), "median-ms")
+}
+
+func sum(all []float64) (total float64) {
+	for _, it := range all {
+		total += it
+	}
+	return total
+}
+
+// turnRatio is the median of the ratios of two turns that followed each other.
+func turnRatio(turns [2][]float64) float64 {
+	ratios := make([]float64, len(turns[0]))
+	for at := range ratios {
+		ratios[at] = turns[1][at] / turns[0][at]
+	}
+	sort.Float64s(ratios)
+	return ratios[len(ratios)/2]
 }
 
 // processors is what this process took of them.

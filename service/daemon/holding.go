@@ -7,19 +7,19 @@ import (
 	"go.uber.org/zap/zapcore"
 )
 
-const (
-	held     = 100 * time.Millisecond // so long an event may wait, so that those who log don't wait for each line
-	mostHeld = 4096                   // events that may wait: beyond that, who logs has them written
-)
+// held is how long an event may wait until it is written, so that those who log don't wait for each line.
+const held = 100 * time.Millisecond
 
-// A writer writes events, once it is synchronised at the latest. One at a time uses it.
-type writer interface {
-	Write(zapcore.Entry, []zapcore.Field) error
-	Sync() error
+// A sink has events that wait. One at a time adds to it, or takes.
+type sink interface {
+	// add has an event wait, and says whether there are too many now.
+	add(zapcore.Entry, []zapcore.Field) (isFull bool, err error)
+	// take gives what writes those that wait, and has them wait no more. It isn't called again before those are written.
+	take() (write func() error)
 }
 
 // holding is a core whose events wait for a while at most, and then are written together, in their order, and in nobody's time; a warning is written at
-// once, with all before it. What the fields of an event lead to is read when it is written: who logs doesn't change that.
+// once, with all before it.
 type holding struct {
 	zapcore.LevelEnabler
 	queue  *queue
@@ -27,7 +27,7 @@ type holding struct {
 }
 
 // hold makes a core, from a level on, that has its events written later.
-func hold(least zapcore.LevelEnabler, by writer) zapcore.Core {
+func hold(least zapcore.LevelEnabler, by sink) zapcore.Core {
 	made := &queue{by: by}
 	made.timer = time.AfterFunc(time.Hour, func() { made.write() })
 	made.timer.Stop()
@@ -54,71 +54,48 @@ func (it *holding) Check(entry zapcore.Entry, checked *zapcore.CheckedEntry) *za
 	return checked
 }
 
-// Write has an entry wait, or with a warning writes all.
+// Write has an entry wait. A warning, or where too many wait, has all written.
 func (it *holding) Write(entry zapcore.Entry, fields []zapcore.Field) error {
-	if it.queue.add(waiting{entry, it.and(fields)}) || entry.Level >= zapcore.WarnLevel {
+	isFull, err := it.queue.add(entry, it.and(fields))
+	if err == nil && (isFull || entry.Level >= zapcore.WarnLevel) {
 		return it.queue.write()
 	}
-	return nil
+	return err
 }
 
 // Sync writes all that waits.
 func (it *holding) Sync() error { return it.queue.write() }
 
-// waiting is an event that waits.
-type waiting struct {
-	entry  zapcore.Entry
-	fields []zapcore.Field
-}
-
-// A queue has what waits.
+// A queue has a sink's events written.
 type queue struct {
-	by    writer
-	timer *time.Timer // has all written
-
+	timer   *time.Timer
 	writing sync.Mutex // one at a time writes
-	mutex   sync.Mutex // of what follows
-	events  []waiting
-	spare   []waiting // the room of those that were written
+
+	mutex  sync.Mutex // of what follows
+	by     sink
+	isHeld bool // something waits
 }
 
-// add has an event wait, and says whether there are too many now.
-func (it *queue) add(event waiting) bool {
+func (it *queue) add(entry zapcore.Entry, fields []zapcore.Field) (isFull bool, err error) {
 	it.mutex.Lock()
 	defer it.mutex.Unlock()
-	it.events = append(it.events, event)
-	if len(it.events) == 1 {
+	if !it.isHeld {
+		it.isHeld = true
 		it.timer.Reset(held)
 	}
-	return len(it.events) >= mostHeld
+	return it.by.add(entry, fields)
 }
 
-// take gives what waits.
-func (it *queue) take() []waiting {
-	it.mutex.Lock()
-	defer it.mutex.Unlock()
-	taken := it.events
-	it.events, it.spare = it.spare[:0], nil
-	return taken
-}
-
-// write writes what waits. It gives the first fault.
+// write writes what waits.
 func (it *queue) write() error {
 	it.writing.Lock()
 	defer it.writing.Unlock()
-	var first error
-	taken := it.take()
-	for at := range taken {
-		if err := it.by.Write(taken[at].entry, taken[at].fields); first == nil {
-			first = err
-		}
-		taken[at] = waiting{}
-	}
-	if err := it.by.Sync(); first == nil {
-		first = err
-	}
+	return it.take()()
+}
+
+func (it *queue) take() func() error {
 	it.mutex.Lock()
 	defer it.mutex.Unlock()
-	it.spare = taken
-	return first
+	it.isHeld = false
+	return it.by.take()
 }

@@ -72,7 +72,7 @@ func TestHeld(t *testing.T) {
 func TestManyHeld(t *testing.T) {
 	to := &written{}
 	log := LoggerTo(to, zapcore.InfoLevel)
-	const callers, each = 4, mostHeld
+	const callers, each = 4, 4000 // lines of which some hundred are too many
 	var group sync.WaitGroup
 	for caller := 0; caller < callers; caller++ {
 		group.Add(1)

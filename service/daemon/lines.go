@@ -10,16 +10,16 @@ import (
 	"go.uber.org/zap/zapcore"
 )
 
-// together is how many bytes of lines are written at once.
+// together is how many bytes of lines may wait.
 const together = 64 << 10
 
-// toLines writes entries as lines of JSON, several at once, when it is synchronised. One at a time uses it. It writes what zap's own encoder does, which it
-// uses where a field isn't one of the simple ones.
+// toLines writes entries as lines of JSON: as zap's own encoder does, which it uses where a field isn't one of the simple ones.
 type toLines struct {
 	to      io.Writer
 	encoder zapcore.Encoder
-	buffer  []byte
-	second  int64 // since 1970, of which this is the time without its fraction
+	lines   []byte // that wait
+	spare   []byte // the room of those that were written
+	second  int64  // since 1970, of which this is the time without its fraction
 	stamp   []byte
 }
 
@@ -29,32 +29,31 @@ func newLines(to io.Writer) *toLines {
 	return &toLines{to: to, encoder: zapcore.NewJSONEncoder(how)}
 }
 
-// Write writes an entry.
-func (it *toLines) Write(entry zapcore.Entry, fields []zapcore.Field) error {
-	if line, isSimple := it.appendLine(it.buffer, entry, fields); isSimple {
-		it.buffer = line
-	} else {
-		line, err := it.encoder.EncodeEntry(entry, fields)
+func (it *toLines) add(entry zapcore.Entry, fields []zapcore.Field) (isFull bool, err error) {
+	line, isSimple := it.appendLine(it.lines, entry, fields)
+	if !isSimple {
+		encoded, err := it.encoder.EncodeEntry(entry, fields)
 		if err != nil {
-			return err
+			return false, err
 		}
-		it.buffer = append(it.buffer, line.Bytes()...)
-		line.Free()
+		line = append(it.lines, encoded.Bytes()...)
+		encoded.Free()
 	}
-	if len(it.buffer) < together {
-		return nil
-	}
-	return it.Sync()
+	it.lines = line
+	return len(line) >= together, nil
 }
 
-// Sync has the lines written. What can't be written is lost.
-func (it *toLines) Sync() error {
-	if len(it.buffer) == 0 {
-		return nil
+// take gives what writes the lines. What can't be written is lost.
+func (it *toLines) take() func() error {
+	if len(it.lines) == 0 {
+		return func() error { return nil }
 	}
-	_, err := it.to.Write(it.buffer)
-	it.buffer = it.buffer[:0]
-	return err
+	lines := it.lines
+	it.lines, it.spare = it.spare[:0], lines
+	return func() error {
+		_, err := it.to.Write(lines)
+		return err
+	}
 }
 
 // appendLine appends an entry whose texts and fields are simple.

@@ -59,7 +59,7 @@ func TestLinesAsZaps(t *testing.T) {
 			some = append(some, fields[drawn.Intn(len(fields))]())
 		}
 		got.Reset()
-		if err := its.Write(entry, some); err != nil || its.Sync() != nil {
+		if _, err := its.add(entry, some); err != nil || its.take()() != nil {
 			t.Fatal(err)
 		}
 		want, err := its.encoder.EncodeEntry(entry, some)

@@ -7,6 +7,7 @@ import (
 	"os"
 	"strings"
 	"syscall"
+	"time"
 
 	"github.com/coreos/go-systemd/journal"
 	"go.uber.org/zap"
@@ -27,7 +28,7 @@ func Logger(level string) (*zap.Logger, error) {
 		}
 	}
 	if isJournal() {
-		return zap.New(hold(least, toJournal{journal.Send})), nil
+		return zap.New(hold(least, &toJournal{send: journal.Send})), nil
 	}
 	return LoggerTo(os.Stderr, least), nil
 }
@@ -46,40 +47,62 @@ func isJournal() bool {
 	return os.Getenv("JOURNAL_STREAM") == fmt.Sprintf("%d:%d", stream.Dev, stream.Ino) && journal.Enabled()
 }
 
+// mostMessages is how many may wait for the journal.
+const mostMessages = 1024
+
 // toJournal sends entries to the journal.
 type toJournal struct {
-	send func(message string, priority journal.Priority, variables map[string]string) error
+	send     func(message string, priority journal.Priority, variables map[string]string) error
+	messages []message // that wait
+}
+
+// A message is one for the journal.
+type message struct {
+	text      string
+	priority  journal.Priority
+	variables map[string]string
 }
 
 var priorities = map[zapcore.Level]journal.Priority{
 	zapcore.DebugLevel: journal.PriDebug, zapcore.InfoLevel: journal.PriInfo, zapcore.WarnLevel: journal.PriWarning, zapcore.ErrorLevel: journal.PriErr,
 }
 
-// Write sends an entry: a message that is one line, whatever stands in its fields, and the fields.
-func (it toJournal) Write(entry zapcore.Entry, fields []zapcore.Field) error {
+// add has an entry wait: a message that is one line, whatever stands in its fields, and the fields.
+func (it *toJournal) add(entry zapcore.Entry, fields []zapcore.Field) (isFull bool, err error) {
 	encoder := zapcore.NewMapObjectEncoder()
 	for _, field := range fields {
 		field.AddTo(encoder)
 	}
-	message := entry.Message
-	variables := make(map[string]string, len(encoder.Fields))
+	made := message{entry.Message, journal.PriCrit, make(map[string]string, len(encoder.Fields)+1)}
 	for key, value := range encoder.Fields {
-		variables["TUFAYON_"+strings.ToUpper(key)] = fmt.Sprint(value)
-		encoder.Fields[key] = fmt.Sprint(value)
+		text := fmt.Sprint(value)
+		made.variables["TUFAYON_"+strings.ToUpper(key)], encoder.Fields[key] = text, text
 	}
+	made.variables["TUFAYON_TS"] = entry.Time.Format(time.RFC3339Nano) // the journal's own time is that of the writing
 	if len(encoder.Fields) > 0 {
 		text, err := json.Marshal(encoder.Fields)
 		if err != nil {
-			return err
+			return false, err
 		}
-		message += " " + string(text)
+		made.text += " " + string(text)
 	}
-	priority, isOne := priorities[entry.Level]
-	if !isOne {
-		priority = journal.PriCrit
+	if priority, isOne := priorities[entry.Level]; isOne {
+		made.priority = priority
 	}
-	return it.send(message, priority, variables)
+	it.messages = append(it.messages, made)
+	return len(it.messages) >= mostMessages, nil
 }
 
-// Sync does nothing: each entry is sent when it is written.
-func (toJournal) Sync() error { return nil }
+// take gives what sends the messages, and tells the first fault.
+func (it *toJournal) take() func() error {
+	messages := it.messages
+	it.messages = nil
+	return func() (first error) {
+		for _, its := range messages {
+			if err := it.send(its.text, its.priority, its.variables); first == nil {
+				first = err
+			}
+		}
+		return first
+	}
+}
