@@ -104,7 +104,9 @@ func appendField(to []byte, field *zapcore.Field) (line []byte, isSimple bool) {
 			return to, false
 		}
 		return appendText(line, text)
-	case zapcore.Uint64Type, zapcore.Uint8Type:
+	case zapcore.BoolType:
+		return strconv.AppendBool(line, field.Integer == 1), true
+	case zapcore.Uint64Type, zapcore.Uint32Type, zapcore.Uint8Type:
 		return strconv.AppendUint(line, uint64(field.Integer), 10), true
 	case zapcore.Int64Type:
 		return strconv.AppendInt(line, field.Integer, 10), true

@@ -28,6 +28,7 @@ func TestLinesAsZaps(t *testing.T) {
 		func() zap.Field { return zap.String("volume", text()) },
 		func() zap.Field { return zap.Uint64("call", drawn.Uint64()) },
 		func() zap.Field { return zap.Uint8("status", uint8(drawn.Intn(256))) },
+		func() zap.Field { return zap.Uint32("mode", drawn.Uint32()) },
 		func() zap.Field { return zap.Int("line", drawn.Int()-drawn.Int()) },
 		func() zap.Field { return zap.Duration("took", time.Duration(drawn.Int63n(1<<40))-1<<30) },
 		func() zap.Field { return zap.Stringer("from", &net.UnixAddr{Name: text(), Net: "unix"}) },
