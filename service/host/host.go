@@ -72,6 +72,7 @@ type Host struct {
 	waiters  *waiters
 	board    *board
 	confirms confirming
+	callers  *callers
 
 	// What only the loop uses.
 	core    *core
@@ -96,6 +97,7 @@ func Open(ctx context.Context, options Options) (*Host, error) {
 		waiters: newWaiters(), board: newBoard(),
 		core: core, volumes: map[string]*volume{},
 	}
+	host.callers = newCallers(host.done)
 	host.confirms.ask = func(ctx context.Context) error { return options.Store.Commit(ctx, false, nil) }
 	host.calls, host.giveUp = context.WithCancel(context.Background())
 	opened := make(chan error)
@@ -222,8 +224,10 @@ func (host *Host) carryOut(batch []event) error {
 	if work.begins {
 		host.openPlugins()
 	}
-	for _, it := range work.sends {
-		go host.call(host.calls, host.epoch, it)
+	ctx, epoch := host.calls, host.epoch
+	for at := range work.sends {
+		it := &work.sends[at]
+		host.callers.make(func() { host.call(ctx, epoch, it) })
 	}
 	for _, it := range work.held {
 		go host.await(host.calls, host.epoch, it, host.gates.of(it.call))
@@ -239,7 +243,7 @@ func (host *Host) carryOut(batch []event) error {
 }
 
 // call makes a call, and tells what came of it.
-func (host *Host) call(ctx context.Context, epoch uint64, it sending) {
+func (host *Host) call(ctx context.Context, epoch uint64, it *sending) {
 	began := time.Now()
 	reply, err := host.carrier.Carry(tracing.Into(ctx, it.trace), it.call, it.until)
 	if ctx.Err() != nil {
@@ -254,7 +258,7 @@ func (host *Host) call(ctx context.Context, epoch uint64, it sending) {
 }
 
 // logs has a line of the log for a call.
-func (host *Host) logs(it sending, reply frames.Reply, err error, took time.Duration) {
+func (host *Host) logs(it *sending, reply frames.Reply, err error, took time.Duration) {
 	fields := append(make([]zap.Field, 0, 9),
 		zap.String("volume", it.name), zap.String("kind", it.call.Kind().String()), zap.String("plugin", carrying.PluginOf(it.call)),
 		zap.Uint64("session", it.call.Number.Session), zap.Uint64("call", it.call.Number.Call), zap.Duration("took", took),
