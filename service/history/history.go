@@ -241,6 +241,9 @@ func (made *History) Last(name string, most int, behind uint64) (last []Entry, c
 	came, more := made.come.more()
 	made.keep(came)
 	count = made.before + uint64(len(made.entries))
+	if count > behind && most > 0 {
+		last = make([]Entry, 0, least(count-behind, uint64(most), uint64(len(made.entries))))
+	}
 	for at := len(made.entries) - 1; at >= 0 && made.before+uint64(at) >= behind && len(last) < most; at-- {
 		if entry := &made.entries[at]; name == "" || entry.Name == "" || entry.Name == name {
 			last = append(last, *entry)
@@ -250,4 +253,14 @@ func (made *History) Last(name string, most int, behind uint64) (last []Entry, c
 		last[i], last[j] = last[j], last[i]
 	}
 	return last, count, more
+}
+
+func least(all ...uint64) uint64 {
+	found := all[0]
+	for _, it := range all {
+		if it < found {
+			found = it
+		}
+	}
+	return found
 }
