@@ -139,16 +139,38 @@ func (guard *guard) tell(who, path string, request any, began time.Time, err err
 	if !isCommand && status.Code(err) != codes.PermissionDenied && status.Code(err) != codes.Unauthenticated {
 		return
 	}
-	fields := []zap.Field{
-		zap.String("who", who), zap.String("call", path), zap.Stringer("status", status.Code(err)), zap.Duration("took", time.Since(began)),
-	}
-	if text, ok := request.(fmt.Stringer); ok {
-		fields = append(fields, zap.String("request", text.String()))
-	}
+	fields := append(make([]zap.Field, 0, 12),
+		zap.String("who", who), zap.String("call", path), zap.String("status", status.Code(err).String()), zap.Duration("took", time.Since(began)),
+	)
+	fields = asked(fields, request)
 	if err != nil {
 		fields = append(fields, zap.String("why", status.Convert(err).Message()))
 	}
 	guard.log.Info("a command", fields...)
+}
+
+// asked appends what a request asks for. Of uses and stops, which are many, each part is a field of its own.
+func asked(to []zap.Field, request any) []zap.Field {
+	switch it := request.(type) {
+	case *wire.UseRequest:
+		to = append(to, zap.String("volume", it.Name), zap.String("node", it.Node), zap.String("target", it.Target), zap.Uint32("mode", it.Capability.GetMode()))
+		if it.Capability.GetMount() {
+			to = append(to, zap.String("fs", it.Capability.FsType))
+		}
+		if it.Readonly {
+			to = append(to, zap.Bool("readonly", true))
+		}
+		return to
+	case *wire.StopRequest:
+		return append(to, zap.String("volume", it.Name), zap.String("node", it.Node), zap.String("target", it.Target))
+	}
+	if named, isOne := request.(interface{ GetName() string }); isOne {
+		to = append(to, zap.String("volume", named.GetName()))
+	}
+	if text, isOne := request.(fmt.Stringer); isOne {
+		to = append(to, zap.Stringer("request", text))
+	}
+	return to
 }
 
 var _ wire.OrchestratorServer = (*Server)(nil)

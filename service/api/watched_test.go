@@ -9,16 +9,17 @@ import (
 	"path/filepath"
 	"sort"
 	"sync"
+	"syscall"
 	"testing"
 	"time"
 
 	"go.uber.org/zap"
-	"go.uber.org/zap/zapcore"
 	"google.golang.org/grpc"
 
 	"tufayon/service/api"
 	"tufayon/service/api/wire"
 	"tufayon/service/carrying"
+	"tufayon/service/daemon"
 	"tufayon/service/history"
 	"tufayon/service/host"
 	"tufayon/service/host/hosttest"
@@ -29,7 +30,9 @@ import (
 )
 
 // BenchmarkWatched has the same done at two services in turn, of which one is watched: its metrics are counted and scraped each second, its history and
-// its log go to files, and a page follows. It tells how much longer a command takes there: `ratio`, of the sums, and `median-ratio`.
+// its log go to files, and a page follows. It tells how much longer a use and a stop take there: `ratio`, of the sums, `median-ratio`, of the medians, and
+// `turn-ratio`, the median of the ratios of two turns one after another, which counts on a machine that has much else to do; and likewise, in
+// `processor-ratio`, what the whole process takes of the processors, callers, plugins and who watches included.
 func BenchmarkWatched(b *testing.B) {
 	for _, callers := range []int{1, 16, 64} {
 		b.Run(fmt.Sprint("callers=", callers), func(b *testing.B) { benchmarkWatched(b, callers) })
@@ -49,23 +52,50 @@ func benchmarkWatched(b *testing.B, callers int) {
 			}
 		}
 	}
-	var sums [2]time.Duration
 	var took [2][]time.Duration
+	var lasted, spent [2][]float64 // of each turn, in seconds
 	b.ResetTimer()
 	for done := 0; done < b.N; done += chunk {
 		for _, which := range [][]int{{0, 1}, {1, 0}}[done/chunk%2] {
-			began := time.Now()
+			began, before := time.Now(), processors()
 			took[which] = append(took[which], work(b, services[which], callers)...)
-			sums[which] += time.Since(began)
+			lasted[which] = append(lasted[which], time.Since(began).Seconds())
+			spent[which] = append(spent[which], (processors() - before).Seconds())
 		}
 	}
 	for _, it := range took {
 		sort.Slice(it, func(i, j int) bool { return it[i] < it[j] })
 	}
 	median := func(which int) float64 { return float64(took[which][len(took[which])/2]) / 1e6 }
-	b.ReportMetric(float64(sums[1])/float64(sums[0]), "ratio")
+	b.ReportMetric(sum(lasted[1])/sum(lasted[0]), "ratio")
 	b.ReportMetric(median(1)/median(0), "median-ratio")
+	b.ReportMetric(turnRatio(lasted), "turn-ratio")
+	b.ReportMetric(turnRatio(spent), "processor-ratio")
 	b.ReportMetric(median(0), "median-ms")
+}
+
+func sum(all []float64) (total float64) {
+	for _, it := range all {
+		total += it
+	}
+	return total
+}
+
+// turnRatio is the median of the ratios of two turns that followed each other.
+func turnRatio(turns [2][]float64) float64 {
+	ratios := make([]float64, len(turns[0]))
+	for at := range ratios {
+		ratios[at] = turns[1][at] / turns[0][at]
+	}
+	sort.Float64s(ratios)
+	return ratios[len(ratios)/2]
+}
+
+// processors is what this process took of them.
+func processors() time.Duration {
+	var usage syscall.Rusage
+	syscall.Getrusage(syscall.RUSAGE_SELF, &usage)
+	return time.Duration(usage.Utime.Nano() + usage.Stime.Nano())
 }
 
 // work has callers use and stop a volume each, one after another, until a chunk is done, and tells how long each took.
@@ -131,8 +161,8 @@ func watched(b *testing.B, kept store.Store, listener net.Listener, known secure
 	if err != nil {
 		b.Fatal(err)
 	}
-	b.Cleanup(func() { keeps.Close(); file.Close() })
-	log := zap.New(zapcore.NewCore(zapcore.NewJSONEncoder(zap.NewProductionEncoderConfig()), zapcore.Lock(file), zap.InfoLevel))
+	log := daemon.LoggerTo(file, zap.InfoLevel)
+	b.Cleanup(func() { keeps.Close(); log.Sync(); file.Close() })
 	made := serveBy(b, host.Options{Store: kept, Carrier: &hosttest.Carrier{}, Log: log, Observers: []host.Observer{told, keeps}}, 8, listener, known, roles,
 		grpc.ChainUnaryInterceptor(told.Server.UnaryServerInterceptor()), grpc.ChainStreamInterceptor(told.Server.StreamServerInterceptor()))
 	leads := func() *host.Host { return made }

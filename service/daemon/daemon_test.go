@@ -54,10 +54,14 @@ func TestLines(t *testing.T) {
 // To the journal an event is a message of one line, and a field for each key.
 func TestJournal(t *testing.T) {
 	var said []string
-	core := &toJournal{LevelEnabler: zapcore.InfoLevel, send: func(message string, priority journal.Priority, variables map[string]string) error {
+	core := hold(zapcore.InfoLevel, &toJournal{send: func(message string, priority journal.Priority, variables map[string]string) error {
+		if at, err := time.Parse(time.RFC3339Nano, variables["TUFAYON_TS"]); err != nil || time.Since(at) > time.Minute {
+			t.Errorf("it is of %v, %v", at, err)
+		}
+		delete(variables, "TUFAYON_TS")
 		said = append(said, fmt.Sprint(message, " ", priority, " ", variables))
 		return nil
-	}}
+	}})
 	log := zap.New(core).With(zap.String("set", "s1"))
 	log.Debug("nothing")
 	log.Error("a call", zap.String("volume", "a\nb"), zap.Error(errors.New("no reply")), zap.Uint64("call", 7))

@@ -3,9 +3,11 @@ package daemon
 import (
 	"encoding/json"
 	"fmt"
+	"io"
 	"os"
 	"strings"
 	"syscall"
+	"time"
 
 	"github.com/coreos/go-systemd/journal"
 	"go.uber.org/zap"
@@ -16,7 +18,8 @@ import (
 var Levels = []string{"debug", "info", "warn", "error"}
 
 // Logger makes a log of a level, info where that is empty, in which each event is a line, and none is left out: of JSON, to standard error; or where
-// that is systemd's journal, to there, with a field for each key (TUFAYON_VOLUME, ..).
+// that is systemd's journal, to there, with a field for each key (TUFAYON_VOLUME, ..). It has to be synchronised at the end: an event below a warning is
+// written a moment after it was logged.
 func Logger(level string) (*zap.Logger, error) {
 	least := zapcore.InfoLevel
 	if level != "" {
@@ -25,13 +28,14 @@ func Logger(level string) (*zap.Logger, error) {
 		}
 	}
 	if isJournal() {
-		return zap.New(&toJournal{LevelEnabler: least, send: journal.Send}), nil
+		return zap.New(hold(least, &toJournal{send: journal.Send})), nil
 	}
-	config := zap.NewProductionConfig()
-	config.Level = zap.NewAtomicLevelAt(least)
-	config.Sampling, config.DisableCaller, config.DisableStacktrace = nil, true, true
-	config.EncoderConfig.EncodeTime = zapcore.RFC3339NanoTimeEncoder
-	return config.Build()
+	return LoggerTo(os.Stderr, least), nil
+}
+
+// LoggerTo makes a log of lines of JSON, from a level on.
+func LoggerTo(to io.Writer, least zapcore.Level) *zap.Logger {
+	return zap.New(hold(least, newLines(to)))
 }
 
 // isJournal says whether standard error is the journal's, as systemd says in JOURNAL_STREAM: its device and inode.
@@ -43,56 +47,62 @@ func isJournal() bool {
 	return os.Getenv("JOURNAL_STREAM") == fmt.Sprintf("%d:%d", stream.Dev, stream.Ino) && journal.Enabled()
 }
 
-// toJournal writes entries to the journal.
+// mostMessages is how many may wait for the journal.
+const mostMessages = 1024
+
+// toJournal sends entries to the journal.
 type toJournal struct {
-	zapcore.LevelEnabler
-	fields []zapcore.Field
-	send   func(message string, priority journal.Priority, variables map[string]string) error
+	send     func(message string, priority journal.Priority, variables map[string]string) error
+	messages []message // that wait
 }
 
-// With adds fields to each entry.
-func (it *toJournal) With(fields []zapcore.Field) zapcore.Core {
-	more := append(append([]zapcore.Field{}, it.fields...), fields...)
-	return &toJournal{it.LevelEnabler, more, it.send}
-}
-
-// Check takes entries of its level.
-func (it *toJournal) Check(entry zapcore.Entry, checked *zapcore.CheckedEntry) *zapcore.CheckedEntry {
-	if it.Enabled(entry.Level) {
-		return checked.AddCore(entry, it)
-	}
-	return checked
+// A message is one for the journal.
+type message struct {
+	text      string
+	priority  journal.Priority
+	variables map[string]string
 }
 
 var priorities = map[zapcore.Level]journal.Priority{
 	zapcore.DebugLevel: journal.PriDebug, zapcore.InfoLevel: journal.PriInfo, zapcore.WarnLevel: journal.PriWarning, zapcore.ErrorLevel: journal.PriErr,
 }
 
-// Write writes an entry: a message that is one line, whatever stands in its fields, and the fields.
-func (it *toJournal) Write(entry zapcore.Entry, fields []zapcore.Field) error {
+// add has an entry wait: a message that is one line, whatever stands in its fields, and the fields.
+func (it *toJournal) add(entry zapcore.Entry, fields []zapcore.Field) (isFull bool, err error) {
 	encoder := zapcore.NewMapObjectEncoder()
-	for _, field := range append(append([]zapcore.Field{}, it.fields...), fields...) {
+	for _, field := range fields {
 		field.AddTo(encoder)
 	}
-	message := entry.Message
-	variables := make(map[string]string, len(encoder.Fields))
+	made := message{entry.Message, journal.PriCrit, make(map[string]string, len(encoder.Fields)+1)}
 	for key, value := range encoder.Fields {
-		variables["TUFAYON_"+strings.ToUpper(key)] = fmt.Sprint(value)
-		encoder.Fields[key] = fmt.Sprint(value)
+		text := fmt.Sprint(value)
+		made.variables["TUFAYON_"+strings.ToUpper(key)], encoder.Fields[key] = text, text
 	}
+	made.variables["TUFAYON_TS"] = entry.Time.Format(time.RFC3339Nano) // the journal's own time is that of the writing
 	if len(encoder.Fields) > 0 {
 		text, err := json.Marshal(encoder.Fields)
 		if err != nil {
-			return err
+			return false, err
 		}
-		message += " " + string(text)
+		made.text += " " + string(text)
 	}
-	priority, isOne := priorities[entry.Level]
-	if !isOne {
-		priority = journal.PriCrit
+	if priority, isOne := priorities[entry.Level]; isOne {
+		made.priority = priority
 	}
-	return it.send(message, priority, variables)
+	it.messages = append(it.messages, made)
+	return len(it.messages) >= mostMessages, nil
 }
 
-// Sync does nothing: each entry is sent at once.
-func (*toJournal) Sync() error { return nil }
+// take gives what sends the messages, and tells the first fault.
+func (it *toJournal) take() func() error {
+	messages := it.messages
+	it.messages = nil
+	return func() (first error) {
+		for _, its := range messages {
+			if err := it.send(its.text, its.priority, its.variables); first == nil {
+				first = err
+			}
+		}
+		return first
+	}
+}

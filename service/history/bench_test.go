@@ -25,10 +25,10 @@ func BenchmarkKeep(b *testing.B) {
 	}
 	made.rows["v"] = row
 	call := frames.Call{Number: frames.Number{Session: 1, Call: 7}, Node: "n1", Body: frames.NodePublishVolume{ID: 1}}
-	batch := []host.Happening{{What: host.Replied, Time: time.Now(), Session: 1, Name: "v", Before: row, Row: row, Call: call, Sent: &call}}
+	batches := [][]host.Happening{{{What: host.Replied, Time: time.Now(), Session: 1, Name: "v", Before: row, Row: row, Call: call, Sent: &call}}}
 	b.ReportAllocs()
 	b.ResetTimer()
 	for at := 0; at < b.N; at++ {
-		made.keep(batch)
+		made.keep(batches)
 	}
 }

@@ -34,20 +34,18 @@ type Entry struct {
 
 	// IsCut says that something is missing between this and what the volume was like later: it is told, and is no part of a schedule.
 	IsCut bool                    `json:"cut,omitempty"`
-	line  []byte                  // as the file has it, once it is known
 	Rows  map[string]*records.Row `json:"rows,omitempty"` // of a session or a loss: as the volumes are then that it changed; null of names that are free
 }
 
 // What entries are of, beside the commands.
 const (
-	reply    = "reply"
-	none     = "none"
-	timeout  = "timeout"
-	session  = "session"
-	lose     = "lose"
-	sent     = "sent"
-	met      = "met"
-	creating = "create"
+	reply   = "reply"
+	none    = "none"
+	timeout = "timeout"
+	session = "session"
+	lose    = "lose"
+	sent    = "sent"
+	met     = "met"
 )
 
 // A Call is one of the orchestrator's.
@@ -149,48 +147,6 @@ func (entry *Entry) asked() string {
 
 // At is the entry's time.
 func (entry *Entry) At() time.Time { return time.UnixMilli(entry.Time) }
-
-// capability is one as a schedule has it.
-type capability struct {
-	Access string  `json:"access"`
-	Fs     *string `json:"fs,omitempty"`
-	Mode   uint8   `json:"mode"`
-}
-
-func capabilityOf(it frames.Capability) capability {
-	if it.Mount {
-		return capability{Access: "mount", Fs: &it.FsType, Mode: it.Mode}
-	}
-	return capability{Access: "block", Mode: it.Mode}
-}
-
-func capabilitiesOf(all []frames.Capability) []capability {
-	list := make([]capability, 0, len(all))
-	for _, it := range all {
-		list = append(list, capabilityOf(it))
-	}
-	return list
-}
-
-// eventOf is a command as a schedule has it, and its key.
-func eventOf(command host.Command) (key string, event json.RawMessage) {
-	var value any = command.Name
-	switch command.Kind {
-	case host.Create:
-		key, value = creating, map[string]any{
-			"capabilities": capabilitiesOf(command.Capabilities), "limit": command.Limit, "name": command.Name, "required": command.Required,
-		}
-	case host.Use:
-		key, value = "use", map[string]any{
-			"capability": capabilityOf(command.Capability), "name": command.Name, "node": command.Node, "readonly": command.Readonly, "target": command.Target,
-		}
-	case host.Stop:
-		key, value = "stop", map[string]any{"name": command.Name, "node": command.Node, "target": command.Target}
-	default:
-		key = "delete"
-	}
-	return key, encode(map[string]any{key: value})
-}
 
 // encode is a value as JSON, which texts, numbers and lists of them always can be. Bytes that are no UTF-8 become U+FFFD, as a schedule can't have them.
 func encode(value any) json.RawMessage {

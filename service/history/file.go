@@ -13,8 +13,8 @@ import (
 	"tufayon/service/records"
 )
 
-// A file has the base in its first line, and an entry in each one behind it. It is written anew once it has twice as many entries as are kept. Nothing
-// waits for the disk: a machine that dies loses the last ones.
+// A file has the base in its first line, and an entry in each one behind it. It is written anew once it has four times as many entries as are
+// kept. Nothing waits for the disk: a machine that dies loses the last ones.
 type file struct {
 	path    string
 	to      *os.File
@@ -22,6 +22,7 @@ type file struct {
 	lines   int
 	isStale bool // it has to be written anew
 	err     error
+	scratch []byte
 }
 
 // head is the first line.
@@ -79,14 +80,19 @@ func (made *History) read(content []byte) error {
 	return nil
 }
 
-// write writes a line, unless the file is to be written anew.
-func (it *file) write(line []byte) {
+// write writes an entry's line, unless the file is to be written anew.
+func (it *file) write(entry *Entry) {
 	if it.err != nil || it.isStale {
 		return
 	}
 	it.lines++
-	it.buffer.Write(line) // it remembers what fails, until it is flushed
-	it.buffer.WriteByte('\n')
+	it.line(it.buffer, entry) // it remembers what fails, until it is flushed
+}
+
+// line writes the line of an entry.
+func (it *file) line(to *bufio.Writer, entry *Entry) {
+	it.scratch = append(appendEntry(it.scratch[:0], entry), '\n')
+	to.Write(it.scratch)
 }
 
 // save has the file have all. The lock is held. Where the file can't be written, the history goes on in memory.
@@ -95,7 +101,7 @@ func (made *History) save() {
 	if it.err != nil {
 		return
 	}
-	if it.isStale || it.lines > 2*made.most {
+	if it.isStale || it.lines > 4*made.most {
 		it.err = made.rewrite()
 	} else {
 		it.err = it.buffer.Flush()
@@ -113,17 +119,9 @@ func (made *History) rewrite() error {
 		return err
 	}
 	buffer := bufio.NewWriterSize(anew, 64<<10)
-	write := func(line []byte) {
-		buffer.Write(line)
-		buffer.WriteByte('\n')
-	}
-	write(encode(head{Version: fileVersion, Before: made.before, Base: made.base}))
+	buffer.Write(append(encode(head{Version: fileVersion, Before: made.before, Base: made.base}), '\n'))
 	for at := range made.entries {
-		entry := &made.entries[at]
-		if entry.line == nil {
-			entry.line = encode(entry)
-		}
-		write(entry.line)
+		it.line(buffer, &made.entries[at])
 	}
 	if err = buffer.Flush(); err == nil {
 		err = os.Rename(it.path+".new", it.path)

@@ -20,9 +20,6 @@ import (
 // Usual is how many events are kept.
 const Usual = 10000
 
-// waiting is how many batches may wait to be kept: beyond that they are lost, and what they changed is found at the next one of each volume.
-const waiting = 4096
-
 // A base is what was before the first event that is kept: of the service, or of a volume.
 type base struct {
 	Config json.RawMessage         `json:"config,omitempty"`
@@ -34,27 +31,23 @@ type base struct {
 type History struct {
 	most int
 	log  *zap.Logger
-	come chan []host.Happening
-	done chan struct{}
+	come coming
 
 	mutex   sync.Mutex
 	config  json.RawMessage // of the service now
 	base    base
-	entries []Entry
-	before  uint64 // how many there were before these
-	lost    uint64
+	entries []Entry                 // behind the oldest, which go, there is room for as many as are kept
+	before  uint64                  // how many there were before these
 	rows    map[string]*records.Row // as they are behind the last entry
 	isCut   bool                    // the next session says how volumes are, since something may be missing
 	file    *file
-	told    chan struct{} // closed, and made anew, when something came
-	once    sync.Once
 }
 
 // Open opens a history of at most so many events, over a file, or in memory alone where that is empty. What can't be read of a file is left out, and told
 // to the log.
 func Open(path string, most int, log *zap.Logger) (*History, error) {
 	made := &History{
-		most: most, log: log, come: make(chan []host.Happening, waiting), done: make(chan struct{}), told: make(chan struct{}), isCut: true,
+		most: most, log: log, come: coming{told: make(chan struct{})}, isCut: true,
 		base: base{Rows: map[string]*records.Row{}}, rows: map[string]*records.Row{},
 	}
 	if path != "" {
@@ -62,7 +55,7 @@ func Open(path string, most int, log *zap.Logger) (*History, error) {
 			return nil, fmt.Errorf("the history: %w", err)
 		}
 	}
-	go made.run()
+	made.come.keep = time.AfterFunc(together, made.settle)
 	return made, nil
 }
 
@@ -70,23 +63,12 @@ func Open(path string, most int, log *zap.Logger) (*History, error) {
 func (made *History) Configure(config []byte) {
 	made.mutex.Lock()
 	defer made.mutex.Unlock()
+	made.keep(made.come.take()) // by the one of before
 	made.config = json.RawMessage(bytes.TrimSpace(config))
 }
 
-// Happened has events kept. Sessions wait for their place; other events that find none are lost, which is found at the next one of each volume.
-func (made *History) Happened(all []host.Happening) {
-	if first := all[0].What; first == host.Began || first == host.Lost {
-		made.come <- all
-		return
-	}
-	select {
-	case made.come <- all:
-	default:
-		made.mutex.Lock()
-		made.lost += uint64(len(all))
-		made.mutex.Unlock()
-	}
-}
+// Happened has events kept, soon, or once somebody asks. Events that find no place are lost, which is found at the next one of each volume.
+func (made *History) Happened(all []host.Happening) { made.come.add(all) }
 
 // Called is nothing to a history.
 func (*History) Called(frames.Call, frames.Reply, error, time.Duration) {}
@@ -96,44 +78,48 @@ func (*History) Committed(time.Duration, error) {}
 
 // Close keeps what has come, and gives the file up. Nothing may come any more.
 func (made *History) Close() error {
-	made.once.Do(func() { close(made.come) })
-	<-made.done
+	made.come.keep.Stop()
+	made.mutex.Lock()
+	defer made.mutex.Unlock()
+	made.keep(made.come.take())
 	if made.file == nil {
 		return nil
 	}
 	return made.file.close()
 }
 
-func (made *History) run() {
-	defer close(made.done)
-	for batch := range made.come {
-		made.keep(batch)
+// settle keeps what has come.
+func (made *History) settle() {
+	made.mutex.Lock()
+	defer made.mutex.Unlock()
+	made.keep(made.come.take())
+}
+
+// keep keeps batches. The lock is held.
+func (made *History) keep(batches [][]host.Happening) {
+	for _, batch := range batches {
+		for at := range batch {
+			made.take(&batch[at])
+		}
+	}
+	if made.file != nil && len(batches) > 0 {
+		made.save()
 	}
 }
 
-// keep keeps a batch.
-func (made *History) keep(batch []host.Happening) {
-	made.mutex.Lock()
-	defer made.mutex.Unlock()
-	for at := range batch {
-		entry := entryOf(&batch[at])
-		if entry.What == session || entry.What == lose {
-			entry.Rows = made.begins(&batch[at])
-			entry.Config = made.config
-		} else if before := batch[at].Before; !same(made.rows[entry.Name], before) {
-			made.cut(map[string]*records.Row{entry.Name: before})
-		}
-		if made.file != nil {
-			entry.line = encode(&entry)
-			made.file.write(entry.line)
-		}
-		made.add(entry)
+// take takes an event in. The lock is held.
+func (made *History) take(it *host.Happening) {
+	entry := entryOf(it)
+	if entry.What == session || entry.What == lose {
+		entry.Rows = made.begins(it)
+		entry.Config = made.config
+	} else if !same(made.rows[entry.Name], it.Before) {
+		made.cut(map[string]*records.Row{entry.Name: it.Before})
 	}
 	if made.file != nil {
-		made.save()
+		made.file.write(&entry)
 	}
-	close(made.told)
-	made.told = make(chan struct{})
+	made.add(entry)
 }
 
 // add takes an entry in, and lets the oldest go where there are too many.
@@ -141,6 +127,9 @@ func (made *History) add(entry Entry) {
 	made.learn(&entry, made.rows)
 	if len(made.entries) == 0 && made.before == 0 && made.base.Config == nil {
 		made.base.Config, made.base.Nodes = entry.Config, entry.Nodes
+	}
+	if count := len(made.entries); count == cap(made.entries) && count >= made.most {
+		made.entries = append(make([]Entry, 0, 2*count), made.entries...)
 	}
 	made.entries = append(made.entries, entry)
 	for len(made.entries) > made.most {
@@ -211,13 +200,10 @@ func (made *History) cut(begin map[string]*records.Row) {
 	for at := range made.entries {
 		entry := &made.entries[at]
 		if _, isCut := begin[entry.Name]; isCut {
-			entry.IsCut, entry.line = true, nil
+			entry.IsCut = true
 		}
 		for name := range begin {
-			if _, isThere := entry.Rows[name]; isThere {
-				delete(entry.Rows, name)
-				entry.line = nil
-			}
+			delete(entry.Rows, name)
 		}
 	}
 	for name, row := range begin {
@@ -243,7 +229,8 @@ func same(some, other *records.Row) bool {
 func (made *History) Count() (kept int, lost uint64) {
 	made.mutex.Lock()
 	defer made.mutex.Unlock()
-	return len(made.entries), made.lost
+	made.keep(made.come.take())
+	return len(made.entries), made.come.losses()
 }
 
 // Last gives the last entries, at most so many, of a volume or of all, and sessions and losses with both; and behind a count of entries, which is handed
@@ -251,14 +238,29 @@ func (made *History) Count() (kept int, lost uint64) {
 func (made *History) Last(name string, most int, behind uint64) (last []Entry, count uint64, more <-chan struct{}) {
 	made.mutex.Lock()
 	defer made.mutex.Unlock()
+	came, more := made.come.more()
+	made.keep(came)
 	count = made.before + uint64(len(made.entries))
+	if count > behind && most > 0 {
+		last = make([]Entry, 0, least(count-behind, uint64(most), uint64(len(made.entries))))
+	}
 	for at := len(made.entries) - 1; at >= 0 && made.before+uint64(at) >= behind && len(last) < most; at-- {
-		if entry := made.entries[at]; name == "" || entry.Name == "" || entry.Name == name {
-			last = append(last, entry)
+		if entry := &made.entries[at]; name == "" || entry.Name == "" || entry.Name == name {
+			last = append(last, *entry)
 		}
 	}
 	for i, j := 0, len(last)-1; i < j; i, j = i+1, j-1 {
 		last[i], last[j] = last[j], last[i]
 	}
-	return last, count, made.told
+	return last, count, more
+}
+
+func least(all ...uint64) uint64 {
+	found := all[0]
+	for _, it := range all {
+		if it < found {
+			found = it
+		}
+	}
+	return found
 }

@@ -39,6 +39,7 @@ func (made *Schedule) JSON() []byte {
 func (made *History) Schedule(name string, most int) *Schedule {
 	made.mutex.Lock()
 	defer made.mutex.Unlock()
+	made.keep(made.come.take())
 	first, entries := made.base, made.entries
 	if made.before == 0 && len(entries) > 0 && entries[0].What == session {
 		entries = entries[1:] // its list and rows are the base's

@@ -72,6 +72,7 @@ type Host struct {
 	waiters  *waiters
 	board    *board
 	confirms confirming
+	callers  *callers
 
 	// What only the loop uses.
 	core    *core
@@ -96,6 +97,7 @@ func Open(ctx context.Context, options Options) (*Host, error) {
 		waiters: newWaiters(), board: newBoard(),
 		core: core, volumes: map[string]*volume{},
 	}
+	host.callers = newCallers(host.done)
 	host.confirms.ask = func(ctx context.Context) error { return options.Store.Commit(ctx, false, nil) }
 	host.calls, host.giveUp = context.WithCancel(context.Background())
 	opened := make(chan error)
@@ -200,6 +202,9 @@ func (host *Host) fromQueue() []event {
 // carryOut asks a batch's events, commits what they changed, and then has calls made and callers answered. Where it fails nothing may be answered any more.
 func (host *Host) carryOut(batch []event) error {
 	work := newWork()
+	if len(host.observers) > 0 {
+		work.told = make([]Happening, 0, len(batch))
+	}
 	for at, it := range batch {
 		err := it.ask(host, work)
 		if err == errSession {
@@ -219,8 +224,10 @@ func (host *Host) carryOut(batch []event) error {
 	if work.begins {
 		host.openPlugins()
 	}
-	for _, it := range work.sends {
-		go host.call(host.calls, host.epoch, it)
+	ctx, epoch := host.calls, host.epoch
+	for at := range work.sends {
+		it := &work.sends[at]
+		host.callers.make(func() { host.call(ctx, epoch, it) })
 	}
 	for _, it := range work.held {
 		go host.await(host.calls, host.epoch, it, host.gates.of(it.call))
@@ -236,7 +243,7 @@ func (host *Host) carryOut(batch []event) error {
 }
 
 // call makes a call, and tells what came of it.
-func (host *Host) call(ctx context.Context, epoch uint64, it sending) {
+func (host *Host) call(ctx context.Context, epoch uint64, it *sending) {
 	began := time.Now()
 	reply, err := host.carrier.Carry(tracing.Into(ctx, it.trace), it.call, it.until)
 	if ctx.Err() != nil {
@@ -251,11 +258,11 @@ func (host *Host) call(ctx context.Context, epoch uint64, it sending) {
 }
 
 // logs has a line of the log for a call.
-func (host *Host) logs(it sending, reply frames.Reply, err error, took time.Duration) {
-	fields := []zap.Field{
-		zap.String("volume", it.name), zap.Stringer("kind", it.call.Kind()), zap.String("plugin", carrying.PluginOf(it.call)),
+func (host *Host) logs(it *sending, reply frames.Reply, err error, took time.Duration) {
+	fields := append(make([]zap.Field, 0, 9),
+		zap.String("volume", it.name), zap.String("kind", it.call.Kind().String()), zap.String("plugin", carrying.PluginOf(it.call)),
 		zap.Uint64("session", it.call.Number.Session), zap.Uint64("call", it.call.Number.Call), zap.Duration("took", took),
-	}
+	)
 	if it.trace != "" {
 		fields = append(fields, zap.String("trace", it.trace))
 	}

@@ -142,8 +142,14 @@ var (
 	driverEndsDesc  = describe(driver, "certificate_expiry_timestamp_seconds", "When a certificate ends, in Unix seconds.", "file")
 )
 
-// Describe describes nothing: what is there hangs on whether the driver serves.
-func (made *Driver) Describe(chan<- *prometheus.Desc) {}
+// Describe describes all that there may be: what is there hangs on whether the driver serves.
+func (made *Driver) Describe(to chan<- *prometheus.Desc) {
+	for _, desc := range []*prometheus.Desc{
+		readyDesc, heardDesc, pluginRowsDesc, pluginLimitDesc, nodesDesc, nodesLimitDesc, callsOpenDesc, committingDesc, driverEndsDesc,
+	} {
+		to <- desc
+	}
+}
 
 // Collect tells how things are.
 func (made *Driver) Collect(to chan<- prometheus.Metric) {

@@ -24,6 +24,30 @@ type Orchestrator struct {
 	commitSeconds, commitEvents                       prometheus.Histogram
 	commitFailures                                    prometheus.Counter
 	present                                           present
+
+	ofCommands bound[outcome, prometheus.Counter]
+	ofCalls    bound[ended, meters]
+}
+
+// An outcome is what came of a sort of commands.
+type outcome struct {
+	kind    host.Kind
+	isMet   bool
+	refusal host.Refusal
+}
+
+// ended is a sort of calls that ended.
+type ended struct {
+	kind     frames.Kind
+	node     string
+	hasReply bool
+	status   uint8
+}
+
+// meters count such calls.
+type meters struct {
+	calls   prometheus.Counter
+	seconds prometheus.Observer
 }
 
 // NewOrchestrator makes them.
@@ -46,6 +70,7 @@ func NewOrchestrator() *Orchestrator {
 			Help: "How many events were committed together.", Buckets: []float64{1, 2, 4, 8, 16, 32, 64}}),
 		commitFailures: prometheus.NewCounter(prometheus.CounterOpts{Namespace: namespace, Name: "commit_failures_total", Help: "Commits that failed, each of which ends the service."}),
 	}
+	made.ofCommands.find, made.ofCalls.find = made.commandsOf, made.callsOf
 	made.registry.MustRegister(made.Server, made.commands, made.calls, made.retries, made.ignored, made.sessions, made.lost, made.stale, made.timeouts,
 		made.freed, made.callSeconds, made.commitSeconds, made.commitEvents, made.commitFailures, &made.present)
 	return made
@@ -67,13 +92,7 @@ func (made *Orchestrator) Happened(all []host.Happening) {
 func (made *Orchestrator) happened(it *host.Happening) {
 	switch it.What {
 	case host.Commanded:
-		outcome := "sent"
-		if it.IsMet {
-			outcome = "met"
-		} else if it.Refusal != 0 {
-			outcome = it.Refusal.Name()
-		}
-		made.commands.WithLabelValues(commandNames[it.Command.Kind], outcome).Inc()
+		made.ofCommands.at(outcome{it.Command.Kind, it.IsMet, it.Refusal}).Inc()
 	case host.Unanswered:
 		made.ignored.WithLabelValues(it.Call.Kind().String(), carrying.PluginOf(it.Call)).Inc()
 	case host.TimedOut:
@@ -90,6 +109,17 @@ func (made *Orchestrator) happened(it *host.Happening) {
 	}
 }
 
+// commandsOf counts commands.
+func (made *Orchestrator) commandsOf(it outcome) prometheus.Counter {
+	name := "sent"
+	if it.isMet {
+		name = "met"
+	} else if it.refusal != 0 {
+		name = it.refusal.Name()
+	}
+	return made.commands.WithLabelValues(commandNames[it.kind], name)
+}
+
 // frees counts the names that a session freed.
 func (made *Orchestrator) frees(count int) {
 	made.freed.Add(float64(count))
@@ -98,15 +128,28 @@ func (made *Orchestrator) frees(count int) {
 
 // Called counts a call that ended.
 func (made *Orchestrator) Called(call frames.Call, reply frames.Reply, err error, took time.Duration) {
-	kind, plugin, status := call.Kind().String(), carrying.PluginOf(call), noReply
+	it := ended{kind: call.Kind(), node: call.Node}
 	if err == nil {
-		status = statusName(reply.Status)
+		it.hasReply, it.status = true, reply.Status
 		if reply.Status == uint8(codes.Aborted) && reply.Detail == frames.Stale {
 			made.stale.Inc()
 		}
 	}
-	made.calls.WithLabelValues(kind, plugin, status).Inc()
-	made.callSeconds.WithLabelValues(kind, plugin).Observe(took.Seconds())
+	of := made.ofCalls.at(it)
+	of.calls.Inc()
+	of.seconds.Observe(took.Seconds())
+}
+
+// callsOf counts calls.
+func (made *Orchestrator) callsOf(it ended) meters {
+	kind, plugin, status := it.kind.String(), carrying.Controller, noReply
+	if it.kind.OfNode() {
+		plugin = carrying.NodeName(it.node)
+	}
+	if it.hasReply {
+		status = statusName(it.status)
+	}
+	return meters{made.calls.WithLabelValues(kind, plugin, status), made.callSeconds.WithLabelValues(kind, plugin)}
 }
 
 // Committed counts a commit.

@@ -77,8 +77,15 @@ var (
 	historyLost   = describe("", "history_lost_events_total", "Events that the history couldn't keep.")
 )
 
-// Describe describes nothing: what is there hangs on whether this process leads.
-func (it *present) Describe(chan<- *prometheus.Desc) {}
+// Describe describes all that there may be: what is there hangs on whether this process leads.
+func (it *present) Describe(to chan<- *prometheus.Desc) {
+	for _, desc := range []*prometheus.Desc{
+		leaderDesc, sessionDesc, leaseDesc, volumesDesc, wantedDesc, oldestDesc, thingsDesc, slotsDesc, usedDesc, rowsDesc, rowLimitDesc, sinceDesc, connectedDesc,
+		underWayDesc, queuedDesc, waitingDesc, streamsDesc, sinceDescSec, endsDesc, historyDesc, historyLost,
+	} {
+		to <- desc
+	}
+}
 
 // Collect tells how things are.
 func (it *present) Collect(to chan<- prometheus.Metric) {

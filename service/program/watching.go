@@ -113,7 +113,10 @@ func WatchPlugin(program, plugin string, behind *upstream.Proxy, address, level 
 		}
 	}
 	end, err := Watch{Address: address, May: IsOwn, Log: log}.Serve(web.Options{Metrics: told.Handler(), Ready: told.Ready})
-	return told, watchedOptions(told, log), end, err
+	if err != nil {
+		return nil, nil, nil, err
+	}
+	return told, watchedOptions(told, log), func() { end(); log.Sync() }, nil
 }
 
 // Alive tells systemd how a plugin does, until the context ends.

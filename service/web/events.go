@@ -162,14 +162,14 @@ func (it *stream) begins(leads *host.Host, current []host.Event) {
 
 // changes tells an event, and what has come since: of each volume as it is now.
 func (it *stream) changes(leads *host.Host, watching *host.Watching, first host.Event) {
-	changed, forgotten := map[string]volume{}, map[string]bool{}
+	changed, forgotten := map[string]host.Volume{}, map[string]bool{}
 	take := func(event host.Event) {
 		switch {
 		case event.Forgotten != "":
 			delete(changed, event.Forgotten)
 			forgotten[event.Forgotten] = true
 		case event.Lost == "":
-			changed[event.Volume.Name] = volumeOf(event.Volume)
+			changed[event.Volume.Name] = event.Volume
 			delete(forgotten, event.Volume.Name)
 		}
 	}
@@ -186,7 +186,7 @@ func (it *stream) changes(leads *host.Host, watching *host.Watching, first host.
 	}
 	told := message{Session: leads.Session()}
 	for _, it := range changed {
-		told.Volumes = append(told.Volumes, it)
+		told.Volumes = append(told.Volumes, volumeOf(it))
 	}
 	for name := range forgotten {
 		told.Forgotten = append(told.Forgotten, name)

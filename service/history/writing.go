@@ -1,0 +1,199 @@
+package history
+
+import (
+	"encoding/json"
+	"strconv"
+
+	"tufayon/service/frames"
+	"tufayon/service/host"
+	"tufayon/service/records"
+)
+
+// What is written of each event is appended here, as encoding/json would write it: that takes several times as long.
+
+// isPlain says whether a text stands in JSON as it is.
+func isPlain(text string) bool {
+	for at := 0; at < len(text); at++ {
+		if it := text[at]; it < ' ' || it > '~' || it == '"' || it == '\\' || it == '<' || it == '>' || it == '&' {
+			return false
+		}
+	}
+	return true
+}
+
+func appendText(to []byte, text string) []byte {
+	if !isPlain(text) {
+		return append(to, encode(text)...)
+	}
+	to = append(to, '"')
+	to = append(to, text...)
+	return append(to, '"')
+}
+
+// appendKey appends a key, behind a comma where it isn't the first one of its object.
+func appendKey(to []byte, key string) []byte {
+	if to[len(to)-1] != '{' {
+		to = append(to, ',')
+	}
+	to = append(to, '"')
+	to = append(to, key...)
+	return append(to, '"', ':')
+}
+
+func appendTextOf(to []byte, key, text string) []byte { return appendText(appendKey(to, key), text) }
+
+func appendNumberOf(to []byte, key string, number uint64) []byte {
+	return strconv.AppendUint(appendKey(to, key), number, 10)
+}
+
+func appendFlagOf(to []byte, key string, is bool) []byte {
+	return strconv.AppendBool(appendKey(to, key), is)
+}
+
+// appendEntry appends a line, without its end.
+func appendEntry(to []byte, entry *Entry) []byte {
+	if entry.What == session || entry.What == lose {
+		return append(to, encode(entry)...)
+	}
+	to = append(to, '{')
+	to = strconv.AppendInt(appendKey(to, "time"), entry.Time, 10)
+	to = appendNumberOf(to, "session", entry.Session)
+	to = appendTextOf(to, "what", entry.What)
+	if entry.Name != "" {
+		to = appendTextOf(to, "name", entry.Name)
+	}
+	if len(entry.Event) > 0 {
+		to = append(appendKey(to, "event"), entry.Event...)
+	}
+	if entry.Outcome != "" {
+		to = appendTextOf(to, "outcome", entry.Outcome)
+	}
+	to = appendCallOf(to, "call", entry.Call)
+	if entry.Status != 0 {
+		to = appendNumberOf(to, "status", uint64(entry.Status))
+	}
+	if entry.Volume != 0 {
+		to = appendNumberOf(to, "volume", entry.Volume)
+	}
+	if entry.Detail != "" {
+		to = appendTextOf(to, "detail", entry.Detail)
+	}
+	to = appendCallOf(to, "sent", entry.Sent)
+	if entry.Row != nil {
+		to = appendRow(appendKey(to, "row"), entry.Row)
+	}
+	if entry.IsCut {
+		to = appendFlagOf(to, "cut", true)
+	}
+	return append(to, '}')
+}
+
+func appendCallOf(to []byte, key string, call *Call) []byte {
+	if call == nil {
+		return to
+	}
+	to = append(appendKey(to, key), `{"number":{`...)
+	to = appendNumberOf(to, "Session", call.Number.Session)
+	to = append(appendNumberOf(to, "Call", call.Number.Call), '}')
+	to = appendTextOf(to, "kind", call.Kind)
+	return append(appendTextOf(to, "plugin", call.Plugin), '}')
+}
+
+func appendRow(to []byte, row *records.Row) []byte {
+	to = append(to, '{')
+	to = appendTextOf(to, "Name", row.Name)
+	to = appendNumberOf(to, "Required", row.Required)
+	to = appendNumberOf(to, "Limit", row.Limit)
+	to = appendList(appendKey(to, "Capabilities"), row.Capabilities, appendCapability)
+	to = appendNumberOf(to, "Goal", uint64(row.Goal))
+	to = appendTextOf(to, "Node", row.Node)
+	to = appendTextOf(to, "Target", row.Target)
+	to = appendCapability(appendKey(to, "Capability"), row.Capability)
+	to = appendFlagOf(to, "Readonly", row.Readonly)
+	to = appendNumberOf(to, "ID", row.ID)
+	to = appendNumberOf(to, "Exists", uint64(row.Exists))
+	to = appendNumberOf(to, "Tries", uint64(row.Tries))
+	return append(appendList(appendKey(to, "At"), row.At, appendAt), '}')
+}
+
+// appendList appends a list: null of none, as encoding/json does.
+func appendList[T any](to []byte, list []T, appendOne func([]byte, T) []byte) []byte {
+	if list == nil {
+		return append(to, "null"...)
+	}
+	to = append(to, '[')
+	for at, it := range list {
+		if at > 0 {
+			to = append(to, ',')
+		}
+		to = appendOne(to, it)
+	}
+	return append(to, ']')
+}
+
+func appendAt(to []byte, at records.At) []byte {
+	to = append(to, '{')
+	to = appendTextOf(to, "Node", at.Node)
+	to = appendCapability(appendKey(to, "Capability"), at.Capability)
+	to = appendFlagOf(to, "Readonly", at.Readonly)
+	to = appendNumberOf(to, "Attached", uint64(at.Attached))
+	to = appendNumberOf(to, "Staged", uint64(at.Staged))
+	return append(appendList(appendKey(to, "Targets"), at.Targets, appendTarget), '}')
+}
+
+func appendTarget(to []byte, target records.Target) []byte {
+	to = append(to, '{')
+	to = appendTextOf(to, "Path", target.Path)
+	return append(appendNumberOf(to, "Published", uint64(target.Published)), '}')
+}
+
+// appendCapability appends one as a row has it.
+func appendCapability(to []byte, it frames.Capability) []byte {
+	to = append(to, '{')
+	to = appendFlagOf(to, "Mount", it.Mount)
+	to = appendTextOf(to, "FsType", it.FsType)
+	return append(appendNumberOf(to, "Mode", uint64(it.Mode)), '}')
+}
+
+// appendAccess appends one as a schedule has it.
+func appendAccess(to []byte, it frames.Capability) []byte {
+	to = append(to, '{')
+	if it.Mount {
+		to = appendTextOf(appendTextOf(to, "access", "mount"), "fs", it.FsType)
+	} else {
+		to = appendTextOf(to, "access", "block")
+	}
+	return append(appendNumberOf(to, "mode", uint64(it.Mode)), '}')
+}
+
+// eventOf is a command as a schedule has it, and its key.
+func eventOf(command host.Command) (key string, event json.RawMessage) {
+	key = commandNames[command.Kind]
+	to := appendKey(append(make([]byte, 0, 192), '{'), key)
+	switch command.Kind {
+	case host.Create:
+		capabilities := command.Capabilities
+		if capabilities == nil {
+			capabilities = []frames.Capability{}
+		}
+		to = appendList(appendKey(append(to, '{'), "capabilities"), capabilities, appendAccess)
+		to = appendNumberOf(to, "limit", command.Limit)
+		to = appendTextOf(to, "name", command.Name)
+		to = append(appendNumberOf(to, "required", command.Required), '}')
+	case host.Use:
+		to = appendAccess(appendKey(append(to, '{'), "capability"), command.Capability)
+		to = appendTextOf(to, "name", command.Name)
+		to = appendTextOf(to, "node", command.Node)
+		to = appendFlagOf(to, "readonly", command.Readonly)
+		to = append(appendTextOf(to, "target", command.Target), '}')
+	case host.Stop:
+		to = appendTextOf(append(to, '{'), "name", command.Name)
+		to = appendTextOf(to, "node", command.Node)
+		to = append(appendTextOf(to, "target", command.Target), '}')
+	default:
+		to = appendText(to, command.Name)
+	}
+	return key, append(to, '}')
+}
+
+var commandNames = [...]string{host.Create: "create", host.Use: "use", host.Stop: "stop", host.Delete: "delete"}
