@@ -14,6 +14,7 @@ import (
 	"tufayon/service/frames"
 	"tufayon/service/host"
 	"tufayon/service/host/hosttest"
+	"tufayon/service/replaying"
 )
 
 var (
@@ -116,7 +117,7 @@ func program(t *testing.T) string {
 }
 
 // replays wants that a run of a schedule comes to what happened.
-func (made *run) replays(schedule *Schedule, program, what string) {
+func (made *run) replays(schedule *replaying.Schedule, program, what string) {
 	made.Helper()
 	at, why, err := schedule.Check(ctx, program)
 	if err != nil || at > 0 {
