@@ -71,11 +71,13 @@ def starts_nothing(machine):
 
 
 def programs(machine):
-    """What needs no set: the program, its audit, the demonstration, and the library's file for pkg-config."""
+    """What needs no set: the program, its audit, the demonstration, the library's file for pkg-config, and what tufayonctl is linked with."""
     machine("csi-replay --version && test -f /usr/share/man/man1/csi-replay.1.gz")
     machine("printf '%s' '{\"greatest\":1000,\"nodes\":[]}' > /tmp/config && csi-replay controller /tmp/c.db /tmp/config < /dev/null && "
             "csi-replay record /tmp/c.db | tufayon-audit | grep -qx 'nothing found'")
     machine("cd /packages/old && apt-get install -y ./libtufayon-dev*.deb && grep -q '^Version: ' /usr/lib/x86_64-linux-gnu/pkgconfig/tufayon.pc")
+    _, said = machine("ldd /usr/bin/tufayonctl")
+    need("tufayonctl wants what only stores need", "libc.so" in said and "sqlite" not in said, said)
     machine("tufayon-demo start && tufayon-demo show && tufayon-demo stop")
 
 
@@ -87,7 +89,8 @@ def certify(system):
     system[1](f"cd /root && tufayon-certificates ca {SET} orchestrator controller client/admin node/m1 node/m2 node/m3 node/m4 node/m5")
     system[1](f"cd /root && tufayon-certificates ca {SET} " + " ".join(f"etcd/{NETWORK}.{it}" for it in THREE))
     for number, machine in system.machines.items():
-        machine(f"cp -R /etc/tufayon/example {FILES}")
+        machine(f"mkdir -p {FILES}")
+        machine(f"cp /etc/tufayon/example/*.json {FILES}")
         bring(system, f"node-m{number}", number, f"{FILES}/node", "root")
         bring(system, "client-admin", number, "/root/ca/client-admin", "root")
         if number in THREE:
@@ -211,6 +214,27 @@ def lose_power(system, number):
     reached(system)
 
 
+# ---- stores that are put back
+
+
+def put_back(system, number):
+    """A node's store is looked at while it is in use. An older copy in its place isn't used once a session begins, until the node has its own store again."""
+    machine, store, unit = system[number], f"{STORES}/node", f"tufayon-node@{SET}"
+    _, said = machine("csi-replay record /var/lib/tufayon/s1/node/node.db")
+    need("the record of a node that runs", f'"node":"m{number}"' in said.replace(" ", ""), said)
+    machine(f"systemctl stop {unit} && cp -a {store} /root/copy && systemctl start {unit}")
+    reached(system)
+    system.told("create x --size 1G --wait", "x .* yes")
+    system.told(f"use x m{number} /srv/x --wait", f"m{number}:/srv/x")
+    machine(f"systemctl stop {unit} && mv {store} /root/present && mv /root/copy {store} && systemctl start {unit}")
+    system.told("restart")
+    soon("the copy is found", lambda: re.search(f"^node:m{number} .*its store is an older copy", system.ask("nodes", check=False)[1], re.M))
+    machine(f"systemctl stop {unit} && rm -r {store} && mv /root/present {store} && systemctl start {unit}")
+    reached(system)
+    system.told(f"stop x m{number} /srv/x --wait")
+    system.told("delete x --wait")
+
+
 # ---- another list of nodes
 
 
@@ -298,7 +322,7 @@ def purge(machine, before, asks):
         machine("echo tufayon-service tufayon-service/remove_stores boolean true | debconf-set-selections")
     machine("apt-get purge -y tufayon tufayon-service")
     machine("dpkg --purge libtufayon-dev", check=False)
-    left = sorted(files_of(machine) - before - {"/srv/v"})
+    left = sorted(files_of(machine) - before - {"/srv/v", "/srv/x"})
     stores = [it for it in left if it.startswith("/var/lib/tufayon")]
     need(f"{machine.name}: something is left", left == stores, *left)
     need(f"{machine.name}: the stores", bool(stores) != asks, *stores)
