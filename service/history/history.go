@@ -118,6 +118,9 @@ func (made *History) keep(batch []host.Happening) {
 	for at := range batch {
 		entry := entryOf(&batch[at])
 		if entry.What == session || entry.What == lose {
+			if entry.What == session && made.isMissing(batch[at].After) {
+				entry.Detail += fmt.Sprintf("; what happened before, up to session %d, isn't all here", batch[at].After)
+			}
 			entry.Rows = made.begins(&batch[at])
 			entry.Config = made.config
 		} else if before := batch[at].Before; !same(made.rows[entry.Name], before) {
@@ -134,6 +137,14 @@ func (made *History) keep(batch []host.Happening) {
 	}
 	close(made.told)
 	made.told = make(chan struct{})
+}
+
+// isMissing says whether another service led, or nothing was kept, in the session after which this process's first one begins.
+func (made *History) isMissing(after uint64) bool {
+	if count := len(made.entries); count > 0 {
+		return made.isCut && made.entries[count-1].Session != after
+	}
+	return made.isCut && after > 0
 }
 
 // add takes an entry in, and lets the oldest go where there are too many.
