@@ -20,6 +20,7 @@ import (
 	"google.golang.org/grpc/status"
 
 	"tufayon/service/api"
+	"tufayon/service/api/terms"
 	"tufayon/service/api/wire"
 	"tufayon/service/carrying"
 	"tufayon/service/host"
@@ -154,7 +155,7 @@ func TestCommands(t *testing.T) {
 	wants(t, "in mode 8", err, codes.InvalidArgument, "capabilities")
 	_, err = client.Lose(ctx, &wire.LoseRequest{Node: "n1", Promise: "it is off"})
 	wants(t, "lost with another promise", err, codes.InvalidArgument, "promise")
-	lost, err := client.Lose(ctx, &wire.LoseRequest{Node: "n1", Promise: api.Promise})
+	lost, err := client.Lose(ctx, &wire.LoseRequest{Node: "n1", Promise: terms.Promise})
 	if err != nil || lost.Session != 2 {
 		t.Errorf("lost: %v, %v", lost, err)
 	}
@@ -183,10 +184,10 @@ func TestWaits(t *testing.T) {
 	var trailer metadata.MD
 	_, err = client.Nodes(ctx, &wire.NodesRequest{}, grpc.Trailer(&trailer))
 	wants(t, "the nodes", err, codes.Unavailable, "this service doesn't lead: 10.0.0.2:7101 does")
-	if said := trailer.Get(api.LeaderKey); len(said) != 1 || said[0] != where {
+	if said := trailer.Get(terms.LeaderKey); len(said) != 1 || said[0] != where {
 		t.Errorf("the trailer says %v", said)
 	}
-	for _, service := range []string{"", api.Service} {
+	for _, service := range []string{"", terms.Service} {
 		told, err := grpc_health_v1.NewHealthClient(connection).Check(ctx, &grpc_health_v1.HealthCheckRequest{Service: service})
 		if err != nil || told.Status != grpc_health_v1.HealthCheckResponse_NOT_SERVING {
 			t.Errorf("its health: %v, %v", told, err)
@@ -304,7 +305,7 @@ func TestRoles(t *testing.T) {
 		_, read := client.List(ctx, &wire.ListRequest{})
 		_, operate := client.Delete(ctx, &wire.DeleteRequest{Name: "w"})
 		_, restart := client.Restart(ctx, &wire.RestartRequest{})
-		_, lose := client.Lose(ctx, &wire.LoseRequest{Node: "n9", Promise: api.Promise})
+		_, lose := client.Lose(ctx, &wire.LoseRequest{Node: "n9", Promise: terms.Promise})
 		for _, it := range []struct {
 			err error
 			may bool
@@ -326,7 +327,7 @@ func TestRoles(t *testing.T) {
 	check("lose", true, true, true)
 	roles.Set(nil, nil)
 	check("nobody", false, false, false)
-	if _, err := grpc_health_v1.NewHealthClient(connection).Check(ctx, &grpc_health_v1.HealthCheckRequest{Service: api.Service}); err != nil {
+	if _, err := grpc_health_v1.NewHealthClient(connection).Check(ctx, &grpc_health_v1.HealthCheckRequest{Service: terms.Service}); err != nil {
 		t.Errorf("health: %v", err)
 	}
 	stream, err := grpc_reflection_v1alpha.NewServerReflectionClient(connection).ServerReflectionInfo(ctx)
@@ -334,7 +335,7 @@ func TestRoles(t *testing.T) {
 		t.Fatal(err)
 	}
 	stream.Send(&grpc_reflection_v1alpha.ServerReflectionRequest{
-		MessageRequest: &grpc_reflection_v1alpha.ServerReflectionRequest_FileContainingSymbol{FileContainingSymbol: api.Service},
+		MessageRequest: &grpc_reflection_v1alpha.ServerReflectionRequest_FileContainingSymbol{FileContainingSymbol: terms.Service},
 	})
 	if came, err := stream.Recv(); err != nil || came.GetFileDescriptorResponse() == nil {
 		t.Errorf("reflection: %v, %v", came, err)

@@ -12,6 +12,7 @@ import (
 	"google.golang.org/grpc/codes"
 	"google.golang.org/grpc/status"
 
+	"tufayon/service/api/terms"
 	"tufayon/service/api/wire"
 	"tufayon/service/secure"
 )
@@ -87,7 +88,7 @@ func (guard *guard) admit(ctx context.Context, path string) (string, error) {
 	}
 	service, method, _ := strings.Cut(strings.TrimPrefix(path, "/"), "/")
 	role, isOurs := needed[method]
-	if service != Service || !isOurs {
+	if service != terms.Service || !isOurs {
 		return peer.String(), nil
 	}
 	if guard.roles.Of(peer) < role {

@@ -17,6 +17,7 @@ import (
 	"google.golang.org/grpc/reflection"
 	"google.golang.org/grpc/status"
 
+	"tufayon/service/api/terms"
 	"tufayon/service/api/wire"
 	"tufayon/service/carrying"
 	"tufayon/service/history"
@@ -25,12 +26,6 @@ import (
 	"tufayon/service/tracing"
 )
 
-// Service is the name under which the service says whether it serves.
-const Service = "tufayon.v1.Orchestrator"
-
-// Promise is what a LoseRequest has to say, word by word.
-const Promise = "off for good, and its store never comes back"
-
 // mostListed is how many volumes a page of a list has at most.
 const mostListed = 1000
 
@@ -38,10 +33,6 @@ const mostListed = 1000
 type Plugins interface {
 	States() map[string]carrying.State
 }
-
-// LeaderKey is the key of gRPC's trailer that each call gets which a service refuses since it doesn't lead: its value is the address of the one that does,
-// or nothing where that isn't known. Nothing was done.
-const LeaderKey = "tufayon-leader"
 
 // Server serves an orchestrator, once this process leads.
 type Server struct {
@@ -77,7 +68,7 @@ func New(
 
 func (server *Server) tell(how grpc_health_v1.HealthCheckResponse_ServingStatus) {
 	server.health.SetServingStatus("", how)
-	server.health.SetServingStatus(Service, how)
+	server.health.SetServingStatus(terms.Service, how)
 }
 
 // Lead has the server serve an orchestrator from now on.
@@ -103,7 +94,7 @@ func (server *Server) host(ctx context.Context) (*host.Host, error) {
 	if leader != "" {
 		message += ": " + leader + " does"
 	}
-	_ = grpc.SetTrailer(ctx, metadata.Pairs(LeaderKey, leader)) // fails where gRPC isn't what calls
+	_ = grpc.SetTrailer(ctx, metadata.Pairs(terms.LeaderKey, leader)) // fails where gRPC isn't what calls
 	return nil, status.Error(codes.Unavailable, message)
 }
 
@@ -202,7 +193,7 @@ func (server *Server) Restart(ctx context.Context, _ *wire.RestartRequest) (*wir
 func (server *Server) Lose(ctx context.Context, request *wire.LoseRequest) (*wire.LoseResponse, error) {
 	judged := judge{}
 	judged.text("node", request.Node, maxNode)
-	if request.Promise != Promise {
+	if request.Promise != terms.Promise {
 		judged.refuse("promise")
 	}
 	if judged.err != nil {

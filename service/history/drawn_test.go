@@ -12,6 +12,7 @@ import (
 	"tufayon/service/frames"
 	"tufayon/service/host"
 	"tufayon/service/records"
+	"tufayon/service/replaying"
 )
 
 // Callers at work, calls that get no reply, sessions, a node that is lost and joins again, and a history that is cut and reopened: it replays at the end,
@@ -115,9 +116,9 @@ func knownTo(leads *host.Host) map[string]bool {
 }
 
 // comesTo wants that a run of a schedule ends with what the orchestrator knows, and is safe.
-func (made *run) comesTo(schedule *Schedule, program string, known map[string]bool) {
+func (made *run) comesTo(schedule *replaying.Schedule, program string, known map[string]bool) {
 	made.Helper()
-	output, err := schedule.replay(ctx, program, "run")
+	output, err := schedule.Replay(ctx, program, "run")
 	if err != nil {
 		made.Fatal(err)
 	}
@@ -145,9 +146,9 @@ func (made *run) comesTo(schedule *Schedule, program string, known map[string]bo
 }
 
 // sends wants that a run of a whole history sends the calls that the service sent, under their numbers.
-func (made *run) sends(schedule *Schedule, program string) {
+func (made *run) sends(schedule *replaying.Schedule, program string) {
 	made.Helper()
-	output, err := schedule.replay(ctx, program, "frames")
+	output, err := schedule.Replay(ctx, program, "frames")
 	if err != nil {
 		made.Fatal(err)
 	}

@@ -111,6 +111,9 @@ func (made *History) keep(batches [][]host.Happening) {
 func (made *History) take(it *host.Happening) {
 	entry := entryOf(it)
 	if entry.What == session || entry.What == lose {
+		if entry.What == session && made.isMissing(it.After) {
+			entry.Detail += fmt.Sprintf("; what happened before, up to session %d, isn't all here", it.After)
+		}
 		entry.Rows = made.begins(it)
 		entry.Config = made.config
 	} else if !same(made.rows[entry.Name], it.Before) {
@@ -120,6 +123,14 @@ func (made *History) take(it *host.Happening) {
 		made.file.write(&entry)
 	}
 	made.add(entry)
+}
+
+// isMissing says whether another service led, or nothing was kept, in the session after which this process's first one begins.
+func (made *History) isMissing(after uint64) bool {
+	if count := len(made.entries); count > 0 {
+		return made.isCut && made.entries[count-1].Session != after
+	}
+	return made.isCut && after > 0
 }
 
 // add takes an entry in, and lets the oldest go where there are too many.

@@ -14,6 +14,7 @@ import (
 	"tufayon/service/frames"
 	"tufayon/service/host"
 	"tufayon/service/host/hosttest"
+	"tufayon/service/replaying"
 )
 
 var (
@@ -116,7 +117,7 @@ func program(t *testing.T) string {
 }
 
 // replays wants that a run of a schedule comes to what happened.
-func (made *run) replays(schedule *Schedule, program, what string) {
+func (made *run) replays(schedule *replaying.Schedule, program, what string) {
 	made.Helper()
 	at, why, err := schedule.Check(ctx, program)
 	if err != nil || at > 0 {
@@ -204,14 +205,17 @@ func TestCut(t *testing.T) {
 	for _, name := range []string{"", "v", "w", "x"} {
 		made.replays(made.history.Schedule(name, 0), path, "after a restart: "+name)
 	}
+	made.saysAll("after a restart", true)
 	other := &run{T: t, kept: made.kept, carrier: made.carrier, file: filepath.Join(t.TempDir(), "other"), most: 100}
 	other.start("n1", "n2", "n3") // a leader with another file
 	other.must(stop("x", "n2", "/c"))
 	other.stop()
 	other.replays(other.history.Schedule("", 0), path, "a history that begins late")
+	other.saysAll("a history that begins late", false)
 	made.start("n1", "n2", "n3")
 	made.must(stop("x", "n2", "/b"))
 	made.stop()
+	made.saysAll("what is missing", false)
 	for _, name := range []string{"", "v", "w", "x"} {
 		made.replays(made.history.Schedule(name, 0), path, "what is missing: "+name)
 	}
@@ -222,6 +226,21 @@ func TestCut(t *testing.T) {
 	}
 	if cut == 0 || last[len(last)-1].IsCut {
 		t.Errorf("%d of %d are left out", cut, len(last))
+	}
+}
+
+// saysAll wants that the last session that began says that all before is there, or that it isn't.
+func (made *run) saysAll(what string, isAll bool) {
+	made.Helper()
+	said := ""
+	last, _, _ := made.history.Last("", Usual, 0)
+	for _, entry := range last {
+		if entry.What == session {
+			said = entry.Text()
+		}
+	}
+	if said == "" || strings.Contains(said, "isn't all here") == isAll {
+		made.Errorf("%s: %q", what, said)
 	}
 }
 

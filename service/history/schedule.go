@@ -1,42 +1,19 @@
 package history
 
 import (
-	"bytes"
 	"encoding/json"
 	"fmt"
 	"strings"
 
 	"tufayon/service/frames"
 	"tufayon/service/records"
+	"tufayon/service/replaying"
 )
-
-// A Schedule is what happened as csi-replay runs and draws it: docs/LINES.md, "Schedules". What a driver did with a call is known by its reply alone: so
-// a call is delivered when its reply came, and one that got none never.
-type Schedule struct {
-	Config   json.RawMessage
-	Events   []json.RawMessage
-	Outcomes []string // what each event came to, as a report has it
-}
-
-// JSON is the schedule, an event a line.
-func (made *Schedule) JSON() []byte {
-	var text bytes.Buffer
-	fmt.Fprintf(&text, "{\"config\":%s,\n \"events\":[", made.Config)
-	for at, event := range made.Events {
-		if at > 0 {
-			text.WriteByte(',')
-		}
-		text.WriteString("\n  ")
-		text.Write(event)
-	}
-	text.WriteString("\n]}\n")
-	return text.Bytes()
-}
 
 // Schedule gives what is known as a schedule, of all volumes, or of one by its name: then sessions between which nothing happened to it are one, and
 // what other volumes took of a node's slots is told by the controller's configuration. It begins with what brings the volumes to where they were before
 // the first event that is kept, or of one volume before the last so many, if that isn't 0. Numbers of calls may differ from those of the service.
-func (made *History) Schedule(name string, most int) *Schedule {
+func (made *History) Schedule(name string, most int) *replaying.Schedule {
 	made.mutex.Lock()
 	defer made.mutex.Unlock()
 	made.keep(made.come.take())
@@ -102,7 +79,7 @@ type making struct {
 	name     string // of the one volume, or empty
 	first    base
 	nodes    map[string]bool // those that concern the one volume; nil for all
-	made     Schedule
+	made     replaying.Schedule
 	frames   int
 	open     map[frames.Number]*delivery // calls by their numbers
 	last     map[string]*delivery        // by the volume: the last call that was sent
@@ -125,7 +102,7 @@ func newMaking(name string, first base) *making {
 	return it
 }
 
-func (it *making) schedule() *Schedule {
+func (it *making) schedule() *replaying.Schedule {
 	if it.name == "" {
 		it.flush()
 	}

@@ -21,6 +21,7 @@ type core struct {
 	nodes   []string // those that it lists
 	library *plugin.Orchestrator
 	session uint64
+	after   uint64                  // the session that the store had before the present one, 0 where it had none
 	rows    map[uint64]*records.Row // by their keys; what was asked since the last commit is in them
 	names   map[string]uint64       // the rows' keys
 	counts  counts                  // of the rows
@@ -91,6 +92,10 @@ func (core *core) begin(ctx context.Context, nodes []string) error {
 	if err != nil {
 		return err
 	}
+	after, err := sessionOf(parts)
+	if err != nil {
+		return err
+	}
 	before, err := core.before(parts)
 	if err != nil {
 		return err
@@ -112,7 +117,7 @@ func (core *core) begin(ctx context.Context, nodes []string) error {
 		return fmt.Errorf("the session's commit: %w", err)
 	}
 	core.free()
-	core.library, core.nodes, core.changes = made, nodes, nil
+	core.library, core.nodes, core.changes, core.after = made, nodes, nil, after
 	core.rows, core.names, core.counts = map[uint64]*records.Row{}, map[string]uint64{}, counts{}
 	for _, part := range parts {
 		if _, err := core.take(store.Change{Key: part.Key, Value: part.Value}); err != nil {
@@ -120,6 +125,18 @@ func (core *core) begin(ctx context.Context, nodes []string) error {
 		}
 	}
 	return core.takeAll(changes)
+}
+
+// sessionOf is the session of a record that has these parts, 0 where there are none.
+func sessionOf(parts []store.Part) (uint64, error) {
+	if len(parts) == 0 {
+		return 0, nil
+	}
+	session, err := records.OrchestratorSession(parts[0].Value)
+	if err != nil {
+		return 0, fmt.Errorf("%w: its head: %v", plugin.BadRecord, err)
+	}
+	return session, nil
 }
 
 // before is a record of these parts of which the next session is that of the clock, in seconds since 1970, if it isn't a later one: so copies of a store

@@ -47,6 +47,7 @@ type Happening struct {
 	Why     string       // of an Unanswered or a Began
 	Sent    *frames.Call // the call that is made now, if one is
 	Node    string       // of a Lost
+	After   uint64       // of a Began: the session that the store had before, 0 where it had none
 
 	Before, Row *records.Row   // as the volume was, and is now, of the first four: nil where it has none
 	Nodes       []string       // the list, of the last two
@@ -61,7 +62,7 @@ func (host *Host) tells(work *work, it Happening) {
 	}
 	it.Time, it.Session = time.Now(), host.core.session
 	if it.What == Began || it.What == Lost {
-		it.Nodes, it.Forgotten = host.core.nodes, work.forgotten
+		it.Nodes, it.Forgotten, it.After = host.core.nodes, work.forgotten, host.core.after
 		it.Rows = make([]*records.Row, 0, len(host.core.rows))
 		for _, row := range host.core.rows {
 			it.Rows = append(it.Rows, row)

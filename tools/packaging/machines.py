@@ -67,6 +67,13 @@ class Machine:
         self.network = network.connect(number)
         self.cgroup = f"{cgroups()}/{self.network}"
         self.process = self.init = None
+        os.mkdir(self.folder)
+        self.empty()
+
+    def empty(self):
+        """Gives it an empty disk, in place of the one that it has."""
+        for it in ("disk", "work"):
+            shutil.rmtree(f"{self.folder}/{it}", ignore_errors=True)
         os.makedirs(f"{self.folder}/disk/etc")
         with open(f"{self.folder}/disk/etc/hostname", "w", encoding="ascii") as file:
             file.write(f"{self.name}\n")

@@ -71,11 +71,13 @@ def starts_nothing(machine):
 
 
 def programs(machine):
-    """What needs no set: the program, its audit, the demonstration, and the library's file for pkg-config."""
+    """What needs no set: the program, its audit, the demonstration, the library's file for pkg-config, and what tufayonctl is linked with."""
     machine("csi-replay --version && test -f /usr/share/man/man1/csi-replay.1.gz")
     machine("printf '%s' '{\"greatest\":1000,\"nodes\":[]}' > /tmp/config && csi-replay controller /tmp/c.db /tmp/config < /dev/null && "
             "csi-replay record /tmp/c.db | tufayon-audit | grep -qx 'nothing found'")
     machine("cd /packages/old && apt-get install -y ./libtufayon-dev*.deb && grep -q '^Version: ' /usr/lib/x86_64-linux-gnu/pkgconfig/tufayon.pc")
+    _, said = machine("ldd /usr/bin/tufayonctl")
+    need("tufayonctl wants what only stores need", "libc.so" in said and "sqlite" not in said, said)
     machine("tufayon-demo start && tufayon-demo show && tufayon-demo stop")
 
 
@@ -87,7 +89,8 @@ def certify(system):
     system[1](f"cd /root && tufayon-certificates ca {SET} orchestrator controller client/admin node/m1 node/m2 node/m3 node/m4 node/m5")
     system[1](f"cd /root && tufayon-certificates ca {SET} " + " ".join(f"etcd/{NETWORK}.{it}" for it in THREE))
     for number, machine in system.machines.items():
-        machine(f"cp -R /etc/tufayon/example {FILES}")
+        machine(f"mkdir -p {FILES}")
+        machine(f"cp /etc/tufayon/example/*.json {FILES}")
         bring(system, f"node-m{number}", number, f"{FILES}/node", "root")
         bring(system, "client-admin", number, "/root/ca/client-admin", "root")
         if number in THREE:
@@ -107,9 +110,14 @@ def bring(system, name, number, folder, user):
 
 def renew(system, number):
     """A node's certificate, while it runs: it is of use from the next connection on."""
+    served = f"openssl s_client -connect {NETWORK}.{number}:7002 < /dev/null 2> /dev/null | openssl x509 -noout -serial -enddate"
+    _, before = system[1](served)
     system[1](f"cd /root && tufayon-certificates ca {SET} node/m{number}")
     bring(system, f"node-m{number}", number, f"{FILES}/node", "root")
-    system.told("nodes", "node:m4 +READY")
+    _, after = system[1](served)
+    _, made = system[1](f"openssl x509 -noout -serial -enddate -in /root/ca/node-m{number}/cert.pem")
+    need("the new certificate is served", after == made != before, before, after, made)
+    system.told("nodes", f"node:m{number} +READY")
 
 
 # ---- the first start
@@ -127,6 +135,7 @@ def etcd_file(number):
     own, every = f"https://{NETWORK}.{number}", ",".join(f"m{it}=https://{NETWORK}.{it}:2380" for it in THREE)
     files = "\n".join(f"ETCD{of}_{what}_FILE=/etc/etcd/{file}.pem" for of in ("", "_PEER") for what, file in (("CERT", "cert"), ("KEY", "key"), ("TRUSTED_CA", "ca")))
     return (f"ETCD_DATA_DIR=/var/lib/etcd/{SET}\nETCD_INITIAL_CLUSTER={every}\nETCD_INITIAL_CLUSTER_TOKEN={SET}\n"
+            "ETCD_AUTO_COMPACTION_MODE=periodic\nETCD_AUTO_COMPACTION_RETENTION=1h\n"
             f"ETCD_LISTEN_PEER_URLS={own}:2380\nETCD_INITIAL_ADVERTISE_PEER_URLS={own}:2380\n"
             f"ETCD_LISTEN_CLIENT_URLS={own}:2379\nETCD_ADVERTISE_CLIENT_URLS={own}:2379\n"
             f"ETCD_CLIENT_CERT_AUTH=true\nETCD_PEER_CLIENT_CERT_AUTH=true\n{files}\n")
@@ -193,7 +202,7 @@ def watch(system):
 def leader(system):
     """The machine of the orchestrator that leads, as systemd is told."""
     for number in system.of("orchestrator"):
-        if "leads" in system[number](f"systemctl show -P StatusText tufayon-orchestrator@{SET}")[1]:
+        if "leads" in system[number](f"systemctl show -P StatusText tufayon-orchestrator@{SET} tufayon-controller@{SET}")[1]:
             return number
     raise Failed("nobody leads")
 
@@ -211,19 +220,40 @@ def lose_power(system, number):
     reached(system)
 
 
+# ---- stores that are put back
+
+
+def put_back(system, number):
+    """A node's store is looked at while it is in use. An older copy in its place isn't used once a session begins, until the node has its own store again."""
+    machine, store, unit = system[number], f"{STORES}/node", f"tufayon-node@{SET}"
+    _, said = machine("csi-replay record /var/lib/tufayon/s1/node/node.db")
+    need("the record of a node that runs", f'"node":"m{number}"' in said.replace(" ", ""), said)
+    machine(f"systemctl stop {unit} && cp -a {store} /root/copy && systemctl start {unit}")
+    reached(system)
+    system.told("create x --size 1G --wait", "x .* yes")
+    system.told(f"use x m{number} /srv/x --wait", f"m{number}:/srv/x")
+    machine(f"systemctl stop {unit} && mv {store} /root/present && mv /root/copy {store} && systemctl start {unit}")
+    system.told("restart")
+    soon("the copy is found", lambda: re.search(f"^node:m{number} .*its store is an older copy", system.ask("nodes", check=False)[1], re.M))
+    machine(f"systemctl stop {unit} && rm -r {store} && mv /root/present {store} && systemctl start {unit}")
+    reached(system)
+    system.told(f"stop x m{number} /srv/x --wait")
+    system.told("delete x --wait")
+
+
 # ---- another list of nodes
 
 
 def listed(system, without):
     """Leaves a node out of the list, and takes it in again."""
     for command in (f"sed -i.before '/\"id\": \"m{without}\"/d' {FILES}/set.json", f"mv {FILES}/set.json.before {FILES}/set.json"):
-        for part in ("controller", "orchestrator"):
-            for number in system.of(part):
-                if part == "controller" or number not in CONTROLLERS:
-                    system[number](command)
-                system[number](f"systemctl reload tufayon-{part}@{SET}")
+        for number in system.of("orchestrator"):
+            system[number](command)
+            system[number](f"systemctl reload tufayon-orchestrator@{SET}")
         is_there = "mv" in command
         soon("another list", lambda want=is_there: (f"node:m{without} " in system.ask("nodes")[1]) == want)
+        for number in system.of("controller"):
+            system[number](f"systemctl reload tufayon-controller@{SET}")
     reached(system)
 
 
@@ -252,10 +282,16 @@ def upgrade(system, packages, version, parts, used, back=""):
 def lose(system, number, successor):
     """A node's machine is off for good while a volume is used there. It gives the session with which another may join under its id."""
     system[number].kill()
+    session = lost(system, number)
+    move(system, number, successor)
+    return session
+
+
+def lost(system, number):
+    """Declares a node lost, and gives the session with which another may join."""
     _, said = system.ask(f"lose m{number} --promise '{PROMISE}'")
     session = re.search(r"session (\d+)", said)
     need("lose tells a session", session, said)
-    move(system, number, successor)
     return session.group(1)
 
 
@@ -272,6 +308,38 @@ def join(system, number, session):
     for it in system.of("orchestrator"):
         system[it](f"systemctl reload tufayon-orchestrator@{SET}")
     reached(system)
+
+
+# ---- one of the three that is gone for good
+
+
+MEMBERS = f"""export ETCDCTL_API=3 ETCDCTL_ENDPOINTS=https://{NETWORK}.1:2379,https://{NETWORK}.2:2379
+export ETCDCTL_CACERT=/etc/etcd/ca.pem ETCDCTL_CERT=/etc/etcd/cert.pem ETCDCTL_KEY=/etc/etcd/key.pem
+"""
+
+
+def replace(system, number):
+    """A machine with an orchestrator, a member of etcd and a node is gone with its disk. Another one in its place gets its files, and joins."""
+    machine = system[number]
+    _, files = machine("cd /root && umask 077 && tar -C / -czf files.tgz etc/tufayon/s1 etc/etcd etc/default/etcd && base64 -w 0 files.tgz")
+    machine.kill()
+    soon("another leads", lambda: system.ask("list", check=False)[0] == 0)
+    session = lost(system, number)
+    system[1](f"""{MEMBERS}etcdctl member remove "$(etcdctl member list | sed -n 's/, .*, m{number}, .*//p')"
+etcdctl member add m{number} --peer-urls=https://{NETWORK}.{number}:2380""")
+    machine.empty()
+    machine.start()
+    install(machine, "/packages/new")
+    machine(f"echo {files} | base64 -d | tar -C / -xz")
+    machine("echo ETCD_INITIAL_CLUSTER_STATE=existing >> /etc/default/etcd\nsystemctl restart etcd")
+    machine(f"sed -i 's/\"node\": /\"session\": {session}, \"node\": /' {FILES}/node.json")
+    for part in ("node", "orchestrator"):
+        machine(f"systemctl enable --now tufayon-{part}@{SET}")
+    for it in system.of("orchestrator"):
+        system[it](f"systemctl reload tufayon-orchestrator@{SET}")
+    reached(system)
+    _, said = system[1](f"{MEMBERS}etcdctl endpoint health --cluster")
+    need("three members", said.count("is healthy") == 3, said)
 
 
 # ---- taking it away
@@ -298,7 +366,7 @@ def purge(machine, before, asks):
         machine("echo tufayon-service tufayon-service/remove_stores boolean true | debconf-set-selections")
     machine("apt-get purge -y tufayon tufayon-service")
     machine("dpkg --purge libtufayon-dev", check=False)
-    left = sorted(files_of(machine) - before - {"/srv/v"})
+    left = sorted(files_of(machine) - before - {"/srv/v", "/srv/x"})
     stores = [it for it in left if it.startswith("/var/lib/tufayon")]
     need(f"{machine.name}: something is left", left == stores, *left)
     need(f"{machine.name}: the stores", bool(stores) != asks, *stores)

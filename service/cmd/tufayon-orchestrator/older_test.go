@@ -2,6 +2,7 @@ package main
 
 import (
 	"context"
+	"database/sql"
 	"errors"
 	"fmt"
 	"os"
@@ -12,6 +13,7 @@ import (
 
 	"tufayon/service/api/wire"
 	"tufayon/service/program"
+	"tufayon/service/records"
 	"tufayon/service/secure"
 	"tufayon/service/store"
 )
@@ -138,4 +140,153 @@ func TestStoresPutBack(t *testing.T) {
 	}
 	use("w", "n2")
 	stop()
+}
+
+// of reads a store's parts, which nobody else has open.
+func (made *files) of(name string) (store.Store, []store.Part) {
+	made.t.Helper()
+	kept, err := store.OpenSQLite(context.Background(), made.path(name+".db"))
+	if err != nil {
+		made.t.Fatal(err)
+	}
+	made.t.Cleanup(func() { kept.Close() })
+	parts, err := kept.Load(context.Background())
+	if err != nil || len(parts) == 0 {
+		made.t.Fatalf("%s: %d parts, %v", name, len(parts), err)
+	}
+	return kept, parts
+}
+
+// asBefore has a store as programs of before left it: of a version of records, without a session in its head before version 3, and with nothing beside it.
+func (made *files) asBefore(name string, version byte) {
+	made.t.Helper()
+	kept, parts := made.of(name)
+	var changes []store.Change
+	for _, part := range parts {
+		value := append([]byte{version}, part.Value[1:]...)
+		if part.Key == records.HeadKey && version < 3 {
+			value = value[:len(value)-8]
+		}
+		changes = append(changes, store.Change{Key: part.Key, Value: value})
+	}
+	if err := kept.Commit(context.Background(), true, changes); err != nil {
+		made.t.Fatal(err)
+	}
+	kept.Close()
+	db, err := sql.Open("sqlite3", made.path(name+".db"))
+	if err == nil {
+		_, err = db.Exec("PRAGMA user_version = 0")
+	}
+	if err != nil {
+		made.t.Fatal(err)
+	}
+	db.Close()
+	beside, err := filepath.Glob(made.path(name + ".db.beside*"))
+	if err != nil {
+		made.t.Fatal(err)
+	}
+	for _, it := range beside {
+		if err := os.Remove(it); err != nil {
+			made.t.Fatal(err)
+		}
+	}
+}
+
+// A shard is a controller, two nodes and the service, each of them its own program.
+type shard struct {
+	*files
+	client wire.OrchestratorClient
+	ends   []func()
+}
+
+var shardPlugins = map[string]secure.Role{"controller": secure.Controller, "n1": secure.Node, "n2": secure.Node}
+
+func (made *shard) start() {
+	for name, role := range shardPlugins {
+		made.ends = append(made.ends, made.ours(role, name))
+	}
+	client, stop := made.files.start(true)
+	made.client = client
+	made.ends = append(made.ends, func() {
+		if status := stop(); status != 0 {
+			made.t.Errorf("it ended with %d", status)
+		}
+	})
+}
+
+// stop ends all of it, the service first.
+func (made *shard) stop() {
+	for at := len(made.ends) - 1; at >= 0; at-- {
+		made.ends[at]()
+	}
+	made.ends = nil
+}
+
+// wants wants that a volume is used at this node alone, or nowhere.
+func (made *shard) wants(volume *wire.Volume, err error, node string) {
+	made.t.Helper()
+	var used []string
+	for _, at := range volume.GetAt() {
+		for _, target := range at.Targets {
+			used = append(used, fmt.Sprint(at.Node, target.Path, " ", target.Published))
+		}
+	}
+	want := ""
+	if node != "" {
+		want = node + "/a YES"
+	}
+	if said := strings.Join(used, ", "); err != nil || said != want {
+		made.t.Fatalf("it is used at %q, not %q: %v", said, want, err)
+	}
+}
+
+// Stores of each version of records, as programs of before left them while a volume was in use: the shard goes on over them, with what was so, and they
+// are of the present version then. An orchestrator's are of version 3 only.
+func TestStoresOfBefore(t *testing.T) {
+	for version := byte(1); version <= 3; version++ {
+		t.Run(fmt.Sprint("version ", version), func(t *testing.T) { goesOnOver(t, version) })
+	}
+}
+
+func goesOnOver(t *testing.T, version byte) {
+	ctx, cancel := context.WithTimeout(context.Background(), 3*within)
+	defer cancel()
+	folder := t.TempDir()
+	made := &shard{files: &files{t: t, folder: folder, address: "unix://" + filepath.Join(folder, "o.sock"), process: "process.json"}}
+	made.write(made.process, fmt.Sprintf(`{"set": "set.json", "store": "o.db", "listen": %q}`, made.address))
+	made.list("n1", "n2")
+	made.start()
+	use := func(node string) {
+		t.Helper()
+		volume, err := made.client.Use(ctx, &wire.UseRequest{Name: "v", Node: node, Target: "/a", Capability: block, Wait: wire.Wait_AT_REST})
+		made.wants(volume, err, node)
+	}
+	for _, name := range []string{"gone", "v"} {
+		request := &wire.CreateRequest{Name: name, Required: 10, Capabilities: []*wire.Capability{block}, Wait: wire.Wait_AT_REST}
+		if volume, err := made.client.Create(ctx, request); err != nil || !volume.Reached {
+			t.Fatalf("%v, %v", volume, err)
+		}
+	}
+	if _, err := made.client.Delete(ctx, &wire.DeleteRequest{Name: "gone", Wait: wire.Wait_AT_REST}); err != nil {
+		t.Fatal(err)
+	}
+	use("n1")
+	made.stop()
+	made.asBefore("o", 3)
+	for name := range shardPlugins {
+		made.asBefore(name, version)
+	}
+
+	made.start()
+	volume, err := made.client.Get(ctx, &wire.GetRequest{Name: "v"})
+	made.wants(volume, err, "n1")
+	volume, err = made.client.Stop(ctx, &wire.StopRequest{Name: "v", Node: "n1", Target: "/a", Wait: wire.Wait_AT_REST})
+	made.wants(volume, err, "")
+	use("n2")
+	made.stop()
+	for name := range shardPlugins {
+		if _, parts := made.of(name); parts[0].Value[0] != 3 {
+			t.Errorf("%s: its head is of version %d", name, parts[0].Value[0])
+		}
+	}
 }

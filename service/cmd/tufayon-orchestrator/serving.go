@@ -133,7 +133,7 @@ func (running *service) lead(ctx context.Context, kept store.Store, served <-cha
 	running.server.Lead(running.host)
 	running.watching.lead(running.host)
 	defer running.watching.lead(nil)
-	daemon.Status(fmt.Sprintf("leads, session %d", running.host.Session()))
+	daemon.Status("leads")
 	running.log.Info("serves", zap.String("address", running.settings.Process.Listen), zap.Uint64("session", running.host.Session()))
 	return running.wait(ctx, served)
 }

@@ -10,7 +10,7 @@ import (
 
 	"github.com/spf13/cobra"
 
-	"tufayon/service/api"
+	"tufayon/service/api/terms"
 	"tufayon/service/api/wire"
 )
 
@@ -202,8 +202,8 @@ func (ctl *ctl) lose() *cobra.Command {
 	var promise string
 	command := ctl.asked("lose NODE", "declares a node lost: its machine is off for good, and its store never comes back", 1,
 		func(ctx context.Context, client wire.OrchestratorClient, words []string) error {
-			if promise != api.Promise {
-				return fmt.Errorf("%w: if it is so, say --promise %q", errUsage, api.Promise)
+			if promise != terms.Promise {
+				return fmt.Errorf("%w: if it is so, say --promise %q", errUsage, terms.Promise)
 			}
 			response, err := client.Lose(ctx, &wire.LoseRequest{Node: words[0], Promise: promise})
 			if err != nil {

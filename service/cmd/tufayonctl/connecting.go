@@ -16,7 +16,7 @@ import (
 	"google.golang.org/grpc/keepalive"
 	"google.golang.org/grpc/status"
 
-	"tufayon/service/api"
+	"tufayon/service/api/terms"
 	"tufayon/service/api/wire"
 	"tufayon/service/carrying"
 	"tufayon/service/secure"
@@ -32,7 +32,7 @@ type connecting struct {
 }
 
 // leading has a connection of several addresses go to the service that leads, by its health.
-const leading = `{"loadBalancingConfig":[{"round_robin":{}}],"healthCheckConfig":{"serviceName":"` + api.Service + `"}}`
+const leading = `{"loadBalancingConfig":[{"round_robin":{}}],"healthCheckConfig":{"serviceName":"` + terms.Service + `"}}`
 
 // client gives a client of the service, a context for its calls, and what ends both. Of several addresses, with commas between, it is that of the service
 // that leads, which is waited for; of one that doesn't lead it is that which it says.

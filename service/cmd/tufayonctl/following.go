@@ -10,7 +10,7 @@ import (
 	"google.golang.org/grpc/metadata"
 	"google.golang.org/grpc/status"
 
-	"tufayon/service/api"
+	"tufayon/service/api/terms"
 )
 
 const (
@@ -28,7 +28,7 @@ type following struct {
 
 // leader is what a refusal's trailer says: where the service is that leads, nothing where that isn't known. It says whether the call is to be made again.
 func leader(err error, trailer metadata.MD) (address string, isRefusal bool) {
-	said := trailer.Get(api.LeaderKey)
+	said := trailer.Get(terms.LeaderKey)
 	if status.Code(err) != codes.Unavailable || len(said) != 1 {
 		return "", false
 	}

@@ -12,7 +12,7 @@ import (
 	"google.golang.org/grpc"
 
 	"tufayon/service/api/wire"
-	"tufayon/service/history"
+	"tufayon/service/replaying"
 )
 
 // mostHistory is how large the service's whole history may be, in bytes.
@@ -97,8 +97,8 @@ func (ctl *ctl) draw() *cobra.Command {
 }
 
 // read is the schedule of a response.
-func read(response *wire.HistoryResponse) (*history.Schedule, error) {
-	schedule := &history.Schedule{Outcomes: response.Outcomes}
+func read(response *wire.HistoryResponse) (*replaying.Schedule, error) {
+	schedule := &replaying.Schedule{Outcomes: response.Outcomes}
 	err := json.Unmarshal([]byte(response.Schedule), schedule)
 	return schedule, err
 }

@@ -14,6 +14,7 @@ import (
 	"go.uber.org/zap"
 
 	"tufayon/service/api"
+	"tufayon/service/api/terms"
 	"tufayon/service/carrying"
 	"tufayon/service/frames"
 	"tufayon/service/history"
@@ -100,7 +101,7 @@ func TestWords(t *testing.T) {
 	says(t, address, "delete|v|--wait", 0, "no")
 	says(t, address, "restart", 0, "session 2")
 	says(t, address, "lose|n1", 2, `--promise "off for good, and its store never comes back"`)
-	says(t, address, "lose|n1|--promise|"+api.Promise, 0, "n1 is lost", "session 3")
+	says(t, address, "lose|n1|--promise|"+terms.Promise, 0, "n1 is lost", "session 3")
 	says(t, address, "watch|--current|--timeout|50ms", 3, "DeadlineExceeded")
 }
 

@@ -1,4 +1,5 @@
-package history
+// Package replaying has csi-replay, a program, run and draw what happened.
+package replaying
 
 import (
 	"bytes"
@@ -16,13 +17,36 @@ const mostOutput = 64 << 20
 // errLarge says that a picture is larger.
 var errLarge = errors.New("it is too large")
 
-// Draw has csi-replay, a program, draw it.
-func (made *Schedule) Draw(ctx context.Context, program string) ([]byte, error) {
-	return made.replay(ctx, program, "draw")
+// A Schedule is what happened as csi-replay runs and draws it: docs/LINES.md, "Schedules". What a driver did with a call is known by its reply alone: so
+// a call is delivered when its reply came, and one that got none never.
+type Schedule struct {
+	Config   json.RawMessage
+	Events   []json.RawMessage
+	Outcomes []string // what each event came to, as a report has it
 }
 
-// replay has csi-replay do something with it.
-func (made *Schedule) replay(ctx context.Context, program, what string) ([]byte, error) {
+// JSON is the schedule, an event a line.
+func (made *Schedule) JSON() []byte {
+	var text bytes.Buffer
+	fmt.Fprintf(&text, "{\"config\":%s,\n \"events\":[", made.Config)
+	for at, event := range made.Events {
+		if at > 0 {
+			text.WriteByte(',')
+		}
+		text.WriteString("\n  ")
+		text.Write(event)
+	}
+	text.WriteString("\n]}\n")
+	return text.Bytes()
+}
+
+// Draw has csi-replay, a program, draw it.
+func (made *Schedule) Draw(ctx context.Context, program string) ([]byte, error) {
+	return made.Replay(ctx, program, "draw")
+}
+
+// Replay has csi-replay do something with it.
+func (made *Schedule) Replay(ctx context.Context, program, what string) ([]byte, error) {
 	file, err := os.CreateTemp("", "schedule")
 	if err != nil {
 		return nil, err
@@ -52,7 +76,7 @@ func (made *Schedule) replay(ctx context.Context, program, what string) ([]byte,
 
 // Check has csi-replay run it, and says at which event, from 1, the run comes to something else than what happened, and to what: 0 where it doesn't.
 func (made *Schedule) Check(ctx context.Context, program string) (at int, why string, err error) {
-	output, err := made.replay(ctx, program, "run")
+	output, err := made.Replay(ctx, program, "run")
 	if err != nil {
 		return 0, "", err
 	}
