@@ -3,7 +3,6 @@ package driver
 import (
 	"context"
 	"crypto/sha256"
-	"encoding/json"
 	"errors"
 
 	"google.golang.org/grpc/codes"
@@ -29,7 +28,7 @@ func asking(does hooks.Hooks, body frames.Body, deed hooks.Deed, had had) servin
 	digest := sha256.Sum256(deed.Input())
 	request.Like = string(digest[:])
 	request.Judge = func(serving.Known) error { return refusalOf(does.Judge(deed)) }
-	request.Act = func(ctx context.Context, known serving.Known) ([]byte, error) {
+	request.Act = func(ctx context.Context, known serving.Known) (any, error) {
 		has, err := had(known)
 		if err != nil || !has {
 			return nil, err
@@ -40,7 +39,7 @@ func asking(does hooks.Hooks, body frames.Body, deed hooks.Deed, had had) servin
 }
 
 // do has a deed done, and keeps what it answers. What it fails with tells nothing private.
-func do(ctx context.Context, does hooks.Hooks, deed hooks.Deed, known serving.Known) ([]byte, error) {
+func do(ctx context.Context, does hooks.Hooks, deed hooks.Deed, known serving.Known) (any, error) {
 	deed.Volume, deed.Number = known.Volume, known.Number
 	if deed.Staging == "" {
 		deed.Staging = known.Staging // of a NodeUnpublishVolume, which doesn't say it
@@ -49,7 +48,7 @@ func do(ctx context.Context, does hooks.Hooks, deed hooks.Deed, known serving.Kn
 	if err != nil {
 		return nil, errors.New(deed.Hide(err.Error()))
 	}
-	return json.Marshal(answer)
+	return answer, nil
 }
 
 // refusalOf is the refusal of a call that its hooks can't do, whatever is there.
@@ -63,14 +62,8 @@ func refusalOf(err error) error {
 	return status.Error(codes.FailedPrecondition, err.Error())
 }
 
-// readActed reads what a call's deed answered. Nothing was done where there are no bytes.
-func readActed(bytes []byte) (hooks.Answer, error) {
-	answer := hooks.Answer{}
-	if len(bytes) == 0 {
-		return answer, nil
-	}
-	if err := json.Unmarshal(bytes, &answer); err != nil {
-		return hooks.Answer{}, status.Error(codes.Internal, "what was kept of the deed")
-	}
-	return answer, nil
+// answerOf is what a call's deed answered, which is nothing where nothing was done.
+func answerOf(acted any) hooks.Answer {
+	answer, _ := acted.(hooks.Answer)
+	return answer
 }

@@ -45,11 +45,7 @@ func (controller *controller) CreateVolume(ctx context.Context, request *wire.Cr
 	if err != nil {
 		return nil, err
 	}
-	acted, err := readActed(answer.Acted)
-	if err != nil {
-		return nil, err
-	}
-	return translate.Created(answer.Reply, answer.Row, acted.VolumeContext)
+	return translate.Created(answer.Reply, answer.Row, answerOf(answer.Acted).VolumeContext)
 }
 
 // DeleteVolume has a volume deleted.
@@ -78,8 +74,7 @@ func (controller *controller) ControllerPublishVolume(
 	if err != nil {
 		return nil, err
 	}
-	acted, err := readActed(answer.Acted)
-	return &wire.ControllerPublishVolumeResponse{PublishContext: acted.PublishContext}, err
+	return &wire.ControllerPublishVolumeResponse{PublishContext: answerOf(answer.Acted).PublishContext}, nil
 }
 
 // ControllerUnpublishVolume has a volume detached from a node. Where no node is named, that is from all of them: a call for each, which one number of

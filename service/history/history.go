@@ -252,7 +252,7 @@ func (made *History) Last(name string, most int, behind uint64) (last []Entry, c
 	came, more := made.come.more()
 	made.keep(came)
 	count = made.before + uint64(len(made.entries))
-	if count > behind && most > 0 {
+	if name == "" && count > behind && most > 0 {
 		last = make([]Entry, 0, least(count-behind, uint64(most), uint64(len(made.entries))))
 	}
 	for at := len(made.entries) - 1; at >= 0 && made.before+uint64(at) >= behind && len(last) < most; at-- {

@@ -138,7 +138,7 @@ func TestUndoing(t *testing.T) {
 	wants(t, core, 1, 4, attach(2, "n1"), codes.ResourceExhausted)
 	begun, goOn, ran := make(chan struct{}), make(chan error), 0
 	undoing := detach(1, "n1")
-	undoing.Act = func(context.Context, serving.Known) ([]byte, error) {
+	undoing.Act = func(context.Context, serving.Known) (any, error) {
 		ran++
 		close(begun)
 		return nil, <-goOn
@@ -202,7 +202,7 @@ func TestJoined(t *testing.T) {
 		t.Errorf("the store has %d parts", len(kept.parts))
 	}
 	failing := stage
-	failing.Act = func(context.Context, serving.Known) ([]byte, error) { return nil, errors.New("the disk burns") }
+	failing.Act = func(context.Context, serving.Known) (any, error) { return nil, errors.New("the disk burns") }
 	wants(t, core, 6, 1, failing, codes.Unavailable)
 	wants(t, core, 4, 9, stage, codes.Aborted)
 	wants(t, core, 6, 2, stage, codes.OK)

@@ -14,7 +14,7 @@ type act struct {
 	request Request
 	number  frames.Number // of the last call that it counts for
 	volume  uint64
-	gave    []byte
+	gave    any
 }
 
 // acts knows which are under way, and of each volume the last one that succeeded, unless something was tried or undone since. What an earlier process did
@@ -39,7 +39,7 @@ func (acts *acts) find(key key, request Request) *act {
 
 // covers says whether what was done last at a volume counts for a call: it was done for this very number; or, of a fresh call, it was under way when
 // the call came, and was for one like it.
-func (acts *acts) covers(volume uint64, number frames.Number, joined *act) (gave []byte, covered bool) {
+func (acts *acts) covers(volume uint64, number frames.Number, joined *act) (gave any, covered bool) {
 	acts.mutex.Lock()
 	defer acts.mutex.Unlock()
 	last := acts.last[volume]
@@ -113,7 +113,7 @@ func (core *Core) do(ctx context.Context, key key, request Request, joined *act)
 }
 
 // act does what a call asks for, unless that is known to be done, and gives what Act gave.
-func (core *Core) act(key key, request Request, known Known, joined *act) ([]byte, error) {
+func (core *Core) act(key key, request Request, known Known, joined *act) (any, error) {
 	if gave, covered := core.acts.covers(known.Volume, known.Number, joined); covered {
 		return gave, nil
 	}

@@ -216,7 +216,7 @@ func (core *Core) takeOut(group *group, changes []store.Change) {
 }
 
 // keepAfter keeps what a request's deed told, before it is answered.
-func (core *Core) keepAfter(request Request, known Known, gave []byte) error {
+func (core *Core) keepAfter(request Request, known Known, gave any) error {
 	if request.Keep == nil {
 		return nil
 	}

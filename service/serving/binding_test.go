@@ -150,17 +150,17 @@ func TestKeep(t *testing.T) {
 	kept := &keeping{newMemory(), map[string]string{}}
 	core, fault := openKeeping(t, kept), status.Error(codes.DataLoss, "its own")
 	request := bound("a", frames.NodeStageVolumeKind).by(done())
-	request.Keep = func(_ View, known Known, gave []byte) ([]store.Text, error) {
-		return []store.Text{identities.Put(known.Volume+10, string(gave))}, nil
+	request.Keep = func(_ View, known Known, gave any) ([]store.Text, error) {
+		return []store.Text{identities.Put(known.Volume+10, gave.(string))}, nil
 	}
 	if _, err := core.Carry(numbered(1, 2), request); err != nil || kept.texts["volume/000000000000000b"] != "1" {
 		t.Errorf("kept: %v, %v", kept.texts, err)
 	}
-	request.Keep = func(View, Known, []byte) ([]store.Text, error) { return nil, fault }
+	request.Keep = func(View, Known, any) ([]store.Text, error) { return nil, fault }
 	if _, err := core.Carry(numbered(1, 4), request); !errors.Is(err, fault) {
 		t.Errorf("refused: %v", err)
 	}
-	request.Act = func(context.Context, Known) ([]byte, error) { return nil, fault }
+	request.Act = func(context.Context, Known) (any, error) { return nil, fault }
 	if _, err := core.Carry(numbered(1, 6), request); status.Code(err) != codes.Unavailable {
 		t.Errorf("failed: %v", err)
 	}

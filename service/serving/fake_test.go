@@ -320,14 +320,14 @@ func done() *deed {
 	return deed
 }
 
-func (deed *deed) act(ctx context.Context, known Known) ([]byte, error) {
+func (deed *deed) act(ctx context.Context, known Known) (any, error) {
 	deed.mutex.Lock()
 	deed.ran++
 	deed.mutex.Unlock()
 	deed.begun <- struct{}{}
 	select {
 	case err := <-deed.goOn:
-		return []byte(fmt.Sprint(known.Volume)), err
+		return fmt.Sprint(known.Volume), err
 	case <-ctx.Done():
 		return nil, ctx.Err()
 	}

@@ -62,8 +62,8 @@ func (notes noting) Commit(ctx context.Context, changes []store.Note) error {
 }
 
 // act does, or undoes, in two steps.
-func (machine *machine) act(there bool) func(context.Context, Known) ([]byte, error) {
-	return func(_ context.Context, known Known) ([]byte, error) {
+func (machine *machine) act(there bool) func(context.Context, Known) (any, error) {
+	return func(_ context.Context, known Known) (any, error) {
 		if err := machine.step(func() error { return nil }); err != nil {
 			return nil, err
 		}

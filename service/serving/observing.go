@@ -73,7 +73,7 @@ func (core *Core) commit(group *group) error {
 }
 
 // acted does what a request asks for, and tells how long that took.
-func (core *Core) acted(request Request, known Known) ([]byte, error) {
+func (core *Core) acted(request Request, known Known) (any, error) {
 	began := time.Now()
 	gave, err := request.Act(core.acting, known)
 	core.config.Observer.Acted(request.kind(), time.Since(began), err)

@@ -65,12 +65,13 @@ type Request struct {
 	Also func() string // another one, once Key is taken: none where it is empty, or nil
 	// Judge refuses the call before the plugin is asked: then nothing was changed. It is run on the plugin's goroutine, and doesn't wait.
 	Judge func(Known) error
-	// Act does what the call asks for, or undoes it. What it gives becomes the Answer's Acted. It returns soon once the context ends.
-	Act func(context.Context, Known) ([]byte, error)
+	// Act does what the call asks for, or undoes it. What it gives becomes the Answer's Acted, which nobody changes. It returns soon once the
+	// context ends.
+	Act func(context.Context, Known) (any, error)
 	// Always has Act done where the plugin allows a call that undoes something, whether or not the store has what it undoes.
 	Always bool
 	// Keep says, of what Act gave, which texts are to be kept beside the record before there is an answer. It is run on the plugin's goroutine.
-	Keep func(View, Known, []byte) ([]store.Text, error)
+	Keep func(View, Known, any) ([]store.Text, error)
 	// Failed is what a call gets whose deed failed: nil for 14, and the error's text.
 	Failed func(error) error
 }
@@ -93,7 +94,7 @@ func (known Known) IsBehind(last frames.Number) bool {
 type Answer struct {
 	Reply frames.Reply
 	Row   []byte
-	Acted []byte
+	Acted any
 }
 
 // usualCalls is how many calls wait, or are under way, at most.

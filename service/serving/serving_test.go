@@ -81,7 +81,7 @@ func TestDoing(t *testing.T) {
 	close(deed.goOn)
 	for _, call := range []uint64{1, 1, 2, 2} {
 		answer := wants(t, core, numbered(1, call), stage(1).by(deed), codes.OK)
-		if string(answer.Acted) != "1" {
+		if answer.Acted != "1" {
 			t.Errorf("it gave %q", answer.Acted)
 		}
 	}

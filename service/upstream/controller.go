@@ -38,14 +38,14 @@ func (proxy *Proxy) create(call *call) (serving.Request, error) {
 		}
 		return serving.Bound{Bodies: bodies, Texts: fit.kept}, nil
 	}
-	request.Keep = func(view serving.View, known serving.Known, gave []byte) ([]store.Text, error) {
+	request.Keep = func(view serving.View, known serving.Known, gave any) ([]store.Text, error) {
 		return proxy.keepMade(view, known.Volume, asked.GetName(), body.Name, gave)
 	}
 	return request, fit.err
 }
 
 // keepMade keeps the id that the upstream gave a volume. It refuses one that is another volume's, or that has changed.
-func (proxy *Proxy) keepMade(view serving.View, volume uint64, name, short string, gave []byte) ([]store.Text, error) {
+func (proxy *Proxy) keepMade(view serving.View, volume uint64, name, short string, gave any) ([]store.Text, error) {
 	response, err := responseOf(gave)
 	if err != nil {
 		return nil, err

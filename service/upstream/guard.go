@@ -3,7 +3,6 @@ package upstream
 import (
 	"context"
 	"crypto/sha256"
-	"encoding/json"
 	"math"
 	"strings"
 
@@ -120,7 +119,7 @@ func (server *server) core() (*serving.Core, error) {
 func (proxy *Proxy) carry(ctx context.Context, core *serving.Core, method string, raw []byte, request serving.Request) (passing.Response, error) {
 	digest := sha256.Sum256(append([]byte(method), raw...))
 	request.Like = string(digest[:])
-	request.Act = func(acting context.Context, _ serving.Known) ([]byte, error) {
+	request.Act = func(acting context.Context, _ serving.Known) (any, error) {
 		response, err := passing.Call(passing.Onward(passing.Waiting(acting, ctx), ctx), proxy.behind, method, raw)
 		if err != nil {
 			if acting.Err() != nil {
@@ -128,7 +127,7 @@ func (proxy *Proxy) carry(ctx context.Context, core *serving.Core, method string
 			}
 			return nil, err
 		}
-		return json.Marshal(response)
+		return response, nil
 	}
 	request.Failed = func(err error) error { return err }
 	answer, err := core.Carry(ctx, request)
@@ -147,11 +146,11 @@ func (proxy *Proxy) carry(ctx context.Context, core *serving.Core, method string
 	return response, err
 }
 
-// responseOf reads what a deed gave.
-func responseOf(gave []byte) (passing.Response, error) {
-	var response passing.Response
-	if err := json.Unmarshal(gave, &response); err != nil {
-		return passing.Response{}, status.Error(codes.Internal, "what was kept of the upstream's response")
+// responseOf is what a deed gave.
+func responseOf(gave any) (passing.Response, error) {
+	response, isOne := gave.(passing.Response)
+	if !isOne {
+		return passing.Response{}, status.Error(codes.Internal, "there is no response of the upstream")
 	}
 	return response, nil
 }
