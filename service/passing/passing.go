@@ -55,10 +55,10 @@ func callOptions(more ...grpc.CallOption) []grpc.CallOption {
 	return append(more, grpc.ForceCodec(Codec{}), grpc.MaxCallRecvMsgSize(MostBytes), grpc.MaxCallSendMsgSize(MostBytes))
 }
 
-// Onward is a context with the metadata that came with a call, for the call that goes on.
+// Onward is a context with the metadata that came with a call, which nobody changes, for the call that goes on.
 func Onward(ctx, came context.Context) context.Context {
 	headers, _ := metadata.FromIncomingContext(came)
-	return metadata.NewOutgoingContext(ctx, headers.Copy())
+	return metadata.NewOutgoingContext(ctx, headers)
 }
 
 // told tells a deadline, and doesn't end there.

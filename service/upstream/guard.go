@@ -142,7 +142,10 @@ func (proxy *Proxy) carry(ctx context.Context, core *serving.Core, method string
 		return passing.Response{Trailer: reply}, status.Error(code, whole(ctx, core, answer.Reply))
 	}
 	response, err := responseOf(answer.Acted)
-	response.Trailer = metadata.Join(response.Trailer, reply)
+	if len(response.Trailer) > 0 {
+		reply = metadata.Join(response.Trailer, reply)
+	}
+	response.Trailer = reply
 	return response, err
 }
 
