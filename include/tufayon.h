@@ -115,6 +115,7 @@ extern "C" {
 #define TUFAYON_IGNORED 15   /* done: the frame is no reply to an open call, and nothing changed */
 #define TUFAYON_EARLIER_SESSION 16 /* the record is of an earlier session than that of the node's joining: it is a lost node's */
 #define TUFAYON_NODE_IN_USE 17 /* a volume may be attached at a node of the record that the configuration leaves out */
+#define TUFAYON_OLDER_STORE 18 /* a plugin said of an open call that it was stale: the orchestrator's store is an older one */
 
 /* What an orchestrator knows: as in a record. */
 #define TUFAYON_KNOWN_NO 0
@@ -189,6 +190,15 @@ uint32_t tufayon_orchestrator_from_record(const uint8_t *config, size_t config_s
                                           tufayon_plugin *orchestrator);
 
 /*
+ * Either, in a session that is named: of no bytes a new orchestrator, and else that of a whole record. Where this session is later than the next one,
+ * it begins in place of that. Give the seconds since 1970, by a clock that isn't set back, each time: then a copy of the store begins above whatever
+ * session the lost one had, and uses no number again. 0 begins the next one.
+ * Fails as those two. There is no session behind 2^64 - 1: what begins that one is never opened again.
+ */
+uint32_t tufayon_orchestrator_open(const uint8_t *config, size_t config_size, const uint8_t *record, size_t record_size, uint64_t session,
+                                   tufayon_plugin *orchestrator);
+
+/*
  * Commands, and a timeout: to create a volume of a name; to use it, which publishes it at a target of a node, in a capability; to stop using it
  * there; to delete it; and that its open call timed out, or that something was wanted of it when the orchestrator was made. Texts are of 1 to 128
  * bytes (a name) or 1 to 255. A capability has the bytes that it has in a frame, as {0, 1} for block in mode 1, or {1, 4, 'e', 'x', 't', '4', 1};
@@ -214,9 +224,11 @@ uint32_t tufayon_timeout(tufayon_plugin *orchestrator, const uint8_t *name, size
 
 /*
  * A frame came: the one that the bytes begin with. TUFAYON_DONE: it was the reply to an open call, and the `written` bytes are the next frame to be
- * sent, none where nothing is due now. TUFAYON_IGNORED: it was not, and `written` is 0. With these and with TUFAYON_REFUSED `used` says how many bytes it
- * took. Else as a command.
- * Fails with TUFAYON_NO_MEMORY, TUFAYON_EMPTY, TUFAYON_OTHER_KIND, TUFAYON_NO_ROOM, TUFAYON_SHORT, TUFAYON_BAD_FRAME, or TUFAYON_REFUSED.
+ * sent, none where nothing is due now. TUFAYON_IGNORED: it was not, and `written` is 0. TUFAYON_OLDER_STORE: it says of an open call that it was stale.
+ * No plugin says so in a run of one orchestrator: the store is an older copy, or another orchestrator runs over one. Nothing is changed; commit nothing
+ * more, send nothing more, and end. With these and with TUFAYON_REFUSED `used` says how many bytes it took. Else as a command.
+ * Fails with TUFAYON_NO_MEMORY, TUFAYON_EMPTY, TUFAYON_OTHER_KIND, TUFAYON_NO_ROOM, TUFAYON_SHORT, TUFAYON_BAD_FRAME, TUFAYON_REFUSED, or
+ * TUFAYON_OLDER_STORE.
  */
 uint32_t tufayon_deliver(tufayon_plugin *orchestrator, const uint8_t *came, size_t came_size, size_t *used, uint8_t *frame, size_t frame_room,
                          size_t *written, uint32_t *fault);

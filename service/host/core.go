@@ -100,7 +100,7 @@ func (core *core) begin(ctx context.Context, nodes []string) error {
 	if err != nil {
 		return err
 	}
-	made, err := plugin.MakeOrchestrator(configOf(nodes), store.Record(before))
+	made, err := plugin.MakeOrchestrator(configOf(nodes), store.Record(before), 0)
 	if err != nil {
 		return fmt.Errorf("a session of %d nodes: %w", len(nodes), err)
 	}

@@ -22,11 +22,11 @@ type library struct {
 	keys         map[string]uint64         // of the rows, by the volumes' names
 }
 
-// Open opens the file of an orchestrator's store under a configuration, the JSON of a CONFIG file, begins the next session, and gives the first line
-// too. This goroutine keeps its thread until the orchestrator is closed.
-func Open(ctx context.Context, database string, config []byte) (Orchestrator, Answer, error) {
+// Open opens the file of an orchestrator's store under a configuration, the JSON of a CONFIG file, begins the next session, or this one, where that is
+// later, and gives the first line too. This goroutine keeps its thread until the orchestrator is closed.
+func Open(ctx context.Context, database string, config []byte, session uint64) (Orchestrator, Answer, error) {
 	runtime.LockOSThread()
-	opened, err := open(ctx, database, config)
+	opened, err := open(ctx, database, config, session)
 	if err != nil {
 		runtime.UnlockOSThread()
 		return nil, Answer{}, err
@@ -35,8 +35,8 @@ func Open(ctx context.Context, database string, config []byte) (Orchestrator, An
 	return opened, first, err
 }
 
-func open(ctx context.Context, database string, config []byte) (*library, error) {
-	tried, err := plugin.MakeOrchestrator(config, nil) // so that a bad configuration makes no file
+func open(ctx context.Context, database string, config []byte, session uint64) (*library, error) {
+	tried, err := plugin.MakeOrchestrator(config, nil, 0) // so that a bad configuration makes no file
 	if err != nil {
 		return nil, err
 	}
@@ -46,7 +46,7 @@ func open(ctx context.Context, database string, config []byte) (*library, error)
 		return nil, err
 	}
 	opened := &library{store: kept, rows: map[uint64]records.Wanted{}, keys: map[string]uint64{}}
-	if err := opened.load(ctx, config); err != nil {
+	if err := opened.load(ctx, config, session); err != nil {
 		opened.free()
 		kept.Close()
 		return nil, err
@@ -55,12 +55,12 @@ func open(ctx context.Context, database string, config []byte) (*library, error)
 }
 
 // load makes the orchestrator of what the store has, and commits its session.
-func (library *library) load(ctx context.Context, config []byte) error {
+func (library *library) load(ctx context.Context, config []byte, session uint64) error {
 	parts, err := library.store.Load(ctx)
 	if err != nil {
 		return err
 	}
-	if library.orchestrator, err = plugin.MakeOrchestrator(config, store.Record(parts)); err != nil {
+	if library.orchestrator, err = plugin.MakeOrchestrator(config, store.Record(parts), session); err != nil {
 		return err
 	}
 	for _, part := range parts {

@@ -64,7 +64,8 @@ func StatusOf(err error) int {
 	switch {
 	case err == nil:
 		return 0
-	case errors.Is(err, plugin.BadName), errors.Is(err, plugin.BadRecord), errors.Is(err, plugin.NodeInUse), errors.Is(err, numbers.ErrSpent),
+	case errors.Is(err, plugin.BadName), errors.Is(err, plugin.BadRecord), errors.Is(err, plugin.NodeInUse), errors.Is(err, plugin.OlderStore),
+		errors.Is(err, numbers.ErrSpent),
 		errors.Is(err, lines.ErrLong):
 		return 1
 	}

@@ -23,17 +23,11 @@ type Outcome struct {
 }
 
 // MakeOrchestrator makes the orchestrator of a configuration, the JSON of a CONFIG file, and of a whole record, or a new one where the record has
-// no bytes. It begins a session with the configuration's nodes, and forgets names: Changes are what the store has to be given before any frame is
-// sent. NodeInUse says that the configuration leaves out a node of the record where a volume may be attached.
-func MakeOrchestrator(config, record []byte) (*Orchestrator, error) {
+// no bytes. It begins the next session, or this one, where that is later, with the configuration's nodes, and forgets names: Changes are what the store
+// has to be given before any frame is sent. NodeInUse says that the configuration leaves out a node of the record where a volume may be attached.
+func MakeOrchestrator(config, record []byte, session uint64) (*Orchestrator, error) {
 	made := &Orchestrator{held: nothing(), frame: make([]byte, C.TUFAYON_FRAME_ROOM)}
-	bytes, size := in(config), C.size_t(len(config))
-	var ending C.uint32_t
-	if len(record) == 0 {
-		ending = C.tufayon_orchestrator_new(bytes, size, made.handle)
-	} else {
-		ending = C.tufayon_orchestrator_from_record(bytes, size, in(record), C.size_t(len(record)), made.handle)
-	}
+	ending := C.tufayon_orchestrator_open(in(config), C.size_t(len(config)), in(record), C.size_t(len(record)), C.uint64_t(session), made.handle)
 	switch ending {
 	case C.TUFAYON_DONE:
 		return made, nil
@@ -120,7 +114,7 @@ func (made *Orchestrator) Lose(node string) (Outcome, error) {
 	return made.asked(ending)
 }
 
-// Deliver hands it the frame that bytes begin with.
+// Deliver hands it the frame that bytes begin with. OlderStore says that it tells of an open call that it was stale: the store is an older one.
 func (made *Orchestrator) Deliver(came []byte) (Outcome, error) {
 	var used C.size_t
 	ending := C.tufayon_deliver(made.handle, in(came), C.size_t(len(came)), &used, in(made.frame), C.size_t(len(made.frame)), &made.written, &made.fault)

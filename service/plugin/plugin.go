@@ -22,6 +22,7 @@ const (
 	BadFrame       Ending = C.TUFAYON_BAD_FRAME
 	EarlierSession Ending = C.TUFAYON_EARLIER_SESSION
 	NodeInUse      Ending = C.TUFAYON_NODE_IN_USE
+	OlderStore     Ending = C.TUFAYON_OLDER_STORE
 )
 
 func (ending Ending) Error() string {
@@ -36,6 +37,8 @@ func (ending Ending) Error() string {
 		return "store of an earlier session"
 	case NodeInUse:
 		return "node in use"
+	case OlderStore:
+		return "older store"
 	}
 	return fmt.Sprintf("ending %d", uint32(ending))
 }

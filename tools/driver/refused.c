@@ -41,9 +41,9 @@ WRAP(tufayon_answer,
      plugin, frame, size, used, reply, room, written)
 WRAP(tufayon_changed, (tufayon_plugin *plugin, size_t place, uint64_t *key, uint8_t *value, size_t room, size_t *written),
      plugin, place, key, value, room, written)
-WRAP(tufayon_orchestrator_new, (const uint8_t *config, size_t size, tufayon_plugin *made), config, size, made)
-WRAP(tufayon_orchestrator_from_record, (const uint8_t *config, size_t size, const uint8_t *record, size_t record_size, tufayon_plugin *made),
-     config, size, record, record_size, made)
+WRAP(tufayon_orchestrator_open,
+     (const uint8_t *config, size_t size, const uint8_t *record, size_t record_size, uint64_t session, tufayon_plugin *made),
+     config, size, record, record_size, session, made)
 /* What an orchestrator is asked ends with the same words. */
 #define ROOM uint8_t *frame, size_t room, size_t *written, uint32_t *fault
 WRAP(tufayon_create,

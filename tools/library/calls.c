@@ -10,6 +10,7 @@ static size_t open; /* handles that have a plugin */
 
 /* Which call of the header it is: a row of the table in endings.c. */
 static size_t row_of(const call *it) {
+    if (it->what == MAKE && it->how.kind == AS_ORCHESTRATOR && it->how.joined) return ROW_OPENED;
     if (it->what == MAKE && it->how.kind == AS_ORCHESTRATOR) return ROW_ORCHESTRATORS + (size_t)it->how.from_record;
     if (it->what == MAKE && it->how.joined) return ROW_JOINED + (size_t)it->how.from_record;
     if (it->what == MAKE) return 2 * (size_t)it->how.from_record + (size_t)it->how.kind;
@@ -25,6 +26,7 @@ static const uint8_t *bytes_of(const bytes *it) {
 static uint32_t make(tufayon_plugin *plugin, const asked *how) {
     const uint8_t *name = bytes_of(&how->name), *record = bytes_of(&how->record);
     size_t size = how->name.size, record_size = how->record.size;
+    if (how->joined && how->kind == AS_ORCHESTRATOR) return tufayon_orchestrator_open(name, size, record, record_size, how->session, plugin);
     if (how->joined) {
         return how->from_record ? tufayon_node_joined_from_record(name, size, how->session, record, record_size, plugin)
                                 : tufayon_node_joined(name, size, how->session, plugin);
@@ -76,7 +78,8 @@ static uint32_t call_it(call *it) {
 enum {
     IN_FULL = 1 << TUFAYON_DONE | 1 << TUFAYON_MET | 1 << TUFAYON_IGNORED,
     ONE_CHANGE = 1 << TUFAYON_DONE | 1 << TUFAYON_TAKE_OUT | 1 << TUFAYON_NO_ROOM,
-    HEARD = 1 << TUFAYON_DONE | 1 << TUFAYON_IGNORED | 1 << TUFAYON_REFUSED | 1 << TUFAYON_NO_MEMORY /* with the last one it says nothing */
+    HEARD = 1 << TUFAYON_DONE | 1 << TUFAYON_IGNORED | 1 << TUFAYON_REFUSED | 1 << TUFAYON_OLDER_STORE |
+            1 << TUFAYON_NO_MEMORY /* with the last one it says nothing */
 };
 
 static bool is_command(const call *it) { return it->what == ASK && it->asks.kind <= ASK_DELIVER; }
@@ -289,12 +292,13 @@ asked orchestrator_of(const char *config) {
     return it;
 }
 
-asked joined_node(const char *id, uint64_t session) {
-    asked it = node_of(id);
+asked in_session(asked it, uint64_t session) {
     it.joined = true;
     it.session = session;
     return it;
 }
+
+asked joined_node(const char *id, uint64_t session) { return in_session(node_of(id), session); }
 
 asked of_record(asked it, bytes record) {
     it.record = record;

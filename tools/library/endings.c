@@ -26,7 +26,7 @@ static const struct {
     {"tufayon_stop", OF_COMMAND},
     {"tufayon_delete", OF_COMMAND | IS(MET)},
     {"tufayon_timeout", OF_COMMAND},
-    {"tufayon_deliver", OF_REQUEST | IS(SHORT) | IS(BAD_FRAME) | IS(NO_ROOM) | IS(IGNORED)}, /* and REFUSED, after 2^64 - 1 calls */
+    {"tufayon_deliver", OF_REQUEST | IS(SHORT) | IS(BAD_FRAME) | IS(NO_ROOM) | IS(IGNORED) | IS(OLDER_STORE)}, /* and REFUSED, after 2^64 - 1 calls */
     {"tufayon_orchestrator_lose", OF_REQUEST | IS(BAD_NAME) | IS(REFUSED)},
     {"tufayon_exists", OF_REQUEST | IS(BAD_NAME)},
     {"tufayon_attached", OF_REQUEST | IS(BAD_NAME)},
@@ -36,11 +36,12 @@ static const struct {
     {"tufayon_volume", IS(DONE) | IS(EMPTY) | IS(OTHER_KIND) | IS(NO_ROOM) | IS(NO_MORE)},
     {"tufayon_node_joined", OF_NEW},
     {"tufayon_node_joined_from_record", OF_RECORD | IS(EARLIER_SESSION)},
+    {"tufayon_orchestrator_open", OF_NEW | IS(BAD_RECORD) | IS(REFUSED) | IS(NODE_IN_USE)},
 };
 static unsigned seen_of[sizeof CALLS / sizeof *CALLS]; /* the endings that each of them had so far */
 
 void see(size_t place, uint32_t ending) {
-    must(ending <= TUFAYON_NODE_IN_USE, "a call has an ending that the header doesn't have");
+    must(ending <= TUFAYON_OLDER_STORE, "a call has an ending that the header doesn't have");
     seen_of[place] |= 1u << ending;
 }
 

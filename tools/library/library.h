@@ -109,7 +109,7 @@ typedef struct tested {
 } tested;
 
 /* How something is asked for: a controller under a configuration, a node of an id, which joined with a session or with none, or an orchestrator of a
- * configuration's nodes; and a record or none. */
+ * configuration's nodes, which is opened in a session or in the next one; and a record or none. */
 typedef struct asked {
     enum asked_kind { AS_CONTROLLER, AS_NODE, AS_ORCHESTRATOR } kind;
     bytes name, record, nodes; /* nodes: of an orchestrator, as in its head */
@@ -124,6 +124,7 @@ asked controller_of(const char *config);
 asked node_of(const char *id);
 asked orchestrator_of(const char *config);
 asked joined_node(const char *id, uint64_t session);
+asked in_session(asked it, uint64_t session);
 asked of_record(asked it, bytes record);
 
 /* Makes a plugin, which ends so; where it is made it has this store and tells these changes. Each allocation is refused once. */
@@ -148,7 +149,7 @@ void frees(tested *of);
 
 /* ---- endings (endings.c) */
 
-enum { ROW_ANSWER = 4, ROW_ORCHESTRATORS = 7, ROW_REQUESTS = 9, ROW_VOLUME = 21, ROW_JOINED = 22 }; /* where calls stand in the table */
+enum { ROW_ANSWER = 4, ROW_ORCHESTRATORS = 7, ROW_REQUESTS = 9, ROW_VOLUME = 21, ROW_JOINED = 22, ROW_OPENED = 24 }; /* where calls stand in the table */
 void see(size_t row, uint32_t ending); /* the call of this row ended so */
 
 /* ---- cases */

@@ -14,8 +14,11 @@ static const asking MADE[] = {
     {"stop \"x\" \"n1\" \"/a\"", NULL, TUFAYON_REFUSED, 2, {0}},
     {"delete \"x\"", NULL, TUFAYON_REFUSED, 2, {0}},
     {"timeout \"x\"", NULL, TUFAYON_REFUSED, 2, {0}},
+    {"deliver 1.1 controller CreateVolume reply 10 0 \"stale\"", NULL, TUFAYON_OLDER_STORE, 0, {0}},
     {"timeout \"v\"", "1.2 controller CreateVolume \"v\" 10 0 block/1 block/5", 0, 0, {V "- maybe create 2 ;"}},
     {"deliver 1.1 controller CreateVolume reply 0 1 \"\"", NULL, TUFAYON_IGNORED, 0, {0}}, /* its call was given up */
+    {"deliver 1.1 controller CreateVolume reply 10 0 \"stale\"", NULL, TUFAYON_IGNORED, 0, {0}},
+    {"deliver 1.2 controller DeleteVolume reply 10 0 \"stale\"", NULL, TUFAYON_IGNORED, 0, {0}},
     {"deliver 1.2 controller DeleteVolume reply 0 0 \"\"", NULL, TUFAYON_IGNORED, 0, {0}}, /* another kind */
     {"deliver 1.2 controller CreateVolume \"v\" 10 0 block/1", NULL, TUFAYON_IGNORED, 0, {0}}, /* a call */
     {"deliver 1.2 controller CreateVolume reply 0 1 \"\"", NULL, 0, 0, {V "1 yes none 0 ;"}},

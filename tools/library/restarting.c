@@ -165,6 +165,52 @@ static void is_in_use(asked how) {
     }
 }
 
+/* ---- in a session that is named */
+
+/* A record, or none, opened in the next session, or in this one, where that is later: the head is this. */
+static void opens_in(asked how, const char *const *lines, uint64_t session, const char *head) {
+    tested of = {0};
+    parts given = {0}, next = {0};
+    if (lines != NULL) {
+        given = parts_of(3, lines);
+        next = next_session(&given, how.nodes);
+        next.at[0] = part_of(head, 3);
+        how = of_record(how, record_of(&given, 3));
+    } else {
+        add(&next, part_of(head, 3));
+    }
+    parts told = lines != NULL ? told_at(&given, &next) : next;
+    snprintf(doing, sizeof doing, "an orchestrator in session %llu: %s", (unsigned long long)session, head);
+    makes(&of, in_session(how, session), TUFAYON_DONE, &next, &told);
+    makes(&of, in_session(how, session), TUFAYON_FULL, NULL, NULL);
+    compares(&of, how);
+    frees(&of);
+}
+
+/* Where none is opened, no session has it opened. */
+static void opens_in_sessions(asked how) {
+    static const char *const LAST[] = {"nodes 18446744073709551615 \"n1\" \"n2\"", NULL};
+    static const char *const THREE = "nodes 3 \"n1\" \"n2\"", *const LATEST = "nodes 18446744073709551614 \"n1\" \"n2\"";
+    static const uint64_t ANY[] = {0, 1, 9, UINT64_MAX};
+    opens_in(how, NULL, 0, "nodes 1 \"n1\" \"n2\"");
+    opens_in(how, NULL, 1, "nodes 1 \"n1\" \"n2\"");
+    opens_in(how, NULL, 2, "nodes 2 \"n1\" \"n2\"");
+    opens_in(how, NULL, UINT64_MAX - 1, LATEST);
+    for (uint64_t session = 0; session <= 4; session++) opens_in(how, (const char *[]){THREE, NULL}, session, "nodes 4 \"n1\" \"n2\"");
+    opens_in(how, (const char *[]){THREE, NULL}, 5, "nodes 5 \"n1\" \"n2\"");
+    opens_in(how, WHOLE, 1700000000, "nodes 1700000000 \"n1\" \"n2\"");
+    opens_in(how, WHOLE, UINT64_MAX - 1, LATEST);
+    for (size_t at = 0; at < sizeof ANY / sizeof *ANY; at++) {
+        tested of = {0};
+        parts last = parts_of(3, LAST), used = parts_of(3, (const char *[]){IN_USE[0][0], IN_USE[0][1], NULL});
+        snprintf(doing, sizeof doing, "no orchestrator in session %llu", (unsigned long long)ANY[at]);
+        makes(&of, in_session(of_record(how, record_of(&last, 3)), ANY[at]), TUFAYON_REFUSED, NULL, NULL);
+        makes(&of, in_session(of_record(how, record_of(&used, 3)), ANY[at]), TUFAYON_NODE_IN_USE, NULL, NULL);
+        makes(&of, in_session(of_record(how, frame_of("1.1 controller DeleteVolume 1")), ANY[at]), TUFAYON_BAD_RECORD, NULL, NULL);
+        makes(&of, in_session(orchestrator_of("{}"), ANY[at]), TUFAYON_BAD_NAME, NULL, NULL);
+    }
+}
+
 /* ---- damaged */
 
 /* A record of which a byte is another one. Where it is one still, its orchestrator is of that record. */
@@ -214,6 +260,7 @@ void test_orchestrator_records(void) {
     goes_on(how);
     opens_with_other_nodes(how);
     is_in_use(how);
+    opens_in_sessions(how);
     parts spent = parts_of(3, SPENT), none = {0};
     snprintf(doing, sizeof doing, "no session is left");
     makes(&of, of_record(how, record_of(&spent, 3)), TUFAYON_REFUSED, NULL, NULL);

@@ -153,7 +153,7 @@ def use_becomes_stop(box, calls):
     box.wants(ended(0, out=record_line(3, volume_line(at=[told], goal=talk.stop, tries=3))), "record", "db")
     last = Talk(4, wanted=["v"])
     last.asks(last.timeout, last.stop, "ControllerUnpublishVolume")
-    last.hears(last.stop, status=10, detail="stale")
+    last.hears(last.stop, status=10, detail="late")
     last.asks(last.timeout, last.stop, "ControllerUnpublishVolume")
     last.hears(None)
     last.deletes()

@@ -10,7 +10,7 @@ from .words import ON_FILES, TAKEN, prepare
 HERE = os.path.dirname(os.path.realpath(__file__))
 TOP = os.path.dirname(os.path.dirname(HERE))
 ASKS = "$ csi-replay "
-WORDS = {**{name: "FILE" for name in ON_FILES}, "controller": "DB CONFIG", "node": "DB ID [SESSION]", "orchestrator": "DB CONFIG", "record": "DB"}
+WORDS = {**{name: "FILE" for name in ON_FILES}, "controller": "DB CONFIG", "node": "DB ID [SESSION]", "orchestrator": "DB CONFIG [SESSION]", "record": "DB"}
 
 
 def texts():

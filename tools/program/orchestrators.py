@@ -116,7 +116,7 @@ def failing(box):
     talk.makes()
     talk.asks(talk.use, talk.use, "ControllerPublishVolume")
     talk.hears(talk.stop, "ControllerUnpublishVolume", 8, "slots")
-    talk.hears(talk.stop, status=10, detail="stale")
+    talk.hears(talk.stop, status=10, detail="late")
     talk.asks(talk.timeout, talk.stop, "ControllerUnpublishVolume")
     talk.hears(None)
     held(box, talk)
@@ -167,6 +167,51 @@ def next_session(box, killed):
     held(box, later)
     box.wants(ended(0, out=record_line(2, volume_line())), "record", "db")
     held(box, Talk(3))
+
+
+def begun(box):
+    """A session that is asked for begins where it is later than the next one; in each what was wanted goes on."""
+    box.put("config", CONFIG)
+    talk = Talk(1)
+    talk.asks(talk.create, talk.create, "CreateVolume")
+    held(box, talk)
+    before = stores.parts_of(box.at("db"))
+    for asked, session in ((0, 2), (1, 2), (2, 2), (3, 3), (1_700_000_000, 1_700_000_000), (LAST, LAST)):
+        path = f"{asked}.db"
+        stores.make(box.at(path), before)
+        later = Talk(session, wanted=["v"])
+        later.asks(later.timeout, later.create, "CreateVolume")
+        later.hears(None)
+        box.wants(ended(0, out=later.right()), "orchestrator", path, "config", str(asked), given=later.given())
+        box.wants(ended(0, out=record_line(session, volume_line())), "record", path)
+    box.wants(ended(1, "numbers spent"), "orchestrator", f"{LAST}.db", "config", str(LAST))
+    box.wants(ended(1, "numbers spent"), "orchestrator", f"{LAST}.db", "config", "1")
+
+
+def older(box):
+    """A reply that says of an open call that it was stale ends it: its line isn't answered, and what stands before is committed. Of a call that isn't open it is
+    ignored, and so is a detail that says more."""
+    box.put("config", CONFIG)
+    talk = Talk(1)
+    talk.makes()
+    talk.asks(talk.use, talk.use, "ControllerPublishVolume")
+    kind = "ControllerPublishVolume"
+    for came in (reply(kind, (1, 3), 10, 0, "stale"), reply(kind, (0, 2), 10, 0, "stale"), reply("CreateVolume", (1, 2), 10, 0, "stale")):
+        talk.says(line({"reply": came.hex()}), IGNORED)
+    stale = line({"reply": reply(kind, (1, 2), 10, 0, "stale").hex()})
+    told = record_line(1, volume_line(at=at_node("maybe", "no", "no"), goal=talk.use, tries=1))
+    for path, more in (("db", b""), ("more.db", line(talk.timeout) + line(talk.delete))):
+        box.wants(ended(1, "older store", talk.right()), "orchestrator", path, "config", given=talk.given() + stale + more)
+        box.wants(ended(0, out=told), "record", path)
+    running = box.start("orchestrator", "at_once.db", "config")
+    for given, right in talk.pairs:
+        running.asks(given, right)
+    wanted("the end", running.end(stale), ended(1, "older store"))
+    later = Talk(2, wanted=["v"])
+    later.asks(later.timeout, later.use, kind)
+    later.hears(later.stop, "ControllerUnpublishVolume", 10, "stale ")
+    later.hears(later.stop, status=9, detail="stale")
+    held(box, later)
 
 
 def in_order(box):
@@ -375,6 +420,8 @@ ROWS = [
     ("timeouts", timeouts),
     ("the next session", next_session, False),
     ("the next session, after a kill", next_session, True),
+    ("a session that is asked for", begun),
+    ("a stale reply to an open call", older),
     ("names in order", in_order),
     ("the last session", last_session),
     ("a store that SQLite made", found),

@@ -5,7 +5,7 @@ from .frames import create
 from .running import as_nobody, ended, of_rows, wanted
 
 ON_FILES = ("answer", "show", "run", "frames", "draw")
-TAKEN = {**{name: (1,) for name in ON_FILES}, "controller": (2,), "node": (2, 3), "orchestrator": (2,), "record": (1,)}  # how many words each takes
+TAKEN = {**{name: (1,) for name in ON_FILES}, "controller": (2,), "node": (2, 3), "orchestrator": (2, 3), "record": (1,)}  # how many words each takes
 USAGE = ended(2, "usage")
 
 
@@ -76,6 +76,23 @@ def no_session(box):
     box.wants(ended(1, "config refused"), "node", "db", "", "2")
 
 
+def no_beginning(box):
+    """Words that are no session, and in which no orchestrator is opened, whatever its files; and words that are one."""
+    before = prepare(box)
+    for word in NO_SESSIONS:
+        for config in ("config", "nothing"):
+            box.wants(USAGE, "orchestrator", "db", config, word)
+    for word in NEGATIVE:
+        box.wants(USAGE, "orchestrator", "db", "config", word)
+        box.wants(USAGE, "orchestrator", "--", "db", "config", word)
+    wanted("the folder", box.files(), before)
+    for at, word in enumerate(SESSIONS):
+        begun = max(int(word), 1)
+        box.wants(ended(0, out=b'{"session":%d,"wanted":[]}\n' % begun), "orchestrator", f"db{at}", "config", word)
+        box.wants(ended(0, out=b'{"nodes":[],"plugin":"orchestrator","session":%d,"volumes":[]}\n' % begun), "record", f"db{at}")
+    box.wants(ended(3, "device"), "orchestrator", "db", "nothing", "2")
+
+
 NO_SESSIONS = [
     *("", "n1", "00", "01", "002", "+2", " 2", "2 ", "2\n", "\t2", "2.0", "2e0", "0x2", "1_0", "1,0", "2-", "\u0662", "\uff12"),
     *("18446744073709551616", "018446744073709551615", "28446744073709551615", "99999999999999999999", "1" * 100),
@@ -110,6 +127,7 @@ ROWS = [
     ("no UTF-8 as an id", refused, b"node", b"db", b"n\xff"),
     ("other counts of words", counts),
     ("the session of a joining", no_session),
+    ("the session that begins", no_beginning),
     ("hyphens", hyphens),
     ("a file that is missing", unreadable, "nothing"),
     ("an empty name", unreadable, ""),

@@ -20,7 +20,7 @@ use Rattle.csi_embedded.specs.declared.ending.Ending.TheVariants.{NoMemory, Empt
 use Rattle.csi_embedded.specs.declared.embedded.Embedded.{Embedded}
 use Rattle.csi_embedded.specs.declared.plugin.Plugin.{Plugin}
 use Rattle.csi_embedded.specs.declared.plugin.Plugin.TheVariants.{Controller, Node, Orchestrator}
-use Rattle.csi_embedded.specs.Public.Plugins.{plugin_parts, IsAsItWas}
+use Rattle.csi_embedded.specs.Public.Plugins.{plugin_parts, IsAsItWas, IsTimelyTo}
 use Rattle.csi_embedded.specs.Public.Calls.{frame_front, told_changes, IsNoFrame, Remains}
 use Rattle.csi_embedded.specs.Public.Asking.{command_input, Carries, HasNone, EndsAsked, EndsHeard, AsksOne, HearsOne, HandleAsks, HasAsked, HasHeard}
 use Rattle.csi_embedded.specs.Public.Knowing.{TellsThing, HandleTellsThing, HasKnown, HasGoal, HasVolume}
@@ -101,16 +101,17 @@ was-asked input first second third room count bytes fault ending told same chang
     inl (record { input = input; such = refl; told = told; carried = carried-on Sends input first second third told same changes carried; ends = ends })
 
 -- so it heard a frame
-pub was-heard : (came : Frame) (first second third : Embedded) (count : ℕ) (bytes : List ℕ) (fault : ℕ) (ending : Ending) (told : Result Heard OrchFault) → second.plugin ≡ first.plugin
+pub was-heard : (came : Frame) (first second third : Embedded) (count : ℕ) (bytes : List ℕ) (fault : ℕ) (ending : Ending) (told : Result Heard OrchFault) → IsTimelyTo came first.plugin → second.plugin ≡ first.plugin
     → told_changes second ≡ told_changes first → Carries Hears (Comes came) second told third → EndsHeard told count bytes fault ending → HearsFrame came first third count bytes fault ending
-was-heard came first second third count bytes fault ending told same changes carried ends =
-    inl (record { told = told; carried = carried-on Hears (Comes came) first second third told same changes carried; ends = ends })
+was-heard came first second third count bytes fault ending told timely same changes carried ends =
+    inl (record { timely = timely; told = told; carried = carried-on Hears (Comes came) first second third told same changes carried; ends = ends })
 
 -- a frame that the bytes begin with came
 pub heard-front : (old : Embedded) (came : List ℕ) (frame : Frame) (used : ℕ) (new : Embedded) (room count : ℕ) (bytes : List ℕ) (fault : ℕ) (ending : Ending) → BeginsWith (frame_front came) frame used
     → HearsFrame frame old new count bytes fault ending → HearsOne old came used new room count bytes fault ending
-heard-front old came frame used new room count bytes fault ending begins (inl h) = inl (record { frame = frame; begins = begins; told = h.told; carried = h.carried; ends = h.ends })
-heard-front old came frame used new room count bytes fault ending begins (inr none) = inr (inr (inr (subst (IsNoFrame (frame_front came)) (sym none.0) tt)), none.1)
+heard-front old came frame used new room count bytes fault ending begins (inl h) = inl (record { frame = frame; begins = begins; timely = h.timely; told = h.told; carried = h.carried; ends = h.ends })
+heard-front old came frame used new room count bytes fault ending begins (inr (inl none, remains)) = inr (inl (inr (inr (subst (IsNoFrame (frame_front came)) (sym none) tt))), remains)
+heard-front old came frame used new room count bytes fault ending begins (inr (inr older, remains)) = inr (inr (record { frame = frame; begins = begins; stale = older.1; ends = older.0 }), remains)
 
 -- ---- what was read is what is asked
 

@@ -4,5 +4,6 @@ pub mod Handles
 pub mod MadePlugins
 pub mod SpelledCapabilities
 pub mod Asked
+pub mod HeardHandles
 pub mod MadeOrchestrators
 pub mod LostNodes

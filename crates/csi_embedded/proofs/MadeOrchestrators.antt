@@ -5,7 +5,8 @@ use Rattle.csi_embedded.specs.declared.ending.Ending.{Ending}
 use Rattle.csi_embedded.specs.declared.ending.Ending.TheVariants.{NoMemory, BadName, BadRecord, Refused, NodeInUse}
 use Rattle.csi_orchestrator.specs.Public.Record.{RecordParts, AreNodesFit}
 use Rattle.csi_embedded.specs.Public.Making.{IsNoConfig}
-use Rattle.csi_embedded.specs.Public.OrchestratorMaking.{node_ids, AreNodesOf, IsOrchestratorRecord, IsNoNodes, IsNoOrchestrator, IsNoReadOrchestrator}
+use Rattle.csi_service.specs.Public.OrchestratorOpening.{raised_before}
+use Rattle.csi_embedded.specs.Public.OrchestratorMaking.{node_ids, AreNodesOf, IsOrchestratorRecord, IsRecordIfAny, IsNoNodes, IsNoOrchestrator, IsNoReadOrchestrator, IsNotOpened}
 use Rattle.csi_embedded.specs.Private.OrchestratorMaking.{IsNoRecord, IsNotReopened}
 
 -- where no configuration is said, no nodes are
@@ -51,3 +52,26 @@ none-reopened text bytes nodes kept BadName said read none = λ utf8 others also
 none-reopened text bytes nodes kept Refused said read none = record { nodes = nodes; said = said; kept = kept; read = read; refused = none }
 none-reopened text bytes nodes kept NodeInUse said read none = record { nodes = nodes; said = said; kept = kept; read = read; refused = none }
 none-reopened text bytes nodes kept _ said read none = absurd none
+
+-- ---- in a session that is named
+
+-- where no nodes are said, none is opened
+pub no-nodes-opened : (text bytes : List ℕ) (session : ℕ) (ending : Ending) → IsNoNodes text ending → IsNotOpened text bytes session ending
+no-nodes-opened text bytes session NoMemory none = tt
+no-nodes-opened text bytes session BadName none = λ utf8 nodes said fit. none utf8 nodes said
+no-nodes-opened text bytes session _ none = absurd none
+
+-- nor where the bytes are no record
+pub no-record-opened : (text bytes : List ℕ) (session : ℕ) (ending : Ending) → IsNoRecord bytes ending → IsNotOpened text bytes session ending
+no-record-opened text bytes session NoMemory none = tt
+no-record-opened text bytes session BadRecord none = none
+no-record-opened text bytes session _ none = absurd none
+
+-- nor where no session begins with these nodes
+pub none-opened : (text bytes : List ℕ) (session : ℕ) (nodes : List (List ℕ)) (kept : RecordParts) (ending : Ending) → AreNodesOf text nodes → IsRecordIfAny bytes kept → IsNotReopened (raised_before session kept) nodes ending
+    → IsNotOpened text bytes session ending
+none-opened text bytes session nodes kept NoMemory said read none = tt
+none-opened text bytes session nodes kept BadName said read none = λ utf8 others also fit. none (subst AreNodesFit (same-nodes text others nodes also said) fit)
+none-opened text bytes session nodes kept Refused said read none = record { nodes = nodes; said = said; kept = kept; read = read; refused = none }
+none-opened text bytes session nodes kept NodeInUse said read none = record { nodes = nodes; said = said; kept = kept; read = read; refused = none }
+none-opened text bytes session nodes kept _ said read none = absurd none

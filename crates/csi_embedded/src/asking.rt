@@ -98,6 +98,9 @@ fn hear_frame(
     requires room { 1284 ≤ length frame.old }
     ensures { HearsFrame came.now embedded.old embedded.new written.new (take written.new frame.new) fault.new result }
 {
+    if embedded.is_told_stale(came) {
+        return Ending::OlderStore;
+    }
     let Ok(bytes) = Vec::with_capacity(alloc, MOST) else {
         return Ending::NoMemory;
     };

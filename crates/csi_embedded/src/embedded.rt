@@ -27,14 +27,14 @@ pub struct Embedded {
 }
 
 impl Embedded {
-    ghost use Rattle.std.specs.Prelude.{◌≡◌, ◌≤◌, [], None, true, is_some, option_map, map, length, IfOk, IfErr, OnOk, OnErr};
+    ghost use Rattle.std.specs.Prelude.{◌≡◌, ◌≤◌, [], None, true, false, is_some, option_map, map, length, IfOk, IfErr, OnOk, OnErr};
     ghost use Rattle.csi_orchestrator.specs.Model.Moves.{Comes, Sends, Hears};
     ghost use Rattle.csi_stores.specs.Public.Part.{part_change};
     ghost use Rattle.csi_embedded.specs.Private.Calls.{changes_in};
     ghost use Rattle.csi_embedded.specs.Public.Asking.{command_input, Carries};
     ghost use Rattle.csi_embedded.specs.Public.Losing.{LosesNode};
     ghost use Rattle.csi_embedded.specs.Public.Calls.{frame_front, told_changes, AnswersFrame, IsNoAnswer, Remains};
-    ghost use Rattle.csi_embedded.specs.Public.Plugins.{is_orchestrator as is_one, orchestrator_of};
+    ghost use Rattle.csi_embedded.specs.Public.Plugins.{is_orchestrator as is_one, orchestrator_of, IsStaleTo, IsTimelyTo};
 
     /// A plugin that answered nothing yet, of which the store has to be given these parts. It takes no memory.
     pub fn new(alloc: Global, plugin: Plugin, changed: Vec<Part>) -> Embedded
@@ -65,6 +65,18 @@ impl Embedded {
             Plugin::Orchestrator(service) => Some(service.orchestrator()),
             Plugin::Controller(_) => None,
             Plugin::Node(_) => None,
+        }
+    }
+
+    /// Whether the frame says of an open call of the orchestrator that it was stale. It takes no memory.
+    pub fn is_told_stale(&self, frame: &Frame) -> bool
+        ensures stale { result ≡ true → IsStaleTo frame.now self.now.plugin }
+        ensures timely { result ≡ false → IsTimelyTo frame.now self.now.plugin }
+    {
+        match &self.plugin {
+            Plugin::Orchestrator(service) => service.orchestrator().is_told_stale(frame),
+            Plugin::Controller(_) => false,
+            Plugin::Node(_) => false,
         }
     }
 

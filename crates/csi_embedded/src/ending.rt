@@ -43,6 +43,8 @@ pub enum Ending {
     EarlierSession = 16,
     /// A volume may be attached at a node of the record that the configuration leaves out.
     NodeInUse = 17,
+    /// The frame says of an open call that it was stale: the store is an older one, and nothing changed.
+    OlderStore = 18,
 }
 
 impl Ending {

@@ -25,6 +25,7 @@ mod orchestrator_exports;
 mod orchestrator_making;
 mod plugin;
 mod sending;
+mod session_exports;
 mod splitting;
 mod texts;
 mod things;

@@ -186,7 +186,8 @@ pub extern "C" fn tufayon_timeout(
 }
 
 /// Hands the orchestrator the frame that these bytes begin with, and says how many of them it took. The frame that is to be sent then is the next
-/// call; none where nothing is due, or the frame is ignored.
+/// call; none where nothing is due, or the frame is ignored. `OlderStore` where it says of an open call that it was stale: no plugin says so in a
+/// run of one orchestrator, so the store is an older one. Nothing changed then, and nothing is to be committed: the orchestrator has ended.
 #[unsafe(no_mangle)]
 pub extern "C" fn tufayon_deliver(
     alloc: Global,

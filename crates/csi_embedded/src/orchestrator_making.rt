@@ -5,6 +5,7 @@ ghost use Rattle.csi_embedded.specs.Public.Calls.{told_changes};
 ghost use Rattle.csi_embedded.specs.Public.Making.{EndsDone};
 ghost use Rattle.csi_embedded.specs.Public.OrchestratorMaking.{AreNodesOf, node_ids, IsNewOrchestrator, IsReadOrchestrator, IsOrchestratorRecord};
 ghost use Rattle.csi_embedded.specs.Public.OrchestratorMaking.{IsReopened, IsNoNodes, IsNoOrchestrator, IsNoReadOrchestrator};
+ghost use Rattle.csi_embedded.specs.Public.OrchestratorMaking.{IsRecordIfAny, IsOpenedOrchestrator, IsNotOpened};
 ghost use Rattle.csi_embedded.specs.Private.OrchestratorMaking.{IsNoRecord, IsNotReopened};
 
 use crate::embedded::Embedded;
@@ -84,6 +85,20 @@ fn record_of(alloc: Global, bytes: &[u8]) -> Result<OrchestratorRecord, Ending>
     }
 }
 
+// The same, or the record before the first session, where there are no bytes.
+fn record_if_any(alloc: Global, bytes: &[u8]) -> Result<OrchestratorRecord, Ending>
+    ensures read { IfOk result (IsRecordIfAny bytes.now) }
+    ensures refused { IfErr result (IsNoRecord bytes.now) }
+{
+    if !bytes.is_empty() {
+        return record_of(alloc, bytes);
+    }
+    match OrchestratorRecord::try_new(alloc, Vec::new(alloc), 0, Vec::new(alloc)) {
+        Ok(new) => Ok(new),
+        Err(_) => Err(Ending::NoMemory),
+    }
+}
+
 // The orchestrator of a record, after a restart with these nodes.
 fn reopened(alloc: Global, kept: OrchestratorRecord, nodes: Vec<NodeId>) -> Result<Embedded, Ending>
     ensures made { IfOk result (IsReopened kept nodes.items) }
@@ -113,6 +128,26 @@ pub(crate) fn read_orchestrator(
 {
     let nodes = nodes_of(alloc, config)?;
     let kept = record_of(alloc, bytes)?;
+    match reopened(alloc, kept, nodes) {
+        Ok(made) => Ok((made, Ending::Done)),
+        Err(ending) => Err(ending),
+    }
+}
+
+/// The orchestrator of a record's bytes, or a new one where there are none, after a restart with the configuration's nodes: in the next session,
+/// or in this one, where that is later. The store has to be given what that changed.
+pub(crate) fn open_orchestrator(
+    alloc: Global,
+    config: &[u8],
+    bytes: &[u8],
+    session: u64,
+) -> Result<(Embedded, Ending), Ending>
+    ensures made { IfOk result (λ made. IsOpenedOrchestrator config.now bytes.now session made.0 × EndsDone made.1) }
+    ensures refused { IfErr result (IsNotOpened config.now bytes.now session) }
+{
+    let nodes = nodes_of(alloc, config)?;
+    let mut kept = record_if_any(alloc, bytes)?;
+    kept.raise(session.saturating_sub(1));
     match reopened(alloc, kept, nodes) {
         Ok(made) => Ok((made, Ending::Done)),
         Err(ending) => Err(ending),

@@ -34,6 +34,8 @@ pub enum Ending {
     NumbersSpent,
     /// A volume may be attached at a node of an orchestrator's record that the configuration leaves out.
     NodeInUse,
+    /// A reply tells that an orchestrator's store is an older one.
+    OlderStore,
     /// The words on the command line are no command.
     Usage,
     /// A file, a stream or the store failed, or the store is full.
@@ -56,7 +58,8 @@ impl Ending {
             Ending::Done => 0,
             Ending::FrameFault(..) | Ending::ScheduleFault(_) | Ending::NotUtf8 => 1,
             Ending::ConfigRefused | Ending::RecordFault(_) | Ending::EarlierSession => 1,
-            Ending::LineFault(_) | Ending::NumbersSpent | Ending::NodeInUse => 1,
+            Ending::LineFault(_) | Ending::NumbersSpent => 1,
+            Ending::NodeInUse | Ending::OlderStore => 1,
             Ending::Usage => 2,
             Ending::Device | Ending::StoreNotOpened | Ending::Endless | Ending::Memory => 3,
         }
@@ -140,6 +143,7 @@ impl fmt::Display for Ending {
             Ending::LineFault(number) => write!(f, "csi-replay: line fault at {number}"),
             Ending::NumbersSpent => write!(f, "csi-replay: numbers spent"),
             Ending::NodeInUse => write!(f, "csi-replay: node in use"),
+            Ending::OlderStore => write!(f, "csi-replay: older store"),
             Ending::Usage => write!(f, "csi-replay: usage"),
             Ending::Device => write!(f, "csi-replay: device"),
             Ending::StoreNotOpened => write!(f, "csi-replay: store not opened"),

@@ -1,5 +1,5 @@
 -- Answers, line after line; and how many lines there may be.
-use Rattle.std.proofs.Common.{inl, inr, ap, ℕ, ◌≤◌, List, [], ◌∷◌, ◌++◌, length, arith, length-append}
+use Rattle.std.proofs.Common.{inl, inr, ap, ℕ, ◌≤◌, List, [], ◌∷◌, length, arith, length-append}
 use Rattle.std.specs.List.{flat_map}
 use Rattle.csi_driver.specs.Public.LinesOf.{LinesOf, with_newline, and_last}
 use Rattle.csi_driver.proofs.LineStreams.{lines_few}

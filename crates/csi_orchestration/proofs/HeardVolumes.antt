@@ -37,13 +37,13 @@ use Rattle.csi_orchestrator.specs.Model.Thing.{Issued}
 use Rattle.csi_orchestrator.specs.Model.WellFormed.{AreWellFormed, IsWellFormed}
 use Rattle.csi_orchestrator.specs.Public.Changed.{is_numbered, place_by_call, AreChangedAt, ChangesRowAt}
 use Rattle.csi_orchestrator.proofs.JoinedLists.{own-entry}
+use Rattle.csi_orchestrator.specs.Public.Stale.{call_answered}
 use Rattle.csi_orchestrator.proofs.ListPlaces.{at-of_get}
 use Rattle.csi_orchestrator.proofs.Numbers.{other-number, sent-before, unless-some, open-sent}
 use Rattle.csi_orchestrator.proofs.RepliedRows.{own-open}
 use Rattle.csi_orchestrator.proofs.RowViews.{own-name}
 use Rattle.csi_orchestrator.proofs.ViewsFollow.{number-same}
 use Rattle.csi_orchestration.specs.Public.OrchestratorLines.{row_at}
-use Rattle.csi_orchestration.specs.Public.OrchestratorHistories.{call_answered}
 
 -- ---- what is done where a reply is taken
 

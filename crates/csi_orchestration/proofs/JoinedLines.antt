@@ -44,6 +44,7 @@ module _ {C K R W : Type 0} (setting : RunSetting C K R W) (responder : C) (befo
   kind-mark kinds.Output lines rest there counted given now group within runs stop = counted-mark there given now counted group runs ((stop.2.kept honest only).alone found left)
   kind-mark (kinds.Long number) lines rest there counted given now group within runs stop = counted-mark there given now counted group runs ((stop.2.kept honest only).alone found left)
   kind-mark kinds.NoMemory lines rest there counted given now group within runs stop = counted-mark there given now counted group runs ((stop.1.kept honest only).alone found left)
+  kind-mark kinds.OlderStore lines rest there counted given now group within runs stop = counted-mark there given now counted group runs ((stop.2.kept honest only).alone found left)
   kind-mark kinds.Endless lines rest there counted given now group within runs stop = counted-mark there given now counted group runs ((stop.4.kept honest only).alone found left)
   kind-mark (kinds.Keep fault) lines rest there counted given now group within runs stop =
       let refused = stop.1 in

@@ -5,6 +5,7 @@ pub mod JoinedLines
 pub mod OrchestratorResponding
 pub mod OpenedOrchestrators
 pub mod HeardVolumes
+pub mod RaisedSessions
 pub mod OrchestratorHistories
 pub mod OrchestratorRuns
 pub mod OrchestratorWorlds

@@ -1,16 +1,21 @@
 -- How far serving lines has come.
-use Rattle.std.proofs.Common.{◌≡◌, sym, subst, ℕ, List}
+use Rattle.std.proofs.Common.{◌≡◌, sym, subst, ℕ, List, true, false}
 use Rattle.std.specs.Prelude.{Option}
 use Rattle.std.specs.List.{AllByRecursion}
+use Rattle.std.proofs.lemmas.Bool.{true≢false}
 use Rattle.csi_driver.specs.declared.waiting.AnswerFault.{AnswerFault}
 use Rattle.csi_driver.specs.Public.LinesOf.{with_newline, IsShort}
 use Rattle.csi_driver.specs.Public.Lining.{RunsLines, no_line, line_handled, lines_flushed}
-use Rattle.csi_driver.specs.Public.Waiting.{Settling, StopsAt}
+use Rattle.csi_driver.specs.Public.Waiting.{Settling}
 use Rattle.csi_driver.proofs.Groups.{IsFresh, Came, came-begun, came-settles, came-answered, Finished}
 use Rattle.csi_driver.proofs.Items.{each-push}
 use Rattle.csi_stores.specs.Public.Part.{StoredPart}
 use Rattle.csi_stores.specs.Public.Stores.{Store}
-use Rattle.csi_orchestration.specs.Private.LinesHandling.{Serving, waiting_of, always, IsHandled, Flushes}
+use Rattle.csi_orchestration.specs.Private.LinesHandling.{Serving, waiting_of, always, IsHandled, Flushes, StopsLine}
+
+-- what isn't so
+pub not-so : {X : Type 0} → false ≡ true → X
+not-so e = absurd (true≢false (sym e))
 
 module _ {C K W : Type 0} (answers : C → List ℕ → List ℕ → C → Type 0) (parts_of : C → List StoredPart) (store : K → Store) (contents : W → Option (List ℕ)) where
   -- this and the next two: a line was answered; what waits was settled; or it stops
@@ -20,8 +25,8 @@ module _ {C K W : Type 0} (answers : C → List ℕ → List ℕ → C → Type 
   abbrev pub flushes : Serving C K W → Serving C K W → Type 0
   flushes = Flushes store contents
 
-  abbrev pub stops : Serving C K W → Option (List ℕ) → Serving C K W → AnswerFault → Type 0
-  stops old line new = StopsAt store contents (waiting_of old) (waiting_of new)
+  abbrev pub stops : (C → List ℕ → Type 0) → Serving C K W → Option (List ℕ) → Serving C K W → AnswerFault → Type 0
+  stops is_older = StopsLine is_older store contents
 
   module _ (first : Serving C K W) where
     -- how far it came, from a first responder

@@ -1,7 +1,7 @@
 -- What serving lines has come to where it ends.
-use Rattle.std.proofs.Common.{◌≡◌, ◌∙◌, inl, inr, sym, ap, subst, refl, ℕ, ◌+◌, ◌-◌, ◌<◌, ◌≤◌, ◌^◌, min, List, [], ◌∷◌, ◌++◌, length, take, drop, arith, length-append, append_assoc}
+use Rattle.std.proofs.Common.{◌≡◌, ◌∙◌, inl, inr, sym, ap, subst, refl, ℕ, ◌+◌, ◌<◌, ◌≤◌, ◌^◌, List, [], ◌∷◌, ◌++◌, Bool, true, false, length, take, drop, arith, length-append, append_assoc}
 use Rattle.std.proofs.lemmas.List.{length-take, append-nil}
-use Rattle.std.specs.Prelude.{Option, Result, Ok, Err}
+use Rattle.std.specs.Prelude.{slice_get, Option, Some, Result, Ok, Err}
 use Rattle.std.specs.List.{AllByRecursion}
 use Rattle.std.specs.Io.KnownBytes.{IsAtEnd}
 use Rattle.csi_stores.specs.Public.Counting.{HasRisen}
@@ -10,6 +10,7 @@ use Rattle.csi_driver.specs.declared.driver.Stop.TheVariants as stop
 use Rattle.csi_driver.specs.declared.lines.LinesFault.{LinesFault}
 use Rattle.csi_driver.specs.declared.lines.LinesFault.TheVariants as lines_faults
 use Rattle.csi_driver.specs.Public.Driving.{TellsReader}
+use Rattle.csi_driver.specs.Public.Handled.{IsBehind}
 use Rattle.csi_driver.specs.Public.Lines.{HaltsAtLine, IsLongAt, ReadsLines, RestsAtLines}
 use Rattle.csi_driver.specs.Public.LinesOf.{with_newline, and_last, IsShort}
 use Rattle.csi_driver.specs.Public.Lining.{RunsLines}
@@ -27,9 +28,10 @@ use Rattle.csi_orchestration.specs.declared.lines_serving.handling.Answering.{An
 use Rattle.csi_service.specs.Public.Failing.{Stays}
 use Rattle.csi_orchestration.specs.declared.lines_serving.fault.ServedLines.{ServedLines}
 use Rattle.csi_orchestration.specs.declared.lines_serving.fault.LinesServeFault.{LinesServeFault}
+use Rattle.csi_orchestration.specs.declared.lines_serving.fault.LinesServeFaultKind.TheVariants as kinds
 use Rattle.csi_orchestration.specs.Public.LinesFailing.{ReaderStaysAt, WriterStaysAt}
-use Rattle.csi_orchestration.specs.Private.LinesHandling.{Serving, waiting_of, always, stopped_by}
-use Rattle.csi_orchestration.specs.Public.LinesServing.{Setting, AnswersEach, AreThere, lines_counted, EndsBy, ServesLines, IsAllAnswered}
+use Rattle.csi_orchestration.specs.Private.LinesHandling.{Serving, waiting_of, always, handler_stopped_by, stopped_by}
+use Rattle.csi_orchestration.specs.Public.LinesServing.{Setting, AnswersEach, AreThere, TellsOlder, lines_counted, EndsBy, ServesLines, IsAllAnswered}
 use Rattle.csi_orchestration.proofs.GrowingAnswers.{there-few}
 use Rattle.csi_orchestration.proofs.LinesProgress.{handles, flushes, stops, CameTo, Done, came_by, short_by}
 
@@ -51,14 +53,19 @@ reader_failed before after stop.Endless told is = absurd cc
 reader_failed before after (stop.Consumer fault) told is = absurd cc
 
 -- and at no other end
-pub reader_stays : (before after lines : ℕ) (s : Stop (LinesFault AnswerFault)) → TellsReader {A = Unit {0}} before after (Err s) → Stays {A = ServedLines} ReaderStaysAt before after (Err (record { kind = stopped_by s; lines = lines }))
-reader_stays before after lines stop.Input told = tt
-reader_stays before after lines stop.Endless told = told
-reader_stays before after lines (stop.Consumer (lines_faults.Long number)) told = told
-reader_stays before after lines (stop.Consumer lines_faults.NoMemory) told = told
-reader_stays before after lines (stop.Consumer (lines_faults.Handler why.NoMemory)) told = told
-reader_stays before after lines (stop.Consumer (lines_faults.Handler (why.Keep fault))) told = told
-reader_stays before after lines (stop.Consumer (lines_faults.Handler why.Output)) told = told
+handler_stays : (before after lines : ℕ) (older : Bool) (fault : AnswerFault) → after ≡ before → Stays {A = ServedLines} ReaderStaysAt before after (Err (record { kind = handler_stopped_by older fault; lines = lines }))
+handler_stays before after lines true why.NoMemory same = same
+handler_stays before after lines false why.NoMemory same = same
+handler_stays before after lines older (why.Keep fault) same = same
+handler_stays before after lines older why.Output same = same
+
+pub reader_stays : (before after lines : ℕ) (older : Bool) (s : Stop (LinesFault AnswerFault)) → TellsReader {A = Unit {0}} before after (Err s)
+    → Stays {A = ServedLines} ReaderStaysAt before after (Err (record { kind = stopped_by older s; lines = lines }))
+reader_stays before after lines older stop.Input told = tt
+reader_stays before after lines older stop.Endless told = told
+reader_stays before after lines older (stop.Consumer (lines_faults.Long number)) told = told
+reader_stays before after lines older (stop.Consumer lines_faults.NoMemory) told = told
+reader_stays before after lines older (stop.Consumer (lines_faults.Handler fault)) told = handler_stays before after lines older fault told
 
 -- where nothing waits all that was read is answered
 pub all_answered : {C K W : Type 0} (answers : C → List ℕ → List ℕ → C → Type 0) (parts_of : C → List StoredPart) (store : K → Store) (contents : W → Option (List ℕ)) (first now : Serving C K W) (read : List ℕ) → IsFresh first.own.waiting
@@ -68,24 +75,29 @@ all_answered answers parts_of store contents first now read fresh rests =
     let p = finished answers parts_of with_newline always store contents first.own.responder (waiting_of first) rests.0 now.own.responder (waiting_of now) (came_by answers parts_of store contents first now rests.0 fresh rests.3) rests.4 in
     record { lines = rests.0; rest = rests.1; stream = rests.2; given = p.given; now = now.own.responder; runs = p.runs; kept = p.kept; written = p.written }
 
-module _ {C K W : Type 0} (answers : C → List ℕ → List ℕ → C → Type 0) (parts_of : C → List StoredPart) (store : K → Store) (contents : W → Option (List ℕ)) (first now : Serving C K W) (count : ℕ) (left left' : Option (List ℕ)) (fresh : IsFresh first.own.waiting) where
+module _ {C K W : Type 0} (answers : C → List ℕ → List ℕ → C → Type 0) (parts_of : C → List StoredPart) (store : K → Store) (contents : W → Option (List ℕ)) (is_older : C → List ℕ → Type 0) (first now : Serving C K W) (count : ℕ) (left left' : Option (List ℕ)) (fresh : IsFresh first.own.waiting) where
   -- the lines of a reader, handled to its end
   abbrev pub Read : Result (Unit {0}) (Stop (LinesFault AnswerFault)) → Type 0
-  Read = ReadsLines (handles answers parts_of store contents) (flushes answers parts_of store contents) (λ (answering : Answering C). answering.waiting.items ≡ 0) (stops answers parts_of store contents) first now count left left'
+  Read = ReadsLines (handles answers parts_of store contents) (flushes answers parts_of store contents) (λ (answering : Answering C). answering.waiting.items ≡ 0) (stops answers parts_of store contents is_older) first now count left left'
 
   -- where it stops at a line, or behind some
   abbrev Halts : List (List ℕ) → ℕ → AnswerFault → Type 0
-  Halts = HaltsAtLine (handles answers parts_of store contents) (flushes answers parts_of store contents) (stops answers parts_of store contents) first now
+  Halts = HaltsAtLine (handles answers parts_of store contents) (flushes answers parts_of store contents) (stops answers parts_of store contents is_older) first now
 
   -- how many lines were committed
   abbrev pub k : ℕ
   k = now.own.waiting.committed
+
+  -- whether the last line told that the store is an older one
+  abbrev pub older : Bool
+  older = now.own.is_older
 
   -- what serving is judged by
   abbrev Full : Type 0 → Type 0 → Type 0 → Setting C
   Full at_end reader_failed endless = record {
     answers = answers;
     parts_of = parts_of;
+    is_older = is_older;
     responder = first.own.responder;
     before = store first.store;
     after = store now.store;
@@ -149,8 +161,8 @@ module _ {C K W : Type 0} (answers : C → List ℕ → List ℕ → C → Type 
       serves_all p short result told ends = serves there [] (sym (append-nil there)) (all p) short p.given now.own.responder p.runs [] result told ends
 
       -- it stopped at one of them, or behind some
-      halted_at : (fault : AnswerFault) → Halts there count fault → Ended r.read (Err (record { kind = stopped_by (stop.Consumer (lines_faults.Handler fault)); lines = k }))
-      halted_at fault e = by fault came.2
+      halted_at : (fault : AnswerFault) → Halts there count fault → Ended r.read (Err (record { kind = handler_stopped_by older fault; lines = k }))
+      halted_at fault e = by older refl fault came.2
         where
           before : Serving C K W
           before = e.before
@@ -165,7 +177,7 @@ module _ {C K W : Type 0} (answers : C → List ℕ → List ℕ → C → Type 
           came : (two : Settling K W) × CameTo answers parts_of store contents first front before.own.responder two × EndsWaiting store contents two (waiting_of now) fault
           came =
               came-stops answers parts_of with_newline always store contents first.own.responder (waiting_of first) front before.own.responder (waiting_of before) (waiting_of now) fault
-              (came_by answers parts_of store contents first before front fresh e.runs) e.stopped
+              (came_by answers parts_of store contents first before front fresh e.runs) e.stopped.0
 
           two : Settling K W
           two = came.0
@@ -189,19 +201,43 @@ module _ {C K W : Type 0} (answers : C → List ℕ → List ℕ → C → Type 
           each : AllByRecursion IsShort (p.earlier ++ p.group)
           each = subst (AllByRecursion IsShort) p.are short
 
-          by : (fault : AnswerFault) → EndsWaiting store contents two (waiting_of now) fault → Ended r.read (Err (record { kind = stopped_by (stop.Consumer (lines_faults.Handler fault)); lines = k }))
-          by why.NoMemory w =
-              let q = finished answers parts_of with_newline always store contents first.own.responder (waiting_of first) front before.own.responder (waiting_of now)
-              (came-settles answers parts_of with_newline always store contents first.own.responder (waiting_of first) front before.own.responder two (waiting_of now) p w.0) w.1 in
+          -- where the next line told that the store is an older one, it is behind those that are counted
+          tells : older ≡ true → k ≡ length front → TellsOlder (Full P Q E) there k before.own.responder
+          tells is counts =
+              let told = e.stopped.1 is in
+              let here : slice_get there count ≡ Some told.0 = subst (IsBehind there count) told.1 e.behind in
+              record {
+                line = told.0;
+                here = subst (λ (n : ℕ). slice_get there n ≡ Some told.0) (omega (arith, counts, length-take count there, e.within)) here;
+                older = told.2;
+              }
+
+          -- what was handled is done
+          done : EndsWaiting store contents two (waiting_of now) why.NoMemory → Done answers parts_of store contents first front before.own.responder (waiting_of now)
+          done w =
+              finished answers parts_of with_newline always store contents first.own.responder (waiting_of first) front before.own.responder (waiting_of now)
+              (came-settles answers parts_of with_newline always store contents first.own.responder (waiting_of first) front before.own.responder two (waiting_of now) p w.0) w.1
+
+          by : (is : Bool) → older ≡ is → (fault : AnswerFault) → EndsWaiting store contents two (waiting_of now) fault → Ended r.read (Err (record { kind = handler_stopped_by is fault; lines = k }))
+          by true told why.NoMemory w =
+              let q = done w in
               let counts : k ≡ length front = omega (arith, q.committed, few, length-take count there) in (
-                serves front behind (in-two there count) counts short q.given before.own.responder q.runs [] (Err (record { kind = stopped_by (stop.Consumer (lines_faults.Handler why.NoMemory)); lines = k })) refl
+                serves front behind (in-two there count) counts short q.given before.own.responder q.runs [] (Err (record { kind = kinds.OlderStore; lines = k })) refl
+                    (refl, tells told counts, record { kept = q.kept; written = q.written }),
+                q.follows,
+                q.quiet,
+              )
+          by false told why.NoMemory w =
+              let q = done w in
+              let counts : k ≡ length front = omega (arith, q.committed, few, length-take count there) in (
+                serves front behind (in-two there count) counts short q.given before.own.responder q.runs [] (Err (record { kind = kinds.NoMemory; lines = k })) refl
                     (refl, record { kept = q.kept; written = q.written }),
                 q.follows,
                 q.quiet,
               )
-          by (why.Keep fault) w =
+          by is told (why.Keep fault) w =
               let counts : k ≡ length p.earlier = omega (arith, w.committed, p.committed, few, within) in (
-                serves p.earlier (p.group ++ behind) in-parts counts (each-first p.earlier p.group each) p.given p.mid p.runs p.group (Err (record { kind = stopped_by (stop.Consumer (lines_faults.Handler (why.Keep fault))); lines = k })) refl (
+                serves p.earlier (p.group ++ behind) in-parts counts (each-first p.earlier p.group each) p.given p.mid p.runs p.group (Err (record { kind = kinds.Keep fault; lines = k })) refl (
                   record {
                     some = something p.group (omega (arith, w.some, p.waiting));
                     short = each-second p.earlier p.group each;
@@ -220,11 +256,11 @@ module _ {C K W : Type 0} (answers : C → List ℕ → List ℕ → C → Type 
                 follows-more (store first.store) (store two.store) (store now.store) p.follows w.follows,
                 ap (λ (o : Counted W). o.faults) w.unwritten ∙ p.quiet,
               )
-          by why.Output w =
+          by is told why.Output w =
               let counts : k ≡ length front = omega (arith, w.committed, p.committed, p.waiting, few, within, ap length p.are, length-append p.earlier p.group) in (
                 serves front behind (in-two there count) counts short (p.given ++ p.more) before.own.responder
                     (unwritten-runs answers parts_of with_newline always store contents first.own.responder (waiting_of first) front before.own.responder two p) []
-                    (Err (record { kind = stopped_by (stop.Consumer (lines_faults.Handler why.Output)); lines = k })) refl (
+                    (Err (record { kind = kinds.Output; lines = k })) refl (
                       refl,
                       subst (λ (faults : ℕ). HasRisen faults now.out.faults) p.quiet w.risen,
                       record {
@@ -252,24 +288,24 @@ module _ {C K W : Type 0} (answers : C → List ℕ → List ℕ → C → Type 
         (serves_all r there are p.0 p.1 (Ok (record { lines = k })) refl (refl, all r there are p.0, refl, at_end r.ends.0, record { kept = p.0.kept; written = p.0.written }), p.0.follows, p.0.quiet)
 
     -- it stopped before
-    pub halted : (s : Stop (LinesFault AnswerFault)) (r : Read (Err s)) → (IsAtEnd left' → P) → (s ≡ stop.Input → Q) → (2 ^ 63 ≤ length r.read → E) → Ended r.read (Err (record { kind = stopped_by s; lines = k }))
+    pub halted : (s : Stop (LinesFault AnswerFault)) (r : Read (Err s)) → (IsAtEnd left' → P) → (s ≡ stop.Input → Q) → (2 ^ 63 ≤ length r.read → E) → Ended r.read (Err (record { kind = stopped_by older s; lines = k }))
     halted stop.Input r at_end failed endless =
         let p = done_by r.lines r.ends.1.runs r.ends.1.flushed in
-        (serves_all r r.lines (inl refl) p.0 p.1 (Err (record { kind = stopped_by stop.Input; lines = k })) refl (refl, all r r.lines (inl refl) p.0, failed refl, r.ends.0, record { kept = p.0.kept; written = p.0.written }), p.0.follows, p.0.quiet)
+        (serves_all r r.lines (inl refl) p.0 p.1 (Err (record { kind = kinds.Input; lines = k })) refl (refl, all r r.lines (inl refl) p.0, failed refl, r.ends.0, record { kept = p.0.kept; written = p.0.written }), p.0.follows, p.0.quiet)
     halted stop.Endless r at_end failed endless =
         let p = done_by r.lines r.ends.2.runs r.ends.2.flushed in
-        (serves_all r r.lines (inl refl) p.0 p.1 (Err (record { kind = stopped_by stop.Endless; lines = k })) refl (refl, all r r.lines (inl refl) p.0, endless r.ends.0, r.ends.1, record { kept = p.0.kept; written = p.0.written }), p.0.follows, p.0.quiet)
+        (serves_all r r.lines (inl refl) p.0 p.1 (Err (record { kind = kinds.Endless; lines = k })) refl (refl, all r r.lines (inl refl) p.0, endless r.ends.0, r.ends.1, record { kept = p.0.kept; written = p.0.written }), p.0.follows, p.0.quiet)
     halted (stop.Consumer (lines_faults.Long number)) r at_end failed endless =
         let p = done_by (take count r.lines) r.ends.1.runs r.ends.1.flushed in
         let counts : count ≡ k = omega (arith, p.0.committed, few r r.lines (inl refl), length-take count r.lines, r.ends.1.within) in (
-          serves_first r r.lines (inl refl) count p.0 p.1 (Err (record { kind = stopped_by (stop.Consumer (lines_faults.Long number)); lines = k })) refl
+          serves_first r r.lines (inl refl) count p.0 p.1 (Err (record { kind = kinds.Long number; lines = k })) refl
               (refl, subst (λ (n : ℕ). IsLongAt r.lines r.rest n number) counts r.ends.0, record { kept = p.0.kept; written = p.0.written }),
           p.0.follows,
           p.0.quiet,
         )
     halted (stop.Consumer lines_faults.NoMemory) r at_end failed endless =
         let p = done_by (take count r.lines) r.ends.runs r.ends.flushed in
-        (serves_first r r.lines (inl refl) count p.0 p.1 (Err (record { kind = stopped_by (stop.Consumer lines_faults.NoMemory); lines = k })) refl (refl, record { kept = p.0.kept; written = p.0.written }), p.0.follows, p.0.quiet)
+        (serves_first r r.lines (inl refl) count p.0 p.1 (Err (record { kind = kinds.NoMemory; lines = k })) refl (refl, record { kept = p.0.kept; written = p.0.written }), p.0.follows, p.0.quiet)
     halted (stop.Consumer (lines_faults.Handler fault)) r at_end failed endless = elim (r.ends) [
       | inl e ↦ halted_at r r.lines (inl refl) fault e
       | inr e ↦ halted_at r (and_last r.lines r.rest) (inr (at_end e.0, refl)) fault e.1

@@ -16,11 +16,11 @@ use Rattle.csi_stores.specs.Public.Stores.{Store}
 use Rattle.std.specs.Prelude.{Option}
 
 -- what opening gave is a responder's
-pub opened-with : {K R W : Type 0} (setting : RunSetting OrchestratorResponder K R W) (nodes : List (List ℕ)) (before opened : K) (service : ServedOrchestrator) (responder : OrchestratorResponder) → responder.service ≡ service
-    → HasOrchestrator nodes (setting.seen before) (setting.seen opened) service → service.orchestrator.nodes ≡ nodes → AreFitOrchestratorRows service.orchestrator.rows → IsOrchestratorOf present (orchestrator_service_parts service) (kept_of service.orchestrator) → RestartsAreTold service.orchestrator
-    → ((setting.seen opened).honest → (setting.seen before).honest) → LeavesOpening (orchestrator_rules nodes) (setting.seen before) (setting.seen opened) → IsOpened setting nodes before opened responder
-opened-with setting nodes before opened service responder same found asked fit its restarts honest left = record {
-  found = subst (HasOrchestrator nodes (setting.seen before) (setting.seen opened)) (sym same) found;
+pub opened-with : {K R W : Type 0} (setting : RunSetting OrchestratorResponder K R W) (least : ℕ) (nodes : List (List ℕ)) (before opened : K) (service : ServedOrchestrator) (responder : OrchestratorResponder) → responder.service ≡ service
+    → HasOrchestrator least nodes (setting.seen before) (setting.seen opened) service → service.orchestrator.nodes ≡ nodes → AreFitOrchestratorRows service.orchestrator.rows → IsOrchestratorOf present (orchestrator_service_parts service) (kept_of service.orchestrator) → RestartsAreTold service.orchestrator
+    → ((setting.seen opened).honest → (setting.seen before).honest) → LeavesOpening (orchestrator_rules least nodes) (setting.seen before) (setting.seen opened) → IsOpened setting least nodes before opened responder
+opened-with setting least nodes before opened service responder same found asked fit its restarts honest left = record {
+  found = subst (HasOrchestrator least nodes (setting.seen before) (setting.seen opened)) (sym same) found;
   asked = subst (λ (s : ServedOrchestrator). s.orchestrator.nodes ≡ nodes) (sym same) asked;
   fit = subst (λ (s : ServedOrchestrator). AreFitOrchestratorRows s.orchestrator.rows) (sym same) fit;
   its = subst (λ (s : ServedOrchestrator). IsOrchestratorOf present (orchestrator_service_parts s) (kept_of s.orchestrator)) (sym same) its;
@@ -30,19 +30,19 @@ opened-with setting nodes before opened service responder same found asked fit i
 }
 
 -- what was opened went on, or stopped at its first line
-pub run : {K R W : Type 0} (seen : K → Store) (remaining : R → Option (List ℕ)) (contents : W → Option (List ℕ)) (nodes : List (List ℕ)) (before opened after : K) (reader read : Counted R) (writer written : Counted W)
+pub run : {K R W : Type 0} (seen : K → Store) (remaining : R → Option (List ℕ)) (contents : W → Option (List ℕ)) (least : ℕ) (nodes : List (List ℕ)) (before opened after : K) (reader read : Counted R) (writer written : Counted W)
     (responder : OrchestratorResponder) (ending : Ending)
-    → IsOpened (orchestrator_setting {R = R} {W = W} seen remaining contents) nodes before opened responder
+    → IsOpened (orchestrator_setting {R = R} {W = W} seen remaining contents) least nodes before opened responder
     → Begins (orchestrator_setting seen remaining contents) responder opened after reader read writer written ending
-    → OrchestratorRuns (orchestrator_setting seen remaining contents) nodes before after reader read writer written ending
-run {K} seen remaining contents nodes before opened after reader read writer written responder ending is (inl stop) =
+    → OrchestratorRuns (orchestrator_setting seen remaining contents) least nodes before after reader read writer written ending
+run {K} seen remaining contents least nodes before opened after reader read writer written responder ending is (inl stop) =
     inr (inl (record {
       responder = responder;
-      is_opened = subst (λ (k : K). IsOpened (orchestrator_setting seen remaining contents) nodes before k responder) (sym stop.same) is;
+      is_opened = subst (λ (k : K). IsOpened (orchestrator_setting seen remaining contents) least nodes before k responder) (sym stop.same) is;
       unread = stop.unread;
       first = stop.first;
     }))
-run seen remaining contents nodes before opened after reader read writer written responder ending is (inr on) =
+run seen remaining contents least nodes before opened after reader read writer written responder ending is (inr on) =
     inr (inr (record {
       begun = on.begun;
       result = on.result;
@@ -52,7 +52,8 @@ run seen remaining contents nodes before opened after reader read writer written
         is_opened = λ honest content holds.
             let found = is.found honest content holds in (
               record {
-                opened = subst (λ (asked : List (List ℕ)). IsOrchestratorOpened asked content responder.service.orchestrator) (sym is.asked) found.0;
+                least = least;
+                opened = subst (λ (asked : List (List ℕ)). IsOrchestratorOpened least asked content responder.service.orchestrator) (sym is.asked) found.0;
                 fit = is.fit;
                 its = is.its;
                 restarts = is.restarts;

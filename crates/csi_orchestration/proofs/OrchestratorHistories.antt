@@ -1,8 +1,7 @@
 -- Lines that are answered go on from each history that is shown.
-use Rattle.std.proofs.Common.{◌≡◌, ◌∙◌, inl, inr, sym, ap, subst, refl, ℕ, ◌+◌, List, [], ◌∷◌, map, cond, false}
-use Rattle.std.specs.Prelude.{Option, Some, None, is_none, Result, Ok, Err, option_map, option_and_then, not, ◌&&◌, ◌||◌, Bool, IfOk}
-use Rattle.std.specs.List.{list_any, AllByRecursion}
-use Rattle.csi_lists.proofs.Filters.{filter-of_map}
+use Rattle.std.proofs.Common.{◌≡◌, ◌∙◌, inl, inr, sym, ap, subst, refl, ℕ, List, [], ◌∷◌, map, false}
+use Rattle.std.specs.Prelude.{Option, Some, None, Result, Ok, Err, option_map, option_and_then, IfOk}
+use Rattle.std.specs.List.{AllByRecursion}
 use Rattle.csi_lists.specs.Model.Members.{EachTwo}
 use Rattle.csi_types.specs.declared.number.Number.{Number}
 use Rattle.csi_types.specs.declared.event.Event.{Event}
@@ -16,16 +15,14 @@ use Rattle.csi_orchestrator.specs.declared.fault.OrchFault.TheVariants as faults
 use Rattle.csi_orchestrator.specs.Model.History.{History, with_items, Goal}
 use Rattle.csi_orchestrator.specs.Model.Moves.{Input, Comes, Restarts, Loses, Answer, Sends, Hears, Restarted, GivenUp, Moved, moves}
 use Rattle.csi_orchestrator.specs.Model.Readings.{goal_of}
-use Rattle.csi_orchestrator.specs.Model.Shown.{RowShown, OrchestratorParts, Shows, goal_in, mark_of}
+use Rattle.csi_orchestrator.specs.Model.Shown.{RowShown, OrchestratorParts, Shows, goal_in}
 use Rattle.csi_orchestrator.specs.Model.WellFormed.{IsWellFormed}
-use Rattle.csi_orchestrator.specs.declared.thing.Thing.TheVariants.{Attached}
-use Rattle.csi_orchestrator.specs.Model.Commands.{next_session}
-use Rattle.csi_orchestrator.specs.Model.Thing.{is_no}
-use Rattle.csi_orchestrator.specs.Public.Beginning.{is_row_forgotten, is_used_in, restart_refusal, restarted_parts}
 use Rattle.csi_orchestrator.specs.Public.Changed.{place_by_name, place_by_call, ChangesAsHeard}
 use Rattle.csi_orchestrator.specs.Public.Laws.{MovesKeepForm, RestartsAreTold, opened_parts}
 use Rattle.csi_orchestrator.specs.Public.Moves.{moved_to}
 use Rattle.csi_orchestrator.specs.Public.Promises.{FollowsUnrefused}
+use Rattle.csi_orchestrator.specs.Public.Raised.{raised_record, raised_history}
+use Rattle.csi_orchestrator.specs.Public.Restored.{AreRestorable}
 use Rattle.csi_orchestrator.specs.Public.RowMoves.{IsRefusal}
 use Rattle.csi_orchestrator.specs.Public.Shown.{closed}
 use Rattle.csi_records.proofs.KeyedRows.{keyed-same}
@@ -43,6 +40,7 @@ use Rattle.csi_orchestration.specs.Public.OrchestratorResponding.{SpellsOrchestr
 use Rattle.csi_orchestration.specs.Public.LinesServing.{AnswersEach}
 use Rattle.csi_orchestration.specs.Public.OrchestratorLines.{row_at, with_bytes, command_entry, heard_entry, lost_entry, AnswersCommand, AnswersFrame, AnswersLoss, AnswersFault, served_lines, EventBy, ReplyBy, RequestBy}
 use Rattle.csi_orchestration.specs.Public.OrchestratorHistories.{IsMoved, TellsHeard, MovesCommand, MovesFrame, MovesLoss, MovesNothing, moved_lines, MovesLine}
+use Rattle.csi_orchestration.proofs.RaisedSessions.{raised-told}
 use Rattle.csi_orchestration.proofs.HeardVolumes.{found-there, AreNamedApart, told-refused, told-taken}
 
 -- ---- a line
@@ -138,6 +136,7 @@ module _ (keeps : MovesKeepForm) (history : History) (form : IsWellFormed histor
         form = g.form;
         shown = g.shown;
         is = record {
+          timely = a.timely history form shown;
           heard = a.heard;
           moved = g.is;
           line = heard-told frame a.heard answer a.answered a.row a.line g;
@@ -276,40 +275,31 @@ each-goes keeps responder (line ∷ lines) (answer ∷ given) now history each f
 
 -- ---- a restart
 
--- an open call that is given up uses no node
-used-closed : (rows : List RowShown) (node : List ℕ) → is_used_in (map closed rows) node ≡ is_used_in rows node
-used-closed [] node = refl
-used-closed (row ∷ rows) node = ap (λ (b : Bool). not (is_no (mark_of (Attached row.name node) row)) || b) (used-closed rows node)
-
--- and so refuses no restart
-refusal-closed : (parts : OrchestratorParts) (nodes : List (List ℕ)) → opening_refusal (kept_of parts) nodes ≡ restart_refusal parts.last.session parts.nodes nodes parts.rows
-refusal-closed parts nodes = λ i.
-    cond (is_none (next_session parts.last.session)) (Some faults.NumbersSpent)
-    (cond (list_any (λ node. not (list_any (same_text node) nodes) && used-closed parts.rows node i) parts.nodes) (Some faults.NodeInUse) None)
-
--- what a restart makes is what is opened from the record
-restarted-opened : (parts : OrchestratorParts) (nodes : List (List ℕ)) → restarted_parts nodes parts ≡ opened_parts (kept_of parts) nodes
-restarted-opened parts nodes =
-    let rows = filter-of_map (λ (row : RowShown). not (is_row_forgotten row)) closed parts.rows in
-    λ i. record { nodes = nodes; last = record { session = parts.last.session + 1; call = 0 }; rows = sym rows i }
-
--- a history goes on by a restart to one that what is opened shows
-pub record RestartsOn (parts : OrchestratorParts) (history : History) (nodes : List (List ℕ)) : Type 0 where
+-- a history goes on by a restart, once its session was raised to this one, to one that what is opened shows
+pub record RestartsOn (parts : OrchestratorParts) (history : History) (session : ℕ) (nodes : List (List ℕ)) : Type 0 where
   pub next : History
-  pub is : IsMoved {A = Unit {0}} (λ done. Restarted) history (Restarts nodes) (Ok tt) next
+  pub is : IsMoved {A = Unit {0}} (λ done. Restarted) (raised_history session history) (Restarts nodes) (Ok tt) next
   pub form : IsWellFormed next
-  pub shown : Shows (opened_parts (kept_of parts) nodes) next
+  pub shown : Shows (opened_parts (raised_record session (kept_of parts)) nodes) next
 
--- so it is where a restart is told
-pub restart-goes : MovesKeepForm → (parts : OrchestratorParts) (history : History) (nodes : List (List ℕ)) → IsWellFormed history → Shows parts history → RestartsAreTold parts
-    → opening_refusal (kept_of parts) nodes ≡ None → RestartsOn parts history nodes
-restart-goes keeps parts history nodes form shown told unrefused = by (moves history (Restarts nodes)) refl (told history nodes form shown (sym (refusal-closed parts nodes) ∙ unrefused))
+-- so it is where a restart is told, and the rows are a record's
+pub restart-goes : MovesKeepForm → (parts : OrchestratorParts) (history : History) (session : ℕ) (nodes : List (List ℕ)) → IsWellFormed history → Shows parts history
+    → AreRestorable parts.nodes (map closed parts.rows) → RestartsAreTold parts
+    → opening_refusal (raised_record session (kept_of parts)) nodes ≡ None → RestartsOn parts history session nodes
+restart-goes keeps parts history session nodes form shown rules told unrefused = by (moves begun (Restarts nodes)) refl goes.1
   where
-    by : (m : Result Moved OrchFault) → moves history (Restarts nodes) ≡ m → FollowsUnrefused history m Restarted (restarted_parts nodes parts) → RestartsOn parts history nodes
+    begun : History
+    begun = raised_history session history
+
+    goes : IsWellFormed begun × FollowsUnrefused begun (moves begun (Restarts nodes)) Restarted (opened_parts (raised_record session (kept_of parts)) nodes)
+    goes = raised-told parts rules told history session nodes form shown unrefused
+
+    by : (m : Result Moved OrchFault) → moves begun (Restarts nodes) ≡ m → FollowsUnrefused begun m Restarted (opened_parts (raised_record session (kept_of parts)) nodes)
+        → RestartsOn parts history session nodes
     by (Ok m) e follows = record {
-      next = with_items history m.items;
+      next = with_items begun m.items;
       is = (m, e, follows.answered, refl);
-      form = subst (λ (r : Result Moved OrchFault). IsWellFormed (moved_to history r)) e (keeps.then history (Restarts nodes) form);
-      shown = subst (λ (o : OrchestratorParts). Shows o (with_items history m.items)) (restarted-opened parts nodes) follows.agrees;
+      form = subst (λ (r : Result Moved OrchFault). IsWellFormed (moved_to begun r)) e (keeps.then begun (Restarts nodes) goes.0);
+      shown = follows.agrees;
     }
     by (Err fault) e follows = absurd follows

@@ -1,11 +1,14 @@
 -- Two runs of an orchestrator are one run of the stated machine, with a restart between, and so are three.
-use Rattle.std.proofs.Common.{◌≡◌, ◌∙◌, sym, ap, subst, inl, inr, refl, ℕ, List, [], ◌∷◌, arith}
-use Rattle.std.specs.Prelude.{Option, None}
-use Rattle.csi_orchestrator.specs.Model.History.{new_history}
+use Rattle.std.proofs.Common.{◌≡◌, ◌∙◌, sym, ap, subst, inl, inr, refl, ℕ, ◌+◌, ◌-◌, List, [], ◌∷◌, Bool, true, false, cond, map, arith}
+use Rattle.std.specs.Prelude.{Option, None, nat_lt}
+use Rattle.std.proofs.lemmas.Bool.Decides.{nat_tests}
+use Rattle.csi_orchestrator.specs.Model.History.{History, Started, new_history, with_items}
 use Rattle.csi_orchestrator.specs.Model.Shown.{OrchestratorParts, Shows}
 use Rattle.csi_orchestrator.specs.Public.Laws.{MovesKeepForm, RecordsLaw, opened_parts}
+use Rattle.csi_orchestrator.specs.Public.Raised.{raised_session, raised_record, raised_history}
 use Rattle.csi_orchestrator.specs.Public.Record.{RecordParts}
 use Rattle.csi_orchestrator.specs.Public.Restored.{AreRestorable}
+use Rattle.csi_orchestrator.specs.Public.Shown.{closed}
 use Rattle.csi_orchestrator.specs.Public.Sound.{HasHistory}
 use Rattle.csi_stores.specs.Public.Part.{StoredPart}
 use Rattle.csi_stores.specs.Public.Stores.{Store}
@@ -14,11 +17,11 @@ use Rattle.csi_records.specs.Public.Spelling.{present}
 use Rattle.csi_records.proofs.KeyedRows.{keyed-same}
 use Rattle.csi_records.proofs.Layouts.{parts-same}
 use Rattle.csi_records.proofs.OrchestratorLayouts.{orchestrator_one}
-use Rattle.csi_service.specs.Public.OrchestratorOpening.{new_record, opening_refusal, IsOpenedFrom}
+use Rattle.csi_service.specs.Public.OrchestratorOpening.{new_record, raised_before, opening_refusal, IsOpenedFrom}
 use Rattle.csi_service.specs.Public.OrchestratorServices.{kept_of}
 use Rattle.csi_orchestration.specs.declared.orchestrator_responder.OrchestratorResponder.{OrchestratorResponder}
 use Rattle.csi_orchestration.specs.Public.LinesRuns.{LinesRunsLaw}
-use Rattle.csi_orchestration.specs.Public.OrchestratorHistories.{OrchestratorRunsLaw, OrchestratorThreeRunsLaw}
+use Rattle.csi_orchestration.specs.Public.OrchestratorHistories.{first_history, OrchestratorRunsLaw, OrchestratorThreeRunsLaw}
 use Rattle.csi_orchestration.specs.Public.OrchestratorResponding.{HasItsRecord, OpensResponder, responder_parts}
 use Rattle.csi_orchestration.specs.Public.Running.{orchestrator_setting}
 use Rattle.csi_orchestration.proofs.OrchestratorHistories.{each-goes, restart-goes}
@@ -34,28 +37,64 @@ one-record parts one other spelled also =
 not-empty : (head : StoredPart) (rest : List StoredPart) → head ∷ rest ≡ [] → ⊥
 not-empty head rest e = absurd (cc)
 
--- what is opened from the parts of one is the one that its record is opened as, with nodes with which that isn't refused
-reopened : (left again : OrchestratorResponder) → HasItsRecord left → OpensResponder (responder_parts left) again
-    → (again.service.orchestrator ≡ opened_parts (kept_of left.service.orchestrator) again.service.orchestrator.nodes)
-    × (opening_refusal (kept_of left.service.orchestrator) again.service.orchestrator.nodes ≡ None)
+-- a session that was raised is raised by itself as it was
+raised-again : (session last : ℕ) → raised_session (raised_session session last) last ≡ raised_session session last
+raised-again session last = by (nat_lt last session) refl
+  where
+    same : (b : Bool) → cond b last last ≡ last
+    same true = refl
+    same false = refl
+
+    by : (b : Bool) → nat_lt last session ≡ b → raised_session (cond b session last) last ≡ cond b session last
+    by true later = ap (λ (b : Bool). cond b session last) later
+    by false not_later = same (nat_lt last last)
+
+-- the session before the next one
+one-before : (session last : ℕ) → session ≡ last + 1 → session - 1 ≡ last
+one-before session last next = omega (arith, next)
+
+-- what is opened from the parts of one is the one that its record is opened as, raised to the session before, with nodes with which that isn't refused
+record ReopensAs (left again : OrchestratorResponder) (session : ℕ) : Type 0 where
+  is : again.service.orchestrator ≡ opened_parts (raised_record session (kept_of left.service.orchestrator)) again.service.orchestrator.nodes
+  unrefused : opening_refusal (raised_record session (kept_of left.service.orchestrator)) again.service.orchestrator.nodes ≡ None
+
+reopened : (left again : OrchestratorResponder) → HasItsRecord left → OpensResponder (responder_parts left) again → ReopensAs left again (again.service.orchestrator.last.session - 1)
 reopened left again its opens = by opens.opened.from
   where
     kept : RecordParts
     kept = opens.opened.kept
 
-    by : IsOpenedFrom (responder_parts left) kept → (again.service.orchestrator ≡ opened_parts (kept_of left.service.orchestrator) again.service.orchestrator.nodes)
-        × (opening_refusal (kept_of left.service.orchestrator) again.service.orchestrator.nodes ≡ None)
+    own : RecordParts
+    own = kept_of left.service.orchestrator
+
+    raised : ℕ
+    raised = raised_session (opens.least - 1) own.session
+
+    by : IsOpenedFrom (responder_parts left) kept → ReopensAs left again (again.service.orchestrator.last.session - 1)
     by (inl new) = absurd (not-empty _ _ new.0)
     by (inr read) =
-        let same = one-record (responder_parts left) kept (kept_of left.service.orchestrator) read its in (
-          opens.opened.is ∙ ap (λ (r : RecordParts). opened_parts r again.service.orchestrator.nodes) same,
-          subst (λ (r : RecordParts). opening_refusal r again.service.orchestrator.nodes ≡ None) same opens.opened.unrefused,
-        )
+        let same = one-record (responder_parts left) kept own read its in
+        let is : again.service.orchestrator ≡ opened_parts (raised_before opens.least own) again.service.orchestrator.nodes =
+        opens.opened.is ∙ ap (λ (r : RecordParts). opened_parts (raised_before opens.least r) again.service.orchestrator.nodes) same in
+        let unrefused = subst (λ (r : RecordParts). opening_refusal (raised_before opens.least r) again.service.orchestrator.nodes ≡ None) same opens.opened.unrefused in
+        let before : again.service.orchestrator.last.session - 1 ≡ raised = one-before again.service.orchestrator.last.session raised (ap (λ (o : OrchestratorParts). o.last.session) is) in
+        let session : raised_session (again.service.orchestrator.last.session - 1) own.session ≡ raised =
+        ap (λ (n : ℕ). raised_session n own.session) before ∙ raised-again (opens.least - 1) own.session in
+        record {
+          is = is ∙ ap (λ (n : ℕ). opened_parts (record own { session = n }) again.service.orchestrator.nodes) (sym session);
+          unrefused = subst (λ (n : ℕ). opening_refusal (record own { session = n }) again.service.orchestrator.nodes ≡ None) (sym session) unrefused;
+        }
+
+-- the rows of its record keep the rules
+its-rules : (responder : OrchestratorResponder) → HasItsRecord responder → AreRestorable responder.service.orchestrator.nodes (map closed responder.service.orchestrator.rows)
+its-rules responder its =
+    let kept = kept_of responder.service.orchestrator in
+    subst (AreRestorable kept.nodes) (sym (keyed-same 1 kept.rows its.rules.rows its.rules.places)) its.rules.rules
 
 -- what was opened has a history
 has-history : RecordsLaw → (content : List StoredPart) (responder : OrchestratorResponder) → OpensResponder content responder → HasHistory responder.service.orchestrator
 has-history law content responder opens =
-    subst HasHistory (sym opens.opened.is) (law kept responder.service.orchestrator.nodes (rules opens.opened.from) opens.opened.unrefused)
+    subst HasHistory (sym opens.opened.is) (law (raised_before opens.least kept) responder.service.orchestrator.nodes (rules opens.opened.from) opens.opened.unrefused)
   where
     kept : RecordParts
     kept = opens.opened.kept
@@ -82,9 +121,33 @@ new-shown nodes = record {
   same_counts = λ name. refl;
 }
 
+-- in each session
+first-shown : (before : ℕ) (nodes : List (List ℕ)) → Shows (opened_parts (record { nodes = []; session = before; rows = [] }) nodes) (raised_history (before + 1) (new_history nodes))
+first-shown before nodes = by (nat_lt 1 (before + 1)) refl
+  where
+    begun : History
+    begun = with_items (new_history nodes) (Started (before + 1) nodes ∷ [])
+
+    by : (b : Bool) → nat_lt 1 (before + 1) ≡ b → Shows (opened_parts (record { nodes = []; session = before; rows = [] }) nodes) (cond b begun (new_history nodes))
+    by true later = record {
+      same_nodes = refl;
+      same_last = refl;
+      same_rows = λ name. refl;
+      same_marks = λ thing. refl;
+      same_ids = λ name. refl;
+      same_goals = λ name. refl;
+      same_arguments = λ name. refl;
+      same_holdings = λ name node there. refl;
+      same_open_calls = λ name. refl;
+      same_counts = λ name. refl;
+    }
+    by false first =
+        let none : before ≡ 0 = grind (arith, nat_tests) in
+        subst (λ (n : ℕ). Shows (opened_parts (record { nodes = []; session = n; rows = [] }) nodes) (new_history nodes)) (sym none) (new-shown nodes)
+
 -- what is opened of an empty store is a new one
 shows-new : (content : List StoredPart) (responder : OrchestratorResponder) → OpensResponder content responder → content ≡ []
-    → Shows responder.service.orchestrator (new_history responder.service.orchestrator.nodes)
+    → Shows responder.service.orchestrator (first_history responder.service.orchestrator)
 shows-new content responder opens none = by opens.opened.from
   where
     kept : RecordParts
@@ -93,8 +156,14 @@ shows-new content responder opens none = by opens.opened.from
     nodes : List (List ℕ)
     nodes = responder.service.orchestrator.nodes
 
-    by : IsOpenedFrom content kept → Shows responder.service.orchestrator (new_history nodes)
-    by (inl new) = subst (λ (o : OrchestratorParts). Shows o (new_history nodes)) (sym (opens.opened.is ∙ ap (λ (r : RecordParts). opened_parts r nodes) new.1)) (new-shown nodes)
+    before : ℕ
+    before = raised_session (opens.least - 1) 0
+
+    by : IsOpenedFrom content kept → Shows responder.service.orchestrator (first_history responder.service.orchestrator)
+    by (inl new) =
+        let is : responder.service.orchestrator ≡ opened_parts (record { nodes = []; session = before; rows = [] }) nodes =
+        opens.opened.is ∙ ap (λ (r : RecordParts). opened_parts (raised_before opens.least r) nodes) new.1 in
+        subst (λ (o : OrchestratorParts). Shows o (raised_history o.last.session (new_history nodes))) (sym is) (first-shown before nodes)
     by (inr read) = absurd (not-empty _ _ (sym read.are ∙ none))
 
 -- by the law of two runs
@@ -110,8 +179,8 @@ one-history seen seen_too remaining contents keeps records law before between ag
           let left = run.left.service.orchestrator in
           let nodes = two.responder.service.orchestrator.nodes in
           let opened = reopened run.left two.responder first.its run.reopened in
-          let on = restart-goes keeps left first.next nodes first.form first.shown first.restarts opened.1 in
-          let begun_shown = subst (λ (o : OrchestratorParts). Shows o on.next) (sym opened.0) on.shown in
+          let on = restart-goes keeps left first.next (two.responder.service.orchestrator.last.session - 1) nodes first.form first.shown (its-rules run.left first.its) first.restarts opened.unrefused in
+          let begun_shown = subst (λ (o : OrchestratorParts). Shows o on.next) (sym opened.is) on.shown in
           let second = each-goes keeps two.responder _ _ two.served.serves.now on.next run.goes_on run.reopened.fit run.reopened.its run.reopened.restarts on.form begun_shown in
           record {
             came = first.next;

@@ -1,7 +1,8 @@
 -- A world's orchestrator goes on as the lines that come to it lead its history.
 use Rattle.std.proofs.Common.{◌≡◌, ◌∙◌, inl, inr, sym, ap, subst, refl, ℕ, List, [], ◌∷◌, ◌++◌, length, Bool, true, false, cond, ◌||◌, is_some}
+use Rattle.std.proofs.lemmas.Bool.{ltb-true}
 use Rattle.std.proofs.lemmas.List.{append_assoc}
-use Rattle.std.specs.Prelude.{Option, Some, None, Result, Ok, Err}
+use Rattle.std.specs.Prelude.{nat_lt, Option, Some, None, Result, Ok, Err}
 use Rattle.std.specs.List.{AllByRecursion, list_any}
 use Rattle.csi_types.specs.declared.call.Party.{Party}
 use Rattle.csi_types.specs.declared.call.Party.TheVariants as parties
@@ -17,12 +18,14 @@ use Rattle.csi_frames.proofs.Front.{first_frame-begins}
 use Rattle.csi_orchestrator.specs.declared.fault.Heard.{Heard}
 use Rattle.csi_orchestrator.specs.declared.fault.Heard.TheVariants as heards
 use Rattle.csi_orchestrator.specs.declared.fault.OrchFault.{OrchFault}
-use Rattle.csi_orchestrator.specs.Model.History.{History, Item, with_items}
+use Rattle.csi_orchestrator.specs.Model.History.{History, Item, Started, with_items}
 use Rattle.csi_orchestrator.specs.Model.Readings.{last_number, nodes_of}
 use Rattle.csi_orchestrator.specs.Model.Moves.{Input, ToCreate, ToUse, ToStop, ToDelete, TimesOut, Comes, Restarts, Loses, Answer, Sends, Hears, Restarted, GivenUp, Moved, deliver, moves}
+use Rattle.csi_orchestrator.specs.Public.Raised.{raised_history}
 use Rattle.csi_world.specs.declared.outcomes.Outcome.TheVariants as outcomes
 use Rattle.csi_world.specs.Model.World.{World, node_state, with_history}
 use Rattle.csi_world.specs.Model.After.{Occurred, by_answer, by_result, orchestrated, called_at, called, delivered_body, delivered, frame_numbered, restarted_at, joined_at, lost_by, is_node_of, occurs, after_from}
+use Rattle.csi_world.specs.Public.Step.{Choice, Starts, MayChooseAll, chosen_all}
 use Rattle.csi_world.proofs.PluginsReached.{answered-history, joined-same}
 use Rattle.csi_json.specs.declared.request_fault.RequestFault.{RequestFault}
 use Rattle.csi_json.specs.Public.Requests.{RequestShown, Command, Reply, IsCommand, line_request}
@@ -366,10 +369,24 @@ line-comes world line may = by (line_request line) refl may
         )
     by (Err fault) is may_come = idle (subst AsksNothing (sym is) tt)
 
+-- ---- a session that is raised
+
+-- a later one may begin
+raise-chosen : (world : World) (session : ℕ) → (choices : List Choice) × MayChooseAll world choices × ((chosen_all world choices).history ≡ raised_history session world.history)
+raise-chosen world session = by (nat_lt (last_number world.history).session session) refl
+  where
+    by : (b : Bool) → nat_lt (last_number world.history).session session ≡ b
+        → (choices : List Choice) × MayChooseAll world choices × ((chosen_all world choices).history ≡ cond b (with_items world.history (Started session (nodes_of world.history) ∷ [])) world.history)
+    by true later = (Starts session (nodes_of world.history) ∷ [], (ltb-true (last_number world.history).session session later, tt), refl)
+    by false not_later = ([], tt, refl)
+
+-- ---- all of it
+
 -- and where it restarts
 pub world-goes : WorldsLaw
 world-goes = record {
   lines = run-history;
+  raise = raise-chosen;
   restart = λ world nodes next is. orchestrated-history {A = Unit {0}} (λ done. Restarted) world (Restarts nodes) (Ok tt) next is;
   each = line-comes;
   joined = joined-lines;

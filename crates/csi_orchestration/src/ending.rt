@@ -40,6 +40,7 @@ fn ending_of_kind(kind: LinesServeFaultKind) -> Ending
         LinesServeFaultKind::Long(number) => Ending::LineFault(number),
         LinesServeFaultKind::Keep(fault) => ending_of_store(fault),
         LinesServeFaultKind::NoMemory => Ending::Memory,
+        LinesServeFaultKind::OlderStore => Ending::OlderStore,
         LinesServeFaultKind::Endless => Ending::Endless,
     }
 }

@@ -25,6 +25,7 @@ pub fn lines_runs_law<C: StoredResponder, K: Keep, L: Keep, R: Read, W: Write>()
       opens = C.opens;
       answers = AnswersInRecord C.is_fit C.spells C.parts_of C.answers;
       parts_of = C.parts_of;
+      is_older = C.is_older;
       seen = K.store;
       remaining = R.remaining;
       contents = W.contents;

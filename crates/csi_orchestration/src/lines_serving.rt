@@ -40,7 +40,8 @@ const PIECE: usize = 16384;
 /// - at `Output` the lines that are counted are committed, and of the answers to those that were committed last a front is written;
 /// - at `Keep` opening the store again finds the parts of the last responder, or those that the next lines would have led to, all of them,
 ///   whose answers aren't written, and nothing else; the device failed in this call, or those parts don't fit;
-/// - at `NoMemory` what is counted is committed and written, and nothing of the next line.
+/// - at `NoMemory` what is counted is committed and written, and nothing of the next line;
+/// - at `OlderStore` too, and the next line told the responder that its store is an older one.
 ///
 /// The reader failed at no end but `Input`, the writer at none but `Output`. A store that is honest after the call was before. The reader is
 /// asked for more only where all lines that it gave are answered, committed and written: it may have a peer that waits for an answer. This
@@ -59,6 +60,7 @@ pub fn serve_lines<C: Responder, K: Keep, R: Source<K, Counted<W>>, W: Write>(
         × ServesLines (record {
           answers = AnswersInRecord C.is_fit C.spells C.parts_of C.answers;
           parts_of = C.parts_of;
+          is_older = C.is_older;
           responder = responder;
           before = K.store keep.old;
           after = K.store keep.new;
@@ -76,6 +78,7 @@ pub fn serve_lines<C: Responder, K: Keep, R: Source<K, Counted<W>>, W: Write>(
     let handler = Answering {
         responder,
         waiting: Waiting::new(alloc),
+        is_older: false,
     };
     let mut lines = Lines::new(alloc, handler);
     let mut piece = [0; PIECE];
@@ -83,6 +86,9 @@ pub fn serve_lines<C: Responder, K: Keep, R: Source<K, Counted<W>>, W: Write>(
         Ok(()) => Ok(ServedLines {
             lines: lines.handler().waiting.committed,
         }),
-        Err(stop) => Err(stopped(stop, lines.handler().waiting.committed)),
+        Err(stop) => {
+            let handler = lines.handler();
+            Err(stopped(stop, handler.is_older, handler.waiting.committed))
+        }
     }
 }

@@ -1,8 +1,8 @@
 //! An orchestrator that answers lines: each is a command, a timeout, a frame that came, or a node that is lost.
-ghost use Rattle.std.specs.Prelude.{◌≡◌, IfOk};
+ghost use Rattle.std.specs.Prelude.{◌≡◌, Err, IfOk};
 
 use crate::lines_runs::StoredResponder;
-use crate::responder::Responder;
+use crate::responder::{Responder, Unanswered};
 use crate::telling::{command_line, heard_line, loss_told};
 use csi_frames::{FaultKind, decode};
 use csi_json::{Request, RequestFault, read_request};
@@ -31,9 +31,11 @@ pub struct OrchestratorResponder {
 }
 
 impl OrchestratorResponder {
-    ghost use Rattle.std.specs.Prelude.{◌≡◌, IfOk, string_bytes, false};
+    ghost use Rattle.std.specs.Prelude.{◌≡◌, Err, IfOk, string_bytes, false};
     ghost use Rattle.csi_orchestrator.specs.Model.Moves.{ToCreate, ToUse, ToStop, ToDelete, TimesOut};
     ghost use Rattle.csi_orchestration.specs.Public.OrchestratorLines.{AnswersCommand, AnswersFrame, AnswersLoss, AnswersFault, AnswersEvent, AnswersReply, AnswersLine};
+    ghost use Rattle.csi_orchestration.specs.Public.OrchestratorLines.{IsToldStaleBy, IsToldStaleIn};
+    ghost use Rattle.csi_service.specs.Public.OrchestratorServices.{IsToldStale};
     ghost use Rattle.csi_orchestration.specs.Private.OrchestratorResponding.{IsTold};
 
     /// One that answered no line.
@@ -129,6 +131,14 @@ impl OrchestratorResponder {
         Ok(fault_line(self.alloc, fault.name())?)
     }
 
+    // The same of a line.
+    fn refuse_line(&mut self, fault: RequestFault) -> Result<String, Unanswered>
+        ensures told { IfOk result (λ text. IsTold (AnswersFault fault) self.old (string_bytes text) self.new) }
+        ensures never { result ≡ Err Unanswered.OlderStore → ⊥ }
+    {
+        Ok(self.refuse(fault)?)
+    }
+
     fn command(&mut self, event: Event) -> Result<String, NoMemory>
         ensures { IfOk result (λ text. IsTold (AnswersEvent event) self.old (string_bytes text) self.new) }
     {
@@ -164,29 +174,35 @@ impl OrchestratorResponder {
         }
     }
 
-    fn deliver(&mut self, frame: &Frame) -> Result<String, NoMemory>
-        ensures { IfOk result (λ text. IsTold (AnswersFrame frame.now) self.old (string_bytes text) self.new) }
+    // A frame by which an open call is stale isn't delivered.
+    fn deliver(&mut self, frame: &Frame) -> Result<String, Unanswered>
+        ensures told { IfOk result (λ text. IsTold (AnswersFrame frame.now) self.old (string_bytes text) self.new) }
+        ensures older { result ≡ Err Unanswered.OlderStore → IsToldStale frame.now self.old.service }
     {
+        if self.service.orchestrator().is_told_stale(frame) {
+            return Err(Unanswered::OlderStore);
+        }
         self.has_asked = true;
         let place = self.service.orchestrator().place_of_call(frame.number());
         let heard = self.service.deliver(frame);
-        heard_line(self.alloc, self.service.orchestrator(), place, heard)
+        Ok(heard_line(self.alloc, self.service.orchestrator(), place, heard)?)
     }
 
     // Exactly one whole frame is delivered.
-    fn reply(&mut self, bytes: &[u8]) -> Result<String, NoMemory>
-        ensures { IfOk result (λ text. IsTold (AnswersReply bytes.now) self.old (string_bytes text) self.new) }
+    fn reply(&mut self, bytes: &[u8]) -> Result<String, Unanswered>
+        ensures told { IfOk result (λ text. IsTold (AnswersReply bytes.now) self.old (string_bytes text) self.new) }
+        ensures older { result ≡ Err Unanswered.OlderStore → IsToldStaleBy bytes.now self.old.service }
     {
         match decode(self.alloc, bytes) {
             Ok((frame, size)) => {
                 if size < bytes.len() {
-                    return self.refuse(RequestFault::BadFrame);
+                    return self.refuse_line(RequestFault::BadFrame);
                 }
                 self.deliver(&frame)
             }
             Err(fault) => match fault.kind {
-                FaultKind::NoMemory => Err(NoMemory),
-                _ => self.refuse(RequestFault::BadFrame),
+                FaultKind::NoMemory => Err(Unanswered::NoMemory),
+                _ => self.refuse_line(RequestFault::BadFrame),
             },
         }
     }
@@ -200,16 +216,25 @@ impl OrchestratorResponder {
         loss_told(self.alloc, node, told, session)
     }
 
+    // A command of a line.
+    fn carry_out(&mut self, event: Event) -> Result<String, Unanswered>
+        ensures told { IfOk result (λ text. IsTold (AnswersEvent event) self.old (string_bytes text) self.new) }
+        ensures never { result ≡ Err Unanswered.OlderStore → ⊥ }
+    {
+        Ok(self.command(event)?)
+    }
+
     // The answer to a line.
-    fn answer(&mut self, line: &[u8]) -> Result<String, NoMemory>
-        ensures { IfOk result (λ text. IsTold (AnswersLine line.now) self.old (string_bytes text) self.new) }
+    fn answer(&mut self, line: &[u8]) -> Result<String, Unanswered>
+        ensures told { IfOk result (λ text. IsTold (AnswersLine line.now) self.old (string_bytes text) self.new) }
+        ensures older { result ≡ Err Unanswered.OlderStore → IsToldStaleIn line.now self.old.service }
     {
         match read_request(self.alloc, line) {
-            Ok(Request::Command(event)) => self.command(event),
+            Ok(Request::Command(event)) => self.carry_out(event),
             Ok(Request::Reply(bytes)) => self.reply(&bytes),
             Err(fault) => match fault {
-                RequestFault::NoMemory => Err(NoMemory),
-                _ => self.refuse(fault),
+                RequestFault::NoMemory => Err(Unanswered::NoMemory),
+                _ => self.refuse_line(fault),
             },
         }
     }
@@ -217,7 +242,7 @@ impl OrchestratorResponder {
 
 impl Responder for OrchestratorResponder {
     ghost use Rattle.csi_orchestration.specs.Public.OrchestratorResponding.{SpellsOrchestrator, responder_parts, responder_changes, IsFitResponder};
-    ghost use Rattle.csi_orchestration.specs.Public.OrchestratorResponding.{IsFitResponderChange, ResponderAnswers};
+    ghost use Rattle.csi_orchestration.specs.Public.OrchestratorResponding.{IsFitResponderChange, ResponderAnswers, IsOlderLine};
 
     type Record = OrchestratorRecord;
 
@@ -233,7 +258,9 @@ impl Responder for OrchestratorResponder {
 
     ghost answers = { ResponderAnswers };
 
-    fn answer_into(&mut self, line: &[u8], out: &mut Vec<u8>) -> Result<(), NoMemory> {
+    ghost is_older = { IsOlderLine };
+
+    fn answer_into(&mut self, line: &[u8], out: &mut Vec<u8>) -> Result<(), Unanswered> {
         let mut text = self.answer(line)?;
         self.service.record_law();
         restart_law(self.service.orchestrator());

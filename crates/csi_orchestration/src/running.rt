@@ -64,9 +64,10 @@ fn served<K: Keep, R: Read, W: Write>(
 }
 
 /// Opens the orchestrator of these nodes from its store, writes its first line, and serves the reader's lines, each answer written after
-/// its commit, until the input ends or something is refused; the answer is how that is told. Its session is committed before the first
-/// line. Where it isn't opened nothing is read nor written: `ConfigRefused` where no orchestrator has these nodes or the record is
-/// of others, `NumbersSpent` where the record's session is the last one, `RecordFault` with the first part that is none of an orchestrator's
+/// its commit, until the input ends or something is refused; the answer is how that is told. Its session, which is the one after the
+/// record's, or `least`, where that is later, is committed before the first line. Where it isn't opened nothing is read nor written:
+/// `ConfigRefused` where no orchestrator has these nodes or the record is of others, `NumbersSpent` where the record's session is the
+/// last one, `RecordFault` with the first part that is none of an orchestrator's
 /// record, `Device` where the device failed or the store is full, and `Memory`. Where the first line isn't written nothing is
 /// read: `Device` where the writer failed, and `Memory`. Else `Done`, or `LineFault` with the number of a line that is too long, `Endless`,
 /// `Memory`, or `Device` where the reader, the writer or the store failed. What was committed and written before a fault stays; an answer that
@@ -76,16 +77,17 @@ fn served<K: Keep, R: Read, W: Write>(
 pub fn orchestrator<K: Keep, R: Read, W: Write>(
     alloc: Global,
     nodes: Vec<NodeId>,
+    least: u64,
     keep: &mut K,
     reader: &mut Counted<R>,
     writer: &mut Counted<W>,
 ) -> Ending
-    ensures runs { OrchestratorRuns (orchestrator_setting K.store R.remaining W.contents) nodes.items
+    ensures runs { OrchestratorRuns (orchestrator_setting K.store R.remaining W.contents) least nodes.items
         keep.old keep.new reader.old reader.new writer.old writer.new result }
     ensures honest { (K.store keep.new).honest → (K.store keep.old).honest }
     ensures foreign { (K.store keep.new).honest → (place : ℕ) → (K.store keep.old).foreign place → EndsAt place result }
 {
-    match OrchestratorService::open(alloc, nodes, keep) {
+    match OrchestratorService::open(alloc, nodes, least, keep) {
         Ok(service) => {
             service.record_law();
             restart_law(service.orchestrator());
@@ -97,10 +99,11 @@ pub fn orchestrator<K: Keep, R: Read, W: Write>(
 }
 
 /// A law, and nothing that runs: two runs of an orchestrator over one store, one after another, each by a process of its own and so over a
-/// keeper of its own, however each ended, are one run, in which the orchestrator was opened again between, in the next session
-/// (`lines_runs_law`, which says what it asks). From each history that the first one's orchestrator shows, and it shows one, this is a run of
-/// the stated machine with a restart between: each answer tells what `moves` says, and the frame that is sent then. The second one's
-/// orchestrator shows a history too: so a third run goes on from there. This profile's own.
+/// keeper of its own, however each ended, are one run, in which the orchestrator was opened again between, in the next session or a later
+/// one (`lines_runs_law`, which says what it asks). From each history that the first one's orchestrator shows, and it shows one, this is a
+/// run of the stated machine with a restart between, once its session was raised to the one before the second's: each answer tells what
+/// `moves` says, and the frame that is sent then. The second one's orchestrator shows a history too: so a third run goes on from there.
+/// This profile's own.
 pub fn orchestrator_runs_law<K: Keep, L: Keep, R: Read, W: Write>()
     ensures { OrchestratorRunsLaw K.store L.store R.remaining W.contents }
 {
@@ -118,8 +121,9 @@ pub fn orchestrator_three_runs_law<K: Keep, L: Keep, M: Keep, R: Read, W: Write>
 }
 
 /// A law, and nothing that runs: a run of the stated machines of which the orchestrator gets what lines ask, whatever else happens in it,
-/// leads its orchestrator's history as the lines lead it, and a restart there is the one between two runs (`orchestrator_runs_law`). So what
-/// is proved of all such runs, as that they are safe, is so of the runs of an orchestrator that is served, where each reply that came was
+/// leads its orchestrator's history as the lines lead it, a session that is raised there is one that any orchestrator may begin, and a
+/// restart is the one between two runs (`orchestrator_runs_law`). So what is proved of all such runs, as that they are safe, is so of
+/// the runs of an orchestrator that is served, where each reply that came was
 /// sent; what was committed and not written is a frame that is sent and never delivered. Lines come about one after another (`joined`), and
 /// each of them may in any world (`each`), unless it is a reply that no plugin of that world sent: a command or a timeout by itself, a loss
 /// behind a join where the node is neither there nor listed, and a line that is no request, or a call under `reply`, by nothing. So the law

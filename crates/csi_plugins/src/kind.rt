@@ -35,8 +35,9 @@ fn session_said(alloc: Global, word: &str) -> Result<u64, Ending>
     }
 }
 
-// The session that the word of a node's joining says: 0 without one.
-fn session_of(alloc: Global, word: Option<&str>) -> Result<u64, Ending>
+/// The session that a word says, as that of a node's joining: a whole number below 2^64 in decimal, without a sign, and without zeros before it
+/// but for `0` itself; 0 without a word. `Usage` where the word says none, and `Memory` where an allocation was refused. This profile's own.
+pub fn asked_session(alloc: Global, word: Option<&str>) -> Result<u64, Ending>
     ensures said { IfOk result (SaysSession (option_map (λ text. text.now) word.entry)) }
     ensures refused { IfErr result (SaysNone (option_map (λ text. text.now) word.entry)) }
 {
@@ -63,14 +64,13 @@ impl Plugin {
         }
     }
 
-    /// The plugin of the node that has this id and joined with the session that the word says: a whole number below 2^64 in decimal,
-    /// without a sign, and without zeros before it but for `0` itself; 0 without a word. `Usage` where the word says none,
-    /// `ConfigRefused` where a node can't have this id, and `Memory` where an allocation was refused.
+    /// The plugin of the node that has this id and joined with the session that the word says (`asked_session`). `Usage` where the word says
+    /// none, `ConfigRefused` where a node can't have this id, and `Memory` where an allocation was refused.
     pub fn of_id(alloc: Global, id: &str, word: Option<&str>) -> Result<Plugin, Ending>
         ensures made { IfOk result (IsOfId id.now (option_map (λ text. text.now) word.entry)) }
         ensures refused { IfErr result (IsNoId id.now (option_map (λ text. text.now) word.entry)) }
     {
-        let session = session_of(alloc, word)?;
+        let session = asked_session(alloc, word)?;
         match NodeId::try_new(alloc, id) {
             Ok(id) => Ok(Plugin::Node { id, session }),
             Err(TextFault::NoMemory) => Err(Ending::Memory),

@@ -10,6 +10,6 @@ mod service;
 
 pub use ending::ending_unopened;
 pub use joined::{memory_runs_law, runs_law, three_runs_law};
-pub use kind::Plugin;
+pub use kind::{Plugin, asked_session};
 pub use recording::record;
 pub use running::plugin;

@@ -2,6 +2,7 @@
 mod failing;
 mod growths;
 mod script;
+mod sessions;
 mod stops;
 
 use crate::devices::{Devices, SOUND, new_store, reader, writer};
@@ -23,22 +24,34 @@ fn nodes(rt: &(impl Abort + AllocGlobal)) -> Vec<NodeId> {
     }
 }
 
-// What the program writes over a store and such devices where it is given these lines, and how it ends: as `Device` where one failed.
-fn answers<K: Keep>(
+// What the program writes over a store and such devices where it is given these lines, and how it ends: as `Device` where one failed. It begins this
+// session, where that is later than the store's next one.
+fn answers_from<K: Keep>(
     rt: &(impl Abort + AllocGlobal),
     keep: &mut K,
+    least: u64,
     given: &[u8],
     devices: Devices,
 ) -> (Vec<u8>, Ending) {
     let before = keep.faults();
     let mut input = reader(given, devices);
     let mut output = writer(rt, devices);
-    let ending = orchestrator(rt.alloc(), nodes(rt), keep, &mut input, &mut output);
+    let ending = orchestrator(rt.alloc(), nodes(rt), least, keep, &mut input, &mut output);
     let streams = input.faults().saturating_add(output.faults());
     let has_failed = streams > 0 || keep.faults() > before;
     assert!(rt; has_failed == (ending == Ending::Device));
     drop(input);
     (output.into_inner().into_inner(), ending)
+}
+
+// The same, in the store's next session.
+fn answers<K: Keep>(
+    rt: &(impl Abort + AllocGlobal),
+    keep: &mut K,
+    given: &[u8],
+    devices: Devices,
+) -> (Vec<u8>, Ending) {
+    answers_from(rt, keep, 0, given, devices)
 }
 
 // ---- what a store has

@@ -32,7 +32,11 @@ fn carry_out(rt: &HostRuntime, line: CommandLine<'_>) -> Ending {
         CommandLine::File(command, path) => over_file(rt, command, path),
         CommandLine::Controller { store, config } => serve_controller(rt, store, config),
         CommandLine::Node { store, id, session } => serve_node(rt, store, id, session),
-        CommandLine::Orchestrator { store, config } => serve_orchestrator(rt, store, config),
+        CommandLine::Orchestrator {
+            store,
+            config,
+            session,
+        } => serve_orchestrator(rt, store, config, session),
         CommandLine::Record(store) => tell(rt, store),
     }
 }

@@ -4,18 +4,18 @@ ghost use Rattle.csi_replay.specs.Private.Closing.{ending_done, ending_closed};
 
 use csi_endings::Ending;
 use csi_orchestration::{asked_nodes, orchestrator};
-use csi_plugins::{Plugin, ending_unopened, plugin, record};
+use csi_plugins::{Plugin, asked_session, ending_unopened, plugin, record};
 use csi_sqlite::{OverStore, over_file, over_found};
 use csi_stores::{Counted, Keep, KeepFault};
 use csi_types::NodeId;
 use std::rt::Files;
 use std::{fs, io};
 
-// What serves over a store: a plugin, or the orchestrator of these nodes.
+// What serves over a store: a plugin; or the orchestrator of these nodes, in the next session, or in this one, where that is later.
 #[derive(Drop)]
 enum Asked {
     Plugin(Plugin),
-    Orchestrator(Vec<NodeId>),
+    Orchestrator { nodes: Vec<NodeId>, least: u64 },
 }
 
 // Serves standard input to standard output.
@@ -26,8 +26,8 @@ impl OverStore<Ending> for Asked {
         let mut writer = Counted::new(rt.stdout());
         match self {
             Asked::Plugin(asked) => plugin(alloc, asked, keep, &mut reader, &mut writer),
-            Asked::Orchestrator(nodes) => {
-                orchestrator(alloc, nodes, keep, &mut reader, &mut writer)
+            Asked::Orchestrator { nodes, least } => {
+                orchestrator(alloc, nodes, least, keep, &mut reader, &mut writer)
             }
         }
     }
@@ -100,11 +100,24 @@ pub fn serve_node(rt: &HostRuntime, store: &str, id: &str, session: Option<&str>
     }
 }
 
-/// Serves by the orchestrator of the nodes of the configuration in the file at `config`, as `serve_controller` does, or ends as
-/// `asked_nodes` says; once the store is open, as `orchestrator` says. This profile's own.
-pub fn serve_orchestrator(rt: &HostRuntime, store: &str, config: &str) -> Ending {
-    match nodes_of(rt, config) {
-        Ok(nodes) => serve_from(rt, store, Asked::Orchestrator(nodes)),
+// The orchestrator of the nodes of the configuration in this file, from the session on that this word says.
+fn orchestrator_of(rt: &HostRuntime, path: &str, session: Option<&str>) -> Result<Asked, Ending> {
+    let least = asked_session(rt.alloc(), session)?;
+    let nodes = nodes_of(rt, path)?;
+    Ok(Asked::Orchestrator { nodes, least })
+}
+
+/// Serves by the orchestrator of the nodes of the configuration in the file at `config`, as `serve_controller` does, in the session that this
+/// word says, where that is later than the store's next one; or ends as `asked_session` or `asked_nodes` says; once the store is open, as
+/// `orchestrator` says. This profile's own.
+pub fn serve_orchestrator(
+    rt: &HostRuntime,
+    store: &str,
+    config: &str,
+    session: Option<&str>,
+) -> Ending {
+    match orchestrator_of(rt, config, session) {
+        Ok(asked) => serve_from(rt, store, asked),
         Err(ending) => ending,
     }
 }

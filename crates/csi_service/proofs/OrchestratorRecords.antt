@@ -1,8 +1,9 @@
 -- The parts of an orchestrator that is served, or opened, are a record.
-use Rattle.std.proofs.Common.{◌≡◌, ◌∙◌, sym, ap, refl, subst, inl, inr, ℕ, suc, ◌<◌, ◌≤◌, ◌+◌, ◌^◌, not, List, [], ◌∷◌, map, length, arith}
-use Rattle.std.specs.Prelude.{Some}
+use Rattle.std.proofs.Common.{◌≡◌, ◌∙◌, sym, ap, refl, subst, inl, inr, ℕ, suc, ◌<◌, ◌≤◌, ◌+◌, ◌-◌, ◌^◌, Bool, true, false, cond, nat_lt, not, List, [], ◌∷◌, map, length, arith}
+use Rattle.std.specs.Prelude.{Some, None, is_none}
 use Rattle.std.specs.List.{AllByRecursion}
-use Rattle.std.proofs.lemmas.Bool.{true≢false}
+use Rattle.std.proofs.lemmas.Bool.{true≢false, lt-ltb}
+use Rattle.std.proofs.lemmas.Bool.Decides.{nat_tests}
 use Rattle.csi_lists.proofs.Each.{each-filter}
 use Rattle.csi_lists.proofs.Options.{some_is_not_none}
 use Rattle.csi_types.specs.Public.Text.{IsNodeId}
@@ -11,6 +12,7 @@ use Rattle.csi_orchestrator.specs.declared.fault.OrchFault.TheVariants as refusa
 use Rattle.csi_orchestrator.specs.Model.Shown.{RowShown, OrchestratorParts}
 use Rattle.csi_orchestrator.specs.Public.Beginning.{is_row_forgotten, remembered}
 use Rattle.csi_orchestrator.specs.Public.Laws.{opened_parts}
+use Rattle.csi_orchestrator.specs.Public.Raised.{raised_session}
 use Rattle.csi_orchestrator.specs.Public.Record.{RecordParts, AreNodesFit}
 use Rattle.csi_orchestrator.specs.Public.Restored.{AreRestorable}
 use Rattle.csi_orchestrator.specs.Public.Shown.{closed}
@@ -25,7 +27,7 @@ use Rattle.csi_records.specs.Public.Records.{IsRecordOf}
 use Rattle.csi_records.specs.Public.Spelling.{present}
 use Rattle.csi_service.specs.declared.orchestrator_opening.OrchestratorMade.{OrchestratorMade}
 use Rattle.csi_service.specs.declared.orchestrator_opening.OrchestratorMade.TheVariants.{Opened, BadNodes, NumbersSpent, NodeInUse}
-use Rattle.csi_service.specs.Public.OrchestratorOpening.{new_record, opening_refusal, IsOpenedFrom, IsOrchestratorOpened, HasOrchestrator}
+use Rattle.csi_service.specs.Public.OrchestratorOpening.{new_record, raised_before, opening_refusal, IsOpenedFrom, IsOrchestratorOpened, HasOrchestrator}
 use Rattle.csi_service.specs.Public.StoreOpening.{HasOpened}
 use Rattle.csi_service.specs.Public.OrchestratorServices.{ServedOrchestrator, kept_of, parts_of_orchestrator, session_changes, AreFitOrchestratorRows}
 use Rattle.csi_service.specs.Private.OrchestratorOpening.{orchestrator_opening, IsBegun, IsNewlyMade}
@@ -88,19 +90,20 @@ is-present Three parts kept is = refl
 -- ---- what is opened
 
 -- what begins of a record that the parts are opened from, and to which what is told leads, is what opening is to make
-module _ (nodes : List (List ℕ)) (found : List StoredPart) (kept : RecordParts) (from : IsOpenedFrom found kept) (rows_fit : AreFitOrchestratorRows kept.rows)
-    (leads : all_changed (session_changes (length kept.rows) (opened_parts kept nodes)) found ≡ parts_of_orchestrator (opened_parts kept nodes)) where
-  begun-made : (made : OrchestratorMade) (changes : List StoredChange) → IsBegun kept nodes made changes → ((fault : OrchFault) → opening_refusal kept nodes ≡ Some fault → IsOrchestratorOf present found kept)
-      → IsMade (orchestrator_opening nodes) found made changes
+module _ (least : ℕ) (nodes : List (List ℕ)) (found : List StoredPart) (kept : RecordParts) (from : IsOpenedFrom found kept) (rows_fit : AreFitOrchestratorRows kept.rows)
+    (leads : all_changed (session_changes (length kept.rows) (opened_parts (raised_before least kept) nodes)) found ≡ parts_of_orchestrator (opened_parts (raised_before least kept) nodes)) where
+  begun-made : (made : OrchestratorMade) (changes : List StoredChange) → IsBegun (raised_before least kept) nodes made changes
+      → ((fault : OrchFault) → opening_refusal (raised_before least kept) nodes ≡ Some fault → IsOrchestratorOf present found kept)
+      → IsMade (orchestrator_opening least nodes) found made changes
   begun-made (Opened service) changes begun read =
       let its = begun.3 (remembered-fit kept.rows rows_fit) in
-      let is : IsRecordOf (orchestrator_layout present) (parts_of_orchestrator (opened_parts kept nodes)) = its-record (opened_parts kept nodes) its in
-      let opened : IsOrchestratorOpened nodes found (opened_parts kept nodes) = record { kept = kept; from = from; unrefused = begun.1; is = refl } in
-      subst (λ (s : ServedOrchestrator). IsMade (orchestrator_opening nodes) found (Opened s) changes) (sym begun.0) (record {
+      let is : IsRecordOf (orchestrator_layout present) (parts_of_orchestrator (opened_parts (raised_before least kept) nodes)) = its-record (opened_parts (raised_before least kept) nodes) its in
+      let opened : IsOrchestratorOpened least nodes found (opened_parts (raised_before least kept) nodes) = record { kept = kept; from = from; unrefused = begun.1; is = refl } in
+      subst (λ (s : ServedOrchestrator). IsMade (orchestrator_opening least nodes) found (Opened s) changes) (sym begun.0) (record {
         makes = opened;
         is = is;
         leads = ap (λ (cs : List StoredChange). all_changed cs found) begun.2 ∙ leads;
-        becomes = inr (record { orchestrator = opened_parts kept nodes; opened = opened; are = refl }, is);
+        becomes = inr (record { orchestrator = opened_parts (raised_before least kept) nodes; opened = opened; are = refl }, is);
       })
   begun-made BadNodes changes begun read = absurd begun
   begun-made NumbersSpent changes begun read = record {
@@ -117,21 +120,39 @@ module _ (nodes : List (List ℕ)) (found : List StoredPart) (kept : RecordParts
   }
 
 -- from a record that was read
-pub read-made : (nodes : List (List ℕ)) (found : List StoredPart) (version : RecordVersion) (kept : RecordParts) (made : OrchestratorMade) (changes : List StoredChange)
-    → IsOrchestratorOf version found kept → AreRestorable kept.nodes kept.rows → IsBegun kept nodes made changes → IsMade (orchestrator_opening nodes) found made changes
-read-made nodes found version kept made changes was rules begun =
+pub read-made : (least : ℕ) (nodes : List (List ℕ)) (found : List StoredPart) (version : RecordVersion) (kept : RecordParts) (made : OrchestratorMade) (changes : List StoredChange)
+    → IsOrchestratorOf version found kept → AreRestorable kept.nodes kept.rows → IsBegun (raised_before least kept) nodes made changes → IsMade (orchestrator_opening least nodes) found made changes
+read-made least nodes found version kept made changes was rules begun =
     let here : IsOrchestratorOf present found kept = subst (λ (v : RecordVersion). IsOrchestratorOf v found kept) (is-present version found kept was) was in
-    begun-made nodes found kept (inr here) (read-fit 1 kept.rows here.rows_fit)
-    (ap (all_changed (session_changes (length kept.rows) (opened_parts kept nodes))) here.are ∙ session-told kept nodes rules.each) made changes begun (λ fault refused. here)
+    begun-made least nodes found kept (inr here) (read-fit 1 kept.rows here.rows_fit)
+    (ap (all_changed (session_changes (length kept.rows) (opened_parts (raised_before least kept) nodes))) here.are ∙ session-told (least - 1) kept nodes rules.each) made changes begun (λ fault refused. here)
 
--- from no parts
-pub none-made : (nodes : List (List ℕ)) (found : List StoredPart) (kept : RecordParts) (made : OrchestratorMade) (changes : List StoredChange)
-    → found ≡ [] → kept ≡ new_record → IsBegun kept nodes made changes → IsMade (orchestrator_opening nodes) found made changes
-none-made nodes found kept made changes none is begun =
-    begun-made nodes found kept (inl (none, is)) (subst (λ (k : RecordParts). AreFitOrchestratorRows k.rows) (sym is) tt)
-    (ap (all_changed (session_changes (length kept.rows) (opened_parts kept nodes))) none
-    ∙ subst (λ (k : RecordParts). all_changed (session_changes (length k.rows) (opened_parts k nodes)) [] ≡ parts_of_orchestrator (opened_parts k nodes)) (sym is) refl)
-    made changes begun (λ fault refused. absurd (some_is_not_none fault (sym refused ∙ ap (λ (k : RecordParts). opening_refusal k nodes) is)))
+-- the session before the first one, raised
+pub first-record : (least : ℕ) → least - 1 ≡ raised_session (least - 1) 0
+first-record least = by (nat_lt 0 (least - 1)) refl
+  where
+    by : (b : Bool) → nat_lt 0 (least - 1) ≡ b → least - 1 ≡ cond b (least - 1) 0
+    by true later = refl
+    by false none = grind (arith, nat_tests)
+
+-- from no parts: a word is no last session
+none-refused : (least : ℕ) (nodes : List (List ℕ)) → least < 2 ^ 64 → opening_refusal (raised_before least new_record) nodes ≡ None
+none-refused least nodes word =
+    let early : raised_session (least - 1) 0 + 1 < 2 ^ 64 = by (nat_lt 0 (least - 1)) in
+    let some : nat_lt (raised_session (least - 1) 0 + 1) (2 ^ 64) ≡ true = lt-ltb (raised_session (least - 1) 0 + 1) (2 ^ 64) early in
+    ap (λ (b : Bool). cond (is_none (cond b (Some (raised_session (least - 1) 0 + 1)) None)) (Some refusals.NumbersSpent) None) some
+  where
+    by : (b : Bool) → cond b (least - 1) 0 + 1 < 2 ^ 64
+    by true = omega (arith, word)
+    by false = omega arith
+
+pub none-made : (least : ℕ) (nodes : List (List ℕ)) (found : List StoredPart) (kept : RecordParts) (made : OrchestratorMade) (changes : List StoredChange) → least < 2 ^ 64
+    → found ≡ [] → kept ≡ raised_before least new_record → IsBegun kept nodes made changes → IsMade (orchestrator_opening least nodes) found made changes
+none-made least nodes found kept made changes word none is begun =
+    begun-made least nodes found new_record (inl (none, refl)) tt
+    (ap (all_changed (session_changes 0 (opened_parts (raised_before least new_record) nodes))) none)
+    made changes (subst (λ (k : RecordParts). IsBegun k nodes made changes) is begun)
+    (λ fault refused. absurd (some_is_not_none fault (sym refused ∙ none-refused least nodes word)))
 
 -- what begins is as it was asked for
 pub newly-made : (nodes : List (List ℕ)) (kept : RecordParts) (made : OrchestratorMade) (changes : List StoredChange) → AreFitOrchestratorRows kept.rows → IsBegun kept nodes made changes
@@ -143,13 +164,13 @@ newly-made nodes kept NumbersSpent changes fit begun = tt
 newly-made nodes kept NodeInUse changes fit begun = tt
 
 -- the same of no parts
-pub newly-made-none : (nodes : List (List ℕ)) (kept : RecordParts) (made : OrchestratorMade) (changes : List StoredChange) → kept ≡ new_record → IsBegun kept nodes made changes → IsNewlyMade nodes made
-newly-made-none nodes kept made changes is begun = newly-made nodes kept made changes (subst (λ (k : RecordParts). AreFitOrchestratorRows k.rows) (sym is) tt) begun
+pub newly-made-none : (least : ℕ) (nodes : List (List ℕ)) (kept : RecordParts) (made : OrchestratorMade) (changes : List StoredChange) → kept ≡ raised_before least new_record → IsBegun kept nodes made changes → IsNewlyMade nodes made
+newly-made-none least nodes kept made changes is begun = newly-made nodes kept made changes (subst (λ (k : RecordParts). AreFitOrchestratorRows k.rows) (sym is) tt) begun
 
 -- where an orchestrator was made, the store has its record alone
-pub opened-so : (nodes : List (List ℕ)) (before after : Store) (made : OrchestratorMade) (service : ServedOrchestrator) → made ≡ Opened service → HasOpened (orchestrator_opening nodes) before after made
-    → HasOrchestrator nodes before after service
-opened-so nodes before after made service is has = subst (HasOpened (orchestrator_opening nodes) before after) is has
+pub opened-so : (least : ℕ) (nodes : List (List ℕ)) (before after : Store) (made : OrchestratorMade) (service : ServedOrchestrator) → made ≡ Opened service → HasOpened (orchestrator_opening least nodes) before after made
+    → HasOrchestrator least nodes before after service
+opened-so least nodes before after made service is has = subst (HasOpened (orchestrator_opening least nodes) before after) is has
 
 -- the rows of what was read
 pub rows-read : (version : RecordVersion) (found : List StoredPart) (kept : RecordParts) → IsOrchestratorOf version found kept → AreFitOrchestratorRows kept.rows

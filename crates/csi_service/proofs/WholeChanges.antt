@@ -11,6 +11,7 @@ use Rattle.csi_orchestrator.specs.Model.Moves.{without_node}
 use Rattle.csi_orchestrator.specs.Model.Shown.{RowShown, OrchestratorParts}
 use Rattle.csi_orchestrator.specs.Public.Beginning.{is_row_forgotten, remembered}
 use Rattle.csi_orchestrator.specs.Public.Laws.{opened_parts}
+use Rattle.csi_orchestrator.specs.Public.Raised.{raised_record}
 use Rattle.csi_orchestrator.specs.Public.Record.{RecordParts, AreNodesFit}
 use Rattle.csi_orchestrator.specs.Public.Restored.{IsRestorable}
 use Rattle.csi_orchestrator.specs.declared.row.Row.{Row}
@@ -152,13 +153,13 @@ closed-same nodes (row ∷ rows) each =
 abbrev kept_as : RecordParts → OrchestratorParts
 kept_as kept = record { nodes = kept.nodes; last = record { session = kept.session; call = 0 }; rows = kept.rows }
 
--- what is told of a session that begins from a record leads from its parts to those of the orchestrator
-pub session-told : (kept : RecordParts) (nodes : List (List ℕ)) → AllByRecursion (IsRestorable kept.nodes) kept.rows
-    → all_changed (session_changes (length kept.rows) (opened_parts kept nodes)) (kept_parts kept) ≡ parts_of_orchestrator (opened_parts kept nodes)
-session-told kept nodes each = by (length kept.rows == length (remembered kept.rows)) refl
+-- what is told of a session that begins from a record, raised to this one, leads from its parts to those of the orchestrator
+pub session-told : (session : ℕ) (kept : RecordParts) (nodes : List (List ℕ)) → AllByRecursion (IsRestorable kept.nodes) kept.rows
+    → all_changed (session_changes (length kept.rows) (opened_parts (raised_record session kept) nodes)) (kept_parts kept) ≡ parts_of_orchestrator (opened_parts (raised_record session kept) nodes)
+session-told session kept nodes each = by (length kept.rows == length (remembered kept.rows)) refl
   where
     opened : OrchestratorParts
-    opened = opened_parts kept nodes
+    opened = opened_parts (raised_record session kept) nodes
 
     own : kept_parts kept ≡ parts_of_orchestrator (kept_as kept)
     own = ap (λ (rows : List RowShown). orchestrator_head present kept.session kept.nodes ∷ keyed_parts 1 rows) (sym (closed-same kept.nodes kept.rows each))

@@ -1,5 +1,5 @@
 //! An orchestrator, made of the parts of a store.
-ghost use Rattle.std.specs.Prelude.{◌≡◌, IfOk, IfErr, map};
+ghost use Rattle.std.specs.Prelude.{◌≡◌, ◌-◌, ◌<◌, ◌^◌, IfOk, IfErr, map};
 ghost use Rattle.csi_orchestrator.specs.Public.Record.{AreNodesFit};
 ghost use Rattle.csi_orchestrator.specs.Public.Restored.{AreRestorable};
 ghost use Rattle.csi_stores.specs.Public.Part.{part_change};
@@ -12,6 +12,13 @@ use csi_records::{Record, RecordStop, Stored};
 use csi_stores::Part;
 use csi_types::NodeId;
 use std::alloc::Global;
+
+/// What an orchestrator is opened with: its nodes, and the session that begins, where that is later than the next one.
+#[derive(Drop)]
+pub(crate) struct AskedOrchestrator {
+    pub nodes: Vec<NodeId>,
+    pub least: u64,
+}
 
 /// An orchestrator, or why none is made of parts that are a record, or of none.
 #[derive(Drop)]
@@ -49,32 +56,45 @@ fn begun(
     }
 }
 
+// The session before this one, 0 before 0.
+fn session_before(session: u64) -> u64
+    ensures value { result ≡ session - 1 }
+    ensures word { session < 2 ^ 64 }
+{
+    session.saturating_sub(1)
+}
+
 impl Opens for OrchestratorMade {
     ghost use Rattle.csi_service.specs.Private.OrchestratorOpening.{orchestrator_opening, IsNewlyMade};
 
-    type Asked = Vec<NodeId>;
+    type Asked = AskedOrchestrator;
 
-    ghost opening = { λ nodes. orchestrator_opening nodes.items };
+    ghost opening = { λ asked. orchestrator_opening asked.least asked.nodes.items };
 
-    ghost is_new = { λ nodes. IsNewlyMade nodes.items };
+    ghost is_new = { λ asked. IsNewlyMade asked.nodes.items };
 
     fn made(
         alloc: Global,
-        nodes: Vec<NodeId>,
+        asked: AskedOrchestrator,
         parts: &[Part],
     ) -> Result<(OrchestratorMade, Vec<Part>), RecordStop> {
+        let AskedOrchestrator { nodes, least } = asked;
+        let before = session_before(least);
         if !are_nodes_fit(nodes.as_slice()) {
             return Ok((OrchestratorMade::BadNodes, Vec::new(alloc)));
         }
         if parts.is_empty() {
             let none = Vec::new(alloc);
-            return match OrchestratorRecord::try_new(alloc, none, 0, Vec::new(alloc)) {
+            return match OrchestratorRecord::try_new(alloc, none, before, Vec::new(alloc)) {
                 Ok(new) => begun(alloc, new, nodes),
                 Err(_) => Err(RecordStop::NoMemory),
             };
         }
         match OrchestratorRecord::of_parts(alloc, parts) {
-            Ok(Stored { kept, .. }) => begun(alloc, kept, nodes),
+            Ok(Stored { mut kept, .. }) => {
+                kept.raise(before);
+                begun(alloc, kept, nodes)
+            }
             Err(stop) => Err(stop),
         }
     }

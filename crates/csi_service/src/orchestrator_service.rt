@@ -4,7 +4,7 @@ use crate::orchestrator_changes::{
     OrchestratorChanged, nodes_law, place_for, push_removals_behind, push_row, row_heard,
     row_named, session_change,
 };
-use crate::orchestrator_opening::OrchestratorMade;
+use crate::orchestrator_opening::{AskedOrchestrator, OrchestratorMade};
 use crate::orchestrator_unopened::OrchestratorUnopened;
 use csi_orchestrator::{
     Heard, OrchFault, OrchRecordFault, Orchestrator, OrchestratorRecord, are_nodes_fit, rows_law,
@@ -138,8 +138,9 @@ impl OrchestratorService {
     }
 
     /// The orchestrator of the store's record after a restart with these nodes (`Orchestrator::restart`), in the session after the record's;
-    /// of a store without a part in session 1. What changed is committed before it is given: every open call is given up, no number
-    /// comes twice, and names are forgotten. It is the head, or, where names were forgotten, the whole record, in one commit. Refused with the
+    /// of a store without a part in session 1. Where `least` is a later session, it is in that one: an older copy of a store, or one that is
+    /// opened twice, then uses no number again, if `least` never was one before. What changed is committed before it is given: every open
+    /// call is given up, no number comes twice, and names are forgotten. It is the head, or, where names were forgotten, the whole record, in one commit. Refused with the
     /// first that holds of `BadNodes` (more than 64 nodes, or a node that stands there twice), `Keep`, `NumbersSpent` (the record's session is
     /// the last one) and `NodeInUse` (a volume may be attached at a node of the record that isn't one of these); `Keep` also at the commit. It is
     /// `BadRecord` where the store's parts are no orchestrator's record, with the first that is refused; `Device` only where the
@@ -148,18 +149,19 @@ impl OrchestratorService {
     pub fn open<K: Keep>(
         alloc: Global,
         nodes: Vec<NodeId>,
+        least: u64,
         keep: &mut K,
     ) -> Result<OrchestratorService, OrchestratorUnopened>
-        ensures opened { IfOk result (HasOrchestrator nodes.items (K.store keep.old) (K.store keep.new)) }
+        ensures opened { IfOk result (HasOrchestrator least nodes.items (K.store keep.old) (K.store keep.new)) }
         ensures nodes { IfOk result (λ service. service.orchestrator.nodes ≡ nodes.items) }
         ensures fit { IfOk result (λ service. AreFitOrchestratorRows service.orchestrator.rows) }
         ensures changes { IfOk result (λ service. orchestrator_service_changes service ≡ []) }
-        ensures cause { IfErr result (IsOrchestratorUnopened nodes.items (K.store keep.old) (K.store keep.new)) }
+        ensures cause { IfErr result (IsOrchestratorUnopened least nodes.items (K.store keep.old) (K.store keep.new)) }
         ensures honest { (K.store keep.new).honest → (K.store keep.old).honest }
         ensures foreign { (K.store keep.new).honest → (place : ℕ) → (K.store keep.old).foreign place → RefusesForeign place result }
-        ensures left { LeavesOpening (orchestrator_rules nodes.items) (K.store keep.old) (K.store keep.new) }
+        ensures left { LeavesOpening (orchestrator_rules least nodes.items) (K.store keep.old) (K.store keep.new) }
     {
-        match open(alloc, nodes, keep) {
+        match open(alloc, AskedOrchestrator { nodes, least }, keep) {
             Ok(OrchestratorMade::Opened(service)) => Ok(service),
             Ok(OrchestratorMade::BadNodes) => Err(OrchestratorUnopened::BadNodes),
             Ok(OrchestratorMade::NumbersSpent) => Err(OrchestratorUnopened::NumbersSpent),

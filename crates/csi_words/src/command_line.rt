@@ -7,7 +7,7 @@ ghost use Rattle.csi_words.specs.Public.Help.{help_asked as asked};
 ghost use Rattle.csi_words.specs.Public.Words.{
   command_entered,
   command_in as named_in,
-  on_node,
+  on_session,
   controller_in,
   node_in,
   orchestrator_in,
@@ -46,10 +46,12 @@ pub enum CommandLine<'a> {
         id: &'a str,
         session: Option<&'a str>,
     },
-    /// `orchestrator DB CONFIG`: the paths of the store and of the file of the configuration.
+    /// `orchestrator DB CONFIG` or `orchestrator DB CONFIG SESSION`: the paths of the store and of the file of the configuration, and the
+    /// session that begins, of which nothing is asked yet.
     Orchestrator {
         store: &'a str,
         config: &'a str,
+        session: Option<&'a str>,
     },
     /// `record DB`: the path of the store.
     Record(&'a str),
@@ -81,16 +83,20 @@ fn store_command<'a>(
     command.arg(other)
 }
 
-// The command that serves a node: its store, its id, and the session of its joining, which may be left out.
-fn node_command<'a>(alloc: Global) -> Result<Command<'a>, AllocError>
-    ensures { IfOk result (IsAddedAs on_node.top) }
+// A command of this name, which serves over a store: that, another word, and a session, which may be left out.
+fn session_command<'a>(
+    alloc: Global,
+    name: &'a str,
+    second: &'a str,
+) -> Result<Command<'a>, AllocError>
+    ensures { IfOk result (IsAddedAs (on_session name.entry.now second.entry.now).top) }
 {
     let store = Arg::new(alloc, "DB").required(true);
-    let with_store = Command::new(alloc, "node").arg(store)?;
-    let id = Arg::new(alloc, "ID").required(true);
-    let with_id = with_store.arg(id)?;
+    let with_store = Command::new(alloc, name).arg(store)?;
+    let second_word = Arg::new(alloc, second).required(true);
+    let with_second = with_store.arg(second_word)?;
     let session = Arg::new(alloc, "SESSION");
-    with_id.arg(session)
+    with_second.arg(session)
 }
 
 // The program with this command more, if there was memory to make it.
@@ -131,8 +137,8 @@ fn with_all_commands<'a>(alloc: Global) -> Result<Command<'a>, AllocError>
     let names = ["answer", "show", "run", "frames", "draw"];
     let three = with_file_commands(alloc, bare, &names)?;
     let four = with_command(three, store_command(alloc, "controller", "CONFIG"))?;
-    let five = with_command(four, node_command(alloc))?;
-    let six = with_command(five, store_command(alloc, "orchestrator", "CONFIG"))?;
+    let five = with_command(four, session_command(alloc, "node", "ID"))?;
+    let six = with_command(five, session_command(alloc, "orchestrator", "CONFIG"))?;
     with_command(six, one_word_command(alloc, "record", "DB"))
 }
 
@@ -190,13 +196,18 @@ fn node<'a>(matches: &ArgMatches<'a>) -> Option<CommandLine<'a>>
     Some(CommandLine::Node { store, id, session })
 }
 
-// The orchestrator's store and configuration.
+// The orchestrator's store and configuration, and the session that begins, where it is there.
 fn orchestrator<'a>(matches: &ArgMatches<'a>) -> Option<CommandLine<'a>>
     ensures { option_map named_by result ≡ orchestrator_in (rows_of (found_of matches.now)) }
 {
     let store = word(matches, "DB")?;
     let config = word(matches, "CONFIG")?;
-    Some(CommandLine::Orchestrator { store, config })
+    let session = word(matches, "SESSION");
+    Some(CommandLine::Orchestrator {
+        store,
+        config,
+        session,
+    })
 }
 
 // The store of which the record is asked for.

@@ -17,7 +17,7 @@ Subcommands:
   draw FILE               simulate a schedule, and draw its run
   controller DB CONFIG    serve as the controller
   node DB ID [SESSION]    serve as a node
-  orchestrator DB CONFIG  serve as the orchestrator, which is asked by lines
+  orchestrator DB CONFIG [SESSION]  serve as the orchestrator, asked by lines
   record DB               print what a store has
 
 FILE is read, and may be /dev/stdin. DB is a store, a SQLite file. CONFIG is a
@@ -142,18 +142,21 @@ More: csi-replay --help
 ";
 
 const ORCHESTRATOR: &str = "\
-Usage: csi-replay orchestrator DB CONFIG
+Usage: csi-replay orchestrator DB CONFIG [SESSION]
 
 Reads commands, timeouts and replies from standard input, as lines of JSON, and
 writes a line for each to standard output, with the call that is to be sent,
 after its changes are committed to DB. It ends where the input ends.
 
-  DB      its store, a SQLite file, made if it is missing; while it runs, and
-          after any exit status but 0, the log DB-wal is part of the store
-  CONFIG  a file of JSON, {\"greatest\":N,\"nodes\":[{\"id\":\"n1\",\"slots\":N},..]}, as
-          the controller's: its nodes; none that is in use may be left out
+  DB       its store, a SQLite file, made if it is missing; while it runs, and
+           after any exit status but 0, the log DB-wal is part of the store
+  CONFIG   a file of JSON, {\"greatest\":N,\"nodes\":[{\"id\":\"n1\",\"slots\":N},..]}, as
+           the controller's: its nodes; none that is in use may be left out
+  SESSION  the session that begins, where it is later than the store's next one:
+           seconds since 1970, by a clock that isn't set back. Without it a copy
+           of the store that is started uses the same numbers again
 
-Example: csi-replay orchestrator orchestrator.db config < lines
+Example: csi-replay orchestrator orchestrator.db config $(date +%s) < lines
 
 More: csi-replay --help
 ";

@@ -71,5 +71,5 @@ func begin(ctx context.Context, config hosting.Config, program string) (hosting.
 	if err != nil {
 		return nil, hosting.Answer{}, fmt.Errorf("device: %w", err)
 	}
-	return hosting.Open(ctx, config.Store, content)
+	return hosting.Open(ctx, config.Store, content, 0)
 }

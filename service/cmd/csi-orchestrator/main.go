@@ -6,13 +6,14 @@ import (
 	"errors"
 	"fmt"
 	"os"
+	"strconv"
 
 	"tufayon/service/hosting"
 	"tufayon/service/lines"
 	"tufayon/service/version"
 )
 
-var errUsage = errors.New("usage: csi-orchestrator DB CONFIG")
+var errUsage = errors.New("usage: csi-orchestrator DB CONFIG [SESSION]")
 
 func main() {
 	if version.Told("csi-orchestrator", os.Args[1:], os.Stdout) {
@@ -30,14 +31,18 @@ func main() {
 }
 
 func run(words []string) error {
-	if len(words) != 2 {
+	if len(words) != 2 && len(words) != 3 {
 		return errUsage
+	}
+	session, err := sessionOf(words[2:])
+	if err != nil {
+		return err
 	}
 	config, err := os.ReadFile(words[1])
 	if err != nil {
 		return fmt.Errorf("device: %w", err)
 	}
-	orchestrator, first, err := hosting.Open(context.Background(), words[0], config)
+	orchestrator, first, err := hosting.Open(context.Background(), words[0], config, session)
 	if err != nil {
 		return err
 	}
@@ -46,6 +51,18 @@ func run(words []string) error {
 		err = closed
 	}
 	return err
+}
+
+// sessionOf is the session that a word says, as it is printed: 0 without one.
+func sessionOf(words []string) (uint64, error) {
+	if len(words) == 0 {
+		return 0, nil
+	}
+	session, err := strconv.ParseUint(words[0], 10, 64)
+	if err != nil || strconv.FormatUint(session, 10) != words[0] {
+		return 0, errUsage
+	}
+	return session, nil
 }
 
 // answer writes the first line, and an answer to each line of standard input: those that wait are answered together.

@@ -50,6 +50,7 @@ const ENDINGS: &[(Ending, &str, u8)] = &[
     ),
     (Ending::NumbersSpent, "csi-replay: numbers spent", 1),
     (Ending::NodeInUse, "csi-replay: node in use", 1),
+    (Ending::OlderStore, "csi-replay: older store", 1),
     (Ending::Usage, "csi-replay: usage", 2),
     (Ending::Device, "csi-replay: device", 3),
     (Ending::StoreNotOpened, "csi-replay: store not opened", 3),

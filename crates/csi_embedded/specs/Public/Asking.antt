@@ -18,12 +18,12 @@ use Rattle.csi_service.specs.Public.OrchestratorServices.{ServedOrchestrator, Or
 use Rattle.csi_embedded.specs.declared.command.Command.{Command}
 use Rattle.csi_embedded.specs.declared.command.Command.TheVariants as commands
 use Rattle.csi_embedded.specs.declared.ending.Ending.{Ending}
-use Rattle.csi_embedded.specs.declared.ending.Ending.TheVariants.{Done, NoMemory, Empty, BadName, NoRoom, Refused, OtherKind, Met, Ignored}
+use Rattle.csi_embedded.specs.declared.ending.Ending.TheVariants.{Done, NoMemory, Empty, BadName, NoRoom, Refused, OtherKind, Met, Ignored, OlderStore}
 use Rattle.csi_embedded.specs.declared.embedded.Embedded.{Embedded}
 use Rattle.csi_embedded.specs.declared.plugin.Plugin.TheVariants.{Orchestrator}
 use Rattle.csi_embedded.specs.Public.Calls.{frame_front, told_changes, IsNoFrame, Remains}
 use Rattle.csi_embedded.specs.Public.Endings.{ending_number}
-use Rattle.csi_embedded.specs.Public.Plugins.{plugin_parts, is_orchestrator}
+use Rattle.csi_embedded.specs.Public.Plugins.{plugin_parts, is_orchestrator, IsStaleTo, IsTimelyTo}
 
 -- ---- what C hands over
 
@@ -146,10 +146,11 @@ IsUnasked Is old room ending = ((ending ≡ NoRoom) × (room < 1284)) ⊎ (((end
 abbrev pub AsksOne : (Input → Type 0) → Embedded → Embedded → ℕ → ℕ → List ℕ → ℕ → Ending → Type 0
 AsksOne Is old new room count bytes fault ending = IsAsked Is old new count bytes fault ending ⊎ (IsUnasked Is old room ending × Remains old new)
 
--- the frame that the bytes begin with came, and took so many of them, and the call ended by what became of it
+-- the frame that the bytes begin with came, says of no open call that it was stale, and took so many of them, and the call ended by what became of it
 pub record IsHeard (old : Embedded) (came : List ℕ) (used : ℕ) (new : Embedded) (count : ℕ) (bytes : List ℕ) (fault : ℕ) (ending : Ending) : Type 0 where
   pub frame : Frame
   pub begins : BeginsWith (frame_front came) frame used
+  pub timely : IsTimelyTo frame old.plugin
   pub told : Result Heard OrchFault
   pub carried : Carries Hears (Comes frame) old told new
   pub ends : EndsHeard told count bytes fault ending
@@ -159,10 +160,17 @@ abbrev pub IsUnheard : Embedded → List ℕ → ℕ → Ending → Type 0
 IsUnheard old came room ending =
     ((ending ≡ NoRoom) × (room < 1284)) ⊎ (((ending ≡ OtherKind) × (is_orchestrator old.plugin ≡ false)) ⊎ IsNoFrame (frame_front came) ending)
 
--- one of these; where none came, all is as it was
+-- or the frame that the bytes begin with, and that took so many of them, says of an open call that it was stale
+pub record IsOfOlder (old : Embedded) (came : List ℕ) (used : ℕ) (ending : Ending) : Type 0 where
+  pub frame : Frame
+  pub begins : BeginsWith (frame_front came) frame used
+  pub stale : IsStaleTo frame old.plugin
+  pub ends : ending ≡ OlderStore
+
+-- one of these; where none came, or that one, all is as it was
 abbrev pub HearsOne : Embedded → List ℕ → ℕ → Embedded → ℕ → ℕ → List ℕ → ℕ → Ending → Type 0
 HearsOne old came used new room count bytes fault ending =
-    IsHeard old came used new count bytes fault ending ⊎ (IsUnheard old came room ending × Remains old new)
+    IsHeard old came used new count bytes fault ending ⊎ ((IsUnheard old came room ending ⊎ IsOfOlder old came used ending) × Remains old new)
 
 -- ---- the same of handles
 

@@ -1,7 +1,7 @@
 -- The number of each ending, as a C program sees it. This profile's own.
 use Rattle.std.specs.Prelude.{ℕ}
 use Rattle.csi_embedded.specs.declared.ending.Ending.{Ending}
-use Rattle.csi_embedded.specs.declared.ending.Ending.TheVariants.{Done, NoMemory, Empty, Full, BadName, BadRecord, Short, BadFrame, NoRoom, Renewed, TakenOut, NoMore, Refused, OtherKind, Met, Ignored, EarlierSession, NodeInUse}
+use Rattle.csi_embedded.specs.declared.ending.Ending.TheVariants.{Done, NoMemory, Empty, Full, BadName, BadRecord, Short, BadFrame, NoRoom, Renewed, TakenOut, NoMore, Refused, OtherKind, Met, Ignored, EarlierSession, NodeInUse, OlderStore}
 
 -- an ending's number
 abbrev pub ending_number : Ending → ℕ
@@ -23,3 +23,4 @@ ending_number Met = 14
 ending_number Ignored = 15
 ending_number EarlierSession = 16
 ending_number NodeInUse = 17
+ending_number OlderStore = 18

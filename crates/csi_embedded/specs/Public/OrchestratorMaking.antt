@@ -1,5 +1,6 @@
--- Orchestrators that are made: a new one, and that of a record's bytes; and what the store has to be given of them. This profile's own.
-use Rattle.std.specs.Prelude.{◌≡◌, ℕ, List, [], ◌∷◌, length, map, None, Some, Ok}
+-- Orchestrators that are made: a new one, that of a record's bytes, and either in a session that is named; and what the store has to be given of them.
+-- This profile's own.
+use Rattle.std.specs.Prelude.{◌≡◌, ◌⊎◌, ℕ, List, [], ◌∷◌, length, map, None, Some, Ok}
 use Rattle.std.specs.Str.{IsUtf8}
 use Rattle.csi_types.specs.declared.config.NodeSlots.{NodeSlots}
 use Rattle.csi_types.specs.Model.Config.{Config}
@@ -17,7 +18,7 @@ use Rattle.csi_records.specs.Public.OrchestratorSpelling.{orchestrator_head}
 use Rattle.csi_records.specs.Public.Places.{AreBytesOf, IsBadAt}
 use Rattle.csi_records.specs.Public.Records.{IsRecordOf}
 use Rattle.csi_records.specs.Public.Spelling.{present}
-use Rattle.csi_service.specs.Public.OrchestratorOpening.{new_record, opening_refusal}
+use Rattle.csi_service.specs.Public.OrchestratorOpening.{new_record, raised_before, opening_refusal}
 use Rattle.csi_service.specs.Public.OrchestratorServices.{ServedOrchestrator, session_changes}
 use Rattle.csi_embedded.specs.declared.ending.Ending.{Ending}
 use Rattle.csi_embedded.specs.declared.ending.Ending.TheVariants.{NoMemory, BadName, BadRecord, Refused, NodeInUse}
@@ -65,6 +66,18 @@ pub record IsReadOrchestrator (text bytes : List ℕ) (made : Embedded) : Type 0
   pub said : AreNodesOf text nodes
   pub reopened : IsReopened kept nodes made
 
+-- the record whose bytes these are; no bytes stand for one before the first session
+abbrev pub IsRecordIfAny : List ℕ → RecordParts → Type 0
+IsRecordIfAny bytes kept = ((bytes ≡ []) × (kept ≡ new_record)) ⊎ IsOrchestratorRecord bytes kept
+
+-- that of such a record, with the nodes that the text says: in the next session, or in this one, where that is later
+pub record IsOpenedOrchestrator (text bytes : List ℕ) (session : ℕ) (made : Embedded) : Type 0 where
+  pub kept : RecordParts
+  pub read : IsRecordIfAny bytes kept
+  pub nodes : List (List ℕ)
+  pub said : AreNodesOf text nodes
+  pub reopened : IsReopened (raised_before session kept) nodes made
+
 -- why no nodes are said
 abbrev pub IsNoNodes : List ℕ → Ending → Type 0
 IsNoNodes text NoMemory = Unit {0}
@@ -94,3 +107,20 @@ IsNoReadOrchestrator text bytes BadRecord = (place : ℕ) × IsBadAt (λ v. IsRe
 IsNoReadOrchestrator text bytes Refused = IsRefusedAfter refusals.NumbersSpent text bytes
 IsNoReadOrchestrator text bytes NodeInUse = IsRefusedAfter refusals.NodeInUse text bytes
 IsNoReadOrchestrator text bytes _ = ⊥
+
+-- such a record, after which no session begins so with the nodes that the text says, for this reason
+pub record IsUnopenedAfter (fault : OrchFault) (text bytes : List ℕ) (session : ℕ) : Type 0 where
+  pub nodes : List (List ℕ)
+  pub said : AreNodesOf text nodes
+  pub kept : RecordParts
+  pub read : IsRecordIfAny bytes kept
+  pub refused : opening_refusal (raised_before session kept) nodes ≡ Some fault
+
+-- why there is none in a session that is named: as of a record
+abbrev pub IsNotOpened : List ℕ → List ℕ → ℕ → Ending → Type 0
+IsNotOpened text bytes session NoMemory = Unit {0}
+IsNotOpened text bytes session BadName = IsNoOrchestrator text BadName
+IsNotOpened text bytes session BadRecord = (place : ℕ) × IsBadAt (λ v. IsRecordOf (orchestrator_layout v)) bytes place
+IsNotOpened text bytes session Refused = IsUnopenedAfter refusals.NumbersSpent text bytes session
+IsNotOpened text bytes session NodeInUse = IsUnopenedAfter refusals.NodeInUse text bytes session
+IsNotOpened text bytes session _ = ⊥

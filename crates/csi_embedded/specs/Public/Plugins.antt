@@ -11,7 +11,7 @@ use Rattle.csi_orchestrator.specs.Model.Shown.{OrchestratorParts}
 use Rattle.csi_stores.specs.Public.Part.{StoredPart, StoredChange}
 use Rattle.csi_records.specs.Public.Spelling.{present, controller_parts, volume_row, record_bytes}
 use Rattle.csi_service.specs.Public.Services.{ControllerService, controller_service_parts, controller_service_changes, ControllerAnswers, NodeService, node_service_parts, node_service_changes, NodeServiceAnswers}
-use Rattle.csi_service.specs.Public.OrchestratorServices.{ServedOrchestrator, orchestrator_service_parts, orchestrator_service_changes}
+use Rattle.csi_service.specs.Public.OrchestratorServices.{ServedOrchestrator, orchestrator_service_parts, orchestrator_service_changes, IsToldStale, IsTimely}
 use Rattle.csi_embedded.specs.declared.plugin.Plugin.{Plugin}
 use Rattle.csi_embedded.specs.declared.plugin.Plugin.TheVariants.{Controller, Node, Orchestrator}
 
@@ -48,6 +48,18 @@ PluginAnswers (Node old) frame reply (Controller new) = ⊥
 PluginAnswers (Controller old) frame reply (Orchestrator new) = ⊥
 PluginAnswers (Node old) frame reply (Orchestrator new) = ⊥
 PluginAnswers (Orchestrator old) frame reply new = ⊥
+
+-- a frame says of an open call of the orchestrator that it was stale: its store is an older one
+abbrev pub IsStaleTo : Frame → Plugin → Type 0
+IsStaleTo frame (Controller service) = ⊥
+IsStaleTo frame (Node service) = ⊥
+IsStaleTo frame (Orchestrator service) = IsToldStale frame service
+
+-- it says so of none
+abbrev pub IsTimelyTo : Frame → Plugin → Type 0
+IsTimelyTo frame (Controller service) = Unit {0}
+IsTimelyTo frame (Node service) = Unit {0}
+IsTimelyTo frame (Orchestrator service) = IsTimely frame service
 
 -- ---- what a refusal leaves
 

@@ -1,5 +1,5 @@
 -- How a line of the stream is handled, and why serving stops.
-use Rattle.std.specs.Prelude.{◌≡◌, ℕ, List, Bool, true, Option}
+use Rattle.std.specs.Prelude.{◌≡◌, ℕ, List, Bool, true, Option, Some, if◌then◌else◌}
 use Rattle.csi_stores.specs.declared.counted.Counted.{Counted}
 use Rattle.csi_stores.specs.Public.Part.{StoredPart}
 use Rattle.csi_stores.specs.Public.Stores.{Store}
@@ -11,7 +11,7 @@ use Rattle.csi_driver.specs.declared.waiting.AnswerFault.{AnswerFault}
 use Rattle.csi_driver.specs.declared.waiting.AnswerFault.TheVariants as why
 use Rattle.csi_driver.specs.Public.LinesOf.{with_newline}
 use Rattle.csi_driver.specs.Public.State.{State}
-use Rattle.csi_driver.specs.Public.Waiting.{Settling, Settles}
+use Rattle.csi_driver.specs.Public.Waiting.{Settling, Settles, StopsAt}
 use Rattle.csi_driver.specs.Public.Answering.{IsAnswered}
 use Rattle.csi_orchestration.specs.declared.lines_serving.fault.LinesServeFaultKind.{LinesServeFaultKind}
 use Rattle.csi_orchestration.specs.declared.lines_serving.fault.LinesServeFaultKind.TheVariants as kinds
@@ -37,12 +37,22 @@ IsHandled answers parts_of store contents old line new = IsAnswered answers part
 abbrev pub Flushes : {C K W : Type 0} → (K → Store) → (W → Option (List ℕ)) → Serving C K W → Serving C K W → Type 0
 Flushes store contents old new = Settles store contents (waiting_of old) (waiting_of new) × (new.own.responder ≡ old.own.responder)
 
+-- it stops so; where that is by a line that told that the store is an older one, this is the line
+abbrev pub StopsLine : {C K W : Type 0} → (C → List ℕ → Type 0) → (K → Store) → (W → Option (List ℕ)) → Serving C K W → Option (List ℕ) → Serving C K W → AnswerFault → Type 0
+StopsLine is_older store contents old line new fault =
+    StopsAt store contents (waiting_of old) (waiting_of new) fault
+    × (new.own.is_older ≡ true → (told : List ℕ) × (line ≡ Some told) × is_older old.own.responder told)
+
+-- why a handler stops
+abbrev pub handler_stopped_by : Bool → AnswerFault → LinesServeFaultKind
+handler_stopped_by is_older why.NoMemory = if is_older then kinds.OlderStore else kinds.NoMemory
+handler_stopped_by is_older (why.Keep fault) = kinds.Keep fault
+handler_stopped_by is_older why.Output = kinds.Output
+
 -- why serving stops
-abbrev pub stopped_by : Stop (LinesFault AnswerFault) → LinesServeFaultKind
-stopped_by stop.Input = kinds.Input
-stopped_by stop.Endless = kinds.Endless
-stopped_by (stop.Consumer (lines_faults.Long number)) = kinds.Long number
-stopped_by (stop.Consumer lines_faults.NoMemory) = kinds.NoMemory
-stopped_by (stop.Consumer (lines_faults.Handler why.NoMemory)) = kinds.NoMemory
-stopped_by (stop.Consumer (lines_faults.Handler (why.Keep fault))) = kinds.Keep fault
-stopped_by (stop.Consumer (lines_faults.Handler why.Output)) = kinds.Output
+abbrev pub stopped_by : Bool → Stop (LinesFault AnswerFault) → LinesServeFaultKind
+stopped_by is_older stop.Input = kinds.Input
+stopped_by is_older stop.Endless = kinds.Endless
+stopped_by is_older (stop.Consumer (lines_faults.Long number)) = kinds.Long number
+stopped_by is_older (stop.Consumer lines_faults.NoMemory) = kinds.NoMemory
+stopped_by is_older (stop.Consumer (lines_faults.Handler fault)) = handler_stopped_by is_older fault

@@ -39,6 +39,7 @@ ending_of_kind kinds.Output = endings.Device
 ending_of_kind (kinds.Long number) = endings.LineFault number
 ending_of_kind (kinds.Keep fault) = ending_of_store fault
 ending_of_kind kinds.NoMemory = endings.Memory
+ending_of_kind kinds.OlderStore = endings.OlderStore
 ending_of_kind kinds.Endless = endings.Endless
 
 -- by what serving answered

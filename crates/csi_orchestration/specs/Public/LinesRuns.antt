@@ -9,12 +9,13 @@ use Rattle.csi_orchestration.specs.declared.lines_serving.fault.ServedLines.{Ser
 use Rattle.csi_orchestration.specs.declared.lines_serving.fault.LinesServeFault.{LinesServeFault}
 use Rattle.csi_orchestration.specs.Public.LinesServing.{Setting, AnswersEach, lines_counted, ServesLines}
 
--- What runs are judged by: what opening makes of a store's content, how that answers and which parts it has; and how a store, a reader
--- and a writer are seen.
+-- What runs are judged by: what opening makes of a store's content, how that answers, which parts it has, and which lines tell it that its store is an
+-- older one; and how a store, a reader and a writer are seen.
 pub record RunSetting (C K R W : Type 0) : Type 1 where
   pub opens : List StoredPart → C → Type 0
   pub answers : C → List ℕ → List ℕ → C → Type 0
   pub parts_of : C → List StoredPart
+  pub is_older : C → List ℕ → Type 0
   pub seen : K → Store
   pub remaining : R → Option (List ℕ)
   pub contents : W → Option (List ℕ)
@@ -26,6 +27,7 @@ abbrev pub served_in : {C K R W : Type 0} → RunSetting C K R W → C → K →
 served_in setting responder before after reader read writer written bytes = record {
   answers = setting.answers;
   parts_of = setting.parts_of;
+  is_older = setting.is_older;
   responder = responder;
   before = setting.seen before;
   after = setting.seen after;
@@ -59,6 +61,7 @@ over setting seen = record {
   opens = setting.opens;
   answers = setting.answers;
   parts_of = setting.parts_of;
+  is_older = setting.is_older;
   seen = seen;
   remaining = setting.remaining;
   contents = setting.contents;

@@ -1,5 +1,5 @@
 -- What serving lines does to a record and to the output, at each end. This profile's own.
-use Rattle.std.specs.Prelude.{◌≡◌, ◌≢◌, ◌⊎◌, ℕ, ◌≤◌, List, [], ◌∷◌, ◌++◌, length, take, Option, Result, Ok, Err}
+use Rattle.std.specs.Prelude.{◌≡◌, ◌≢◌, ◌⊎◌, ℕ, ◌≤◌, List, [], ◌++◌, length, take, slice_get, Option, Some, Result, Ok, Err}
 use Rattle.std.specs.List.{flat_map, AllByRecursion}
 use Rattle.std.specs.Io.KnownBytes.{Appends}
 use Rattle.csi_driver.specs.Public.LinesOf.{LinesOf, with_newline, and_last, IsShort}
@@ -17,11 +17,12 @@ use Rattle.csi_stores.specs.Public.Stores.{Store, LeavesOnly, LeavesEither, IsCo
 abbrev pub output_of : List (List ℕ) → List ℕ
 output_of given = flat_map with_newline given
 
--- What serving is judged by: the responder at first, how it answers and which parts it has; the store, and what the writer has, before
--- and after; and whether the reader has ended or failed, the writer failed, and the input was endless.
+-- What serving is judged by: the responder at first, how it answers, which parts it has, and which lines tell it that its store is an older one; the
+-- store, and what the writer has, before and after; and whether the reader has ended or failed, the writer failed, and the input was endless.
 pub record Setting (C : Type 0) : Type 1 where
   pub answers : C → List ℕ → List ℕ → C → Type 0
   pub parts_of : C → List StoredPart
+  pub is_older : C → List ℕ → Type 0
   pub responder : C
   pub before : Store
   pub after : Store
@@ -65,6 +66,12 @@ pub record IsGroup (there : List (List ℕ)) (k : ℕ) (group : List (List ℕ))
   pub behind : List (List ℕ)
   pub here : there ≡ take k there ++ group ++ behind
 
+-- behind the first k lines stands one that tells that the store is an older one
+pub record TellsOlder {C : Type 0} (setting : Setting C) (there : List (List ℕ)) (k : ℕ) (now : C) : Type 0 where
+  pub line : List ℕ
+  pub here : slice_get there k ≡ Some line
+  pub older : setting.is_older now line
+
 -- the lines that there are: those that a newline ends; or, where the input has ended, also the rest, if it isn't empty
 abbrev pub AreThere : Type 0 → List (List ℕ) → List ℕ → List (List ℕ) → Type 0
 AreThere at_end lines rest there = (there ≡ lines) ⊎ (at_end × (there ≡ and_last lines rest))
@@ -77,6 +84,7 @@ StopsBy setting lines rest there k given now group kinds.Output = (group ≡ [])
 StopsBy setting lines rest there k given now group (kinds.Long number) = (group ≡ []) × IsLongAt lines rest k number × AllDone setting given now
 StopsBy setting lines rest there k given now group (kinds.Keep fault) = IsGroup there k group × GroupRefused setting group given now fault
 StopsBy setting lines rest there k given now group kinds.NoMemory = (group ≡ []) × AllDone setting given now
+StopsBy setting lines rest there k given now group kinds.OlderStore = (group ≡ []) × TellsOlder setting there k now × AllDone setting given now
 StopsBy setting lines rest there k given now group kinds.Endless = (group ≡ []) × (k ≡ length lines) × setting.endless × IsShort rest × AllDone setting given now
 
 -- how many lines were committed

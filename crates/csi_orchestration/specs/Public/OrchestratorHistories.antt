@@ -1,21 +1,19 @@
 -- The lines that an orchestrator answers, as the stated machine goes on by them: from a history, by `moves`. This profile's own.
-use Rattle.std.specs.Prelude.{◌≡◌, ℕ, List, [], ◌++◌, take, Option, Some, None, option_map, Result, Ok, Err}
+use Rattle.std.specs.Prelude.{◌≡◌, ℕ, ◌-◌, false, List, [], ◌++◌, take, Option, Some, None, option_map, Result, Ok, Err}
 use Rattle.serde_json.specs.Written.{compact_text}
-use Rattle.csi_types.specs.declared.number.Number.{Number}
-use Rattle.csi_types.specs.declared.call.Party.{Party}
-use Rattle.csi_types.specs.declared.frame.Body.{Body}
-use Rattle.csi_types.specs.declared.frame.Body.TheVariants as bodies
 use Rattle.csi_types.specs.Model.Frame.{Frame}
 use Rattle.csi_orchestrator.specs.declared.fault.Heard.{Heard}
 use Rattle.csi_orchestrator.specs.declared.fault.Heard.TheVariants as heards
 use Rattle.csi_orchestrator.specs.declared.fault.OrchFault.{OrchFault}
 use Rattle.csi_orchestrator.specs.Model.History.{History, new_history, with_items}
 use Rattle.csi_orchestrator.specs.Model.Thing.{Issued}
-use Rattle.csi_orchestrator.specs.Model.Moves.{Input, Comes, Restarts, Loses, Answer, Sends, Hears, Restarted, GivenUp, Moved, call_replied, moves}
+use Rattle.csi_orchestrator.specs.Model.Moves.{Input, Comes, Restarts, Loses, Answer, Sends, Hears, Restarted, GivenUp, Moved, moves}
 use Rattle.csi_orchestrator.specs.Model.Readings.{goal_of, last_number}
-use Rattle.csi_orchestrator.specs.Model.Shown.{Shows}
+use Rattle.csi_orchestrator.specs.Model.Shown.{OrchestratorParts, Shows}
 use Rattle.csi_orchestrator.specs.Model.WellFormed.{IsWellFormed}
+use Rattle.csi_orchestrator.specs.Public.Raised.{raised_history}
 use Rattle.csi_orchestrator.specs.Public.Sound.{HasHistory}
+use Rattle.csi_orchestrator.specs.Public.Stale.{call_answered, is_told_stale}
 use Rattle.csi_json.specs.declared.request_fault.RequestFault.{RequestFault}
 use Rattle.csi_json.specs.Public.Requests.{line_request, request_fault_name}
 use Rattle.csi_reports.specs.declared.responses.RequestOutcome.TheVariants as outcomes
@@ -45,11 +43,6 @@ pub record MovesCommand (input : Input) (name : List ℕ) (history : History) (a
   pub moved : IsMoved Sends history input told next
   pub line : answer ≡ compact_text (command_entry name (goal_of next name) told)
 
--- the open call that a frame is a reply to, if it is one to an open call
-abbrev pub call_answered : History → Number → Party → Body → Option Issued
-call_answered history number party (bodies.Call call) = None
-call_answered history number party (bodies.Reply kind reply) = call_replied history number party kind
-
 -- What is told of a frame that came: no more than that it was ignored; of a reply that was taken, the volume of the call that it is a reply to, what is
 -- wanted of it then, and the call that is to be sent; of a reply that was refused, since no number is left, a volume.
 abbrev pub TellsHeard : History → Frame → Result Heard OrchFault → List ℕ → History → Type 0
@@ -59,8 +52,9 @@ TellsHeard history frame (Ok (heards.Taken sent)) answer next =
     × (answer ≡ compact_text (answer_entry issued.name (goal_of next issued.name) outcomes.Taken (option_map with_bytes sent)))
 TellsHeard history frame (Err fault) answer next = (name : List ℕ) × (answer ≡ compact_text (answer_entry name (goal_of next name) (outcomes.Refused fault) None))
 
--- a frame that came: what `moves` says is told
+-- a frame that came, and says of no open call that it was stale: what `moves` says is told
 pub record MovesFrame (frame : Frame) (history : History) (answer : List ℕ) (next : History) : Type 0 where
+  pub timely : is_told_stale history frame ≡ false
   pub heard : Result Heard OrchFault
   pub moved : IsMoved Hears history (Comes frame) heard next
   pub line : TellsHeard history frame heard answer next
@@ -86,8 +80,13 @@ MovesLine history line answer next = RequestBy moved_lines (line_request line) h
 
 -- ---- two runs
 
--- From a history, the first lines of the first run lead to another one; the orchestrator restarts with the second run's list of nodes, in a
--- history that the second run's orchestrator shows; and the second run's lines lead on. The answers are those that were given, and of lines whose
+-- the history of a new one, in its session
+abbrev pub first_history : OrchestratorParts → History
+first_history orchestrator = raised_history orchestrator.last.session (new_history orchestrator.nodes)
+
+-- From a history, the first lines of the first run lead to another one; its session is raised to the one before the second run's, where that isn't
+-- the next one; the orchestrator restarts with the second run's list of nodes, in a history that the second run's orchestrator shows; and the
+-- second run's lines lead on. The answers are those that were given, and of lines whose
 -- commit was refused.
 pub record AreOneHistory {K L R W : Type 0} (setting : RunSetting OrchestratorResponder K R W) (seen_too : L → Store) (content : List StoredPart) (before between : K) (again after : L) (r r_read s s_read : Counted R) (w w_written v v_written : Counted W)
     (result result_too : Result ServedLines LinesServeFault) (one : Ran setting before between r r_read w w_written result) (two : Ran (over setting seen_too) again after s s_read v v_written result_too)
@@ -95,7 +94,7 @@ pub record AreOneHistory {K L R W : Type 0} (setting : RunSetting OrchestratorRe
   pub came : History
   pub first : AnswersEach MovesLine history (take run.made one.served.serves.there) (one.served.serves.given ++ run.unwritten) came
   pub begun : History
-  pub restarts : IsMoved {A = Unit {0}} (λ done. Restarted) came (Restarts two.responder.service.orchestrator.nodes) (Ok tt) begun
+  pub restarts : IsMoved {A = Unit {0}} (λ done. Restarted) (raised_history (two.responder.service.orchestrator.last.session - 1) came) (Restarts two.responder.service.orchestrator.nodes) (Ok tt) begun
   pub begun_form : IsWellFormed begun
   pub begun_shown : Shows two.responder.service.orchestrator begun
   pub last : History
@@ -112,7 +111,7 @@ OrchestratorRunsLaw {K} {L} {R} {W} seen seen_too remaining contents =
     → (one : Ran (orchestrator_setting seen remaining contents) before between r r_read w w_written result) → Reopens (seen between) (seen_too again)
     → (two : Ran (orchestrator_setting seen_too remaining contents) again after s s_read v v_written result_too)
     → (run : AreOneRun (orchestrator_setting seen remaining contents) seen_too content before between again after r r_read s s_read w w_written v v_written result result_too one two)
-    × HasHistory one.responder.service.orchestrator × (content ≡ [] → Shows one.responder.service.orchestrator (new_history one.responder.service.orchestrator.nodes))
+    × HasHistory one.responder.service.orchestrator × (content ≡ [] → Shows one.responder.service.orchestrator (first_history one.responder.service.orchestrator))
     × ((history : History) → IsWellFormed history → Shows one.responder.service.orchestrator history
     → AreOneHistory (orchestrator_setting seen remaining contents) seen_too content before between again after r r_read s s_read w w_written v v_written result result_too one two run history)
 
@@ -129,7 +128,7 @@ OrchestratorThreeRunsLaw {K} {L} {M} {R} {W} seen seen_too seen_last remaining c
     → (three : Ran (orchestrator_setting seen_last remaining contents) anew after t t_read u u_written result_last)
     → (run : AreOneRun (orchestrator_setting seen remaining contents) seen_too content before between again left r r_read s s_read w w_written v v_written result result_too one two)
     × (later : AreOneRun (orchestrator_setting seen_too remaining contents) seen_last (responder_parts run.left) again left anew after s s_read t t_read v v_written u u_written result_too result_last two three)
-    × HasHistory one.responder.service.orchestrator × (content ≡ [] → Shows one.responder.service.orchestrator (new_history one.responder.service.orchestrator.nodes))
+    × HasHistory one.responder.service.orchestrator × (content ≡ [] → Shows one.responder.service.orchestrator (first_history one.responder.service.orchestrator))
     × ((history : History) → IsWellFormed history → Shows one.responder.service.orchestrator history
     → (begins : AreOneHistory (orchestrator_setting seen remaining contents) seen_too content before between again left r r_read s s_read w w_written v v_written result result_too one two run history)
     × AreOneHistory (orchestrator_setting seen_too remaining contents) seen_last (responder_parts run.left) again left anew after s s_read t t_read v v_written u u_written result_too result_last two three later begins.begun)

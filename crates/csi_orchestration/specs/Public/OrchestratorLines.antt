@@ -14,7 +14,7 @@ use Rattle.csi_orchestrator.specs.Model.History.{Goal}
 use Rattle.csi_orchestrator.specs.Model.Moves.{Input, ToCreate, ToUse, ToStop, ToDelete, TimesOut, Comes, Sends, Hears}
 use Rattle.csi_orchestrator.specs.Model.Shown.{RowShown, goal_in}
 use Rattle.csi_orchestrator.specs.Public.Changed.{place_by_name, place_by_call, ChangesAsHeard}
-use Rattle.csi_service.specs.Public.OrchestratorServices.{ServedOrchestrator, OrchestratorAnswers, OrchestratorLoses}
+use Rattle.csi_service.specs.Public.OrchestratorServices.{ServedOrchestrator, OrchestratorAnswers, OrchestratorLoses, IsToldStale, IsTimely}
 use Rattle.csi_json.specs.declared.request_fault.RequestFault.{RequestFault}
 use Rattle.csi_json.specs.declared.request_fault.RequestFault.TheVariants as no_requests
 use Rattle.csi_json.specs.Public.Requests.{RequestShown, Command, Reply, line_request, request_fault_name}
@@ -63,8 +63,10 @@ pub record AnswersCommand (input : Input) (name : List ℕ) (old : ServedOrchest
   pub memory : told ≡ Err faults.NoMemory → ⊥
   pub line : answer ≡ compact_text (command_entry name (option_and_then goal_in (row_at new.orchestrator.rows (place_by_name name new.orchestrator.rows))) told)
 
--- a frame that came: the same; where it was taken, the row whose call it was is there, and has its name still
+-- a frame that came, and says of no open call that it was stale: the same; where it was taken, the row whose call it was is there, and has its name
+-- still
 pub record AnswersFrame (frame : Frame) (old : ServedOrchestrator) (answer : List ℕ) (new : ServedOrchestrator) : Type 0 where
+  pub timely : IsTimely frame old
   pub heard : Result Heard OrchFault
   pub answered : OrchestratorAnswers Hears old (Comes frame) heard new
   pub memory : heard ≡ Err faults.NoMemory → ⊥
@@ -138,3 +140,19 @@ AnswersRequest = RequestBy served_lines
 
 abbrev pub AnswersLine : List ℕ → ServedOrchestrator → List ℕ → ServedOrchestrator → Type 0
 AnswersLine line = AnswersRequest (line_request line)
+
+-- ---- what isn't answered
+
+-- bytes that came are a frame that says of an open call that it was stale
+abbrev pub IsToldStaleBy : List ℕ → ServedOrchestrator → Type 0
+IsToldStaleBy bytes old = (frame : Frame) × Spells frame bytes × IsToldStale frame old
+
+-- so it is with a request
+abbrev pub IsToldStaleAt : Result RequestShown RequestFault → ServedOrchestrator → Type 0
+IsToldStaleAt (Ok (Command event)) old = ⊥
+IsToldStaleAt (Ok (Reply bytes)) old = IsToldStaleBy bytes old
+IsToldStaleAt (Err fault) old = ⊥
+
+-- and with a line: the orchestrator's store is an older one
+abbrev pub IsToldStaleIn : List ℕ → ServedOrchestrator → Type 0
+IsToldStaleIn line = IsToldStaleAt (line_request line)

@@ -8,7 +8,7 @@ use Rattle.csi_records.specs.Public.Spelling.{present}
 use Rattle.csi_service.specs.Public.OrchestratorOpening.{IsOrchestratorOpened}
 use Rattle.csi_service.specs.Public.OrchestratorServices.{kept_of, orchestrator_service_parts, orchestrator_service_changes, AreFitOrchestratorRows, IsChangedRowFit}
 use Rattle.csi_orchestration.specs.declared.orchestrator_responder.OrchestratorResponder.{OrchestratorResponder}
-use Rattle.csi_orchestration.specs.Public.OrchestratorLines.{AnswersLine}
+use Rattle.csi_orchestration.specs.Public.OrchestratorLines.{AnswersLine, IsToldStaleIn}
 
 -- a record that parts are of, in the present version
 abbrev pub SpellsOrchestrator : RecordParts → List StoredPart → Type 0
@@ -45,9 +45,15 @@ abbrev pub ResponderAnswers : OrchestratorResponder → List ℕ → List ℕ �
 ResponderAnswers old line answer new =
     AnswersLine line old.service answer new.service × (IsFitResponder new → HasItsRecord new) × RestartsAreTold new.service.orchestrator
 
--- opening makes it of a store with this content: the orchestrator in the next session, whose record is within its limits
+-- the line tells it that its store is an older one
+abbrev pub IsOlderLine : OrchestratorResponder → List ℕ → Type 0
+IsOlderLine responder line = IsToldStaleIn line responder.service
+
+-- opening makes it of a store with this content: the orchestrator in the next session, or in the one that was asked for, whose record is within its
+-- limits
 pub record OpensResponder (content : List StoredPart) (responder : OrchestratorResponder) : Type 0 where
-  pub opened : IsOrchestratorOpened responder.service.orchestrator.nodes content responder.service.orchestrator
+  pub least : ℕ
+  pub opened : IsOrchestratorOpened least responder.service.orchestrator.nodes content responder.service.orchestrator
   pub fit : IsFitResponder responder
   pub its : HasItsRecord responder
   pub restarts : RestartsAreTold responder.service.orchestrator

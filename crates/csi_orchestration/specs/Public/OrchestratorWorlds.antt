@@ -9,8 +9,10 @@ use Rattle.csi_types.specs.Model.Frame.{Frame}
 use Rattle.csi_frames.specs.Public.Spelling.{Spells}
 use Rattle.csi_orchestrator.specs.Model.History.{History}
 use Rattle.csi_orchestrator.specs.Model.Moves.{Restarts, Restarted}
+use Rattle.csi_orchestrator.specs.Public.Raised.{raised_history}
 use Rattle.csi_world.specs.Model.World.{World}
 use Rattle.csi_world.specs.Model.After.{frame_numbered, is_node_of, occurs, after_from}
+use Rattle.csi_world.specs.Public.Step.{Choice, MayChooseAll, chosen_all}
 use Rattle.csi_json.specs.declared.request_fault.RequestFault.{RequestFault}
 use Rattle.csi_json.specs.Public.Requests.{RequestShown, Command, Reply, IsCommand, line_request}
 use Rattle.csi_orchestration.specs.Public.LinesServing.{AnswersEach}
@@ -112,11 +114,13 @@ MayCome world (Ok (Command asked)) = Unit {0}
 MayCome world (Ok (Reply bytes)) = AsksNothing (Ok (Reply bytes)) ⊎ WasSent world bytes
 MayCome world (Err fault) = Unit {0}
 
--- Whatever else happens, where lines come to a world's orchestrator, its history goes on as they lead it; and where it restarts with a list of nodes, as a
--- restart does. Each line that may come is brought by some events, and lines behind lines by the events behind the events.
+-- Whatever else happens, where lines come to a world's orchestrator, its history goes on as they lead it; where its session is raised, which any
+-- orchestrator may do in any world, as that does; and where it restarts with a list of nodes, as a restart does. Each line that may come is brought by
+-- some events, and lines behind lines by the events behind the events.
 pub record WorldsLaw : Type 0 where
   pub lines : (world : World) (others : List Event) (lines given : List (List ℕ)) (next : History) → Brings world others lines
       → AnswersEach MovesLine world.history lines given next → (after_from world others).world.history ≡ next
+  pub raise : (world : World) (session : ℕ) → (choices : List Choice) × MayChooseAll world choices × ((chosen_all world choices).history ≡ raised_history session world.history)
   pub restart : (world : World) (nodes : List (List ℕ)) (next : History) → IsMoved {A = Unit {0}} (λ done. Restarted) world.history (Restarts nodes) (Ok tt) next
       → (occurs world (events.RestartOrchestratorWith nodes)).world.history ≡ next
   pub each : (world : World) (line : List ℕ) → MayCome world (line_request line) → (others : List Event) × Brings world others (line ∷ [])

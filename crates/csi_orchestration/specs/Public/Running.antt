@@ -20,7 +20,7 @@ use Rattle.csi_orchestration.specs.declared.orchestrator_responder.OrchestratorR
 use Rattle.csi_orchestration.specs.Public.Ending.{ending_unopened, ending_of_serving}
 use Rattle.csi_orchestration.specs.Public.LinesAnswering.{AnswersInRecord}
 use Rattle.csi_orchestration.specs.Public.LinesRuns.{RunSetting, Ran}
-use Rattle.csi_orchestration.specs.Public.OrchestratorResponding.{SpellsOrchestrator, HasItsRecord, responder_parts, IsFitResponder, ResponderAnswers, OpensResponder}
+use Rattle.csi_orchestration.specs.Public.OrchestratorResponding.{SpellsOrchestrator, HasItsRecord, responder_parts, IsFitResponder, ResponderAnswers, IsOlderLine, OpensResponder}
 
 -- what its runs are judged by, where stores, readers and writers are seen so
 abbrev pub orchestrator_setting : {K R W : Type 0} → (K → Store) → (R → Option (List ℕ)) → (W → Option (List ℕ)) → RunSetting OrchestratorResponder K R W
@@ -28,6 +28,7 @@ orchestrator_setting seen remaining contents = record {
   opens = OpensResponder;
   answers = AnswersInRecord IsFitResponder SpellsOrchestrator responder_parts ResponderAnswers;
   parts_of = responder_parts;
+  is_older = IsOlderLine;
   seen = seen;
   remaining = remaining;
   contents = contents;
@@ -53,43 +54,43 @@ WritesFirst contents orchestrator had has (Err ending) = ⊥
 -- ---- the process
 
 -- the orchestrator wasn't opened: nothing was read nor written
-pub record IsNotOpened {K R W : Type 0} (setting : RunSetting OrchestratorResponder K R W) (nodes : List (List ℕ)) (before after : K) (reader read : Counted R) (writer written : Counted W) (ending : Ending) : Type 0 where
+pub record IsNotOpened {K R W : Type 0} (setting : RunSetting OrchestratorResponder K R W) (least : ℕ) (nodes : List (List ℕ)) (before after : K) (reader read : Counted R) (writer written : Counted W) (ending : Ending) : Type 0 where
   pub why : OrchestratorUnopened
-  pub cause : IsOrchestratorUnopened nodes (setting.seen before) (setting.seen after) why
-  pub left : LeavesOpening (orchestrator_rules nodes) (setting.seen before) (setting.seen after)
+  pub cause : IsOrchestratorUnopened least nodes (setting.seen before) (setting.seen after) why
+  pub left : LeavesOpening (orchestrator_rules least nodes) (setting.seen before) (setting.seen after)
   pub unread : read ≡ reader
   pub unwritten : written ≡ writer
   pub ends : ending ≡ ending_unopened why
 
--- the orchestrator of these nodes was opened from the store, which has its record then
-pub record IsOpened {K R W : Type 0} (setting : RunSetting OrchestratorResponder K R W) (nodes : List (List ℕ)) (before opened : K) (responder : OrchestratorResponder) : Type 0 where
-  pub found : HasOrchestrator nodes (setting.seen before) (setting.seen opened) responder.service
+-- the orchestrator of these nodes was opened from the store, in this session or a later one; the store has its record then
+pub record IsOpened {K R W : Type 0} (setting : RunSetting OrchestratorResponder K R W) (least : ℕ) (nodes : List (List ℕ)) (before opened : K) (responder : OrchestratorResponder) : Type 0 where
+  pub found : HasOrchestrator least nodes (setting.seen before) (setting.seen opened) responder.service
   pub asked : responder.service.orchestrator.nodes ≡ nodes
   pub fit : IsFitResponder responder
   pub its : HasItsRecord responder
   pub restarts : RestartsAreTold responder.service.orchestrator
   pub honest : (setting.seen opened).honest → (setting.seen before).honest
-  pub left : LeavesOpening (orchestrator_rules nodes) (setting.seen before) (setting.seen opened)
+  pub left : LeavesOpening (orchestrator_rules least nodes) (setting.seen before) (setting.seen opened)
 
 -- it was opened, and its first line wasn't written: nothing was read
-pub record IsNotBegun {K R W : Type 0} (setting : RunSetting OrchestratorResponder K R W) (nodes : List (List ℕ)) (before after : K) (reader read : Counted R) (writer written : Counted W) (ending : Ending) : Type 0 where
+pub record IsNotBegun {K R W : Type 0} (setting : RunSetting OrchestratorResponder K R W) (least : ℕ) (nodes : List (List ℕ)) (before after : K) (reader read : Counted R) (writer written : Counted W) (ending : Ending) : Type 0 where
   pub responder : OrchestratorResponder
-  pub is_opened : IsOpened setting nodes before after responder
+  pub is_opened : IsOpened setting least nodes before after responder
   pub unread : read ≡ reader
   pub first : WritesFirst setting.contents responder.service.orchestrator writer written (Err ending)
 
 -- it was opened, its first line was written, and it was served over its store
-pub record IsRun {K R W : Type 0} (setting : RunSetting OrchestratorResponder K R W) (nodes : List (List ℕ)) (before after : K) (reader read : Counted R) (writer written : Counted W) (ending : Ending) : Type 0 where
+pub record IsRun {K R W : Type 0} (setting : RunSetting OrchestratorResponder K R W) (least : ℕ) (nodes : List (List ℕ)) (before after : K) (reader read : Counted R) (writer written : Counted W) (ending : Ending) : Type 0 where
   pub begun : Counted W
   pub result : Result ServedLines LinesServeFault
   pub ran : Ran setting before after reader read begun written result
-  pub is_opened : IsOpened setting nodes before ran.opened ran.responder
+  pub is_opened : IsOpened setting least nodes before ran.opened ran.responder
   pub first : WritesFirst setting.contents ran.responder.service.orchestrator writer begun (Ok tt)
   pub ends : ending ≡ ending_of_serving result
 
 -- one of these
-abbrev pub OrchestratorRuns : {K R W : Type 0} → RunSetting OrchestratorResponder K R W → List (List ℕ) → K → K → Counted R → Counted R → Counted W → Counted W → Ending → Type 0
-OrchestratorRuns setting nodes before after reader read writer written ending =
-    IsNotOpened setting nodes before after reader read writer written ending
-    ⊎ IsNotBegun setting nodes before after reader read writer written ending
-    ⊎ IsRun setting nodes before after reader read writer written ending
+abbrev pub OrchestratorRuns : {K R W : Type 0} → RunSetting OrchestratorResponder K R W → ℕ → List (List ℕ) → K → K → Counted R → Counted R → Counted W → Counted W → Ending → Type 0
+OrchestratorRuns setting least nodes before after reader read writer written ending =
+    IsNotOpened setting least nodes before after reader read writer written ending
+    ⊎ IsNotBegun setting least nodes before after reader read writer written ending
+    ⊎ IsRun setting least nodes before after reader read writer written ending

@@ -27,6 +27,9 @@ pub enum LinesServeFaultKind {
     /// An allocation was refused.
     #[error("out of memory")]
     NoMemory,
+    /// The next line tells that the store is an older one: nothing of it is answered.
+    #[error("the store is an older one")]
+    OlderStore,
     /// 2^63 bytes or more were read, and no end.
     #[error("the input has no end")]
     Endless,

@@ -1,24 +1,25 @@
 //! A responder over a store, which answers the lines of a stream; those that are there together are committed together.
-ghost use Rattle.std.specs.Prelude.{◌≡◌, ◌++◌, map, OnOk, OnErr};
+ghost use Rattle.std.specs.Prelude.{◌≡◌, ◌++◌, map, true, OnOk, OnErr};
 ghost use Rattle.csi_stores.specs.Public.Part.{part_change};
 ghost use Rattle.csi_driver.specs.Public.Answering.{Adds};
 ghost use Rattle.csi_driver.specs.Public.LinesOf.{with_newline};
-ghost use Rattle.csi_driver.specs.Public.Waiting.{WaitsSame, StopsAt};
+ghost use Rattle.csi_driver.specs.Public.Waiting.{WaitsSame};
 ghost use Rattle.csi_orchestration.specs.Public.LinesAnswering.{AnswersInRecord};
-ghost use Rattle.csi_orchestration.specs.Private.LinesHandling.{always, waiting_of, IsHandled, Flushes, stopped_by};
+ghost use Rattle.csi_orchestration.specs.Private.LinesHandling.{always, IsHandled, Flushes, StopsLine, handler_stopped_by, stopped_by};
 
 use crate::lines_serving::fault::{LinesServeFault, LinesServeFaultKind};
-use crate::responder::Responder;
+use crate::responder::{Responder, Unanswered};
 use csi_driver::{AnswerFault, LineHandler, LinesFault, Stop, Waiting};
 use csi_stores::{Counted, Keep, Part};
 use csi_types::NoMemory;
 use std::io::Write;
 
-/// What answers the lines, and what waits of those that it answered.
+/// What answers the lines, what waits of those that it answered, and whether the last line told that the store is an older one.
 #[derive(Drop)]
 pub(crate) struct Answering<C> {
     pub responder: C,
     pub waiting: Waiting,
+    pub is_older: bool,
 }
 
 // Puts what the last line changed behind the parts. An `Err` leaves them as they were.
@@ -38,9 +39,18 @@ impl<C: Responder> Answering<C> {
         ensures ok { OnOk result (Adds (AnswersInRecord C.is_fit C.spells C.parts_of C.answers) C.parts_of with_newline always
             self.old.responder self.old.waiting line.now self.new.responder self.new.waiting) }
         ensures err { OnErr result (WaitsSame self.old.waiting self.new.waiting) }
+        ensures older { OnErr result (self.new.is_older ≡ true → C.is_older self.old.responder line.now) }
     {
         let len = self.waiting.out.len();
-        self.responder.answer_into(line, &mut self.waiting.out)?;
+        self.is_older = false;
+        match self.responder.answer_into(line, &mut self.waiting.out) {
+            Ok(()) => {}
+            Err(Unanswered::NoMemory) => return Err(NoMemory),
+            Err(Unanswered::OlderStore) => {
+                self.is_older = true;
+                return Err(NoMemory);
+            }
+        }
         self.responder.record_law();
         match push_changed(&self.responder, &mut self.waiting.parts) {
             Ok(()) => {
@@ -65,7 +75,7 @@ impl<C: Responder, K: Keep, W: Write> LineHandler<K, Counted<W>> for Answering<C
 
     ghost is_flushed = { λ answering. answering.waiting.items ≡ 0 };
 
-    ghost stops = { λ old line new. StopsAt K.store W.contents (waiting_of old) (waiting_of new) };
+    ghost stops = { StopsLine C.is_older K.store W.contents };
 
     fn handle(
         &mut self,
@@ -74,6 +84,7 @@ impl<C: Responder, K: Keep, W: Write> LineHandler<K, Counted<W>> for Answering<C
         _number: u64,
         line: &[u8],
     ) -> Result<(), AnswerFault> {
+        self.is_older = false;
         match self.waiting.settle_many(keep, writer) {
             Ok(()) => {}
             Err(stop) => return Err(stop),
@@ -88,6 +99,7 @@ impl<C: Responder, K: Keep, W: Write> LineHandler<K, Counted<W>> for Answering<C
     }
 
     fn flush(&mut self, keep: &mut K, writer: &mut Counted<W>) -> Result<(), AnswerFault> {
+        self.is_older = false;
         match self.waiting.settle(keep, writer) {
             Ok(()) => Ok(()),
             Err(stop) => Err(stop),
@@ -95,20 +107,37 @@ impl<C: Responder, K: Keep, W: Write> LineHandler<K, Counted<W>> for Answering<C
     }
 }
 
-/// Why serving stopped, after so many lines that were committed.
-pub(crate) fn stopped(stop: Stop<LinesFault<AnswerFault>>, lines: u64) -> LinesServeFault
-    ensures { result ≡ record { kind = stopped_by stop; lines = lines } }
+// Why a handler stopped: there was no memory for a line, or it told that the store is an older one; or what waits was refused.
+fn kind_of(fault: AnswerFault, is_older: bool) -> LinesServeFaultKind
+    ensures { result ≡ handler_stopped_by is_older fault }
+{
+    match fault {
+        AnswerFault::NoMemory => {
+            if is_older {
+                LinesServeFaultKind::OlderStore
+            } else {
+                LinesServeFaultKind::NoMemory
+            }
+        }
+        AnswerFault::Keep(fault) => LinesServeFaultKind::Keep(fault),
+        AnswerFault::Output => LinesServeFaultKind::Output,
+    }
+}
+
+/// Why serving stopped, after so many lines that were committed, and whether the next one told that the store is an older one.
+pub(crate) fn stopped(
+    stop: Stop<LinesFault<AnswerFault>>,
+    is_older: bool,
+    lines: u64,
+) -> LinesServeFault
+    ensures { result ≡ record { kind = stopped_by is_older stop; lines = lines } }
 {
     let kind = match stop {
         Stop::Input => LinesServeFaultKind::Input,
         Stop::Endless => LinesServeFaultKind::Endless,
         Stop::Consumer(LinesFault::Long(number)) => LinesServeFaultKind::Long(number),
         Stop::Consumer(LinesFault::NoMemory) => LinesServeFaultKind::NoMemory,
-        Stop::Consumer(LinesFault::Handler(AnswerFault::NoMemory)) => LinesServeFaultKind::NoMemory,
-        Stop::Consumer(LinesFault::Handler(AnswerFault::Keep(fault))) => LinesServeFaultKind::Keep(
-            fault,
-        ),
-        Stop::Consumer(LinesFault::Handler(AnswerFault::Output)) => LinesServeFaultKind::Output,
+        Stop::Consumer(LinesFault::Handler(fault)) => kind_of(fault, is_older),
     };
     LinesServeFault { kind, lines }
 }

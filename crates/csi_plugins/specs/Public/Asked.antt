@@ -1,4 +1,5 @@
--- What a plugin is asked for by: the bytes of a configuration; or an id, and the word of the node's joining. This profile's own.
+-- What a plugin is asked for by: the bytes of a configuration; or an id, and the word of the node's joining. An orchestrator's session is said by a
+-- word likewise. This profile's own.
 use Rattle.std.specs.Prelude.{◌≡◌, ◌<◌, ◌^◌, ℕ, List, Option, Some, None, Ok}
 use Rattle.std.specs.Fmt.{decimal}
 use Rattle.std.specs.Str.{IsUtf8}
@@ -22,7 +23,7 @@ IsNoConfig text ConfigRefused = IsUtf8 text × ((config : Config) → text_confi
 IsNoConfig text Memory = Unit {0}
 IsNoConfig text _ = ⊥
 
--- the session that the word of a node's joining says: the number below 2^64 that it is in decimal, without zeros before it; 0 without a word
+-- the session that a word says, as that of a node's joining: the number below 2^64 that it is in decimal, without zeros before it; 0 without a word
 abbrev pub SaysSession : Option (List ℕ) → ℕ → Type 0
 SaysSession None session = session ≡ 0
 SaysSession (Some word) session = (session < 2 ^ 64) × (word ≡ decimal session)

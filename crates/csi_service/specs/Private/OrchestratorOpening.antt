@@ -16,11 +16,11 @@ use Rattle.csi_service.specs.Public.OrchestratorServices.{session_changes, AreFi
 use Rattle.csi_service.specs.Public.StoreOpening.{Opening}
 
 -- an orchestrator, or why there is none, of the parts that were found
-abbrev pub IsOrchestratorMade : List (List ℕ) → List StoredPart → OrchestratorMade → Type 0
-IsOrchestratorMade nodes found (Opened service) = IsOrchestratorOpened nodes found service.orchestrator
-IsOrchestratorMade nodes found BadNodes = Unit {0}
-IsOrchestratorMade nodes found NumbersSpent = IsNotBegun nodes refusals.NumbersSpent found
-IsOrchestratorMade nodes found NodeInUse = IsNotBegun nodes refusals.NodeInUse found
+abbrev pub IsOrchestratorMade : ℕ → List (List ℕ) → List StoredPart → OrchestratorMade → Type 0
+IsOrchestratorMade least nodes found (Opened service) = IsOrchestratorOpened least nodes found service.orchestrator
+IsOrchestratorMade least nodes found BadNodes = Unit {0}
+IsOrchestratorMade least nodes found NumbersSpent = IsNotBegun least nodes refusals.NumbersSpent found
+IsOrchestratorMade least nodes found NodeInUse = IsNotBegun least nodes refusals.NodeInUse found
 
 -- the parts of the orchestrator are a record
 abbrev pub IsMadeRecord : OrchestratorMade → Type 0
@@ -37,8 +37,8 @@ left_by found NumbersSpent = found
 left_by found NodeInUse = found
 
 -- what opening an orchestrator's store gives
-abbrev pub orchestrator_opening : List (List ℕ) → Opening OrchestratorMade
-orchestrator_opening nodes = record { rules = orchestrator_rules nodes; makes = IsOrchestratorMade nodes; is = IsMadeRecord; leaves = left_by }
+abbrev pub orchestrator_opening : ℕ → List (List ℕ) → Opening OrchestratorMade
+orchestrator_opening least nodes = record { rules = orchestrator_rules least nodes; makes = IsOrchestratorMade least nodes; is = IsMadeRecord; leaves = left_by }
 
 -- the orchestrator of a record in its next session, with these nodes, of which what changed is to be committed; where all that its rows have is
 -- within its limits, its parts are those of its record; or no session begins

@@ -1,6 +1,7 @@
 -- An orchestrator that is served: the parts of its record, what a call changed of them, and how it answers. This profile's own.
-use Rattle.std.specs.Prelude.{◌≡◌, ℕ, zero, suc, ◌+◌, ◌-◌, ◌^◌, ◌==◌, List, [], ◌∷◌, ◌++◌, length, map, slice_get, if◌then◌else◌, Option, Some, None, Result, Ok, Err, OnOk, OnErr, IfErr, IfSome}
+use Rattle.std.specs.Prelude.{◌≡◌, ℕ, true, false, zero, suc, ◌+◌, ◌-◌, ◌^◌, ◌==◌, List, [], ◌∷◌, ◌++◌, length, map, slice_get, if◌then◌else◌, Option, Some, None, Result, Ok, Err, OnOk, OnErr, IfErr, IfSome}
 use Rattle.std.specs.List.{AllByRecursion}
+use Rattle.csi_types.specs.Model.Frame.{Frame}
 use Rattle.csi_orchestrator.specs.declared.fault.OrchFault.{OrchFault}
 use Rattle.csi_orchestrator.specs.declared.fault.OrchFault.TheVariants.{NumbersSpent}
 use Rattle.csi_orchestrator.specs.Model.History.{History}
@@ -12,6 +13,7 @@ use Rattle.csi_orchestrator.specs.Public.Promises.{FollowsUnrefused}
 use Rattle.csi_orchestrator.specs.Public.Record.{RecordParts}
 use Rattle.csi_orchestrator.specs.Public.RowMoves.{IsRefusal}
 use Rattle.csi_orchestrator.specs.Public.Shown.{closed}
+use Rattle.csi_orchestrator.specs.Public.Stale.{is_told_stale}
 use Rattle.csi_stores.specs.Public.Content.{all_changed}
 use Rattle.csi_stores.specs.Public.Part.{StoredPart, StoredChange, put_all, take_all}
 use Rattle.csi_records.specs.Public.OrchestratorRecords.{kept_parts}
@@ -116,6 +118,14 @@ pub record OrchestratorAnswers {A : Type 0} (told : A → Answer) (old : ServedO
   pub nodes : new.orchestrator.nodes ≡ old.orchestrator.nodes
   pub session : new.orchestrator.last.session ≡ old.orchestrator.last.session
   pub stays : OnErr result (new.orchestrator ≡ old.orchestrator)
+
+-- the frame says of an open call that it was stale, by each history that is shown: the store is an older one
+abbrev pub IsToldStale : Frame → ServedOrchestrator → Type 0
+IsToldStale frame service = (history : History) → IsWellFormed history → Shows service.orchestrator history → is_told_stale history frame ≡ true
+
+-- it says so of none
+abbrev pub IsTimely : Frame → ServedOrchestrator → Type 0
+IsTimely frame service = (history : History) → IsWellFormed history → Shows service.orchestrator history → is_told_stale history frame ≡ false
 
 -- the loss of a node: for every history that the orchestrator shows, and by its rows alone; it is refused in the last session only, and then
 -- leaves it as it was

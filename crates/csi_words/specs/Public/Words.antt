@@ -16,7 +16,7 @@ pub data Named : Type 0 where
   File : FileCommand → List ℕ → Named
   Controller : (store config : List ℕ) → Named
   Node : (store id : List ℕ) (session : Option (List ℕ)) → Named
-  Orchestrator : (store config : List ℕ) → Named
+  Orchestrator : (store config : List ℕ) (session : Option (List ℕ)) → Named
   Record : (store : List ℕ) → Named
 
 -- what a command line has
@@ -25,7 +25,7 @@ named_by (lines.Help about) = Help about
 named_by (lines.File command path) = File command path.now
 named_by (lines.Controller store config) = Controller store.now config.now
 named_by (lines.Node store id session) = Node store.now id.now (option_map (λ word. word.now) session)
-named_by (lines.Orchestrator store config) = Orchestrator store.now config.now
+named_by (lines.Orchestrator store config session) = Orchestrator store.now config.now (option_map (λ word. word.now) session)
 named_by (lines.Record store) = Record store.now
 
 -- one word more, which has to be there
@@ -56,17 +56,21 @@ bare = record (new_app (codes "csi-replay")) { top = record (new_app (codes "csi
 abbrev pub on_files : App
 on_files = with_file_command (with_file_command (with_file_command (with_file_command (with_file_command bare (codes "answer")) (codes "show")) (codes "run")) (codes "frames")) (codes "draw")
 
--- the command that serves a node: its store, its id, and the session of its joining
-abbrev pub on_node : App
-on_node = with_optional_word (with_word (with_word (new_app (codes "node")) (codes "DB")) (codes "ID")) (codes "SESSION")
+-- a command of this name: its store, another word, which is called so, and a session, which may be left out
+abbrev pub on_session : List ℕ → List ℕ → App
+on_session name second = with_optional_word (with_word (with_word (new_app name) (codes "DB")) second) (codes "SESSION")
 
--- its commands that serve a plugin
+-- the program with such a command
+abbrev pub with_session_command : App → List ℕ → List ℕ → App
+with_session_command app name second = with_subcommand app (on_session name second).top
+
+-- its commands that serve a plugin: a node's session is that of its joining
 abbrev pub on_plugins : App
-on_plugins = with_subcommand (with_store_command on_files (codes "controller") (codes "CONFIG")) on_node.top
+on_plugins = with_session_command (with_store_command on_files (codes "controller") (codes "CONFIG")) (codes "node") (codes "ID")
 
 -- all commands
 abbrev pub program : App
-program = with_one_word (with_store_command on_plugins (codes "orchestrator") (codes "CONFIG")) (codes "record") (codes "DB")
+program = with_one_word (with_session_command on_plugins (codes "orchestrator") (codes "CONFIG")) (codes "record") (codes "DB")
 
 -- the first values of the words of each command
 abbrev pub on_file_in : FileCommand → List Row → Option Named
@@ -84,9 +88,9 @@ controller_in rows = both Controller (first_of (codes "DB") rows) (first_of (cod
 abbrev pub node_in : List Row → Option Named
 node_in rows = both (λ store id. Node store id (first_of (codes "SESSION") rows)) (first_of (codes "DB") rows) (first_of (codes "ID") rows)
 
--- the orchestrator's process
+-- the orchestrator's process, and the session that begins, where it is there
 abbrev pub orchestrator_in : List Row → Option Named
-orchestrator_in rows = both Orchestrator (first_of (codes "DB") rows) (first_of (codes "CONFIG") rows)
+orchestrator_in rows = both (λ store config. Orchestrator store config (first_of (codes "SESSION") rows)) (first_of (codes "DB") rows) (first_of (codes "CONFIG") rows)
 
 -- the line of a record
 abbrev pub record_in : List Row → Option Named

@@ -1,29 +1,36 @@
 -- A refusal is one of what waits, or of a line, and then what waits is settled.
 use Rattle.std.proofs.Common.{refl}
 use Rattle.csi_driver.proofs.WaitingStops.{stops-at-once, ends-so}
+use Rattle.csi_orchestration.proofs.LinesProgress.{not-so}
 use Rattle.csi_orchestration.proofs.lines_serving.handling.AnsweringLineHandlerCounted.handle.Goals as goal
 
 pub returns-in-Err-clause-err : goal.returns-in-Err-clause-err
-returns-in-Err-clause-err g c = stops-at-once g.K.Keep.store g.W.Write.contents _ _ c.in-Err.stop c.in-Err.ensures.err
+returns-in-Err-clause-err g c = (stops-at-once g.K.Keep.store g.W.Write.contents _ _ c.in-Err.stop c.in-Err.ensures.err, λ older. not-so older)
 
 pub returns-in-Ok-settle-clause-err : goal.returns-in-Ok-settle-clause-err
 returns-in-Ok-settle-clause-err g c = (
-  record { own = c.settle_many.new.self; store = c.settle_many.new.keep; out = c.settle_many.new.writer },
-  record { own = c.add.new.self.waiting; store = c.settle_many.new.keep; out = c.settle_many.new.writer },
-  c.in-Ok.ensures.ok,
-  c.in-Err-add.ensures.err,
-  refl,
-  refl,
-  (c.in-Ok-settle.ensures.ok, c.in-Ok-settle.ensures.none),
+  (
+    record { own = c.settle_many.new.self; store = c.settle_many.new.keep; out = c.settle_many.new.writer },
+    record { own = c.add.new.self.waiting; store = c.settle_many.new.keep; out = c.settle_many.new.writer },
+    c.in-Ok.ensures.ok,
+    c.in-Err-add.ensures.err,
+    refl,
+    refl,
+    (c.in-Ok-settle.ensures.ok, c.in-Ok-settle.ensures.none),
+  ),
+  λ older. (c.args.line.now, refl, c.in-Err-add.ensures.older older),
 )
 
 pub returns-in-Err-settle-clause-err : goal.returns-in-Err-settle-clause-err
 returns-in-Err-settle-clause-err g c = (
-  record { own = c.settle_many.new.self; store = c.settle_many.new.keep; out = c.settle_many.new.writer },
-  record { own = c.add.new.self.waiting; store = c.settle_many.new.keep; out = c.settle_many.new.writer },
-  c.in-Ok.ensures.ok,
-  c.in-Err-add.ensures.err,
-  refl,
-  refl,
-  ends-so g.K.Keep.store g.W.Write.contents _ _ c.in-Err-settle.stop c.in-Err-settle.ensures.err,
+  (
+    record { own = c.settle_many.new.self; store = c.settle_many.new.keep; out = c.settle_many.new.writer },
+    record { own = c.add.new.self.waiting; store = c.settle_many.new.keep; out = c.settle_many.new.writer },
+    c.in-Ok.ensures.ok,
+    c.in-Err-add.ensures.err,
+    refl,
+    refl,
+    ends-so g.K.Keep.store g.W.Write.contents _ _ c.in-Err-settle.stop c.in-Err-settle.ensures.err,
+  ),
+  λ older. (c.args.line.now, refl, c.in-Err-add.ensures.older older),
 )
