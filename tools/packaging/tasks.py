@@ -211,13 +211,19 @@ def leader(system):
 
 
 def lose_power(system, number):
-    """The machine of a leader dies, and comes back. Others lead meanwhile."""
+    """The machine of a leader dies, and comes back. Others lead meanwhile; and a volume that was in use there is mounted again."""
+    system.told("create u --size 1G --wait", "u .* yes")
+    system.told(f"use u m{number} /srv/u --wait", f"m{number}:/srv/u")
+    system[number]("mountpoint -q /srv/u && echo kept > /srv/u/file")
     system[number].kill()
     soon("another leads", lambda: system.ask("list", check=False)[0] == 0)
     system.told("create w --size 1G --wait", "w .* yes")
     system.told("delete w --wait")
     system[number].start()
     reached(system)
+    soon("the volume in use is mounted again", lambda: system[number]("mountpoint -q /srv/u && cat /srv/u/file", check=False)[1] == "kept\n")
+    system.told(f"stop u m{number} /srv/u --wait")
+    system.told("delete u --wait")
 
 
 # ---- stores that are put back
@@ -366,7 +372,7 @@ def purge(machine, before, asks):
         machine("echo tufayon-service tufayon-service/remove_stores boolean true | debconf-set-selections")
     machine("apt-get purge -y tufayon tufayon-service")
     machine("dpkg --purge libtufayon-dev", check=False)
-    left = sorted(files_of(machine) - before - {"/srv/v", "/srv/x"})
+    left = sorted(files_of(machine) - before - {"/srv/u", "/srv/v", "/srv/x"})
     stores = [it for it in left if it.startswith("/var/lib/tufayon")]
     need(f"{machine.name}: something is left", left == stores, *left)
     need(f"{machine.name}: the stores", bool(stores) != asks, *stores)
