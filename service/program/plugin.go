@@ -132,7 +132,7 @@ func servePlugin(ctx context.Context, program string, read *settings.PluginSetti
 func (running *serving) watch(program string) (end func(), err error) {
 	read := running.read
 	running.told = metrics.NewDriver(program, read.Name())
-	running.told.Ends = Ends(read.Plugin.Files(), read.CertificateName())
+	running.told.Ends = Ends(&read.Plugin.Place, read.CertificateName())
 	return Watch{
 		Address: read.Plugin.Watch, Files: read.Plugin.Files(), May: running.may, Log: running.log,
 		Admit: secure.Those(read.Set.Name, secure.Client, secure.Orchestrator),
