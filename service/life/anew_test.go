@@ -390,6 +390,10 @@ func TestAnewUnsure(t *testing.T) {
 			machine.troubles <- "its store is an older copy, or another's: nothing is mounted by it" // it isn't told twice
 		}
 	}
+	// Declared lost, it would have to be another one, that joins with a later session.
+	if _, err := machine.plugin.Confirm(context.Background(), &wire.ConfirmRequest{Heard: &wire.Number{Session: 2}}); status.Code(err) != codes.FailedPrecondition {
+		t.Errorf("a lost one is confirmed: %v", err)
+	}
 	machine.must(machine.unpublish("1", "/t1"))
 	if did := does.takes(); !reflect.DeepEqual(did, []string{"NodeUnpublishVolume 1 /s1 /t1"}) {
 		t.Errorf("it did %q", did)
