@@ -34,7 +34,9 @@ func (plugin *plugin) Begin(ctx context.Context, request *wire.BeginRequest) (*w
 	if err != nil {
 		return nil, err
 	}
-	plugin.backend.confirm(core.Confirm(ctx, numberOf(request.Heard)))
+	if trouble, _ := plugin.backend.Trouble(); trouble.Asks {
+		plugin.backend.confirm(core.Confirm(ctx, numberOf(request.Heard)))
+	}
 	return &wire.BeginResponse{Heard: &wire.Number{Session: heard.Session, Call: heard.Call}}, nil
 }
 
