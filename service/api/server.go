@@ -314,6 +314,9 @@ func (server *Server) Nodes(ctx context.Context, _ *wire.NodesRequest) (*wire.No
 		if state.Trouble == "" {
 			state.Trouble = leads.Trouble(plugin)
 		}
+		if state.Trouble == "" {
+			state.Trouble = state.Amiss
+		}
 		response.Nodes = append(response.Nodes, &wire.Node{
 			Id: id, Address: state.Address, Connection: state.Connection, UnderWay: uint32(state.UnderWay), Queued: uint32(state.Queued),
 			Attached: attached[id], Trouble: state.Trouble,

@@ -60,6 +60,27 @@ type Carrier struct {
 
 	mutex   sync.Mutex
 	plugins map[string]*plugin
+	heard   Heard // nil while it isn't known
+}
+
+// A Heard is the last call that a plugin acknowledged that it heard. It isn't known where another process leads.
+type Heard func(plugin string) (heard frames.Number, isKnown bool)
+
+// Leads says which calls were heard, from now on: nodes that ask for it are told.
+func (carrier *Carrier) Leads(heard Heard) {
+	carrier.mutex.Lock()
+	defer carrier.mutex.Unlock()
+	carrier.heard = heard
+}
+
+func (carrier *Carrier) heardOf(plugin string) (frames.Number, bool) {
+	carrier.mutex.Lock()
+	heard := carrier.heard
+	carrier.mutex.Unlock()
+	if heard == nil {
+		return frames.Number{}, false
+	}
+	return heard(plugin)
 }
 
 // Dial makes a connection to a plugin at an address, which is used whenever it is there. Peers.Dial is one: it has credentials that keep the number that
@@ -84,7 +105,7 @@ func (carrier *Carrier) Set(addresses map[string]string) error {
 		if name == Controller {
 			limit = carrier.limits.AtController
 		}
-		it, err := newPlugin(name, address, limit, carrier.dial)
+		it, err := newPlugin(name, address, limit, carrier.dial, carrier.heardOf)
 		if err != nil {
 			for _, it := range made {
 				it.close()
@@ -197,6 +218,7 @@ type State struct {
 	UnderWay   int    // calls
 	Queued     int    // calls that wait for their turn, or until it is reached
 	Trouble    string // why it isn't reached
+	Amiss      string // what a node says that isn't as its record has it: calls are made at it all the same
 }
 
 // IsReached says whether calls can be made at it, as far as is known.

@@ -310,3 +310,68 @@ func TestSeveral(t *testing.T) {
 	tell(first, second)
 	call(first)
 }
+
+// What a node says that isn't as its record has it is told as long as it is reached, and calls are made at it.
+func TestTroubles(t *testing.T) {
+	node := &carryingtest.Plugin{Node: "n1", Troubles: make(chan string, 1)}
+	node.Serve(t, socket(t, "n1"), nil)
+	carrier := carry(t, carrying.Peers{}, carrying.Limits{}, map[string]string{"node:n1": node.Address})
+	wants := func(want string) {
+		t.Helper()
+		for end := time.Now().Add(within); ; time.Sleep(5 * time.Millisecond) {
+			state := carrier.States()["node:n1"]
+			if state.Amiss == want && (want == "" || state.IsReached()) {
+				return
+			}
+			if time.Now().After(end) {
+				t.Fatalf("it is %+v, and not %q", state, want)
+			}
+		}
+	}
+	for _, text := range []string{"volume 1 isn't mounted", "volume 2 isn't mounted", "", "volume 3 isn't mounted"} {
+		node.Troubles <- text
+		wants(text)
+		if _, err := carrier.Carry(ctx, stage("n1"), time.Time{}); err != nil {
+			t.Errorf("a call: %v", err)
+		}
+	}
+	node.Stop()
+	wants("")
+	again := &carryingtest.Plugin{Node: "n1", Troubles: node.Troubles}
+	again.Serve(t, node.Address, nil)
+	again.Troubles <- "volume 4 isn't mounted"
+	wants("volume 4 isn't mounted")
+}
+
+// A node that asks for it is told which call it acknowledged last, once that is known here, until it takes that.
+func TestConfirms(t *testing.T) {
+	told := make(chan frames.Number, 9)
+	refuses := int32(1)
+	node := &carryingtest.Plugin{Node: "n1", Troubles: make(chan string, 1), Confirms: func(heard frames.Number) error {
+		told <- heard
+		if atomic.AddInt32(&refuses, -1) == 0 {
+			return status.Error(codes.FailedPrecondition, "earlier")
+		}
+		return nil
+	}}
+	node.Serve(t, socket(t, "n1"), nil)
+	carrier := carry(t, carrying.Peers{}, carrying.Limits{}, map[string]string{"node:n1": node.Address})
+	node.Troubles <- "volumes aren't mounted"
+	select {
+	case heard := <-told:
+		t.Errorf("it is told %v", heard)
+	case <-time.After(100 * time.Millisecond):
+	}
+	want := frames.Number{Session: 4, Call: 7}
+	carrier.Leads(func(plugin string) (frames.Number, bool) { return want, plugin == "node:n1" })
+	for count := 0; count < 2; count++ {
+		select {
+		case heard := <-told:
+			if heard != want {
+				t.Errorf("it is told %v", heard)
+			}
+		case <-time.After(within):
+			t.Fatal("it is told nothing")
+		}
+	}
+}

@@ -21,18 +21,23 @@ type plugin struct {
 	connection    *grpc.ClientConn
 	places        chan struct{} // has as many as calls are under way
 	closed        chan struct{}
+	heard         Heard
 
 	mutex   sync.Mutex
 	queued  int
 	last    uint64 // the number of the last connection
 	known   uint64 // that over which it said that it is the node that it should be
 	trouble string // why it isn't reached
+	amiss   string // what it says of itself that isn't as its record has it
 }
 
-func newPlugin(name, address string, limit int, dial Dial) (*plugin, error) {
-	made := &plugin{name: name, address: address, places: make(chan struct{}, limit), closed: make(chan struct{})}
+func newPlugin(name, address string, limit int, dial Dial, heard Heard) (*plugin, error) {
+	made := &plugin{name: name, address: address, heard: heard, places: make(chan struct{}, limit), closed: make(chan struct{})}
 	connection, err := dial(name, address, made.connects)
 	made.connection = connection
+	if err == nil && name != Controller {
+		go made.listen()
+	}
 	return made, err
 }
 
@@ -167,5 +172,6 @@ func (plugin *plugin) state() State {
 	}
 	return State{
 		Address: plugin.address, Connection: state.String(), UnderWay: len(plugin.places), Queued: plugin.queued, Trouble: trouble,
+		Amiss: plugin.amiss,
 	}
 }

@@ -2,6 +2,7 @@ package driver
 
 import (
 	"context"
+	"errors"
 	"sync"
 
 	"google.golang.org/grpc"
@@ -23,6 +24,7 @@ type Core interface {
 	Carry(ctx context.Context, request serving.Request) (serving.Answer, error)
 	Known(ctx context.Context, volume uint64) (serving.Known, error)
 	Begin(ctx context.Context, opening numbers.Opening) (frames.Number, error)
+	Confirm(ctx context.Context, acknowledged frames.Number) error
 	Done() <-chan struct{}
 }
 
@@ -31,14 +33,17 @@ var errNotReady = status.Error(codes.Unavailable, "not ready")
 
 // A Backend is the core behind the services, which are there before it, while the driver waits to lead.
 type Backend struct {
-	health *health.Server
-	mutex  sync.RWMutex
-	served Core // nil while there is none
+	health  *health.Server
+	mutex   sync.RWMutex
+	served  Core // nil while there is none
+	trouble Trouble
+	changed chan struct{} // closed at the next change of these two
+	isSure  chan struct{} // closed once the store is known to be no older copy
 }
 
 // NewBackend makes one that isn't ready.
 func NewBackend() *Backend {
-	backend := &Backend{health: health.NewServer()}
+	backend := &Backend{health: health.NewServer(), changed: make(chan struct{}), isSure: make(chan struct{})}
 	backend.tell(grpc_health_v1.HealthCheckResponse_NOT_SERVING)
 	return backend
 }
@@ -68,11 +73,68 @@ func (backend *Backend) put(core, other Core) {
 		return
 	}
 	backend.served = core
+	backend.change()
 	how := grpc_health_v1.HealthCheckResponse_SERVING
 	if core == nil {
 		how = grpc_health_v1.HealthCheckResponse_NOT_SERVING
 	}
 	backend.tell(how)
+}
+
+// change wakes those that wait for a change. The lock is held.
+func (backend *Backend) change() {
+	close(backend.changed)
+	backend.changed = make(chan struct{})
+}
+
+// A Trouble is what isn't mounted that a node's record has: no text where all is.
+type Trouble struct {
+	Text string
+	Asks bool // nothing is mounted before it is confirmed that the store is no older copy
+}
+
+// tellTrouble sets the trouble.
+func (backend *Backend) tellTrouble(trouble Trouble) {
+	backend.mutex.Lock()
+	defer backend.mutex.Unlock()
+	select {
+	case <-backend.isSure:
+		trouble.Asks = false
+	default:
+	}
+	if backend.trouble != trouble {
+		backend.trouble = trouble
+		backend.change()
+	}
+}
+
+// confirm notes that the store is no older copy, or that it is one.
+func (backend *Backend) confirm(err error) {
+	backend.mutex.Lock()
+	defer backend.mutex.Unlock()
+	select {
+	case <-backend.isSure:
+		return
+	default:
+	}
+	was := backend.trouble
+	switch {
+	case err == nil:
+		close(backend.isSure)
+		backend.trouble.Asks = false
+	case errors.Is(err, serving.ErrEarlier) && backend.trouble.Asks:
+		backend.trouble.Text = "its store is an older copy, or another's: nothing is mounted by it"
+	}
+	if backend.trouble != was {
+		backend.change()
+	}
+}
+
+// Trouble is what isn't mounted that the record has, and what is closed once that may have changed, or whether anything is served.
+func (backend *Backend) Trouble() (trouble Trouble, changed <-chan struct{}) {
+	backend.mutex.RLock()
+	defer backend.mutex.RUnlock()
+	return backend.trouble, backend.changed
 }
 
 // core gives the core, or refuses the call.

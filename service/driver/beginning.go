@@ -34,7 +34,42 @@ func (plugin *plugin) Begin(ctx context.Context, request *wire.BeginRequest) (*w
 	if err != nil {
 		return nil, err
 	}
+	if trouble, _ := plugin.backend.Trouble(); trouble.Asks {
+		plugin.backend.confirm(core.Confirm(ctx, numberOf(request.Heard)))
+	}
 	return &wire.BeginResponse{Heard: &wire.Number{Session: heard.Session, Call: heard.Call}}, nil
+}
+
+// Confirm tells the last call that was acknowledged, so that an older copy of the store is found before anything is mounted by it.
+func (plugin *plugin) Confirm(ctx context.Context, request *wire.ConfirmRequest) (*wire.ConfirmResponse, error) {
+	core, err := plugin.backend.core()
+	if err != nil {
+		return nil, err
+	}
+	err = core.Confirm(ctx, numberOf(request.Heard))
+	plugin.backend.confirm(err)
+	return &wire.ConfirmResponse{}, err
+}
+
+// Troubles tells what isn't mounted that the node's record has, and whenever that changes, as long as calls are answered.
+func (plugin *plugin) Troubles(_ *wire.TroublesRequest, stream wire.Plugin_TroublesServer) error {
+	for told := (Trouble{}); ; {
+		trouble, changed := plugin.backend.Trouble()
+		if _, err := plugin.backend.core(); err != nil {
+			return err
+		}
+		if trouble != told {
+			if err := stream.Send(&wire.TroublesResponse{Trouble: trouble.Text, Asks: trouble.Asks}); err != nil {
+				return err
+			}
+			told = trouble
+		}
+		select {
+		case <-changed:
+		case <-stream.Context().Done():
+			return stream.Context().Err()
+		}
+	}
 }
 
 func numberOf(number *wire.Number) frames.Number {

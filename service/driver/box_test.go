@@ -60,6 +60,8 @@ func (core *core) Begin(_ context.Context, opening numbers.Opening) (frames.Numb
 	return frames.Number{Session: 7, Call: 9}, core.refuses
 }
 
+func (core *core) Confirm(context.Context, frames.Number) error { return core.refuses }
+
 func (core *core) Known(context.Context, uint64) (serving.Known, error) { return core.known, nil }
 
 func (core *core) Carry(ctx context.Context, request serving.Request) (serving.Answer, error) {

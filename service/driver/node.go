@@ -24,6 +24,7 @@ type NodeOptions struct {
 	ID         string
 	MaxVolumes int64       // as NodeGetInfo tells it: 0 for not known
 	Hooks      hooks.Hooks // nil where the ledger alone is kept
+	Anew       *Anew       // what is to be staged and published anew: nil where nothing is
 }
 
 // node is CSI's Node service over a node plugin.
@@ -39,6 +40,11 @@ func RegisterNode(server *grpc.Server, backend *Backend, options NodeOptions) {
 
 // carry carries a call at a staging path, which none is of a call that doesn't name one.
 func (node *node) carry(ctx context.Context, body frames.Body, deed hooks.Deed, had had) error {
+	return node.carryIf(ctx, body, deed, had, func() error { return nil })
+}
+
+// carryIf does the same, unless this refuses a call that isn't stale.
+func (node *node) carryIf(ctx context.Context, body frames.Body, deed hooks.Deed, had had, may func() error) error {
 	request := asking(node.options.Hooks, body, deed, had)
 	request.Node, request.Staging = node.options.ID, deed.Staging
 	judge := request.Judge
@@ -50,10 +56,19 @@ func (node *node) carry(ctx context.Context, body frames.Body, deed hooks.Deed, 
 		if deed.Staging != "" && known.Staging != "" && known.Staging != deed.Staging {
 			return errStaged
 		}
+		if err := may(); err != nil {
+			return err
+		}
 		return judge(known)
 	}
 	_, err := node.backend.carry(ctx, request)
+	node.options.Anew.wake(body.Volume())
 	return err
+}
+
+// publish carries a NodePublishVolume, once the volume is staged anew where that is to be done.
+func (node *node) publish(ctx context.Context, body frames.NodePublishVolume, deed hooks.Deed) error {
+	return node.carryIf(ctx, body, deed, always, func() error { return node.options.Anew.judge(body.ID) })
 }
 
 func rowOf(known serving.Known) (records.Staged, error) {
@@ -106,10 +121,10 @@ func (node *node) NodeUnstageVolume(ctx context.Context, request *wire.NodeUnsta
 func (node *node) NodePublishVolume(ctx context.Context, request *wire.NodePublishVolumeRequest) (*wire.NodePublishVolumeResponse, error) {
 	body, err := translate.NodePublishVolume(request)
 	if err == nil {
-		err = node.carry(ctx, body, hooks.Deed{
+		err = node.publish(ctx, body, hooks.Deed{
 			Call: "NodePublishVolume", Staging: request.GetStagingTargetPath(), Target: body.Target, Capability: &body.Capability,
 			Readonly: body.Readonly, Private: translate.PrivateOfNode(request),
-		}, always)
+		})
 	}
 	return &wire.NodePublishVolumeResponse{}, found(err)
 }

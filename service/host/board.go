@@ -5,6 +5,8 @@ import (
 	"errors"
 	"sort"
 	"sync"
+
+	"tufayon/service/frames"
 )
 
 // ErrSlow says that a watcher was too slow to get all that happened.
@@ -21,12 +23,13 @@ type board struct {
 	nodes    []string
 	volumes  map[string]Volume
 	troubles map[string]string // why plugins haven't begun the session, by their names
+	heard    map[string]frames.Number
 	watchers map[*Watching]bool
 	isClosed bool
 }
 
 func newBoard() *board {
-	return &board{volumes: map[string]Volume{}, troubles: map[string]string{}, watchers: map[*Watching]bool{}}
+	return &board{volumes: map[string]Volume{}, troubles: map[string]string{}, heard: map[string]frames.Number{}, watchers: map[*Watching]bool{}}
 }
 
 // note notes why a plugin hasn't begun the session, or with no text that it has.
@@ -47,6 +50,13 @@ func (host *Host) Trouble(plugin string) string {
 	return host.board.troubles[plugin]
 }
 
+// Heard is the last call that a plugin acknowledged that it heard, as far as that is committed.
+func (host *Host) Heard(plugin string) (heard frames.Number, isKnown bool) {
+	host.board.mutex.RLock()
+	defer host.board.mutex.RUnlock()
+	return host.board.heard[plugin], !host.board.isClosed
+}
+
 // An Event is what became of a volume, or of a node. One of the last three fields counts.
 type Event struct {
 	Session, Count uint64
@@ -61,6 +71,9 @@ func (host *Host) publish(work *work) {
 	board.mutex.Lock()
 	defer board.mutex.Unlock()
 	board.session, board.nodes = host.core.session, host.core.nodes
+	for name, it := range host.core.peers.of {
+		board.heard[name] = it.heard
+	}
 	for _, name := range work.forgotten {
 		delete(board.volumes, name)
 		board.tell(name, Event{Forgotten: name})

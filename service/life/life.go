@@ -41,6 +41,9 @@ type Driver struct {
 	Upstream    *upstream.Proxy // the driver behind, to which calls go in place of all this; nil where there is none. Its store is a store.Keeper
 	Doors       []Door
 	Say         func(line string) // tells whoever runs it how far it is
+	Starts      string            // of a node: the file with the start of its machine in which all was mounted that its record has; none: nothing is done anew
+	Start       func() string     // tells this start of the machine from others: nil for the kernel's
+	Trouble     func(text string) // told what isn't mounted that the record has, whenever that changes, and with no text that all is; may be nil
 	Observer    Observer          // may be nil
 }
 
@@ -65,13 +68,15 @@ type Life struct {
 	backend *driver.Backend
 	servers []*grpc.Server
 	served  chan error // what ended a server, where nothing here did
-	anew    chan remade
+	remakes chan remade
+	anew    *driver.Anew // what is to be staged and published anew
 
 	// What there is by now.
 	listens bool
 	store   store.Store
 	notes   *store.Notes
 	core    *serving.Core
+	tried   <-chan struct{} // closed once each volume was tried that is to be staged and published anew: nil where none is
 }
 
 // remade asks for a plugin that is made anew.
@@ -82,7 +87,12 @@ type remade struct {
 
 // New makes a life that has not begun.
 func New(it Driver) *Life {
-	return &Life{driver: it, backend: driver.NewBackend(), served: make(chan error, len(it.Doors)), anew: make(chan remade)}
+	if it.Start == nil {
+		it.Start = machineStart
+	}
+	life := &Life{driver: it, backend: driver.NewBackend(), served: make(chan error, len(it.Doors)), remakes: make(chan remade)}
+	life.anew = driver.NewAnew(string(it.Maker.Name), it.Hooks, life.backend)
+	return life
 }
 
 // Run runs the driver until the context ends, or it can't go on.
@@ -90,6 +100,9 @@ func (life *Life) Run(ctx context.Context) error {
 	if err := life.driver.Maker.Check(); err != nil {
 		return err // before there is a store
 	}
+	telling, told := context.WithCancel(context.Background())
+	defer told()
+	go life.tellTroubles(telling)
 	var err error
 	if life.driver.Waits { // its sockets are there meanwhile, and tell that it isn't ready
 		if err = life.listen(); err == nil {
@@ -148,7 +161,7 @@ func (life *Life) register(server *grpc.Server) {
 		driver.RegisterController(server, life.backend, it.Hooks)
 		return
 	}
-	driver.RegisterNode(server, life.backend, driver.NodeOptions{ID: string(it.Maker.Name), MaxVolumes: it.MaxVolumes, Hooks: it.Hooks})
+	driver.RegisterNode(server, life.backend, driver.NodeOptions{ID: string(it.Maker.Name), MaxVolumes: it.MaxVolumes, Hooks: it.Hooks, Anew: life.anew})
 }
 
 // serve serves until it is to end, or can't go on.
@@ -168,12 +181,13 @@ func (life *Life) serve(ctx context.Context) error {
 			return err
 		}
 	}
+	life.awaitTried(ctx)
 	life.say("serves at %s")
 	for {
 		select {
 		case err := <-life.served:
 			return err
-		case it := <-life.anew:
+		case it := <-life.remakes:
 			err := life.remake(ctx, it.maker)
 			it.answered <- err
 			if life.core == nil {
@@ -218,6 +232,9 @@ func (life *Life) open(ctx context.Context) error {
 		if err := behind.Opened(ctx, core, life.driver.Maker); err != nil {
 			return err
 		}
+	}
+	if err := life.restore(ctx, core); err != nil {
+		return err
 	}
 	life.backend.Serve(core)
 	if life.driver.Observer != nil {

@@ -12,7 +12,7 @@ import (
 func (life *Life) Remake(ctx context.Context, maker plugin.Maker) error {
 	answered := make(chan error, 1)
 	select {
-	case life.anew <- remade{maker, answered}:
+	case life.remakes <- remade{maker, answered}:
 	case <-ctx.Done():
 		return ctx.Err()
 	}

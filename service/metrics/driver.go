@@ -37,8 +37,9 @@ type Driver struct {
 	commitSeconds                    prometheus.Histogram
 	commitFailures                   prometheus.Counter
 
-	mutex sync.Mutex
-	core  *serving.Core
+	mutex   sync.Mutex
+	core    *serving.Core
+	isAmiss bool
 }
 
 // NewDriver makes those of a plugin, by its name: controller, or node: and the id.
@@ -67,8 +68,21 @@ func NewDriver(program, plugin string) *Driver {
 // Handler answers scrapes.
 func (made *Driver) Handler() http.Handler { return handler(made.registry) }
 
-// Ready says whether calls are answered.
-func (made *Driver) Ready() bool { return made.served() != nil }
+// Ready says whether calls are answered, and all is mounted that the record has.
+func (made *Driver) Ready() bool { return made.served() != nil && !made.amiss() }
+
+// Amiss notes whether something isn't mounted that the record has.
+func (made *Driver) Amiss(isAmiss bool) {
+	made.mutex.Lock()
+	defer made.mutex.Unlock()
+	made.isAmiss = isAmiss
+}
+
+func (made *Driver) amiss() bool {
+	made.mutex.Lock()
+	defer made.mutex.Unlock()
+	return made.isAmiss
+}
 
 // Committing is how long the present commit has taken: 0 where there is none.
 func (made *Driver) Committing() time.Duration {
@@ -131,7 +145,7 @@ func (made *Driver) Intercept(ctx context.Context, request any, info *grpc.Unary
 }
 
 var (
-	readyDesc       = describe(driver, "ready", "Whether the driver has its store and answers calls; of several controllers only the one that leads does.")
+	readyDesc       = describe(driver, "ready", "Whether the driver has its store, answers calls, and has all mounted that its record has; of several controllers only the one that leads does.")
 	heardDesc       = describe(driver, "session", "The latest session that the plugin has heard of.")
 	pluginRowsDesc  = describe(driver, "rows", "Volumes that the plugin has rows of, those that a later session forgets too.")
 	pluginLimitDesc = describe(driver, "rows_limit", "How many rows there may be.")
@@ -154,7 +168,7 @@ func (made *Driver) Describe(to chan<- *prometheus.Desc) {
 // Collect tells how things are.
 func (made *Driver) Collect(to chan<- prometheus.Metric) {
 	core := made.served()
-	to <- gauge(readyDesc, flag(core != nil))
+	to <- gauge(readyDesc, flag(made.Ready()))
 	if made.Ends != nil {
 		for file, end := range made.Ends() {
 			to <- gauge(driverEndsDesc, float64(end.Unix()), file)

@@ -175,4 +175,10 @@ func TestDriver(t *testing.T) {
 		`tufayon_driver_deed_seconds_count{kind="NodeStageVolume",plugin="node:n1"} 2`,
 		`tufayon_driver_commit_seconds_count{plugin="node:n1"} 1`, `tufayon_driver_commit_failures_total{plugin="node:n1"} 1`,
 	)
+	made.Serves(&serving.Core{})
+	for _, isAmiss := range []bool{false, true, false} {
+		if made.Amiss(isAmiss); made.Ready() == isAmiss {
+			t.Errorf("something isn't mounted, %v, and it is ready", isAmiss)
+		}
+	}
 }

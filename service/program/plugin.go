@@ -90,6 +90,7 @@ type serving struct {
 	life  *life.Life
 	told  *metrics.Driver
 	users atomic.Value // []uint32: who may call at a Unix socket
+	amiss atomic.Value // string: what isn't mounted that the record has
 }
 
 func servePlugin(ctx context.Context, program string, read *settings.PluginSettings, log *zap.Logger) error {
@@ -98,6 +99,7 @@ func servePlugin(ctx context.Context, program string, read *settings.PluginSetti
 	defer signal.Stop(anew)
 	running := &serving{read: read, log: log}
 	running.users.Store(read.Plugin.Users)
+	running.amiss.Store("")
 	unwatch, err := running.watch(program)
 	if err != nil {
 		return err
@@ -130,7 +132,7 @@ func servePlugin(ctx context.Context, program string, read *settings.PluginSetti
 func (running *serving) watch(program string) (end func(), err error) {
 	read := running.read
 	running.told = metrics.NewDriver(program, read.Name())
-	running.told.Ends = Ends(read.Plugin.Files(), read.CertificateName())
+	running.told.Ends = Ends(&read.Plugin.Place, read.CertificateName())
 	return Watch{
 		Address: read.Plugin.Watch, Files: read.Plugin.Files(), May: running.may, Log: running.log,
 		Admit: secure.Those(read.Set.Name, secure.Client, secure.Orchestrator),
@@ -147,10 +149,10 @@ func (running *serving) driver(program string) (life.Driver, error) {
 			return openStore(ctx, &read.Place, read.Listen, hasUpstream)
 		},
 		Waits: read.Etcd != nil, Hooks: deedsOf(running.read).Hooks(), MaxVolumes: read.MaxVolumes,
-		Doors: running.doors(), Say: func(line string) { running.log.Info(line); daemon.Ready(line) }, Observer: running.told,
+		Doors: running.doors(), Say: running.says, Observer: running.told,
 	}
 	if running.read.Role == secure.Node {
-		it.Notes = read.Store + ".driver"
+		it.Notes, it.Starts, it.Trouble = read.Store+".driver", read.Store+".boot", running.trouble
 	}
 	if read.Numbers == settings.ByArrival {
 		it.Numbering, it.IsByArrival = life.ByArrival, true
@@ -164,6 +166,28 @@ func (running *serving) driver(program string) (life.Driver, error) {
 		watchUpstream(it.Upstream, running.told, running.log)
 	}
 	return it, err
+}
+
+// trouble tells what isn't as the record says, or with no text that all is.
+func (running *serving) trouble(text string) {
+	running.told.Amiss(text != "")
+	running.amiss.Store(text)
+	if text == "" {
+		text = "all is mounted that the record has"
+		running.log.Info(text)
+	} else {
+		running.log.Warn("not all is mounted that the record has", zap.String("why", text))
+	}
+	daemon.Status(text)
+}
+
+// says tells how far it is.
+func (running *serving) says(line string) {
+	running.log.Info(line)
+	if amiss := running.amiss.Load().(string); amiss != "" {
+		line += ": " + amiss
+	}
+	daemon.Ready(line)
 }
 
 // deedsOf say what does what calls ask for. Whatever takes the place of commands and mounts is put in here.

@@ -17,6 +17,7 @@ import (
 	"tufayon/service/driver"
 	"tufayon/service/metrics"
 	"tufayon/service/secure"
+	"tufayon/service/settings"
 	"tufayon/service/upstream"
 	"tufayon/service/web"
 )
@@ -60,17 +61,25 @@ func (watch Watch) Serve(options web.Options) (end func(), err error) {
 	return func() { server.Close(); <-ended }, nil
 }
 
-// Ends tells when the certificate in these files ends, by its file: nothing where there is none.
-func Ends(files *secure.Files, name secure.Name) func() map[string]time.Time {
+// Ends tells when the certificate of a process of this name ends, and the one for etcd, by their files: nothing where there are none.
+func Ends(place *settings.Place, name secure.Name) func() map[string]time.Time {
 	return func() map[string]time.Time {
-		if files == nil {
-			return nil
+		ends := map[string]time.Time{}
+		add := func(file string, until time.Time, err error) {
+			if err != nil {
+				until = time.Unix(0, 0) // it counts as one that has ended
+			}
+			ends[file] = until
 		}
-		until, err := files.Check(name)
-		if err != nil {
-			until = time.Unix(0, 0) // it counts as one that has ended
+		if files := place.EtcdFiles(); files != nil {
+			until, err := files.CheckOwn()
+			add(files.Certificate, until, err)
 		}
-		return map[string]time.Time{files.Certificate: until}
+		if files := place.Files(); files != nil {
+			until, err := files.Check(name)
+			add(files.Certificate, until, err)
+		}
+		return ends
 	}
 }
 

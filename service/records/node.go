@@ -7,6 +7,7 @@ type Staged struct {
 	IsStaged   bool
 	Capability frames.Capability // in which it is staged
 	Targets    []string          // where it is published
+	Readonly   []bool            // of each of these, whether it is published readonly
 	Last       frames.Number     // of the volume's last call that passed
 	kind       uint8             // of the reply to that
 	status     uint8             // which it had
@@ -27,7 +28,7 @@ func ReadStaged(value []byte) (Staged, error) {
 	}
 	for count := from.byte(); count > 0 && from.err == nil; count-- {
 		row.Targets = append(row.Targets, from.text())
-		from.flag() // readonly
+		row.Readonly = append(row.Readonly, from.flag())
 	}
 	row.Last = frames.Number{Session: from.number(), Call: from.number()}
 	row.kind, row.status = from.byte(), from.byte()

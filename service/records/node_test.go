@@ -14,7 +14,8 @@ func TestStaged(t *testing.T) {
 	const staged, unstagedRow = "03 01 01 0465787434 05 02 022f61 00 022f62 01 0000000000000002 0000000000000007 87 00 0000000000000000 00",
 		"03 00 00 0000000000000002 0000000000000008 86 00 0000000000000000 00"
 	row, err := ReadStaged(bytesOf(t, staged))
-	if err != nil || !row.IsStaged || row.Capability != mount || !reflect.DeepEqual(row.Targets, []string{"/a", "/b"}) || row.Last != (frames.Number{Session: 2, Call: 7}) {
+	if err != nil || !row.IsStaged || row.Capability != mount || !reflect.DeepEqual(row.Targets, []string{"/a", "/b"}) ||
+		!reflect.DeepEqual(row.Readonly, []bool{false, true}) || row.Last != (frames.Number{Session: 2, Call: 7}) {
 		t.Errorf("a staged one: %+v, %v", row, err)
 	}
 	if !row.IsAt("/b") || row.IsAt("/c") {

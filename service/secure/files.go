@@ -61,6 +61,26 @@ func (files Files) Check(name Name) (until time.Time, err error) {
 	return endOf(chain), nil
 }
 
+// CheckOwn is for files that aren't for peers of a set, as those for etcd: they are there, belong together, and the certificate is valid now. It tells until
+// when.
+func (files Files) CheckOwn() (until time.Time, err error) {
+	own, err := files.own()
+	if err != nil {
+		return time.Time{}, err
+	}
+	if _, err := files.believed(); err != nil {
+		return time.Time{}, err
+	}
+	leaf, err := x509.ParseCertificate(own.Certificate[0])
+	if err != nil {
+		return time.Time{}, fmt.Errorf("%s: %w", files.Certificate, err)
+	}
+	if now := time.Now(); now.Before(leaf.NotBefore) || now.After(leaf.NotAfter) {
+		return time.Time{}, fmt.Errorf("%s: %w: it is for %s to %s", files.Certificate, ErrExpired, leaf.NotBefore.Format(time.RFC3339), leaf.NotAfter.Format(time.RFC3339))
+	}
+	return leaf.NotAfter, nil
+}
+
 // endOf is when the first of these certificates ends.
 func endOf(chain []*x509.Certificate) time.Time {
 	end := chain[0].NotAfter

@@ -75,6 +75,30 @@ func (core *Core) begin(group *group, opening numbers.Opening) (frames.Number, e
 	return heard, core.raise(group, opening.Session)
 }
 
+// Confirm fails with ErrEarlier where the plugin hasn't heard of a call that it acknowledged, or of its session: its store is an older copy.
+func (core *Core) Confirm(ctx context.Context, acknowledged frames.Number) error {
+	if err := core.enter(); err != nil {
+		return err
+	}
+	defer core.leave()
+	return core.inTurn(ctx, func(*group) (bool, error) {
+		heard, err := records.Heard(core.parts)
+		if err != nil {
+			return false, status.Error(codes.Internal, err.Error())
+		}
+		latest := core.latest()
+		for _, it := range []frames.Number{core.begun.sent(latest), {Session: latest}} {
+			if heard.IsBefore(it) {
+				heard = it
+			}
+		}
+		if heard.IsBefore(acknowledged) {
+			return false, ErrEarlier
+		}
+		return true, nil
+	})
+}
+
 // isBegun says whether calls of a session get to the plugin: one that was begun here, or an earlier one, of which the plugin itself knows more. Where none
 // was begun it says so of any, unless the service alone may begin them.
 func (core *Core) isBegun(session uint64) bool {

@@ -295,6 +295,11 @@ func (place *Place) outside(ctx context.Context, file string, name secure.Name, 
 			faults = append(faults, fmt.Sprintf("%s: certificate: %v", file, err))
 		}
 	}
+	if files := place.EtcdFiles(); files != nil {
+		if _, err := files.CheckOwn(); err != nil {
+			faults = append(faults, fmt.Sprintf("%s: etcd.certificate: %v", file, err))
+		}
+	}
 	if len(faults) > 0 {
 		sort.Strings(faults)
 		return time.Time{}, faults

@@ -105,6 +105,14 @@ func (place *Place) Files() *secure.Files {
 	return &secure.Files{Certificate: place.Certificate, Key: place.Key, Authorities: place.Authorities}
 }
 
+// EtcdFiles are those of the certificate as who this process is etcd's client, nil where it has none.
+func (place *Place) EtcdFiles() *secure.Files {
+	if place.Etcd == nil || place.Etcd.Certificate == "" {
+		return nil
+	}
+	return &secure.Files{Certificate: place.Etcd.Certificate, Key: place.Etcd.Key, Authorities: place.Etcd.CA}
+}
+
 // Faults are all that is wrong, each with its place.
 type Faults []string
 

@@ -134,6 +134,36 @@ func TestCheck(t *testing.T) {
 	}
 }
 
+// A certificate as etcd's client is one of its own, which is checked too.
+func TestCheckEtcd(t *testing.T) {
+	ours, etcds, folder, theirs := securetest.NewAuthority(t), securetest.NewAuthority(t), t.TempDir(), t.TempDir()
+	files := ours.Issue(t, folder, time.Now().Add(time.Hour), "tufayon://s1/orchestrator")
+	known := etcds.Issue(t, theirs, time.Now().Add(time.Hour), "tufayon://s1/etcd/orchestrator")
+	file := write(t, set, `{"set": "set.json", "listen": "127.0.0.1:7101", "certificate": "`+files.Certificate+`", "key": "`+files.Key+`", "authorities": "`+
+		files.Authorities+`", "clients": {"ann": "operate"}, "etcd": {"endpoints": ["https://127.0.0.1:2379"], "prefix": "/p", "lease": 10, "ca": "`+
+		known.Authorities+`", "certificate": "`+known.Certificate+`", "key": "`+known.Key+`"}}`)
+	read, err := settings.Read(file)
+	if err != nil {
+		t.Fatal(err)
+	}
+	if its := read.Process.EtcdFiles(); *its != known {
+		t.Errorf("for etcd it has %+v", its)
+	}
+	if _, err := read.Check(context.Background()); err != nil {
+		t.Error(err)
+	}
+	for want, spoil := range map[string]func(){
+		"the certificate isn't valid at this time": func() { etcds.Issue(t, theirs, time.Now().Add(-time.Minute), "tufayon://s1/etcd/orchestrator") },
+		"no such file": func() { os.Remove(known.Key) },
+	} {
+		etcds.Issue(t, theirs, time.Now().Add(time.Hour), "tufayon://s1/etcd/orchestrator")
+		spoil()
+		if _, err := read.Check(context.Background()); err == nil || !strings.HasPrefix(err.Error(), file+": etcd.certificate: ") || !strings.Contains(err.Error(), want) {
+			t.Errorf("%v doesn't say %q", err, want)
+		}
+	}
+}
+
 const node = `{"set": "set.json", "store": "n1.db", "node": "n1", "commands": {"stage": "/bin/stage"}, "users": [7]}`
 
 // The file of a plugin's process: what is left out, and each fault with its place.

@@ -90,6 +90,9 @@ func (source *Source) plugins(leads *host.Host) []plugin {
 			shown.Trouble = leads.Trouble(name)
 			shown.IsReached = shown.IsReached && shown.Trouble == ""
 		}
+		if shown.Trouble == "" {
+			shown.Trouble = state.Amiss
+		}
 		list = append(list, shown)
 		delete(states, name)
 	}

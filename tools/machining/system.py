@@ -68,7 +68,8 @@ class System:
         return self.at(name)
 
     def certify(self, *names, seconds=None):
-        """Makes certificates anew, for 90 days or so many seconds."""
+        """Makes certificates anew, for 90 days or so many seconds: of orchestrator and controller also those as who they are etcd's clients."""
+        names = [*names, *(f"etcd/{it}" for it in names if it in PREFIX)]
         words = ["--seconds", str(seconds)] if seconds is not None else []
         came = subprocess.run([f"{self.top}/tools/certificates", *words, self.at("certificates"), SET, *names], capture_output=True, text=True, check=False)
         if came.returncode:
@@ -87,9 +88,9 @@ class System:
         self.write("set.json", self.set)
 
     def etcd(self, role, prefix=None):
-        # Who has a certificate of the set's authority gets at etcd: it would have users for the roles, with a prefix each.
+        # etcd has an authority of its own; it would have users for the roles, with a prefix each, to keep these two apart.
         endpoints = [f"https://{it}:2379" for it in MEMBERS.values()]
-        return {"endpoints": endpoints, "prefix": prefix or PREFIX[role], "lease": LEASE, **self.files(role, "ca")}
+        return {"endpoints": endpoints, "prefix": prefix or PREFIX[role], "lease": LEASE, **self.files(f"etcd/{role}", "ca")}
 
     def commands(self, *deeds):
         return dict.fromkeys(deeds, os.path.join(os.path.dirname(os.path.abspath(__file__)), "world.sh"))

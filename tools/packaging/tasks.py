@@ -87,7 +87,7 @@ def programs(machine):
 def certify(system):
     """On the first machine all certificates, which are then brought to where they belong."""
     system[1](f"cd /root && tufayon-certificates ca {SET} orchestrator controller client/admin node/m1 node/m2 node/m3 node/m4 node/m5")
-    system[1](f"cd /root && tufayon-certificates ca {SET} " + " ".join(f"etcd/{NETWORK}.{it}" for it in THREE))
+    system[1](f"cd /root && tufayon-certificates ca {SET} " + " ".join(f"etcd/{NETWORK}.{it}" for it in THREE) + " etcd/orchestrator etcd/controller")
     for number, machine in system.machines.items():
         machine(f"mkdir -p {FILES}")
         machine(f"cp /etc/tufayon/example/*.json {FILES}")
@@ -95,9 +95,11 @@ def certify(system):
         bring(system, "client-admin", number, "/root/ca/client-admin", "root")
         if number in THREE:
             bring(system, "orchestrator", number, f"{FILES}/orchestrator", "tufayon-orchestrator")
+            bring(system, "etcd-orchestrator", number, f"{FILES}/etcd-orchestrator", "tufayon-orchestrator")
             bring(system, f"etcd-{NETWORK}.{number}", number, "/etc/etcd", "etcd")
         if number in CONTROLLERS:
             bring(system, "controller", number, f"{FILES}/controller", "tufayon-controller")
+            bring(system, "etcd-controller", number, f"{FILES}/etcd-controller", "tufayon-controller")
 
 
 def bring(system, name, number, folder, user):
@@ -166,6 +168,15 @@ def reached(system):
     soon("each plugin is reached", is_so)
 
 
+def keep_out(system):
+    """etcd takes its own members, an orchestrator and a controller, and none of the set's other certificates."""
+    for folder, is_let_in in ((f"{FILES}/etcd-orchestrator", True), (f"{FILES}/etcd-controller", True), ("/etc/etcd", True),
+                              (f"{FILES}/node", False), (f"{FILES}/orchestrator", False), ("/root/ca/client-admin", False)):
+        status, said = system[1](f"ETCDCTL_API=3 etcdctl --endpoints=https://{NETWORK}.1:2379 --cacert=/etc/etcd/ca.pem --cert={folder}/cert.pem --key={folder}/key.pem "
+                                 "--dial-timeout=5s --command-timeout=10s get --prefix --keys-only --limit=1 /tufayon", check=False)
+        need(f"etcd and {folder}", (status == 0) == is_let_in, said)
+
+
 # ---- each day
 
 
@@ -211,13 +222,19 @@ def leader(system):
 
 
 def lose_power(system, number):
-    """The machine of a leader dies, and comes back. Others lead meanwhile."""
+    """The machine of a leader dies, and comes back. Others lead meanwhile; and a volume that was in use there is mounted again."""
+    system.told("create u --size 1G --wait", "u .* yes")
+    system.told(f"use u m{number} /srv/u --wait", f"m{number}:/srv/u")
+    system[number]("mountpoint -q /srv/u && echo kept > /srv/u/file")
     system[number].kill()
     soon("another leads", lambda: system.ask("list", check=False)[0] == 0)
     system.told("create w --size 1G --wait", "w .* yes")
     system.told("delete w --wait")
     system[number].start()
     reached(system)
+    soon("the volume in use is mounted again", lambda: system[number]("mountpoint -q /srv/u && cat /srv/u/file", check=False)[1] == "kept\n")
+    system.told(f"stop u m{number} /srv/u --wait")
+    system.told("delete u --wait")
 
 
 # ---- stores that are put back
@@ -366,7 +383,7 @@ def purge(machine, before, asks):
         machine("echo tufayon-service tufayon-service/remove_stores boolean true | debconf-set-selections")
     machine("apt-get purge -y tufayon tufayon-service")
     machine("dpkg --purge libtufayon-dev", check=False)
-    left = sorted(files_of(machine) - before - {"/srv/v", "/srv/x"})
+    left = sorted(files_of(machine) - before - {"/srv/u", "/srv/v", "/srv/x"})
     stores = [it for it in left if it.startswith("/var/lib/tufayon")]
     need(f"{machine.name}: something is left", left == stores, *left)
     need(f"{machine.name}: the stores", bool(stores) != asks, *stores)

@@ -16,7 +16,9 @@ import (
 	"google.golang.org/grpc/metadata"
 	"google.golang.org/grpc/status"
 
+	told "tufayon/service/api/wire"
 	"tufayon/service/carrying"
+	"tufayon/service/frames"
 	"tufayon/service/numbers"
 	"tufayon/service/wire"
 )
@@ -28,6 +30,9 @@ type Plugin struct {
 	Judge func(ctx context.Context, call string) (err error, isReply bool)
 	// Silent sets no trailer with an OK.
 	Silent bool
+	// Troubles are what it says that isn't as its record has it, one after another: nil of one that says nothing of that.
+	Troubles chan string
+	Confirms func(heard frames.Number) error // asked for with each of these, where it isn't nil
 
 	Address string
 	Health  *health.Server
@@ -62,6 +67,9 @@ func (plugin *Plugin) Serve(t testing.TB, address string, known credentials.Tran
 	grpc_health_v1.RegisterHealthServer(plugin.server, plugin.Health)
 	wire.RegisterControllerServer(plugin.server, &controller{plugin: plugin})
 	wire.RegisterNodeServer(plugin.server, &node{plugin: plugin})
+	if plugin.Troubles != nil {
+		told.RegisterPluginServer(plugin.server, &telling{plugin: plugin})
+	}
 	go plugin.server.Serve(listener)
 	t.Cleanup(plugin.Stop)
 	return plugin
@@ -101,6 +109,28 @@ func (plugin *Plugin) judge(ctx context.Context, request any, info *grpc.UnarySe
 		return nil, status.Convert(err).Err()
 	}
 	return handle(ctx, request)
+}
+
+type telling struct {
+	told.UnimplementedPluginServer
+	plugin *Plugin
+}
+
+func (it *telling) Troubles(_ *told.TroublesRequest, stream told.Plugin_TroublesServer) error {
+	for {
+		select {
+		case text := <-it.plugin.Troubles:
+			if err := stream.Send(&told.TroublesResponse{Trouble: text, Asks: it.plugin.Confirms != nil}); err != nil {
+				return err
+			}
+		case <-stream.Context().Done():
+			return stream.Context().Err()
+		}
+	}
+}
+
+func (it *telling) Confirm(_ context.Context, request *told.ConfirmRequest) (*told.ConfirmResponse, error) {
+	return &told.ConfirmResponse{}, it.plugin.Confirms(frames.Number{Session: request.Heard.Session, Call: request.Heard.Call})
 }
 
 type controller struct {

@@ -130,6 +130,7 @@ func (running *service) lead(ctx context.Context, kept store.Store, served <-cha
 		return err
 	}
 	defer running.host.Close()
+	running.carrier.Leads(running.host.Heard)
 	running.server.Lead(running.host)
 	running.watching.lead(running.host)
 	defer running.watching.lead(nil)

@@ -46,7 +46,7 @@ func (running *service) watch() (*watching, error) {
 		Draws: read.Process.Draws,
 	})
 	source := metrics.Source{
-		Set: read.Set.Name, Host: made.host, Plugins: running.carrier.States, Slots: made.slots, Ends: program.Ends(read.Process.Files(), read.Name()),
+		Set: read.Set.Name, Host: made.host, Plugins: running.carrier.States, Slots: made.slots, Ends: program.Ends(&read.Process.Place, read.Name()),
 		Streams: made.page.Streams, History: made.history.Count,
 	}
 	if read.Process.Etcd != nil {

@@ -136,7 +136,7 @@ function drawPlugins() {
     if (it.slots) Object.assign(meter, { max: it.slots, high: it.slots * .8, low: 0, optimum: 0, value: used.get(it.node) || 0 })
     meter.setAttribute('aria-label', 'slots used')
     more.textContent = [it.under_way && `${it.under_way} under way`, it.queued && `${it.queued} queued`].filter(Boolean).join(' · ')
-    trouble.textContent = it.reached ? '' : it.trouble || 'not reached: ' + it.connection
+    trouble.textContent = it.trouble || (it.reached ? '' : 'not reached: ' + it.connection)
     button.title = it.address
   })
 }

@@ -1,0 +1,88 @@
+package carrying
+
+import (
+	"context"
+	"errors"
+	"sync"
+	"time"
+
+	"google.golang.org/grpc/codes"
+	"google.golang.org/grpc/connectivity"
+	"google.golang.org/grpc/status"
+
+	told "tufayon/service/api/wire"
+)
+
+// listen keeps what a node says that isn't as its record has it, while it is reached, until the plugin is closed. Calls are made at it all the same.
+func (plugin *plugin) listen() {
+	ctx, cancel := context.WithCancel(context.Background())
+	defer cancel()
+	go func() {
+		<-plugin.closed
+		cancel()
+	}()
+	for ctx.Err() == nil {
+		state := plugin.connection.GetState()
+		if state == connectivity.Shutdown {
+			return
+		}
+		if state != connectivity.Ready {
+			plugin.connection.WaitForStateChange(ctx, state)
+			continue
+		}
+		err := plugin.hear(ctx)
+		plugin.says("")
+		if status.Code(err) == codes.Unimplemented { // an earlier version, or another plugin
+			plugin.connection.WaitForStateChange(ctx, connectivity.Ready)
+			continue
+		}
+		select {
+		case <-time.After(again):
+		case <-ctx.Done():
+		}
+	}
+}
+
+// hear keeps what a node says until the stream ends.
+func (plugin *plugin) hear(ctx context.Context) error {
+	ctx, cancel := context.WithCancel(ctx)
+	defer cancel()
+	var asked sync.Once
+	stream, err := told.NewPluginClient(plugin.connection).Troubles(ctx, &told.TroublesRequest{})
+	for err == nil {
+		var response *told.TroublesResponse
+		if response, err = stream.Recv(); err == nil {
+			plugin.says(response.Trouble)
+			if response.Asks {
+				asked.Do(func() { go plugin.confirm(ctx) })
+			}
+		}
+	}
+	if errors.Is(err, context.Canceled) {
+		return nil
+	}
+	return err
+}
+
+// confirm tells a node that asks for it which call was acknowledged last that it heard, once this process knows that.
+func (plugin *plugin) confirm(ctx context.Context) {
+	for {
+		if heard, isKnown := plugin.heard(plugin.name); isKnown {
+			_, err := told.NewPluginClient(plugin.connection).Confirm(ctx, &told.ConfirmRequest{Heard: numberOf(heard)})
+			if err == nil || ctx.Err() != nil {
+				return
+			}
+		}
+		select {
+		case <-time.After(again):
+		case <-ctx.Done():
+			return
+		}
+	}
+}
+
+func (plugin *plugin) says(text string) {
+	plugin.mutex.Lock()
+	defer plugin.mutex.Unlock()
+	plugin.amiss = text
+}
