@@ -109,7 +109,7 @@ got-shown rows place row h = some-from_map row_shown (slice_get rows place) row 
 -- ---- what is changed
 
 -- no row was put
-changes-none : (number : Number) (old new : ControllerParts) → old.next_id < 18446744073709551616 → new.next_id < 18446744073709551616 → PutsNone controller_plan number (rows_in old) (rows_in new) → Changes None number old new
+pub changes-none : (number : Number) (old new : ControllerParts) → old.next_id < 18446744073709551616 → new.next_id < 18446744073709551616 → PutsNone controller_plan number (rows_in old) (rows_in new) → Changes None number old new
 changes-none number old new from to puts = record {
   session = puts.session;
   next_id = λ none. next_same new.next_id old.next_id to from puts.own;

@@ -142,6 +142,8 @@ impl Controller {
     /// stale from then on, and the volumes that were deleted are forgotten (this profile's own). It takes no memory.
     pub fn raise(&mut self, session: u64)
         ensures state { (state : ControllerState) → Shows self.old state → Shows self.new (raised session state) }
+        // its rows are what a call of the session leaves that changes and makes none
+        ensures changes { ChangesAt None (record { session = session; call = 0 }) self.old self.new }
         ensures current { IsCurrent self.new.session self.new.rows }
         ensures config { self.new.config ≡ self.old.config }
     {

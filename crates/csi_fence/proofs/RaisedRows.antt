@@ -3,9 +3,26 @@ use Rattle.std.proofs.Common.{◌≡◌, ◌<◌, ◌≤◌, ℕ, Bool, true, fa
 use Rattle.std.specs.Prelude.{All, filter, count_by, nat_lt}
 use Rattle.std.proofs.lemmas.Bool.{lt-ltb}
 use Rattle.csi_types.specs.declared.number.Number.{Number}
-use Rattle.csi_fence.specs.Public.Rows.{AreKept, Plan, RowsState, begun, stays_in}
+use Rattle.csi_fence.specs.Public.Rows.{AreKept, Plan, PutsNone, RowsState, begun, stays_in}
 use Rattle.csi_fence.specs.Public.Raised.{raised_rows}
 use Rattle.csi_fence.proofs.KeptRows.{count-forgotten, filter-stays, kept-filter, up_to}
+
+-- a raised session does to rows what a call of it does that puts none in
+pub raised-puts : {Fixed Own S : Type 0} (plan : Plan Fixed Own S) (session : ℕ) (old new : RowsState Own S) → new ≡ raised_rows plan session old → PutsNone plan (record { session = session; call = 0 }) old new
+raised-puts {Fixed} {Own} {S} plan session old new is =
+    let then = by (nat_lt old.session session) in
+    record {
+      session = ap (λ (state : RowsState Own S). state.session) is ∙ then.0;
+      own = ap (λ (state : RowsState Own S). state.own) is ∙ then.1;
+      rows = ap (λ (state : RowsState Own S). state.rows) is ∙ then.2;
+    }
+  where
+    left : Bool → RowsState Own S
+    left b = cond b (begun plan session old) old
+
+    by : (b : Bool) → ((left b).session ≡ cond b session old.session) × ((left b).own ≡ old.own) × ((left b).rows ≡ cond b (filter (λ (row : S). not (plan.is_empty row)) old.rows) old.rows)
+    by true = (refl, refl, refl)
+    by false = (refl, refl, refl)
 
 module _ {Fixed Own S : Type 0} (plan : Plan Fixed Own S) (is_sound : Own → S → Type 0) (agrees : List S → Type 0) (state : RowsState Own S) (empty : ℕ) (kept : AreKept plan is_sound agrees state empty)
     (session : ℕ) (later : state.session < session) where

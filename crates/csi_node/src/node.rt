@@ -128,6 +128,8 @@ impl Node {
     /// session is stale from then on, and the rows of volumes that aren't staged are forgotten (this profile's own). It takes no memory.
     pub fn raise(&mut self, session: u64)
         ensures state { (state : NodeState) → Shows self.old state → Shows self.new (raised session state) }
+        // its rows are what a call of the session leaves that changes and makes none
+        ensures changes { ChangesAt None (record { session = session; call = 0 }) self.old self.new }
         ensures current { IsCurrent self.new.session (parts self.new.rows) }
         ensures id { self.new.id ≡ self.old.id }
     {
