@@ -20,3 +20,4 @@ pub mod ReplyLengths
 pub mod OrchestratorChanges
 pub mod WholeChanges
 pub mod OrchestratorRecords
+pub mod RaisedSessions

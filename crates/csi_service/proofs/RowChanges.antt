@@ -35,7 +35,7 @@ module _ {P Own R State : Type 0} (view : View P Own R State) where
   at-row id rows = find-of_map (λ (part : StoredPart). part.key == id) view.part rows
 
   -- of rows by rising id each is found by its own
-  found-own : (rows : List R) (row : R) → AreRisingParts (map view.part rows) → IsAmong row rows → row_by_id view (id_of row) rows ≡ Some row
+  pub found-own : (rows : List R) (row : R) → AreRisingParts (map view.part rows) → IsAmong row rows → row_by_id view (id_of row) rows ≡ Some row
   found-own [] row rising among = absurd among
   found-own (first ∷ rows) row rising (inl is) = grind (arith, nat_tests, is)
   found-own (first ∷ rows) row rising (inr there) =

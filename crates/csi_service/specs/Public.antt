@@ -9,3 +9,4 @@ pub mod NodeOpening
 pub mod WholeRecords
 pub mod OrchestratorServices
 pub mod OrchestratorOpening
+pub mod Raising

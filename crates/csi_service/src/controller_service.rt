@@ -69,8 +69,8 @@ impl Plugin for Controller {
         volume_value(alloc, row)
     }
 
-    fn head_value(&self, alloc: Global) -> Result<Vec<u8>, NoMemory> {
-        controller_head_value(alloc, self.next_id(), self.session())
+    fn head_value(&self, alloc: Global, session: u64) -> Result<Vec<u8>, NoMemory> {
+        controller_head_value(alloc, self.next_id(), session)
     }
 
     fn forgettable(&self) -> Result<Vec<VolumeId>, CoreFault> {
@@ -88,6 +88,10 @@ impl Plugin for Controller {
         let answered = self.answer(number, call);
         sound_law(self);
         answered
+    }
+
+    fn raise(&mut self, session: u64) {
+        self.raise(session);
     }
 
     fn plugin_law(&self) {

@@ -60,8 +60,8 @@ impl Plugin for Node {
         answered_value(alloc, row)
     }
 
-    fn head_value(&self, alloc: Global) -> Result<Vec<u8>, NoMemory> {
-        node_head_value(alloc, self.id(), self.session())
+    fn head_value(&self, alloc: Global, session: u64) -> Result<Vec<u8>, NoMemory> {
+        node_head_value(alloc, self.id(), session)
     }
 
     fn forgettable(&self) -> Result<Vec<VolumeId>, CoreFault> {
@@ -75,6 +75,10 @@ impl Plugin for Node {
         call: &CallRef<'_>,
     ) -> Result<Option<Answer>, CoreFault> {
         self.answer(number, call)
+    }
+
+    fn raise(&mut self, session: u64) {
+        self.raise(session);
     }
 
     fn plugin_law(&self) {

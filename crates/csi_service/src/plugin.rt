@@ -8,9 +8,10 @@ ghost use Rattle.csi_types.specs.Public.Frame.{IsAllowed};
 ghost use Rattle.csi_types.specs.Public.Lent.{lent_call, HasFitTexts};
 ghost use Rattle.csi_stores.specs.Public.Content.{AreRisingParts};
 ghost use Rattle.csi_stores.specs.Public.Part.{StoredPart};
-ghost use Rattle.csi_service.specs.Private.Plugins.{machine_of, party_of, gone_ids, CarriesOut, TellSame};
+ghost use Rattle.csi_service.specs.Private.Plugins.{machine_of, party_of, gone_ids, CarriesOut, Raises, TellSame};
 ghost use Rattle.csi_service.specs.Public.Answering.{AreRecord};
-ghost use Rattle.csi_service.specs.Public.Plugins.{View, head_of, row_parts, record_parts, AreFit};
+ghost use Rattle.csi_service.specs.Public.Plugins.{View, row_parts, record_parts, AreFit};
+ghost use Rattle.csi_service.specs.Public.Raising.{head_in};
 
 use csi_fence::{Answer, CoreFault};
 use csi_types::{Body, CallRef, NoMemory, Number, VolumeId};
@@ -66,9 +67,9 @@ pub trait Plugin: Drop {
         ensures value { IfOk result (λ value. value.items ≡ (view.part (shown row.now)).value) }
         ensures fits { IfOk result (λ value. view.IsRow (shown row.now)) };
 
-    /// The value of the head.
-    fn head_value(&self, alloc: Global) -> Result<Vec<u8>, NoMemory>
-        ensures { IfOk result (λ value. value.items ≡ (head_of view self.now).value) };
+    /// The value of the head, with this session.
+    fn head_value(&self, alloc: Global, session: u64) -> Result<Vec<u8>, NoMemory>
+        ensures { IfOk result (λ value. value.items ≡ (head_in view session self.now).value) };
 
     /// The volumes that it forgets where a session begins.
     fn forgettable(&self) -> Result<Vec<VolumeId>, CoreFault>
@@ -79,6 +80,10 @@ pub trait Plugin: Drop {
         requires allowed { IsAllowed (party_of view self.old) (Body.Call (lent_call call.now)) }
         requires texts { HasFitTexts (lent_call call.now) }
         ensures { CarriesOut view self.old self.new number (lent_call call.now) result };
+
+    /// This session begins, where it is later than the greatest that came, as if a call had begun it. It takes no memory.
+    fn raise(&mut self, session: u64)
+        ensures { Raises view session self.old self.new };
 
     /// Laws, and nothing that runs: its rows' parts stand by rising key; it shows a state, which tells what it tells; the table
     /// replies to each call; where all in it is within its limits its parts are those of a record; and the same parts are one record's alone.

@@ -10,11 +10,13 @@ ghost use Rattle.csi_stores.specs.Public.Part.{part_change};
 ghost use Rattle.csi_service.specs.Private.Calls.{IsNoCallFor};
 ghost use Rattle.csi_service.specs.Private.Plugins.{party_of, AnswersCall};
 ghost use Rattle.csi_service.specs.Public.Answering.{AppendsReply, AnswersAsBefore};
+ghost use Rattle.csi_service.specs.Public.Raising.{raised_parts, raise_changes, IsRaised};
 ghost use Rattle.csi_service.specs.Public.Plugins.{service_parts, service_changes, ServiceAnswers, Differs, StaysFit, AreFit, IsNamedFit};
 
 use crate::changed::{Changed, forgotten, id_law, nothing, push_row};
 use crate::plugin::Plugin;
 use crate::plugin_core::Core;
+use crate::raising::raising_parts;
 use crate::replies::{MOST_BYTES, append};
 use csi_fence::Answer;
 use csi_frames::FrameRef;
@@ -87,6 +89,24 @@ impl<P: Plugin> PluginService<P> {
         Ok(answer)
     }
 
+    /// Raises the session in the plugin, where it is later than the greatest that came, as if a call had begun it: every call of an earlier
+    /// session is stale from then on, and empty rows are forgotten. Answers what its store has to be given, and nothing else is to be told
+    /// of it then. A refusal is one of memory, and leaves the plugin as it is. This profile's own.
+    pub fn raise(&mut self, session: u64) -> Result<Vec<Part>, NoMemory>
+        ensures raised { OnOk result (IsRaised P.view session self.old.plugin self.new.plugin) }
+        ensures parts { IfOk result (λ parts. map part_change parts.items ≡ raise_changes P.view session self.old.plugin) }
+        ensures leads { OnOk result (all_changed (raise_changes P.view session self.old.plugin) (service_parts P.view self.old) ≡ raised_parts P.view session self.old.plugin) }
+        ensures changes { OnOk result (service_changes P.view self.new ≡ []) }
+        ensures err { OnErr result (self.new ≡ self.old) }
+    {
+        self.plugin.plugin_law();
+        let parts = raising_parts(self.alloc, &self.plugin, session)?;
+        self.plugin.raise(session);
+        self.plugin.plugin_law();
+        self.changed = nothing(self.alloc);
+        Ok(parts)
+    }
+
     // Notes that a frame that is no call for the plugin changed nothing. It takes no memory.
     fn pass(&mut self)
         ensures answered { (frame : FrameParts) → IsNoCallFor (party_of P.view self.old.plugin) frame → ServiceAnswers P.view self.old frame None self.new }
@@ -155,7 +175,8 @@ impl<P: Plugin> Core for PluginService<P> {
     {
         let mut parts = Vec::new(self.alloc);
         if self.changed.new_head {
-            let value = self.plugin.head_value(self.alloc)?;
+            let (_, session) = self.plugin.numbers();
+            let value = self.plugin.head_value(self.alloc, session)?;
             push_value(&mut parts, 0, value)?;
         }
         push_removals(&mut parts, &self.changed.forgotten)?;

@@ -1,5 +1,5 @@
 -- What a call does to a plugin that is served, whichever it is. This profile's own.
-use Rattle.std.specs.Prelude.{◌≡◌, ◌≢◌, ℕ, not, if◌then◌else◌, List, [], map, filter, Option, Some, option_map, Result, IfOk, IfSome, OnOk, OnErr}
+use Rattle.std.specs.Prelude.{◌≡◌, ◌≢◌, ℕ, not, if◌then◌else◌, List, [], map, filter, Option, Some, None, option_map, Result, IfOk, IfSome, OnOk, OnErr}
 use Rattle.csi_types.specs.declared.call.Call.{Call}
 use Rattle.csi_types.specs.declared.call.Party.{Party}
 use Rattle.csi_types.specs.declared.frame.Body.TheVariants as bodies
@@ -62,6 +62,14 @@ pub record CarriesOut {P Own R State : Type 0} (view : View P Own R State) (old 
   pub changes : IfOk result (λ answer. IfSome answer (λ own. RowsChange view own.row number old new))
   pub err_shows : (state : State) → view.Shows old state → OnErr result (view.Shows new state)
   pub err : OnErr result ((head_of view new ≡ head_of view old) × (row_parts view new ≡ row_parts view old))
+
+-- a session was raised in a plugin: its rows are what a call of the session leaves that puts none in; what never changes stays, and so does the
+-- head's other number
+pub record Raises {P Own R State : Type 0} (view : View P Own R State) (session : ℕ) (old new : P) : Type 0 where
+  pub own : view.own new ≡ view.own old
+  pub first : (view.numbers new).0 ≡ (view.numbers old).0
+  pub shows : (state : State) → view.Shows old state → view.Shows new (view.raised session state)
+  pub changes : RowsChange view None (record { session = session; call = 0 }) old new
 
 -- two plugins tell the same of what is told of a state: the numbers of the head, and each row's last number
 pub record TellSame {P Own R State : Type 0} (view : View P Own R State) (one other : P) : Type 0 where

@@ -10,7 +10,8 @@ use Rattle.csi_service.specs.declared.changed.Changed.{Changed}
 
 -- How a plugin is seen: what of it never changes, by which it answers behind the fence; the numbers in the head of its record, of which the
 -- second is the greatest session that came; its rows by rising id, with the last number of each and whether it stays where a session begins;
--- the value of the head and the parts of rows, and the limits of what a row has; and the states that it shows.
+-- the value of the head and the parts of rows, and the limits of what a row has; the states that it shows; and a state once a session was
+-- raised in it.
 pub record View (P Own R State : Type 0) : Type 1 where
   pub own : P → Own
   pub machine : Own → Machine State
@@ -22,6 +23,7 @@ pub record View (P Own R State : Type 0) : Type 1 where
   pub part : R → StoredPart
   pub IsRow : R → Type 0
   pub Shows : P → State → Type 0
+  pub raised : ℕ → State → State
 
 -- ---- the parts of its record
 

@@ -8,10 +8,12 @@ use Rattle.csi_controller.specs.declared.row.ControllerRow.{ControllerRow}
 use Rattle.csi_controller.specs.Model.State.{ControllerState}
 use Rattle.csi_controller.specs.Model.Fenced.{controller_with}
 use Rattle.csi_controller.specs.Model.Core.{ControllerParts, Shows}
+use Rattle.csi_controller.specs.Public.Raised.{raised}
 use Rattle.csi_node.specs.Model.Fenced.{node_at}
 use Rattle.csi_node.specs.Model.OneRow.{NodeRowShown}
 use Rattle.csi_node.specs.Model.Record.{NodeParts, parts, Shows as NodeShows}
 use Rattle.csi_node.specs.Model.State.{NodeState}
+use Rattle.csi_node.specs.Public.Raised.{raised as node_raised}
 use Rattle.csi_records.specs.Public.Spelling.{present, VolumeRow, volume_row, controller_head, volume_part, node_head, answered_part}
 use Rattle.csi_records.specs.Public.Records.{IsVolumeRow, IsAnsweredRow}
 use Rattle.csi_stores.specs.Public.Part.{StoredPart, StoredChange}
@@ -32,6 +34,7 @@ controller_view = record {
   part = volume_part present;
   IsRow = IsVolumeRow present;
   Shows = Shows;
+  raised = raised;
 }
 
 -- one that is served
@@ -69,6 +72,7 @@ node_view = record {
   part = answered_part present;
   IsRow = IsAnsweredRow present;
   Shows = NodeShows;
+  raised = node_raised;
 }
 
 -- one that is served
