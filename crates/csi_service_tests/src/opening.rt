@@ -8,8 +8,8 @@ use crate::older::{
     SECOND_NODE, SECOND_ONE_MADE,
 };
 use crate::script::{GONE, MADE, ONE_MADE, OTHER, PLAYED, SCRIPT, TWO_MADE};
-use crate::serving::{End, Plugin, fault, joined, take};
-use csi_service::{Keep, KeepFault, MemoryKeep, NodeUnopened};
+use crate::serving::{End, Plugin, config, fault, joined, take};
+use csi_service::{ControllerService, Keep, KeepFault, MemoryKeep, NodeUnopened, raise};
 use csi_stores::{FailingKeep, Left};
 use std::process::Abort;
 
@@ -62,6 +62,55 @@ fn a_store_has_version_3_when_it_is_opened(rt: HostRuntime) {
         let mut keep = store(&rt, *before);
         for _ in 0..2 {
             assert!(&rt; fault(&rt, *plugin, &mut keep).is_none());
+            assert!(&rt; has(&mut keep, *after) && keep.faults() == 0);
+        }
+        drop(keep);
+    }
+}
+
+// What a store has, a session that is raised in it, and what it has then: the head has the session where that is later, and empty rows are gone.
+const RAISED: &[(Plugin, Content, u64, Content)] = &[
+    (Plugin::Controller, PLAYED, 2, (IN_SESSION_2, &[], OTHER)),
+    (Plugin::Controller, PLAYED, 1, PLAYED),
+    (
+        Plugin::Node,
+        NODE,
+        2,
+        (&[3, 1, 2, 110, 49, 0, 0, 0, 0, 0, 0, 0, 2], NODE_ROW, &[]),
+    ),
+    (
+        Plugin::Node,
+        NODE_FORGOTTEN,
+        258,
+        (&[3, 1, 2, 110, 49, 0, 0, 0, 0, 0, 0, 1, 2], &[], &[]),
+    ),
+];
+
+// Whether the session is raised in the plugin of this store.
+fn is_raised(
+    rt: &(impl Abort + AllocGlobal),
+    plugin: Plugin,
+    session: u64,
+    keep: &mut MemoryKeep,
+) -> bool {
+    match plugin {
+        Plugin::Controller => match ControllerService::open(rt.alloc(), config(rt), keep) {
+            Ok(mut service) => raise(&mut service, session, keep).is_ok(),
+            Err(_) => false,
+        },
+        Plugin::Node => match joined(rt, keep, 0) {
+            Ok(mut service) => raise(&mut service, session, keep).is_ok(),
+            Err(_) => false,
+        },
+    }
+}
+
+#[test]
+fn a_session_is_raised_in_a_store(rt: HostRuntime) {
+    for (plugin, before, session, after) in RAISED {
+        let mut keep = store(&rt, *before);
+        for _ in 0..2 {
+            assert!(&rt; is_raised(&rt, *plugin, *session, &mut keep));
             assert!(&rt; has(&mut keep, *after) && keep.faults() == 0);
         }
         drop(keep);
