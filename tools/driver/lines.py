@@ -18,12 +18,19 @@ class OverLibrary(Box):
     def run(self, *words, **how):
         if words[0] != "orchestrator":
             return super().run(*words, **how)
-        ran = self.other.run(*words[1:], **how)
-        ran.error = told(ran.error)
-        return ran
+        return as_told(self.other.run(*words[1:], **how))
 
     def start(self, *words):
-        return self.other.start(*words[1:]) if words[0] == "orchestrator" else super().start(*words)
+        if words[0] != "orchestrator":
+            return super().start(*words)
+        running = self.other.start(*words[1:])
+        running.end = lambda given=b"", end=running.end: as_told(end(given))
+        return running
+
+
+def as_told(ran):
+    ran.error = told(ran.error)
+    return ran
 
 
 def told(error):
