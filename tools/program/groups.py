@@ -133,9 +133,10 @@ def in_a_pipe(box, plugin):
     pipe, room = Pipe(), 16 * PIECE  # of a pipe
     pipe.write(given[:room])
     running = box.start(plugin, "db", word, pipe=pipe)
-    pipe.feed([given[room:]])
+    pipe.feed([given[room:]], ends=False)
     wanted("what is said", running.take(len(line_out + right)), line_out + right)
-    came, pieces = commits(box, "db"), len(given) // PIECE + 1
+    came, pieces = commits(box, "db"), len(given) // PIECE + 1  # before its end, which empties the log
+    pipe.end()
     wanted(f"{came} transactions, some of them of opening, for {pieces} pieces", 1 < came <= 2 * pieces, True)
     wanted("the end", running.end(), ended(0))
     wanted("the parts are as the documents say", stores.parts_of(box.at("db")) == [head(1024), *rows], True)
