@@ -38,6 +38,12 @@ kept-less splitter frame next =
 pub waits-new : WaitsForMore new_splitting
 waits-new = (no_length (omega arith), λ frame next. none_in_nothing [] (omega arith) frame (length (spelling frame)) next)
 
+-- so does one that keeps nothing and answered no fault
+pub waits-empty : (fault : Option FrameFault) (kept : List ℕ) → fault ≡ None → 0 ≡ length kept → IsNextFrame fault kept (Ok None) × ((frame : Frame) → IsNextFrame fault kept (Ok (Some frame)) → ⊥)
+waits-empty None [] e none = waits-new
+waits-empty None (b ∷ bytes) e none = absurd (omega (arith, none))
+waits-empty (Some fault) kept e none = absurd cc
+
 -- while no fault was answered, a piece is kept
 kept_after-open : (fault : Option FrameFault) (kept piece : List ℕ) → fault ≡ None → kept_after fault kept piece ≡ kept ++ piece
 kept_after-open None kept piece e = refl

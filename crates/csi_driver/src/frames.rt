@@ -92,7 +92,14 @@ impl<S, O, H: FrameHandler<S, O>> Consumer<S, O> for Frames<H> {
         }
     }
 
+    /// Where no byte is kept it looks for no frame, so that one that comes alone costs less.
     fn next(&mut self, store: &mut S, out: &mut O) -> Result<bool, FramesFault<H::Fault>> {
+        if self.splitter.kept() == 0 {
+            return match self.handler.flush(store, out) {
+                Ok(()) => Ok(false),
+                Err(fault) => Err(FramesFault::Handler(fault)),
+            };
+        }
         match handle_next(&mut self.splitter, &mut self.handler, store, out) {
             Ok(true) => {
                 self.count = self.count.saturating_add(1);

@@ -79,6 +79,7 @@ impl Splitter {
         if self.progress.fault.is_some() {
             return Ok(());
         }
+        compact(&mut self.buffer, &mut self.progress);
         self.buffer.extend_from_slice(piece)?;
         Ok(())
     }
