@@ -84,6 +84,14 @@ func Ends(place *settings.Place, name secure.Name) func() map[string]time.Time {
 	}
 }
 
+// ServerEnds tells when the certificates of etcd's servers end, by their HOST:PORT, as they showed them last: nothing where there is no etcd.
+func ServerEnds(place *settings.Place) func() map[string]time.Time {
+	if place.Etcd == nil {
+		return nil
+	}
+	return etcdOf(place.Etcd).ServerEnds().Known
+}
+
 // watchers see each call of a plugin.
 func watchers(told *metrics.Driver, log *zap.Logger) []grpc.UnaryServerInterceptor {
 	return []grpc.UnaryServerInterceptor{told.Intercept, driver.Logging(log)}
