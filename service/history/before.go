@@ -96,7 +96,7 @@ func (it *making) leave(names []string) {
 
 // commands asks for a command, which sends a call.
 func (it *making) commands(command host.Command) {
-	_, event := eventOf(command)
+	_, event := eventOf(&command)
 	it.sendsOf(command.Name)
 	it.event(event, fmt.Sprint("sent ", it.frames))
 }

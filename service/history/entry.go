@@ -60,19 +60,35 @@ func (call Call) String() string {
 	return fmt.Sprintf("%s %d.%d to %s", call.Kind, call.Number.Session, call.Number.Call, call.Plugin)
 }
 
-func callOf(call frames.Call) *Call {
-	return &Call{Number: call.Number, Kind: call.Kind().String(), Plugin: carrying.PluginOf(call)}
+// plugins are names of plugins, each made once.
+type plugins map[string]string // by the nodes' ids
+
+// of is the name of the plugin that a call goes to.
+func (names plugins) of(call *frames.Call) string {
+	if !call.Kind().OfNode() {
+		return carrying.Controller
+	}
+	name, isThere := names[call.Node]
+	if !isThere {
+		name = carrying.NodeName(call.Node)
+		names[call.Node] = name
+	}
+	return name
 }
 
-// entryOf is what is kept of something that happened.
-func entryOf(it *host.Happening) Entry {
-	entry := Entry{Time: it.Time.UnixMilli(), Session: it.Session, Name: it.Name, Row: it.Row}
+func (names plugins) callOf(call *frames.Call) *Call {
+	return &Call{Number: call.Number, Kind: call.Kind().String(), Plugin: names.of(call)}
+}
+
+// keepIn has an entry, which is empty, be what is kept of something that happened.
+func (names plugins) keepIn(entry *Entry, it *host.Happening) {
+	entry.Time, entry.Session, entry.Name, entry.Row = it.Time.UnixMilli(), it.Session, it.Name, it.Row
 	if it.Sent != nil {
-		entry.Sent = callOf(*it.Sent)
+		entry.Sent = names.callOf(it.Sent)
 	}
 	switch it.What {
 	case host.Commanded:
-		entry.What, entry.Event = eventOf(it.Command)
+		entry.What, entry.Event = eventOf(&it.Command)
 		entry.Outcome = sent
 		if it.IsMet {
 			entry.Outcome = met
@@ -80,9 +96,9 @@ func entryOf(it *host.Happening) Entry {
 			entry.Outcome = fmt.Sprintf("refused %d %s", uint32(it.Refusal), it.Refusal.Name())
 		}
 	case host.Replied:
-		entry.What, entry.Call, entry.Status, entry.Volume, entry.Detail = reply, callOf(it.Call), it.Reply.Status, it.Reply.Volume, it.Reply.Detail
+		entry.What, entry.Call, entry.Status, entry.Volume, entry.Detail = reply, names.callOf(&it.Call), it.Reply.Status, it.Reply.Volume, it.Reply.Detail
 	case host.Unanswered:
-		entry.What, entry.Call, entry.Detail = none, callOf(it.Call), it.Why
+		entry.What, entry.Call, entry.Detail = none, names.callOf(&it.Call), it.Why
 	case host.TimedOut:
 		entry.What, entry.Event = timeout, encode(map[string]string{timeout: it.Name})
 	case host.Began:
@@ -90,7 +106,6 @@ func entryOf(it *host.Happening) Entry {
 	case host.Lost:
 		entry.What, entry.Nodes, entry.Event = lose, it.Nodes, encode(map[string]string{lose: it.Node})
 	}
-	return entry
 }
 
 // Text is what the entry says, in a line, without its time and name.

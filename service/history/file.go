@@ -68,8 +68,8 @@ func (made *History) read(content []byte) error {
 		made.rows[name] = row
 	}
 	for at, line := range lines[1:] {
-		var entry Entry
-		if !bytes.HasSuffix(line, []byte("\n")) || json.Unmarshal(line, &entry) != nil {
+		entry := made.next()
+		if !bytes.HasSuffix(line, []byte("\n")) || json.Unmarshal(line, entry) != nil {
 			if len(line) > 0 {
 				made.log.Warn("the rest of the history can't be read", zap.Int("line", at+2))
 			}

@@ -39,7 +39,8 @@ type History struct {
 	entries []Entry                 // behind the oldest, which go, there is room for as many as are kept
 	before  uint64                  // how many there were before these
 	rows    map[string]*records.Row // as they are behind the last entry
-	isCut   bool                    // the next session says how volumes are, since something may be missing
+	plugins plugins
+	isCut   bool // the next session says how volumes are, since something may be missing
 	file    *file
 }
 
@@ -48,7 +49,7 @@ type History struct {
 func Open(path string, most int, log *zap.Logger) (*History, error) {
 	made := &History{
 		most: most, log: log, come: coming{told: make(chan struct{})}, isCut: true,
-		base: base{Rows: map[string]*records.Row{}}, rows: map[string]*records.Row{},
+		base: base{Rows: map[string]*records.Row{}}, rows: map[string]*records.Row{}, plugins: plugins{},
 	}
 	if path != "" {
 		if err := made.open(path); err != nil {
@@ -109,7 +110,8 @@ func (made *History) keep(batches [][]host.Happening) {
 
 // take takes an event in. The lock is held.
 func (made *History) take(it *host.Happening) {
-	entry := entryOf(it)
+	entry := made.next()
+	made.plugins.keepIn(entry, it)
 	if entry.What == session || entry.What == lose {
 		if entry.What == session && made.isMissing(it.After) {
 			entry.Detail += fmt.Sprintf("; what happened before, up to session %d, isn't all here", it.After)
@@ -120,9 +122,19 @@ func (made *History) take(it *host.Happening) {
 		made.cut(map[string]*records.Row{entry.Name: it.Before})
 	}
 	if made.file != nil {
-		made.file.write(&entry)
+		made.file.write(entry)
 	}
 	made.add(entry)
+}
+
+// next is the place of the next entry, behind the last one, which add takes in.
+func (made *History) next() *Entry {
+	count := len(made.entries)
+	if count == cap(made.entries) && count >= made.most {
+		made.entries = append(make([]Entry, 0, 2*count), made.entries...)
+	}
+	made.entries = append(made.entries, Entry{})[:count]
+	return &made.entries[:count+1][count]
 }
 
 // isMissing says whether another service led, or nothing was kept, in the session after which this process's first one begins.
@@ -133,16 +145,13 @@ func (made *History) isMissing(after uint64) bool {
 	return made.isCut && after > 0
 }
 
-// add takes an entry in, and lets the oldest go where there are too many.
-func (made *History) add(entry Entry) {
-	made.learn(&entry, made.rows)
+// add takes the entry in that stands in the next place, and lets the oldest go where there are too many.
+func (made *History) add(entry *Entry) {
+	made.learn(entry, made.rows)
 	if len(made.entries) == 0 && made.before == 0 && made.base.Config == nil {
 		made.base.Config, made.base.Nodes = entry.Config, entry.Nodes
 	}
-	if count := len(made.entries); count == cap(made.entries) && count >= made.most {
-		made.entries = append(make([]Entry, 0, 2*count), made.entries...)
-	}
-	made.entries = append(made.entries, entry)
+	made.entries = made.entries[:len(made.entries)+1]
 	for len(made.entries) > made.most {
 		oldest := &made.entries[0]
 		made.learn(oldest, made.base.Rows)

@@ -3,6 +3,7 @@ package history
 import (
 	"encoding/json"
 	"math/rand"
+	"reflect"
 	"testing"
 
 	"tufayon/service/frames"
@@ -59,7 +60,16 @@ func (it drawing) row() *records.Row {
 	return row
 }
 
-// What is written of an entry is what encoding/json says of it, whatever stands in it.
+// readBack is what is read of a line.
+func readBack(t *testing.T, line []byte) (entry Entry) {
+	t.Helper()
+	if err := json.Unmarshal(line, &entry); err != nil {
+		t.Fatalf("%s: %v", line, err)
+	}
+	return entry
+}
+
+// What is written of an entry is read as what encoding/json says of it, whatever stands in it.
 func TestEntries(t *testing.T) {
 	it := drawing{rand.New(rand.NewSource(1))}
 	whats := []string{reply, none, timeout, session, lose, "create", "use"}
@@ -78,7 +88,7 @@ func TestEntries(t *testing.T) {
 			entry.Rows, entry.Nodes = map[string]*records.Row{"v": it.row(), "w": nil}, []string{"n1"}
 		}
 		want, err := json.Marshal(&entry)
-		if got := appendEntry(nil, &entry); err != nil || string(got) != string(want) {
+		if got := appendEntry(nil, &entry); err != nil || !reflect.DeepEqual(readBack(t, got), readBack(t, want)) {
 			t.Fatalf("%+v is written as\n%s, not\n%s, %v", entry, got, want, err)
 		}
 	}
@@ -98,7 +108,8 @@ func TestEvents(t *testing.T) {
 		`{"stop":{"name":"v","node":"n1","target":"/a"}}`: {Kind: host.Stop, Name: "v", Node: "n1", Target: "/a"},
 		`{"delete":"v"}`: {Kind: host.Delete, Name: "v"},
 	} {
-		if _, event := eventOf(command); string(event) != want {
+		command := command
+		if _, event := eventOf(&command); string(event) != want {
 			t.Errorf("%+v is %s, not %s", command, event, want)
 		}
 	}
