@@ -36,7 +36,13 @@ type History struct {
 	mutex   sync.Mutex
 	config  json.RawMessage // of the service now
 	base    base
-	entries []Entry                 // behind the oldest, which go, there is room for as many as are kept
+	late    map[string]*[]byte      // by the volumes' names: the lines of entries that the base is to have, and hasn't yet
+	packs   []*pack                 // the oldest entries
+	packed  int                     // how many those are
+	fresh   int                     // how many are packed together
+	entries []Entry                 // the last ones
+	lines   []byte                  // theirs
+	ends    []uint32                // of the lines
 	before  uint64                  // how many there were before these
 	rows    map[string]*records.Row // as they are behind the last entry
 	plugins plugins
@@ -48,7 +54,7 @@ type History struct {
 // to the log.
 func Open(path string, most int, log *zap.Logger) (*History, error) {
 	made := &History{
-		most: most, log: log, come: coming{told: make(chan struct{})}, isCut: true,
+		most: most, fresh: int(least(mostFresh, uint64(most/4+1))), late: map[string]*[]byte{}, log: log, come: coming{told: make(chan struct{})}, isCut: true,
 		base: base{Rows: map[string]*records.Row{}}, rows: map[string]*records.Row{}, plugins: plugins{},
 	}
 	if path != "" {
@@ -112,7 +118,7 @@ func (made *History) keep(batches [][]host.Happening) {
 func (made *History) take(it *host.Happening) {
 	entry := made.next()
 	made.plugins.keepIn(entry, it)
-	if entry.What == session || entry.What == lose {
+	if entry.isWhole() {
 		if entry.What == session && made.isMissing(it.After) {
 			entry.Detail += fmt.Sprintf("; what happened before, up to session %d, isn't all here", it.After)
 		}
@@ -121,18 +127,17 @@ func (made *History) take(it *host.Happening) {
 	} else if !same(made.rows[entry.Name], it.Before) {
 		made.cut(map[string]*records.Row{entry.Name: it.Before})
 	}
+	before := len(made.lines)
+	made.spell(entry)
 	if made.file != nil {
-		made.file.write(entry)
+		made.file.write(made.lines[before:], entry)
 	}
 	made.add(entry)
 }
 
-// next is the place of the next entry, behind the last one, which add takes in.
+// next is the place of the next entry, behind the last one, which is spelled there, and which add takes in.
 func (made *History) next() *Entry {
 	count := len(made.entries)
-	if count == cap(made.entries) && count >= made.most {
-		made.entries = append(make([]Entry, 0, 2*count), made.entries...)
-	}
 	made.entries = append(made.entries, Entry{})[:count]
 	return &made.entries[:count+1][count]
 }
@@ -148,18 +153,15 @@ func (made *History) isMissing(after uint64) bool {
 // add takes the entry in that stands in the next place, and lets the oldest go where there are too many.
 func (made *History) add(entry *Entry) {
 	made.learn(entry, made.rows)
-	if len(made.entries) == 0 && made.before == 0 && made.base.Config == nil {
+	if made.before == 0 && made.count() == 0 && made.base.Config == nil {
 		made.base.Config, made.base.Nodes = entry.Config, entry.Nodes
 	}
 	made.entries = made.entries[:len(made.entries)+1]
-	for len(made.entries) > made.most {
-		oldest := &made.entries[0]
-		made.learn(oldest, made.base.Rows)
-		if oldest.What == session || oldest.What == lose {
-			made.base.Config, made.base.Nodes = oldest.Config, oldest.Nodes
-		}
-		made.entries = made.entries[1:]
-		made.before++
+	if len(made.entries) >= 2*made.fresh {
+		made.pack()
+	}
+	for made.count() > made.most {
+		made.drop()
 	}
 }
 
@@ -217,6 +219,9 @@ func (made *History) begins(it *host.Happening) map[string]*records.Row {
 
 // cut leaves the entries of volumes out of schedules, in which these rows are what they begin with.
 func (made *History) cut(begin map[string]*records.Row) {
+	for _, it := range made.packs {
+		it.cut(begin)
+	}
 	for at := range made.entries {
 		entry := &made.entries[at]
 		if _, isCut := begin[entry.Name]; isCut {
@@ -227,6 +232,7 @@ func (made *History) cut(begin map[string]*records.Row) {
 		}
 	}
 	for name, row := range begin {
+		delete(made.late, name)
 		made.base.Rows[name] = row
 		if row == nil {
 			delete(made.base.Rows, name)
@@ -250,7 +256,7 @@ func (made *History) Count() (kept int, lost uint64) {
 	made.mutex.Lock()
 	defer made.mutex.Unlock()
 	made.keep(made.come.take())
-	return len(made.entries), made.come.losses()
+	return made.count(), made.come.losses()
 }
 
 // Last gives the last entries, at most so many, of a volume or of all, and sessions and losses with both; and behind a count of entries, which is handed
@@ -260,14 +266,9 @@ func (made *History) Last(name string, most int, behind uint64) (last []Entry, c
 	defer made.mutex.Unlock()
 	came, more := made.come.more()
 	made.keep(came)
-	count = made.before + uint64(len(made.entries))
-	if name == "" && count > behind && most > 0 {
-		last = make([]Entry, 0, least(count-behind, uint64(most), uint64(len(made.entries))))
-	}
-	for at := len(made.entries) - 1; at >= 0 && made.before+uint64(at) >= behind && len(last) < most; at-- {
-		if entry := &made.entries[at]; name == "" || entry.Name == "" || entry.Name == name {
-			last = append(last, *entry)
-		}
+	count = made.before + uint64(made.count())
+	if count > behind {
+		last = made.backwards(name, most, int(least(count-behind, uint64(made.count()))))
 	}
 	for i, j := 0, len(last)-1; i < j; i, j = i+1, j-1 {
 		last[i], last[j] = last[j], last[i]

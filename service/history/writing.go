@@ -57,6 +57,9 @@ func appendFlagOf(to []byte, key string, is bool) []byte {
 	return strconv.AppendBool(appendKey(to, key), is)
 }
 
+// appendLine appends an entry's line.
+func appendLine(to []byte, entry *Entry) []byte { return append(appendEntry(to, entry), '\n') }
+
 // appendEntry appends a line, without its end.
 func appendEntry(to []byte, entry *Entry) []byte {
 	if entry.What == session || entry.What == lose {

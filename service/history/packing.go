@@ -1,0 +1,234 @@
+package history
+
+import (
+	"encoding/json"
+
+	"tufayon/service/records"
+)
+
+// mostFresh is how many of the last entries are kept as they are, at least, if there are so many: others are packed.
+const mostFresh = 200
+
+// A pack has entries as they are written, in a few large pieces: as structs, so many would be gone through by each collection of garbage.
+type pack struct {
+	lines, names []byte
+	marks        []mark
+	whole        map[int]*Entry // sessions and losses, which say something of many volumes, by their places
+	first        int            // the place of the first entry that is still kept
+}
+
+// A mark says where an entry's line and name end.
+type mark struct {
+	line, name uint32
+	isCut      bool
+}
+
+func (it *pack) line(at int) []byte {
+	if at == 0 {
+		return it.lines[:it.marks[0].line]
+	}
+	return it.lines[it.marks[at-1].line:it.marks[at].line]
+}
+
+func (it *pack) name(at int) []byte {
+	if at == 0 {
+		return it.names[:it.marks[0].name]
+	}
+	return it.names[it.marks[at-1].name:it.marks[at].name]
+}
+
+// concerns says whether an entry is of a volume, or of none; all are of the empty name.
+func (it *pack) concerns(at int, name string) bool {
+	its := it.name(at)
+	return name == "" || len(its) == 0 || string(its) == name
+}
+
+// entry is an entry again.
+func (it *pack) entry(at int) Entry {
+	if whole := it.whole[at]; whole != nil {
+		return *whole
+	}
+	entry := read(it.line(at))
+	entry.IsCut = it.marks[at].isCut
+	return entry
+}
+
+// read reads a line that this process wrote.
+func read(line []byte) (entry Entry) {
+	_ = json.Unmarshal(line, &entry)
+	return entry
+}
+
+// cut leaves the entries of volumes out of schedules.
+func (it *pack) cut(begin map[string]*records.Row) {
+	for at := it.first; at < len(it.marks); at++ {
+		if _, isCut := begin[string(it.name(at))]; isCut {
+			it.marks[at].isCut = true
+		}
+	}
+	for _, entry := range it.whole {
+		for name := range begin {
+			delete(entry.Rows, name)
+		}
+	}
+}
+
+// appendTo appends the lines of a file that the entries have.
+func (it *pack) appendTo(to []byte) []byte {
+	for at := it.first; at < len(it.marks); at++ {
+		switch whole := it.whole[at]; {
+		case whole != nil:
+			to = appendLine(to, whole)
+		case it.marks[at].isCut:
+			line := it.line(at)
+			to = append(append(to, line[:len(line)-len("}\n")]...), ",\"cut\":true}\n"...)
+		default:
+			to = append(to, it.line(at)...)
+		}
+	}
+	return to
+}
+
+func (entry *Entry) isWhole() bool { return entry.What == session || entry.What == lose }
+
+// spell appends the line of the entry in the next place, unless it stays whole.
+func (made *History) spell(entry *Entry) {
+	if !entry.isWhole() {
+		isCut := entry.IsCut
+		entry.IsCut = false // a mark says so
+		made.lines = appendLine(made.lines, entry)
+		entry.IsCut = isCut
+	}
+	made.ends = append(made.ends, uint32(len(made.lines)))
+}
+
+// pack packs the oldest of the entries that aren't.
+func (made *History) pack() {
+	count := made.fresh
+	end := made.ends[count-1]
+	it := &pack{lines: append([]byte(nil), made.lines[:end]...), marks: make([]mark, count)}
+	for at := 0; at < count; at++ {
+		entry := &made.entries[at]
+		it.names = append(it.names, entry.Name...)
+		it.marks[at] = mark{line: made.ends[at], name: uint32(len(it.names)), isCut: entry.IsCut}
+		if entry.isWhole() {
+			if it.whole == nil {
+				it.whole = map[int]*Entry{}
+			}
+			whole := *entry
+			it.whole[at] = &whole
+		}
+	}
+	made.packs = append(made.packs, it)
+	made.packed += count
+	made.lines = append(made.lines[:0], made.lines[end:]...)
+	left := copy(made.entries, made.entries[count:])
+	for at := left; at < len(made.entries); at++ {
+		made.entries[at] = Entry{}
+	}
+	made.entries = made.entries[:left]
+	copy(made.ends, made.ends[count:])
+	made.ends = made.ends[:left]
+	for at := range made.ends {
+		made.ends[at] -= end
+	}
+}
+
+// count is how many entries there are.
+func (made *History) count() int { return made.packed + len(made.entries) }
+
+// beginsWith says of what the oldest entry is: nothing of one of a volume.
+func (made *History) beginsWith() string {
+	oldest := (*Entry)(nil)
+	switch {
+	case made.packed > 0:
+		oldest = made.packs[0].whole[made.packs[0].first]
+	case len(made.entries) > 0:
+		oldest = &made.entries[0]
+	}
+	if oldest == nil || !oldest.isWhole() {
+		return ""
+	}
+	return oldest.What
+}
+
+// drop lets the oldest entry go, which is packed: the base has what it says. Of a volume that is its line, which is read once somebody asks for the base.
+func (made *History) drop() {
+	it := made.packs[0]
+	at := it.first
+	it.first++
+	made.packed--
+	switch whole := it.whole[at]; {
+	case whole != nil:
+		for name := range whole.Rows {
+			delete(made.late, name)
+		}
+		made.learn(whole, made.base.Rows)
+		made.base.Config, made.base.Nodes = whole.Config, whole.Nodes
+	case !it.marks[at].isCut && len(it.name(at)) > 0:
+		kept := made.late[string(it.name(at))]
+		if kept == nil {
+			kept = new([]byte)
+			made.late[string(it.name(at))] = kept
+		}
+		*kept = append((*kept)[:0], it.line(at)...)
+	}
+	if it.first == len(it.marks) {
+		made.packs = append([]*pack(nil), made.packs[1:]...)
+	}
+	made.before++
+}
+
+// settled is the base, with all that it has lines of.
+func (made *History) settled() base {
+	for name, line := range made.late {
+		entry := read(*line)
+		made.base.Rows[name] = entry.Row
+		if entry.Row == nil {
+			delete(made.base.Rows, name)
+		}
+		delete(made.late, name)
+	}
+	return made.base
+}
+
+// all are the entries of a volume and of none, or all of the empty name, in their order.
+func (made *History) all(name string) []Entry {
+	var all []Entry
+	if name == "" {
+		all = make([]Entry, 0, made.count())
+	}
+	for _, it := range made.packs {
+		for at := it.first; at < len(it.marks); at++ {
+			if it.concerns(at, name) {
+				all = append(all, it.entry(at))
+			}
+		}
+	}
+	for at := range made.entries {
+		if entry := &made.entries[at]; name == "" || entry.Name == "" || entry.Name == name {
+			all = append(all, *entry)
+		}
+	}
+	return all
+}
+
+// backwards are the last entries of a volume and of none, or of all, at most so many, among the last `of`: the last one first.
+func (made *History) backwards(name string, most, of int) (last []Entry) {
+	for at := len(made.entries) - 1; at >= 0 && of > 0 && len(last) < most; at-- {
+		of--
+		if entry := &made.entries[at]; name == "" || entry.Name == "" || entry.Name == name {
+			last = append(last, *entry)
+		}
+	}
+	for place := len(made.packs) - 1; place >= 0; place-- {
+		it := made.packs[place]
+		for at := len(it.marks) - 1; at >= it.first && of > 0 && len(last) < most; at-- {
+			of--
+			if it.concerns(at, name) {
+				last = append(last, it.entry(at))
+			}
+		}
+	}
+	return last
+}
